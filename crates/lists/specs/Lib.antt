@@ -1,0 +1,2 @@
+pub mod Seqs
+pub mod Tables

@@ -1,0 +1,66 @@
+-- Every member, some member, none: predicates on lists that compute, and their decisions.
+use mathlib.Core.Logic.{_⊎_, inl, inr}
+use mathlib.Core.List.{List, [], _∷_, _++_}
+
+module _ {A : Type 0} where
+  -- every member has P
+  abbrev pub All : (A → Type 0) → List A → Type 0
+  All P [] = Unit {0}
+  All P (x ∷ xs) = P x × All P xs
+
+  -- some member has P
+  abbrev pub Any : (A → Type 0) → List A → Type 0
+  Any P [] = ⊥
+  Any P (x ∷ xs) = P x ⊎ Any P xs
+
+  abbrev pub IsNil : List A → Type 0
+  IsNil [] = Unit {0}
+  IsNil (x ∷ xs) = ⊥
+
+  abbrev pub IsCons : List A → Type 0
+  IsCons [] = ⊥
+  IsCons (x ∷ xs) = Unit {0}
+
+module _ {A : Type 0} where
+  pub all-append : (P : A → Type 0) (s t : List A) → All P s → All P t → All P (s ++ t)
+  all-append P [] t p q = q
+  all-append P (x ∷ s) t p q = (p .0, all-append P s t (p .1) q)
+
+  pub all-left : (P : A → Type 0) (s t : List A) → All P (s ++ t) → All P s
+  all-left P [] t p = tt
+  all-left P (x ∷ s) t p = (p .0, all-left P s t (p .1))
+
+  pub all-right : (P : A → Type 0) (s t : List A) → All P (s ++ t) → All P t
+  all-right P [] t p = p
+  all-right P (x ∷ s) t p = all-right P s t (p .1)
+
+  pub all-map : (P Q : A → Type 0) → ((x : A) → P x → Q x) → (s : List A) → All P s → All Q s
+  all-map P Q f [] p = tt
+  all-map P Q f (x ∷ s) p = (f x (p .0), all-map P Q f s (p .1))
+
+  unfoldable pub all? : (P : A → Type 0) → ((x : A) → Dec (P x)) → (s : List A) → Dec (All P s)
+  all? P d [] = yes tt
+  all? P d (x ∷ s) = go (d x) (all? P d s)
+    where
+      go : Dec (P x) → Dec (All P s) → Dec (P x × All P s)
+      go (yes p) (yes q) = yes (p, q)
+      go (yes p) (no n) = no (λ h. n (h .1))
+      go (no n) c = no (λ h. n (h .0))
+
+  unfoldable pub any? : (P : A → Type 0) → ((x : A) → Dec (P x)) → (xs : List A) → Dec (Any P xs)
+  any? P d [] = no (λ h. h)
+  any? P d (x ∷ xs) = go (d x) (any? P d xs)
+    where
+      neither : (P x → ⊥) → (Any P xs → ⊥) → P x ⊎ Any P xs → ⊥
+      neither n k (inl p) = n p
+      neither n k (inr p) = k p
+
+      go : Dec (P x) → Dec (Any P xs) → Dec (P x ⊎ Any P xs)
+      go (yes p) c = yes (inl p)
+      go (no n) (yes p) = yes (inr p)
+      go (no n) (no k) = no (neither n k)
+
+abbrev pub both? : {A B : Type 0} → Dec A → Dec B → Dec (A × B)
+both? (yes a) (yes b) = yes (a, b)
+both? (yes a) (no n) = no (λ h. n (h .1))
+both? (no n) d = no (λ h. n (h .0))

@@ -1,0 +1,5 @@
+-- The type order: the laws of any order (Order), of any table (Lawful), document 01's types (Types), and the views (Values).
+pub mod Lawful
+pub mod Order
+pub mod Types
+pub mod Values

@@ -1,0 +1,88 @@
+-- The value of a text: each term into the field, each field into the rule or the slip.
+-- `rule-built`, `slip-built` of proofs/Build say that, of a text without refusals, this is the one value of what it says.
+use mathlib.Core.Bool.{Bool, true, false, cond, _&&_}
+use mathlib.Core.List.{List, [], _∷_, foldl}
+use Prim.Native.Nat.{ℕ, _+_, _%_, min}
+use lib.Dec.{eqb, ltb}
+use lib.ListN.{length, take, set, replicate}
+use Rattle.order.specs.Values.{kindFrom}
+use Rattle.text.specs.Sizes.{longestString, mostFields}
+use Rattle.text.specs.Grammar.{Raw, raw-int, raw-str, raw-var, raw-empty}
+use Rattle.text.specs.Numbers.{value}
+use Rattle.text.specs.Marks.{Mark}
+use Rattle.text.specs.Read.{Sort, rule, slip}
+use Rattle.terms.specs.declared.Form.{Form}
+use Rattle.terms.specs.declared.Form.the-variants.{Int, Str, Var}
+use Rattle.terms.specs.declared.Term.{Term}
+use Rattle.terms.specs.declared.Field.{Field}
+use Rattle.terms.specs.declared.Rule.{Rule}
+use Rattle.terms.specs.declared.SlipField.{SlipField}
+use Rattle.terms.specs.declared.Slip.{Slip}
+use Rattle.terms.specs.Values.{pad, blankTerm, blankField, blankRule, blankSlipField, blankSlip}
+use Rattle.scanning.specs.declared.Spelled.{Spelled}
+use Rattle.scanning.specs.declared.Spelled.the-variants as spelled
+use Rattle.scanning.specs.Pieces.{capped}
+
+-- a written term as a value; one over its limits, which refusal 5 has met, is cut to what the value can hold
+abbrev pub termFrom : Raw → Term
+termFrom (raw-int ds) = record { form = Int (capped (value ds)); text = replicate longestString 0 }
+termFrom (raw-str s) = record { form = Str (min (length s) longestString); text = pad longestString 0 (take longestString s) }
+termFrom (raw-var k ds) = record { form = Var (kindFrom k) (capped (value ds) % 256); text = replicate longestString 0 }
+termFrom raw-empty = blankTerm
+
+abbrev pub isEmpty : Raw → Bool
+isEmpty (raw-int ds) = false
+isEmpty (raw-str s) = false
+isEmpty (raw-var k ds) = false
+isEmpty raw-empty = true
+
+abbrev pub emptyBy : Spelled → Bool
+emptyBy spelled.Int = false
+emptyBy spelled.Str = false
+emptyBy (spelled.Var k) = false
+emptyBy spelled.Empty = true
+
+-- each stores where there is room: a field over its width and a fifth field are refused
+
+abbrev pub pushTerm : Field → Term → Field
+pushTerm f t = cond (ltb (f .n) (rule .width)) (record { n = f .n + 1; terms = set (f .terms) (f .n) t }) f
+
+abbrev pub addRaw : Field → Raw → Field
+addRaw f r = cond (isEmpty r) f (pushTerm f (termFrom r))
+
+abbrev pub pushField : Rule → Field → Rule
+pushField r f = cond (ltb (r .n) mostFields) (record { n = r .n + 1; fields = set (r .fields) (r .n) f }) r
+
+abbrev pub pushItem : SlipField → Term → SlipField
+pushItem f t = cond (ltb (f .n) (slip .width)) (record { n = f .n + 1; terms = set (f .terms) (f .n) t }) f
+
+abbrev pub addItem : SlipField → Raw → SlipField
+addItem f r = cond (isEmpty r) f (pushItem f (termFrom r))
+
+abbrev pub pushSlipField : Slip → SlipField → Slip
+pushSlipField s f = cond (ltb (s .n) mostFields) (record { n = s .n + 1; fields = set (s .fields) (s .n) f }) s
+
+-- a field behind the first begins: the field before it is complete
+abbrev pub turns : ℕ → ℕ → Bool
+turns field index = ltb 1 field && eqb index 1
+
+-- over any fields F and wholes R: how one is added to the other, and the blank field
+module _ {F R : Type 0} (blank : F) (add : F → Raw → F) (push : R → F → R) where
+  abbrev pub Building : Type 0
+  Building = R × F
+
+  abbrev pub turned : Bool → Building → Building
+  turned true b = (push (b .0) (b .1), blank)
+  turned false b = b
+
+  abbrev pub put : Building → Mark → Building
+  put b m = let c = turned (turns (m .inField) (m .index)) b in (c .0, add (c .1) (m .raw))
+
+  abbrev pub whole : Building → R
+  whole b = push (b .0) (b .1)
+
+abbrev pub builtRule : List Mark → Rule
+builtRule ms = whole blankField addRaw pushField (foldl (put blankField addRaw pushField) (blankRule, blankField) ms)
+
+abbrev pub builtSlip : List Mark → Slip
+builtSlip ms = whole blankSlipField addItem pushSlipField (foldl (put blankSlipField addItem pushSlipField) (blankSlip, blankSlipField) ms)

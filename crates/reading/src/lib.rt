@@ -1,0 +1,562 @@
+// Reading a rule and a slip: the grammar first, then one pass that meets every other refusal, then the value.
+ghost use mathlib.Core.Path.{_≡_};
+ghost use mathlib.Core.List.{[], foldl};
+ghost use Prim.Native.Nat.{_+_, _≤_, _<_, min};
+ghost use lib.ListN.{length, take, drop};
+ghost use Rattle.order.specs.Values.{kindOf};
+ghost use Rattle.text.specs.Sizes.{longestString};
+ghost use Rattle.text.specs.Read.{accepted, read, readRule, readSlip};
+ghost use Rattle.text.specs.Walk.{front, walked};
+ghost use Rattle.terms.specs.Values.{pad};
+ghost use Rattle.scanning.specs.Pieces.{pieceOf};
+ghost use Rattle.reading.specs.Places.{spelled, colonAt, behind};
+ghost use Rattle.reading.specs.Refusals.{overPiece, isList, linearBy, variableBy, severity, addBy, listsAt, surveyed, surveyMark, nothingYet, outcome};
+ghost use Rattle.reading.specs.Build.{termFrom, emptyBy, pushTerm, addRaw, pushField, pushItem, addItem, pushSlipField, turns, builtRule, builtSlip};
+ghost use Rattle.reading.specs.Answers.{sortOf, numberOf, verdictOf, ruleRead, slipRead};
+use order::Kind;
+use scanning::Found;
+use scanning::Piece;
+use scanning::Spelled;
+use terms::Field;
+use terms::Form;
+use terms::Lists;
+use terms::Rule;
+use terms::Slip;
+use terms::SlipField;
+use terms::Term;
+
+// Why a text is refused: document 01's refusals 1 to 7, in their order.
+pub enum Reason {
+    Long,
+    Grammar,
+    Fields,
+    Terms,
+    Limits,
+    Linear,
+    Variable,
+}
+
+// Accepted, or refused for a reason at a place.
+pub enum Verdict {
+    Accepted,
+    Refused(Reason, usize),
+}
+
+pub struct RuleRead {
+    pub verdict: Verdict,
+    pub rule: Rule,
+}
+
+pub struct SlipRead {
+    pub verdict: Verdict,
+    pub slip: Slip,
+}
+
+// Where a term stands: its first byte, the number of its field and its number there, both from 1.
+pub struct At {
+    pub place: usize,
+    pub field: usize,
+    pub index: usize,
+}
+
+// The lowest refusal from 3 on that a term has met (6 is the last that is tried, 7 is none),
+// the place of the first that met it, and the list variables so far.
+pub struct Survey {
+    pub reason: u8,
+    pub place: usize,
+    pub lists: Lists,
+}
+
+// The number of bytes of a written term.
+fn spelled(p: Piece) -> usize
+    requires { ⌜ p .size ≤ 8192 ⌝ }
+    ensures { λ r. ⌜ r ≡ spelled p ⌝ }
+{
+    let what = p.what;
+    let n = p.size;
+    match what {
+        Spelled::Int => n,
+        Spelled::Str => n + 2,
+        Spelled::Var(_) => n + 1,
+        Spelled::Empty => 5,
+    }
+}
+
+fn colon_at(text: &[u8], e: usize) -> bool
+    ensures { λ r. ⌜ r ≡ colonAt (now (text .entry)) e ⌝ }
+{
+    if text.len() <= e {
+        return false;
+    }
+    text[e] == 58
+}
+
+// Where the term behind this one stands: behind `:` in the same field, behind `|` in the next.
+fn behind(text: &[u8], a: At, p: Piece) -> At
+    requires { ⌜ (a .place ≤ 8192) × (a .field ≤ a .place + 1) × (a .index ≤ a .place + 1) × (p .size ≤ 8192) ⌝ }
+    ensures { λ r. ⌜ r ≡ behind (now (text .entry)) a (a .place + spelled p) ⌝ }
+{
+    let end = a.place + spelled(p);
+    if colon_at(text, end) {
+        return At {
+            place: end + 1,
+            field: a.field,
+            index: a.index + 1,
+        };
+    }
+    At {
+        place: end + 1,
+        field: a.field + 1,
+        index: 1,
+    }
+}
+
+// Refusal 5: a value, digit count, variable number or string length over its limit.
+fn is_over(p: Piece) -> bool
+    ensures { λ r. ⌜ r ≡ overPiece p ⌝ }
+{
+    let what = p.what;
+    let n = p.size;
+    let v = p.value;
+    match what {
+        Spelled::Int => {
+            if 10 < n {
+                return true;
+            }
+            2147483647 < v
+        }
+        Spelled::Str => 15 < n,
+        Spelled::Var(_) => 15 < v,
+        Spelled::Empty => false,
+    }
+}
+
+fn is_list(k: Kind) -> bool
+    ensures { λ r. ⌜ r ≡ isList (kindOf k) ⌝ }
+{
+    match k {
+        Kind::Integer => false,
+        Kind::String => false,
+        Kind::Atom => false,
+        Kind::List => true,
+    }
+}
+
+// Refusal 6: a list variable that loses left-linearity.
+fn linear_refusal(p: Piece, l: Lists) -> u8
+    ensures { λ r. ⌜ r ≡ linearBy (p .what) (p .value) l ⌝ }
+{
+    let what = p.what;
+    let v = p.value;
+    match what {
+        Spelled::Int => 7,
+        Spelled::Str => 7,
+        Spelled::Var(k) => {
+            if !is_list(k) {
+                return 7;
+            }
+            if l.add(v as usize).ok { 7 } else { 6 }
+        }
+        Spelled::Empty => 7,
+    }
+}
+
+// Refusal 7: a variable in a slip.
+fn variable_refusal(p: Piece) -> u8
+    ensures { λ r. ⌜ r ≡ variableBy (p .what) ⌝ }
+{
+    let what = p.what;
+    match what {
+        Spelled::Int => 7,
+        Spelled::Str => 7,
+        Spelled::Var(_) => 6,
+        Spelled::Empty => 7,
+    }
+}
+
+// The lowest refusal from 3 on that a term meets.
+fn severity(slip: bool, width: usize, a: At, p: Piece, l: Lists) -> u8
+    ensures { λ r. ⌜ r ≡ severity slip width a p l ⌝ }
+{
+    if 4 < a.field {
+        return 3;
+    }
+    if width < a.index {
+        return 4;
+    }
+    if is_over(p) {
+        return 5;
+    }
+    if slip {
+        return variable_refusal(p);
+    }
+    linear_refusal(p, l)
+}
+
+fn add_piece(l: Lists, p: Piece) -> Lists
+    ensures { λ r. ⌜ r ≡ addBy (p .what) (p .value) l ⌝ }
+{
+    let what = p.what;
+    let v = p.value;
+    match what {
+        Spelled::Int => l,
+        Spelled::Str => l,
+        Spelled::Var(k) => {
+            if is_list(k) {
+                return l.add(v as usize);
+            }
+            l
+        }
+        Spelled::Empty => l,
+    }
+}
+
+fn lists_at(a: At, l: Lists) -> Lists
+    ensures { λ r. ⌜ r ≡ listsAt a l ⌝ }
+{
+    if a.index == 1 {
+        return l.next_field();
+    }
+    l
+}
+
+// The survey with the term p, which stands at a.
+fn note(s: Survey, slip: bool, width: usize, a: At, p: Piece) -> Survey
+    ensures { λ r. ⌜ r ≡ surveyed slip width s a p ⌝ }
+{
+    let before = s.lists;
+    let lists = lists_at(a, before);
+    let reason = severity(slip, width, a, p, lists);
+    let after = add_piece(lists, p);
+    if reason < s.reason {
+        return Survey {
+            reason: reason,
+            place: a.place,
+            lists: after,
+        };
+    }
+    Survey {
+        reason: s.reason,
+        place: s.place,
+        lists: after,
+    }
+}
+
+// All refusals from 3 on, in one pass over the terms.
+fn survey_of(text: &[u8], slip: bool, width: usize) -> Survey
+    requires { ⌜ length (now text) ≤ 8192 ⌝ }
+    ensures { λ r. ⌜ r ≡ foldl (surveyMark slip width) nothingYet (walked (now (text .entry))) ⌝ }
+{
+    let mut s = Survey {
+        reason: 7,
+        place: 0,
+        lists: Lists::none(),
+    };
+    let mut a = At {
+        place: 0,
+        field: 1,
+        index: 1,
+    };
+    while a.place < text.len() {
+        let p = scanning::piece_at(text, a.place);
+        s = note(s, slip, width, a, p);
+        a = behind(text, a, p);
+    }
+    s
+}
+
+fn at_most(n: usize, limit: usize) -> usize
+    ensures { λ r. ⌜ r ≡ min n limit ⌝ }
+{
+    if n < limit { n } else { limit }
+}
+
+// The bytes of a string: n of the text from `from` on, as far as there are any.
+fn string_at(text: &[u8], from: usize, n: usize) -> [u8; 15]
+    requires { ⌜ (from ≤ length (now text)) × (n ≤ 15) ⌝ }
+    ensures { λ r. ⌜ r ≡ pad longestString 0 (take n (drop from (now (text .entry)))) ⌝ }
+{
+    let mut bytes = [0u8; 15];
+    let mut i: usize = 0;
+    while i < n {
+        if text.len() - from <= i {
+            return bytes;
+        }
+        bytes[i] = text[from + i];
+        i += 1;
+    }
+    bytes
+}
+
+// The term p that stands at a place of the text.
+fn term_at(text: &[u8], place: usize, p: Piece) -> Term
+    requires { ⌜ (place < length (now text)) × (p ≡ pieceOf (front (drop place (now text)))) ⌝ }
+    ensures { λ r. ⌜ r ≡ termFrom (front (drop place (now (text .entry)))) ⌝ }
+{
+    let what = p.what;
+    match what {
+        Spelled::Int => Term {
+            form: Form::Int(p.value),
+            text: [0; 15],
+        },
+        Spelled::Str => {
+            let n = at_most(p.size, 15);
+            let bytes = string_at(text, place + 1, n);
+            Term {
+                form: Form::Str(n as u8),
+                text: bytes,
+            }
+        }
+        Spelled::Var(k) => Term {
+            form: Form::Var(k, (p.value % 256) as u8),
+            text: [0; 15],
+        },
+        Spelled::Empty => terms::blank_term(),
+    }
+}
+
+fn is_empty(p: Piece) -> bool
+    ensures { λ r. ⌜ r ≡ emptyBy (p .what) ⌝ }
+{
+    let what = p.what;
+    match what {
+        Spelled::Int => false,
+        Spelled::Str => false,
+        Spelled::Var(_) => false,
+        Spelled::Empty => true,
+    }
+}
+
+// The field with the term p behind its others; `empty` adds none.
+fn with_term(f: Field, text: &[u8], place: usize, p: Piece) -> Field
+    requires { ⌜ (place < length (now text)) × (p ≡ pieceOf (front (drop place (now text)))) ⌝ }
+    ensures { λ r. ⌜ r ≡ addRaw f (front (drop place (now (text .entry)))) ⌝ }
+{
+    if is_empty(p) {
+        return f;
+    }
+    let t = term_at(text, place, p);
+    push_term(f, t)
+}
+
+fn push_term(f: Field, t: Term) -> Field
+    ensures { λ r. ⌜ r ≡ pushTerm f t ⌝ }
+{
+    let n = f.n;
+    if 16 <= n {
+        return f;
+    }
+    let mut g = f;
+    g.terms[n] = t;
+    g.n = n + 1;
+    g
+}
+
+fn push_field(r: Rule, f: Field) -> Rule
+    ensures { λ s. ⌜ s ≡ pushField r f ⌝ }
+{
+    let n = r.n;
+    if 4 <= n {
+        return r;
+    }
+    let mut s = r;
+    s.fields[n] = f;
+    s.n = n + 1;
+    s
+}
+
+fn with_item(f: SlipField, text: &[u8], place: usize, p: Piece) -> SlipField
+    requires { ⌜ (place < length (now text)) × (p ≡ pieceOf (front (drop place (now text)))) ⌝ }
+    ensures { λ r. ⌜ r ≡ addItem f (front (drop place (now (text .entry)))) ⌝ }
+{
+    if is_empty(p) {
+        return f;
+    }
+    let t = term_at(text, place, p);
+    push_item(f, t)
+}
+
+fn push_item(f: SlipField, t: Term) -> SlipField
+    ensures { λ r. ⌜ r ≡ pushItem f t ⌝ }
+{
+    let n = f.n;
+    if 64 <= n {
+        return f;
+    }
+    let mut g = f;
+    g.terms[n] = t;
+    g.n = n + 1;
+    g
+}
+
+fn push_slip_field(s: Slip, f: SlipField) -> Slip
+    ensures { λ r. ⌜ r ≡ pushSlipField s f ⌝ }
+{
+    let n = s.n;
+    if 4 <= n {
+        return s;
+    }
+    let mut r = s;
+    r.fields[n] = f;
+    r.n = n + 1;
+    r
+}
+
+// Whether a field behind the first begins, so that the one before it is complete.
+fn is_turn(a: At) -> bool
+    ensures { λ r. ⌜ r ≡ turns (a .field) (a .index) ⌝ }
+{
+    if a.field <= 1 {
+        return false;
+    }
+    a.index == 1
+}
+
+// The rule that a text without refusals says.
+fn build_rule(text: &[u8]) -> Rule
+    requires { ⌜ length (now text) ≤ 8192 ⌝ }
+    ensures { λ r. ⌜ r ≡ builtRule (walked (now (text .entry))) ⌝ }
+{
+    let mut rule = terms::blank_rule();
+    let mut field = terms::blank_field();
+    let mut a = At {
+        place: 0,
+        field: 1,
+        index: 1,
+    };
+    while a.place < text.len() {
+        let p = scanning::piece_at(text, a.place);
+        if is_turn(a) {
+            rule = push_field(rule, field);
+            field = terms::blank_field();
+        }
+        field = with_term(field, text, a.place, p);
+        a = behind(text, a, p);
+    }
+    push_field(rule, field)
+}
+
+// The slip that a text without refusals says.
+fn build_slip(text: &[u8]) -> Slip
+    requires { ⌜ length (now text) ≤ 8192 ⌝ }
+    ensures { λ r. ⌜ r ≡ builtSlip (walked (now (text .entry))) ⌝ }
+{
+    let mut slip = terms::blank_slip();
+    let mut field = terms::blank_slip_field();
+    let mut a = At {
+        place: 0,
+        field: 1,
+        index: 1,
+    };
+    while a.place < text.len() {
+        let p = scanning::piece_at(text, a.place);
+        if is_turn(a) {
+            slip = push_slip_field(slip, field);
+            field = terms::blank_slip_field();
+        }
+        field = with_item(field, text, a.place, p);
+        a = behind(text, a, p);
+    }
+    push_slip_field(slip, field)
+}
+
+fn bytes_of(slip: bool) -> usize
+    ensures { λ r. ⌜ r ≡ (sortOf slip) .bytes ⌝ }
+{
+    if slip { 8192 } else { 2048 }
+}
+
+fn width_of(slip: bool) -> usize
+    ensures { λ r. ⌜ r ≡ (sortOf slip) .width ⌝ }
+{
+    if slip { 64 } else { 16 }
+}
+
+// What a survey says, with the refusal that is tried last by its own name.
+fn verdict_of(slip: bool, s: Survey) -> Verdict
+    ensures { λ r. ⌜ r ≡ verdictOf (outcome slip s (accepted [])) ⌝ }
+{
+    let reason = s.reason;
+    if 6 < reason {
+        return Verdict::Accepted;
+    }
+    if reason == 6 {
+        if slip {
+            return Verdict::Refused(Reason::Variable, s.place);
+        }
+        return Verdict::Refused(Reason::Linear, s.place);
+    }
+    if reason == 5 {
+        return Verdict::Refused(Reason::Limits, s.place);
+    }
+    if reason == 4 {
+        return Verdict::Refused(Reason::Terms, s.place);
+    }
+    Verdict::Refused(Reason::Fields, s.place)
+}
+
+// Document 01's refusals of a rule or a slip, in their order.
+fn judge(text: &[u8], slip: bool) -> Verdict
+    ensures { λ r. ⌜ r ≡ verdictOf (read (sortOf slip) (now (text .entry))) ⌝ }
+{
+    let limit = bytes_of(slip);
+    if limit < text.len() {
+        return Verdict::Refused(Reason::Long, limit);
+    }
+    match scanning::grammar_place(text) {
+        Found::At(p) => Verdict::Refused(Reason::Grammar, p),
+        Found::Nothing => {
+            let s = survey_of(text, slip, width_of(slip));
+            verdict_of(slip, s)
+        }
+    }
+}
+
+// Reads a rule: the rule, or why and where the text is refused with the rule that has no fields.
+pub fn read_rule(text: &[u8]) -> RuleRead
+    ensures { λ r. ⌜ r ≡ ruleRead (readRule (now (text .entry))) ⌝ }
+{
+    let verdict = judge(text, false);
+    match verdict {
+        Verdict::Accepted => RuleRead {
+            verdict: verdict,
+            rule: build_rule(text),
+        },
+        Verdict::Refused(_, _) => RuleRead {
+            verdict: verdict,
+            rule: terms::blank_rule(),
+        },
+    }
+}
+
+// Reads a slip: the slip, or why and where the text is refused with the slip that has no fields.
+pub fn read_slip(text: &[u8]) -> SlipRead
+    ensures { λ r. ⌜ r ≡ slipRead (readSlip (now (text .entry))) ⌝ }
+{
+    let verdict = judge(text, true);
+    match verdict {
+        Verdict::Accepted => SlipRead {
+            verdict: verdict,
+            slip: build_slip(text),
+        },
+        Verdict::Refused(_, _) => SlipRead {
+            verdict: verdict,
+            slip: terms::blank_slip(),
+        },
+    }
+}
+
+// Document 01's number of a refusal.
+pub fn number(r: Reason) -> u8
+    ensures { λ n. ⌜ n ≡ numberOf r ⌝ }
+{
+    match r {
+        Reason::Long => 1,
+        Reason::Grammar => 2,
+        Reason::Fields => 3,
+        Reason::Terms => 4,
+        Reason::Limits => 5,
+        Reason::Linear => 6,
+        Reason::Variable => 7,
+    }
+}

@@ -1,0 +1,4 @@
+pub mod Values
+pub mod Filled
+pub mod Lists
+pub mod Accepted

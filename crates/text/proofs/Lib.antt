@@ -1,0 +1,14 @@
+pub mod Parse
+pub mod Place
+pub mod Numbers
+pub mod Leftmost
+pub mod Marks
+pub mod Read
+pub mod Sharp
+pub mod Plain
+pub mod Fields
+pub mod Accepted
+pub mod Lengths
+pub mod Theorems
+pub mod Examples
+pub mod Walk

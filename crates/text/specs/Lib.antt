@@ -1,0 +1,13 @@
+pub mod Sizes
+pub mod Bytes
+pub mod Grammar
+pub mod Place
+pub mod Machine
+pub mod Numbers
+pub mod Leftmost
+pub mod Marks
+pub mod Terms
+pub mod Read
+pub mod Plain
+pub mod Limits
+pub mod Walk

@@ -1,0 +1,1 @@
+// The mathematics that every layer cites, without structs: specs only.

@@ -1,0 +1,168 @@
+//! Reading rules and slips. The refusals "are tried in that order, each over
+//! the whole text, and the leftmost place is reported" (document 01), so each
+//! is a pass of its own.
+
+use std::fmt;
+
+use crate::grammar::{self, Raw, Shape, Stuck};
+use crate::terms::{Field, Kind, Rule, Slip, Term};
+
+const MOST_FIELDS: usize = 4;
+const MOST_DIGITS: usize = 10;
+const LARGEST_INTEGER: u32 = 2_147_483_647;
+const LARGEST_VARIABLE: u32 = 15;
+const LONGEST_STRING: usize = 15;
+
+/// Why a text is not read, by document 01's number, and where.
+#[derive(Clone, Copy, Debug, PartialEq, Eq, Hash)]
+pub struct Refusal {
+    pub number: u8,
+    pub place: usize,
+}
+
+impl fmt::Display for Refusal {
+    fn fmt(&self, out: &mut fmt::Formatter) -> fmt::Result {
+        write!(out, "refused {} at {}", self.number, self.place)
+    }
+}
+
+impl std::error::Error for Refusal {}
+
+/// The limits in which rules and slips differ.
+struct Limits {
+    bytes: usize,
+    terms: usize,
+}
+
+const RULE: Limits = Limits {
+    bytes: 2048,
+    terms: 16,
+};
+
+const SLIP: Limits = Limits {
+    bytes: 8192,
+    terms: 64,
+};
+
+/// A term within its limits, with the place of its first byte; `empty` still
+/// has its place here and gives no term.
+struct Placed {
+    place: usize,
+    term: Option<Term>,
+}
+
+pub fn read_rule(text: &[u8]) -> Result<Rule, Refusal> {
+    let fields = read_fields(text, &RULE)?;
+    refuse(6, surplus_list(&fields))?;
+    Ok(Rule(without_places(fields)))
+}
+
+pub fn read_slip(text: &[u8]) -> Result<Slip, Refusal> {
+    let fields = read_fields(text, &SLIP)?;
+    refuse(7, first_variable(&fields))?;
+    Ok(Slip(without_places(fields)))
+}
+
+/// Refusals 1 to 5, which rules and slips have in common.
+fn read_fields(text: &[u8], limits: &Limits) -> Result<Vec<Vec<Placed>>, Refusal> {
+    refuse(1, (text.len() > limits.bytes).then_some(limits.bytes))?;
+    let fields = grammar::fields(text).map_err(|Stuck(place)| Refusal { number: 2, place })?;
+    refuse(3, surplus_field(&fields))?;
+    refuse(4, surplus_term(&fields, limits.terms))?;
+    let sized_field = |field: &Vec<Raw>| field.iter().map(sized).collect();
+    fields.iter().map(sized_field).collect()
+}
+
+/// Refuses by this number if there is a place for it.
+fn refuse(number: u8, place: Option<usize>) -> Result<(), Refusal> {
+    match place {
+        Some(place) => Err(Refusal { number, place }),
+        None => Ok(()),
+    }
+}
+
+/// The first byte of the fifth field, which is that of its first term.
+fn surplus_field(fields: &[Vec<Raw>]) -> Option<usize> {
+    let fifth = fields.get(MOST_FIELDS)?;
+    fifth.first().map(|raw| raw.place)
+}
+
+/// The first term of any field that exceeds the number allowed; `empty`
+/// counts.
+fn surplus_term(fields: &[Vec<Raw>], most: usize) -> Option<usize> {
+    let surplus = fields.iter().find_map(|field| field.get(most))?;
+    Some(surplus.place)
+}
+
+/// The term with its value, refused by 5 if it is over a limit.
+fn sized(raw: &Raw) -> Result<Placed, Refusal> {
+    let place = raw.place;
+    let over = Refusal { number: 5, place };
+    let term = match raw.shape {
+        Shape::Integer(digits) => Some(integer(digits).ok_or(over)?),
+        Shape::Quoted(bytes) => Some(string(bytes).ok_or(over)?),
+        Shape::Variable(kind, digits) => Some(variable(kind, digits).ok_or(over)?),
+        Shape::Empty => None,
+    };
+    Ok(Placed { place, term })
+}
+
+/// Digits are counted as written: eleven zeros are too many.
+fn integer(digits: &[u8]) -> Option<Term> {
+    if digits.len() > MOST_DIGITS {
+        return None;
+    }
+    value_up_to(LARGEST_INTEGER, digits).map(Term::Int)
+}
+
+fn string(bytes: &[u8]) -> Option<Term> {
+    (bytes.len() <= LONGEST_STRING).then(|| Term::Str(bytes.to_vec()))
+}
+
+fn variable(kind: Kind, digits: &[u8]) -> Option<Term> {
+    value_up_to(LARGEST_VARIABLE, digits).map(|number| Term::Var(kind, number))
+}
+
+/// The value of the digits, if it is at most `limit`. Any number of digits
+/// will do: a sum that leaves 32 bits is over every limit.
+fn value_up_to(limit: u32, digits: &[u8]) -> Option<u32> {
+    let value = digits.iter().try_fold(0u32, |value, digit| {
+        let digit = u32::from(digit - b'0');
+        value.checked_mul(10)?.checked_add(digit)
+    })?;
+    (value <= limit).then_some(value)
+}
+
+/// The first list variable "that occurs earlier in the rule, or that follows
+/// another in its field".
+fn surplus_list(fields: &[Vec<Placed>]) -> Option<usize> {
+    let mut earlier = Vec::new();
+    for field in fields {
+        let mut has_list = false;
+        for placed in field {
+            if let Some(Term::Var(Kind::List, number)) = placed.term {
+                if has_list || earlier.contains(&number) {
+                    return Some(placed.place);
+                }
+                has_list = true;
+                earlier.push(number);
+            }
+        }
+    }
+    None
+}
+
+fn first_variable(fields: &[Vec<Placed>]) -> Option<usize> {
+    let mut placed = fields.iter().flatten();
+    let variable = placed.find(|placed| matches!(placed.term, Some(Term::Var(..))))?;
+    Some(variable.place)
+}
+
+/// The fields alone, each `empty` dropped.
+fn without_places(fields: Vec<Vec<Placed>>) -> Vec<Field> {
+    let terms = |field: Vec<Placed>| field.into_iter().filter_map(|placed| placed.term);
+    fields
+        .into_iter()
+        .map(|field| terms(field).collect())
+        .collect()
+}

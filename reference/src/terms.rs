@@ -1,0 +1,51 @@
+//! Rules and slips as values.
+
+/// The type of a variable.
+#[derive(Clone, Copy, Debug, PartialEq, Eq, Hash)]
+pub enum Kind {
+    Integer,
+    String,
+    Atom,
+    List,
+}
+
+impl Kind {
+    /// The type that a variable's letter stands for.
+    pub fn from_letter(letter: u8) -> Option<Kind> {
+        match letter {
+            b'i' => Some(Kind::Integer),
+            b's' => Some(Kind::String),
+            b'a' => Some(Kind::Atom),
+            b'l' => Some(Kind::List),
+            _ => None,
+        }
+    }
+
+    pub fn letter(self) -> u8 {
+        match self {
+            Kind::Integer => b'i',
+            Kind::String => b's',
+            Kind::Atom => b'a',
+            Kind::List => b'l',
+        }
+    }
+}
+
+/// A term. `empty` is no term here: document 01 counts it in the text and
+/// then drops it. Integers are kept by value, so `007` equals `7`.
+#[derive(Clone, Debug, PartialEq, Eq, Hash)]
+pub enum Term {
+    Int(u32),
+    Str(Vec<u8>),
+    Var(Kind, u32),
+}
+
+pub type Field = Vec<Term>;
+
+/// The left side of a rule, field by field.
+#[derive(Clone, Debug, Default, PartialEq, Eq, Hash)]
+pub struct Rule(pub Vec<Field>);
+
+/// A slip. Reading returns only slips without variables.
+#[derive(Clone, Debug, Default, PartialEq, Eq, Hash)]
+pub struct Slip(pub Vec<Field>);

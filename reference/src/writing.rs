@@ -1,0 +1,55 @@
+//! Plain text: "no `empty` unless the field has no terms, integers without
+//! leading zeros" (document 01).
+
+use crate::reading::{read_rule, read_slip};
+use crate::terms::{Field, Rule, Slip, Term};
+
+/// The plain text of a rule. A rule that no reading can return "counts there
+/// as one with no fields", and that has no bytes. Since reading a readable
+/// rule's plain text returns it, reading back decides which ones those are.
+pub fn plain_rule(rule: &Rule) -> Vec<u8> {
+    let text = plain_fields(&rule.0);
+    if read_rule(&text).as_ref() == Ok(rule) {
+        text
+    } else {
+        Vec::new()
+    }
+}
+
+/// The plain text of a slip, with no bytes for one that no reading returns.
+pub fn plain_slip(slip: &Slip) -> Vec<u8> {
+    let text = plain_fields(&slip.0);
+    if read_slip(&text).as_ref() == Ok(slip) {
+        text
+    } else {
+        Vec::new()
+    }
+}
+
+/// The text of any fields, limits left aside: those of an overlap entry may
+/// have more terms and larger variable numbers than a rule's.
+pub fn plain_fields(fields: &[Field]) -> Vec<u8> {
+    let texts: Vec<Vec<u8>> = fields.iter().map(|field| plain_field(field)).collect();
+    texts.join(&b'|')
+}
+
+/// The text of any run of terms, limits left aside.
+pub fn plain_field(terms: &[Term]) -> Vec<u8> {
+    if terms.is_empty() {
+        return b"empty".to_vec();
+    }
+    let texts: Vec<Vec<u8>> = terms.iter().map(plain_term).collect();
+    texts.join(&b':')
+}
+
+fn plain_term(term: &Term) -> Vec<u8> {
+    match term {
+        Term::Int(value) => value.to_string().into_bytes(),
+        Term::Str(bytes) => [b"\"", bytes.as_slice(), b"\""].concat(),
+        Term::Var(kind, number) => {
+            let mut text = vec![kind.letter()];
+            text.extend(number.to_string().bytes());
+            text
+        }
+    }
+}

@@ -1,0 +1,88 @@
+//! What the tests share: short names for terms, texts of a given size, a
+//! seeded generator.
+
+use reference::reading::{read_rule, read_slip, Refusal};
+use reference::terms::{Field, Kind, Rule, Slip, Term};
+
+pub fn int(value: u32) -> Term {
+    Term::Int(value)
+}
+
+pub fn string(bytes: impl AsRef<[u8]>) -> Term {
+    Term::Str(bytes.as_ref().to_vec())
+}
+
+pub fn var(letter: u8, number: u32) -> Term {
+    Term::Var(Kind::from_letter(letter).unwrap(), number)
+}
+
+/// A string of so many bytes, as text.
+pub fn quoted(length: usize) -> String {
+    format!("\"{}\"", "x".repeat(length))
+}
+
+/// So many copies of the term in one field, as text.
+pub fn times(count: usize, term: &str) -> String {
+    vec![term; count].join(":")
+}
+
+/// For messages; texts of many bytes stay readable.
+pub fn show(text: &[u8]) -> String {
+    text.escape_ascii().to_string()
+}
+
+pub fn assert_rule(text: impl AsRef<[u8]>, fields: Vec<Field>) {
+    let text = text.as_ref();
+    assert_eq!(read_rule(text), Ok(Rule(fields)), "rule {}", show(text));
+}
+
+pub fn assert_slip(text: impl AsRef<[u8]>, fields: Vec<Field>) {
+    let text = text.as_ref();
+    assert_eq!(read_slip(text), Ok(Slip(fields)), "slip {}", show(text));
+}
+
+pub fn assert_rule_refused(text: impl AsRef<[u8]>, number: u8, place: usize) {
+    let (text, refusal) = (text.as_ref(), Refusal { number, place });
+    assert_eq!(read_rule(text), Err(refusal), "rule {}", show(text));
+}
+
+pub fn assert_slip_refused(text: impl AsRef<[u8]>, number: u8, place: usize) {
+    let (text, refusal) = (text.as_ref(), Refusal { number, place });
+    assert_eq!(read_slip(text), Err(refusal), "slip {}", show(text));
+}
+
+/// Refusal 2 is the same for rules and slips.
+pub fn assert_not_grammar(text: impl AsRef<[u8]>, place: usize) {
+    assert_rule_refused(&text, 2, place);
+    assert_slip_refused(&text, 2, place);
+}
+
+/// Marsaglia's xorshift with 64 bits of state.
+pub struct Draw(u64);
+
+impl Draw {
+    /// The seed must not be 0.
+    pub fn new(seed: u64) -> Draw {
+        Draw(seed)
+    }
+
+    fn next(&mut self) -> u64 {
+        self.0 ^= self.0 << 13;
+        self.0 ^= self.0 >> 7;
+        self.0 ^= self.0 << 17;
+        self.0
+    }
+
+    /// A number from 0 up to but not including `bound`.
+    pub fn below(&mut self, bound: usize) -> usize {
+        (self.next() >> 16) as usize % bound
+    }
+
+    pub fn one_in(&mut self, bound: usize) -> bool {
+        self.below(bound) == 0
+    }
+
+    pub fn pick<T: Copy>(&mut self, from: &[T]) -> T {
+        from[self.below(from.len())]
+    }
+}
