@@ -17,8 +17,8 @@ use Rattle.text.proofs.Accepted.{rule-read, rule-plain}
 use Rattle.text.proofs.Theorems.{earlier, rule-refused, slip-refused, plain-injective}
 use Rattle.terms.specs.declared.Rule.{Rule}
 use Rattle.terms.specs.Values.{viewRule, encodeRule}
-use Rattle.terms.specs.Accepted.{acceptedRule, countedRule}
-use Rattle.terms.proofs.Accepted.{accepted-rule, encode-accepted-rule, view-encode-rule, rule-value-iff}
+use Rattle.accepted.specs.Accepted.{acceptedRule, countedRule}
+use Rattle.accepted.proofs.Accepted.{accepted-rule, encode-accepted-rule, view-encode-rule, rule-value-iff}
 use Rattle.reading.specs.declared.Reason.{Reason}
 use Rattle.reading.specs.declared.Reason.the-variants.{Long, Grammar, Fields, Terms, Limits, Linear, Variable}
 use Rattle.reading.specs.declared.Verdict.{Verdict}

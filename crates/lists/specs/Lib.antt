@@ -1,2 +1,3 @@
 pub mod Seqs
 pub mod Tables
+pub mod Truths

@@ -1,6 +1,9 @@
 -- Every member, some member, none: predicates on lists that compute, and their decisions.
+use mathlib.Core.Path.{_≡_, sym, _∙_}
 use mathlib.Core.Logic.{_⊎_, inl, inr}
-use mathlib.Core.List.{List, [], _∷_, _++_}
+use mathlib.Core.List.{List, [], _∷_, _++_, map}
+use Prim.Native.Nat.{ℕ}
+use lib.ListN.{length, length-map}
 
 module _ {A : Type 0} where
   -- every member has P
@@ -64,3 +67,7 @@ abbrev pub both? : {A B : Type 0} → Dec A → Dec B → Dec (A × B)
 both? (yes a) (yes b) = yes (a, b)
 both? (yes a) (no n) = no (λ h. n (h .1))
 both? (no n) d = no (λ h. n (h .0))
+
+-- what owning an array of structs tells: its length is that of the list under a map
+pub long-mapped : {A B : Type 0} (g : A → B) (l : List A) (n : ℕ) → length (map g l) ≡ n → length l ≡ n
+long-mapped g l n p = sym (length-map l g) ∙ p

@@ -21,9 +21,9 @@ use Rattle.text.specs.Leftmost.{leftmost}
 use Rattle.text.specs.Marks.{Mark, marks, marksF, marksT, FifthField, TooMany, Over, over?, fifth?, many?, listNo, Occ, occ, occs, Clash, ClashOf, clashOf?, IsVar, isVar?}
 use Rattle.text.specs.Read.{Reason, fields, terms, limits, linear, variable, Bad, bad?, placeOfMark, Outcome, refused, tell}
 use Rattle.text.proofs.Fields.{occs-append}
-use Rattle.terms.specs.declared.Lists.{Lists}
-use Rattle.terms.specs.Lists.{noLists, nextField, stillOk, addList}
-use Rattle.terms.proofs.Linear.{Tracks, tracks-none, tracks-next, tracks-add, tracks-still, tracks-clash}
+use Rattle.linearity.specs.declared.Lists.{Lists}
+use Rattle.linearity.specs.Lists.{noLists, nextField, stillOk, addList}
+use Rattle.linearity.proofs.Linear.{Tracks, tracks-none, tracks-next, tracks-add, tracks-still, tracks-clash}
 use Rattle.scanning.specs.declared.Piece.{Piece}
 use Rattle.scanning.specs.Pieces.{capped, pieceOf}
 use Rattle.reading.specs.declared.At.{At}

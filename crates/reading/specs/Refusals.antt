@@ -10,8 +10,8 @@ use Rattle.order.specs.Values.{kindOf}
 use Rattle.text.specs.Sizes.{mostDigits, largestInteger, longestString, largestNumber, mostFields}
 use Rattle.text.specs.Marks.{Mark}
 use Rattle.text.specs.Read.{Reason, fields, terms, limits, linear, variable, Outcome, refused}
-use Rattle.terms.specs.declared.Lists.{Lists}
-use Rattle.terms.specs.Lists.{noLists, nextField, stillOk, addList}
+use Rattle.linearity.specs.declared.Lists.{Lists}
+use Rattle.linearity.specs.Lists.{noLists, nextField, stillOk, addList}
 use Rattle.scanning.specs.declared.Piece.{Piece}
 use Rattle.scanning.specs.declared.Spelled.{Spelled}
 use Rattle.scanning.specs.declared.Spelled.the-variants.{Int, Str, Var, Empty}

@@ -1,4 +1,1 @@
 pub mod Values
-pub mod Filled
-pub mod Lists
-pub mod Accepted

@@ -81,3 +81,7 @@ encodeSlipField ts = record { n = length ts; terms = encodeTerms (slip .width) t
 
 abbrev pub encodeSlip : List (List OurTerm) → Slip
 encodeSlip s = record { n = length s; fields = pad mostFields blankSlipField (map encodeSlipField s) }
+
+-- the rule with one field
+abbrev pub oneField : Field → Rule
+oneField f = record { n = 1; fields = f ∷ (blankField ∷ (blankField ∷ (blankField ∷ []))) }

@@ -12,7 +12,7 @@ use borrow.Author.Tests.{le-leb, lt-leb}
 use Rattle.text.specs.Plain.{plain}
 use Rattle.terms.specs.declared.Rule.{Rule}
 use Rattle.terms.specs.Values.{viewRule}
-use Rattle.terms.specs.Accepted.{acceptedRule, countedRule}
+use Rattle.accepted.specs.Accepted.{acceptedRule, countedRule}
 use Rattle.writing.specs.declared.Written.{Written}
 use Rattle.writing.specs.declared.Written.the-variants.{Bytes, TooSmall}
 use Rattle.writing.specs.Answers.{writtenOf, refusal, after}

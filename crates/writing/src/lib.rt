@@ -10,7 +10,7 @@ ghost use Rattle.text.specs.Grammar.{raw-str, spell};
 ghost use Rattle.text.specs.Numbers.{digitsOf};
 ghost use Rattle.text.specs.Plain.{termText, fieldText, plain};
 ghost use Rattle.terms.specs.Values.{viewTerm, viewField, viewRule};
-ghost use Rattle.terms.specs.Accepted.{countedRule, countedField};
+ghost use Rattle.accepted.specs.Accepted.{countedRule, countedField};
 ghost use Rattle.writing.specs.Room.{Room, Put};
 ghost use Rattle.writing.specs.Answers.{writtenOf, after};
 use order::Kind;
@@ -205,7 +205,7 @@ fn put_rule(r: Rule, out: &mut [u8], at: usize) -> usize
 pub fn write_rule(r: Rule, out: &mut [u8]) -> Written
     ensures { λ w. ⌜ (w ≡ writtenOf (plain (countedRule r)) (now (out .entry))) × (now (out .exit) ≡ after (plain (countedRule r)) (now (out .entry))) ⌝ }
 {
-    if !terms::is_rule(r) {
+    if !accepted::is_rule(r) {
         return Written::Bytes(0);
     }
     let need = rule_size(r);

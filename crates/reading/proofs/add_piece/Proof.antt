@@ -6,7 +6,7 @@ use Rattle.reading.proofs.add_piece.Tie as tie
 use Rattle.reading.proofs.add_piece.Reads as reads
 use Rattle.reading.proofs.add_piece.Lts as lts
 use Rattle.reading.proofs.is_list.Reads as is-list-reads
-use Rattle.terms.proofs.Lists.add.Reads as add-reads
+use Rattle.linearity.proofs.Lists.add.Reads as add-reads
 
 -- src/lib.rt:193:25
 enum-told : tie.Need-enum-told

@@ -1,4 +1,4 @@
-use Rattle.terms.specs.declared.Lists.{Lists}
+use Rattle.linearity.specs.declared.Lists.{Lists}
 use mathlib.Core.Path.{_≡_, refl, sym, _∙_, ap, ap₂}
 use borrow.Author.Tests.{lt-ltb, le-ltb, eq-eqb, ne-eqb, not-true, not-false}
 use borrow.Author.Needs.{needs}
@@ -7,7 +7,7 @@ use Rattle.reading.proofs.linear_refusal.Tie as tie
 use Rattle.reading.proofs.linear_refusal.Reads as reads
 use Rattle.reading.proofs.linear_refusal.Lts as lts
 use Rattle.reading.proofs.is_list.Reads as is-list-reads
-use Rattle.terms.proofs.Lists.add.Reads as add-reads
+use Rattle.linearity.proofs.Lists.add.Reads as add-reads
 
 -- src/lib.rt:143:25
 enum-told : tie.Need-enum-told

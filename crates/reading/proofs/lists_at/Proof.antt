@@ -5,7 +5,7 @@ use Rattle.reading.proofs.lists_at.Statement.{statement}
 use Rattle.reading.proofs.lists_at.Tie as tie
 use Rattle.reading.proofs.lists_at.Reads as reads
 use Rattle.reading.proofs.lists_at.Lts as lts
-use Rattle.terms.proofs.Lists.next_field.Reads as next-field-reads
+use Rattle.linearity.proofs.Lists.next_field.Reads as next-field-reads
 
 -- src/lib.rt:209:9
 next-field-requires : tie.Need-next-field-requires

@@ -14,7 +14,7 @@ use Rattle.reading.proofs.survey_of.Lts as lts
 use Rattle.reading.proofs.behind.Reads as behind-reads
 use Rattle.reading.proofs.note.Reads as note-reads
 use Rattle.scanning.proofs.piece_at.Reads as piece-at-reads
-use Rattle.terms.proofs.Lists.none.Reads as none-reads
+use Rattle.linearity.proofs.Lists.none.Reads as none-reads
 
 abbrev Inv-loop : tie.InvT-loop
 Inv-loop text slip width s₀ a₀ s a = (length text ≤ 8192) × Walked (surveyMark slip width) text nothingYet a s

@@ -4,7 +4,7 @@ use Prim.Native.Nat.{_-_}
 use native.Mathlib.Omega.{arith}
 use lib.ListN.{length}
 use borrow.Author.Needs.{needs}
-use Rattle.terms.proofs.Filled.{long-mapped}
+use Rattle.lists.specs.Seqs.{long-mapped}
 use Rattle.writing.proofs.Rows.{terms, no-term, row-none, Counting, counting-start, counting-next, counting-last}
 use Rattle.writing.proofs.field_size.Statement.{statement}
 use Rattle.writing.proofs.field_size.Tie as tie

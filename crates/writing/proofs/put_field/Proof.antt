@@ -4,7 +4,7 @@ use Prim.Native.Nat.{_-_}
 use native.Mathlib.Omega.{arith}
 use lib.ListN.{length, length-set}
 use borrow.Author.Needs.{needs}
-use Rattle.terms.proofs.Filled.{long-mapped}
+use Rattle.lists.specs.Seqs.{long-mapped}
 use Rattle.writing.proofs.Stores.{put-as}
 use Rattle.writing.proofs.Rows.{terms, no-term, row-none, Writing, writing-first, writing-start, writing-room, writing-next, writing-last, writing-whole}
 use Rattle.writing.proofs.put_field.Statement.{statement}

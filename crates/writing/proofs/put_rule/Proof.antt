@@ -5,7 +5,7 @@ use native.Mathlib.Nat.{add-zero}
 use native.Mathlib.Omega.{arith}
 use lib.ListN.{length, length-set}
 use borrow.Author.Needs.{needs}
-use Rattle.terms.proofs.Filled.{long-mapped}
+use Rattle.lists.specs.Seqs.{long-mapped}
 use Rattle.writing.proofs.Stores.{put-as}
 use Rattle.writing.proofs.Rows.{fields, no-field, row-none, Writing, writing-first, writing-start, writing-room, writing-next, writing-last, writing-whole}
 use Rattle.writing.proofs.put_rule.Statement.{statement}

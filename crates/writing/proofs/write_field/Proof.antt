@@ -3,7 +3,7 @@ use mathlib.Core.Path.{subst}
 use borrow.Author.Needs.{needs}
 use Rattle.text.specs.Plain.{plain}
 use Rattle.terms.specs.declared.Rule.{Rule}
-use Rattle.terms.specs.Accepted.{countedRule}
+use Rattle.accepted.specs.Accepted.{countedRule}
 use Rattle.writing.proofs.Answers.{Answers}
 use Rattle.writing.proofs.write_field.Statement.{statement}
 use Rattle.writing.proofs.write_field.Tie as tie

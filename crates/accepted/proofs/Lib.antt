@@ -1,0 +1,5 @@
+pub mod Filled
+pub mod Folds
+pub mod Arrays
+pub mod Terms
+pub mod Accepted
