@@ -1,1 +1,1 @@
-// The mathematics that every layer cites, without structs: specs only.
+// The mathematics that every layer cites, without structs: specs and their proofs only.

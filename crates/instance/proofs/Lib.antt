@@ -1,0 +1,4 @@
+pub mod Linear
+pub mod Matching
+pub mod Written
+pub mod Examples

@@ -1,0 +1,3 @@
+pub mod Constants
+pub mod Matching
+pub mod Written

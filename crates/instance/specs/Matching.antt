@@ -1,0 +1,31 @@
+-- Matching of document 01's rules and slips: the theory's definitions at its constants.
+use mathlib.Core.Option.{Option}
+use mathlib.Core.List.{List, [], _∷_}
+use Prim.Native.Nat.{ℕ}
+use native.Mathlib.Decide.{ℕ-discrete}
+use Rattle.order.specs.Types.{Kind, basics}
+use Rattle.theory.specs.Terms.{con, var}
+use Rattle.theory.specs.Fillings.{Filling}
+use Rattle.theory.specs.Matching as definition
+use Rattle.theory.specs.Matcher as executable
+use Rattle.theory.specs.Compared as counted
+use Rattle.text.specs.Terms.{Con, OurTerm}
+use Rattle.instance.specs.Constants.{consts}
+
+-- a slip's field as it is read, without variables: its constants
+abbrev pub constants : List OurTerm → List Con
+constants [] = []
+constants (con c ∷ f) = c ∷ constants f
+constants (var k a ∷ f) = constants f
+
+-- demand 2's matching
+abbrev pub Matches : List (List OurTerm) → List (List Con) → Type 0
+Matches rule slip = definition.Matches basics consts rule slip
+
+-- the filling that matches, if there is one
+abbrev pub matcher : List (List OurTerm) → List (List Con) → Option (Filling Con Kind ℕ)
+matcher rule slip = executable.matcher basics consts ℕ-discrete rule slip
+
+-- how many of the slip's items are compared
+abbrev pub compared : List (List OurTerm) → List (List Con) → ℕ
+compared rule slip = counted.compared basics consts ℕ-discrete rule slip

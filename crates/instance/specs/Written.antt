@@ -1,0 +1,25 @@
+-- A rule and a slip as they are written, as GP 2's expressions: the terms of a field joined by `:`, `empty` among them.
+-- `written-matches` of proofs/Written says that dropping `empty` and the brackets changes nothing.
+use mathlib.Core.List.{List, [], _∷_}
+use Rattle.theory.specs.Terms.{con, var}
+use Rattle.theory.specs.Laws.{Expr, empty, term, _⦂_, replace}
+use Rattle.text.specs.Grammar.{Raw, raw-int, raw-str, raw-var, raw-empty}
+use Rattle.text.specs.Numbers.{value}
+use Rattle.text.specs.Terms.{Con, int, str, OurTerm}
+use Rattle.instance.specs.Matching.{constants}
+
+abbrev pub writtenTerm : Raw → Expr OurTerm
+writtenTerm (raw-int ds) = term (con (int (value ds)))
+writtenTerm (raw-str s) = term (con (str s))
+writtenTerm (raw-var k ds) = term (var k (value ds))
+writtenTerm raw-empty = empty
+
+-- document 01: "terms separated by `:`"
+abbrev pub writtenField : List Raw → Expr OurTerm
+writtenField [] = empty
+writtenField (r ∷ []) = writtenTerm r
+writtenField (r ∷ (s ∷ rs)) = writtenTerm r ⦂ writtenField (s ∷ rs)
+
+-- a slip's field, which has no variables, over the constants
+abbrev pub writtenItems : List Raw → Expr Con
+writtenItems f = replace (λ t. constants (t ∷ [])) (writtenField f)

@@ -1,0 +1,1 @@
+// The theory at document 01's types, constants and variables. Specs and their proofs only.

@@ -1,0 +1,9 @@
+pub mod Seqs
+pub mod Fillings
+pub mod Laws
+pub mod Slices
+pub mod Matching
+pub mod Steps
+pub mod Fresh
+pub mod Matcher
+pub mod Compared
