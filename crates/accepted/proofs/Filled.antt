@@ -1,13 +1,13 @@
 -- Laws of arrays that are filled up to a place: one step of a loop over the places, and where the loop ends.
 use mathlib.Core.Path.{_≡_, refl, sym, _∙_, ap}
 use mathlib.Core.Bool.{Bool, true, false, _&&_, cond, not}
-use mathlib.Core.List.{List, [], _∷_, map}
+use mathlib.Core.List.{List, [], _∷_}
 use Prim.Native.Nat.{ℕ, zero, suc, _+_, _-_, _<_, _≤_}
 use native.Mathlib.Numerals.{add-one}
 use native.Mathlib.Omega.{arith}
 use borrow.Author.Tests.{lt-ltb, le-ltb, eq-eqb, not-true, not-false}
-use lib.Dec.{eqb, ltb}
-use lib.ListN.{length, getD, drop, length-map, drop-of-length-le}
+use lib.Dec.{ltb}
+use lib.ListN.{length, getD, drop, drop-of-length-le}
 use lib.Seq.{drop-cons}
 use Rattle.accepted.specs.Filled.{filled, filledTo}
 

@@ -1,13 +1,12 @@
 -- The values that reading can return, as a test; every other value counts as one with no fields.
 -- `rule-value-iff`, `slip-value-iff` of proofs/Accepted say that these are exactly the values that some text is read as.
 use mathlib.Core.Bool.{Bool, true, false, _&&_, not, cond}
-use mathlib.Core.List.{List, [], _∷_}
+use mathlib.Core.List.{List, []}
 use Prim.Native.Nat.{ℕ}
 use lib.Dec.{eqb, leb, ltb}
-use lib.ListN.{length, replicate}
 use Rattle.text.specs.Sizes.{largestInteger, longestString, largestNumber, mostFields}
 use Rattle.text.specs.Terms.{OurTerm}
-use Rattle.text.specs.Read.{Sort, rule, slip}
+use Rattle.text.specs.Read.{rule, slip}
 use Rattle.terms.specs.declared.Form.{Form}
 use Rattle.terms.specs.declared.Form.the-variants.{Int, Str, Var}
 use Rattle.terms.specs.declared.Term.{Term}
@@ -15,7 +14,7 @@ use Rattle.terms.specs.declared.Field.{Field}
 use Rattle.terms.specs.declared.Rule.{Rule}
 use Rattle.terms.specs.declared.SlipField.{SlipField}
 use Rattle.terms.specs.declared.Slip.{Slip}
-use Rattle.accepted.specs.Filled.{filled, filledTo}
+use Rattle.accepted.specs.Filled.{filledTo}
 use Rattle.linearity.specs.Lists.{linear}
 use Rattle.terms.specs.Values.{viewRule, viewSlip, oneField}
 

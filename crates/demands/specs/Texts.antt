@@ -2,28 +2,26 @@
 --     reading::read_rule    answers `ruleRead (readRule t)`
 --     reading::read_slip    answers `slipRead (readSlip t)`
 --     writing::write_rule   writes `plain (countedRule v)`, in front of the old bytes, or refuses by 8 and leaves all of them
-use mathlib.Core.Path.{_≡_, refl, sym, _∙_, ap, subst}
+use mathlib.Core.Path.{_≡_, refl, sym, _∙_, ap}
 use mathlib.Core.Logic.{_≢_, _↔_, Iff·trans}
 use mathlib.Core.Bool.{Bool, true, false, cond}
-use mathlib.Core.List.{List, [], _∷_}
+use mathlib.Core.List.{List, []}
 use Prim.Native.Nat.{ℕ}
 use native.Mathlib.Omega.{arith}
 use Rattle.text.specs.Terms.{OurTerm}
 use Rattle.text.specs.Read.{Outcome, refused, accepted, readRule, readSlip, Refuses, NoReason, rule, slip}
 use Rattle.text.specs.Read as read
-use Rattle.text.specs.Limits.{IsRule}
 use Rattle.text.specs.Plain.{plain}
 use Rattle.text.proofs.Accepted.{rule-read, rule-plain}
 use Rattle.text.proofs.Theorems.{earlier, rule-refused, slip-refused, plain-injective}
 use Rattle.terms.specs.declared.Rule.{Rule}
 use Rattle.terms.specs.Values.{viewRule, encodeRule}
 use Rattle.accepted.specs.Accepted.{acceptedRule, countedRule}
-use Rattle.accepted.proofs.Accepted.{accepted-rule, encode-accepted-rule, view-encode-rule, rule-value-iff}
+use Rattle.accepted.proofs.Accepted.{accepted-rule, encode-accepted-rule, view-encode-rule}
 use Rattle.reading.specs.declared.Reason.{Reason}
 use Rattle.reading.specs.declared.Reason.the-variants.{Long, Grammar, Fields, Terms, Limits, Linear, Variable}
-use Rattle.reading.specs.declared.Verdict.{Verdict}
 use Rattle.reading.specs.declared.Verdict.the-variants.{Accepted, Refused}
-use Rattle.reading.specs.Answers.{reasonFrom, numberOf, verdictOf, ruleRead, slipRead}
+use Rattle.reading.specs.Answers.{reasonFrom, numberOf, verdictOf, ruleRead}
 
 -- ---- refusals
 

@@ -1,14 +1,14 @@
 -- Of a text without refusals, the terms put one by one into fields and the fields into the whole make the one value of what the text says.
-use mathlib.Core.Path.{_≡_, refl, sym, _∙_, ap, ap₂, subst}
+use mathlib.Core.Path.{_≡_, refl, sym, _∙_, ap, ap₂}
 use mathlib.Core.Logic.{_≢_, _⊎_, inl, inr}
-use mathlib.Core.Bool.{Bool, true, false, cond, _&&_}
+use mathlib.Core.Bool.{Bool, true, false, _&&_}
 use mathlib.Core.List.{List, [], _∷_, _++_, map, foldl, append-nil, append-assoc, map-append}
 use mathlib.Core.List.{foldl-append}
-use Prim.Native.Nat.{ℕ, zero, suc, _+_, _-_, _%_, _<_, _≤_, min}
+use Prim.Native.Nat.{ℕ, suc, _+_, _-_, _%_, _<_, _≤_, min}
 use native.Mathlib.Numerals.{add-one}
 use native.Mathlib.Omega.{arith}
-use borrow.Author.Tests.{lt-ltb, le-ltb, eq-eqb, ne-eqb}
-use lib.Dec.{eqb, ltb}
+use borrow.Author.Tests.{lt-ltb, ne-eqb}
+use lib.Dec.{ltb}
 use lib.ListN.{length, getD, take, drop, set, replicate, length-append, length-map, length-drop}
 use lib.Seq.{set-append-seam, take-all, take-suc, length-take-le, getD-drop}
 use Rattle.lists.specs.Seqs.{All}
@@ -18,17 +18,14 @@ use Rattle.text.specs.Grammar.{Raw, raw-int, raw-str, raw-var, raw-empty, spell
 use Rattle.text.specs.Numbers.{value}
 use Rattle.text.specs.Marks.{Mark, marks, marksF, marksT, Over}
 use Rattle.text.specs.Terms.{OurTerm, termOf, fieldOf, fieldsOf}
-use Rattle.text.specs.Read.{Sort, rule, slip}
+use Rattle.text.specs.Read.{rule, slip}
 use Rattle.terms.specs.declared.Term.{Term}
-use Rattle.terms.specs.declared.Form.{Form}
 use Rattle.terms.specs.declared.Form.the-variants.{Int, Str, Var}
 use Rattle.terms.specs.declared.Field.{Field}
-use Rattle.terms.specs.declared.Rule.{Rule}
 use Rattle.terms.specs.declared.SlipField.{SlipField}
-use Rattle.terms.specs.declared.Slip.{Slip}
-use Rattle.terms.specs.Values.{pad, blankTerm, blankField, blankRule, blankSlipField, blankSlip, encodeTerm, encodeField, encodeRule, encodeSlipField, encodeSlip}
+use Rattle.terms.specs.Values.{pad, blankTerm, blankField, blankSlipField, encodeTerm, encodeField, encodeRule, encodeSlipField, encodeSlip}
 use Rattle.scanning.specs.Pieces.{capped}
-use Rattle.reading.specs.Build.{termFrom, isEmpty, pushTerm, addRaw, pushField, pushItem, addItem, pushSlipField, turns, Building, turned, put, whole, builtRule, builtSlip}
+use Rattle.reading.specs.Build.{termFrom, isEmpty, addRaw, pushField, addItem, pushSlipField, turns, turned, put, whole, builtRule, builtSlip}
 
 -- one more in the place behind the used ones
 pad-set : {A : Type 0} (w : ℕ) (d : A) (s : List A) (a : A) → length s < w → set (pad w d s) (length s) a ≡ pad w d (s ++ a ∷ [])

@@ -1,11 +1,10 @@
 -- A loop over the terms of a text, from place to place, folds a function over the terms' marks.
 use mathlib.Core.Path.{_≡_, refl, sym, _∙_, ap, ap₂, subst}
 use mathlib.Core.Bool.{Bool, true, false, cond}
-use mathlib.Core.List.{List, [], _∷_, foldl}
-use Prim.Native.Nat.{ℕ, suc, _+_, _-_, _<_, _≤_}
+use mathlib.Core.List.{List, foldl}
+use Prim.Native.Nat.{ℕ, _+_, _-_, _<_, _≤_}
 use native.Mathlib.Omega.{arith}
 use lib.ListN.{length, drop, length-drop}
-use Rattle.text.specs.Grammar.{spell}
 use Rattle.text.specs.Marks.{Mark}
 use Rattle.text.specs.Walk.{front, walk, walked}
 use Rattle.scanning.specs.declared.Piece.{Piece}

@@ -1,22 +1,22 @@
 -- Going through a text from place to place meets its terms one by one.
-use mathlib.Core.Path.{_≡_, refl, sym, _∙_, ap, ap₂, subst}
-use mathlib.Core.Logic.{ite, if-pos, if-neg}
+use mathlib.Core.Path.{_≡_, refl, sym, _∙_, ap, ap₂}
+use mathlib.Core.Logic.{ite}
 use mathlib.Core.Bool.{Bool, true, false, _&&_, cond}
-use mathlib.Core.List.{List, [], _∷_, _++_}
+use mathlib.Core.List.{List, [], _∷_}
 use Prim.Native.Nat.{ℕ, zero, suc, _+_, _-_, _<_, _≤_}
 use native.Mathlib.Numerals.{add-one}
 use native.Mathlib.Omega.{arith}
 use native.Mathlib.Decide.{ℕ-discrete, decLt}
 use borrow.Author.Tests.{lt-ltb, le-ltb, eq-eqb, ne-eqb}
-use lib.Dec.{eqb, ltb}
+use lib.Dec.{eqb}
 use lib.ListN.{length, getD, drop, length-append, length-drop, drop-of-length-le}
-use lib.Seq.{drop-cons, drop-drop, length-take-le}
+use lib.Seq.{drop-cons, drop-drop}
 use Rattle.lists.specs.Seqs.{IsCons}
 use Rattle.text.specs.Bytes.{Digit, digit?, Begins, b-digit, b-quote, b-letter, b-e, b-none, begins}
 use Rattle.text.specs.Grammar.{Raw, raw-int, raw-str, raw-var, raw-empty, spell}
 use Rattle.text.specs.Marks.{Mark}
-use Rattle.text.specs.Walk.{digits1, leadingDigits, quote1, untilQuote, frontB, front, walkOn, walk, walked}
-use Rattle.text.proofs.Walk.{next, walk-step}
+use Rattle.text.specs.Walk.{digits1, leadingDigits, quote1, untilQuote, frontB, front, walkOn, walk}
+use Rattle.text.proofs.Walk.{walk-step}
 use Rattle.scanning.specs.declared.Piece.{Piece}
 use Rattle.scanning.specs.declared.Spelled.{Spelled}
 use Rattle.scanning.specs.declared.Spelled.the-variants.{Int, Str, Var, Empty}

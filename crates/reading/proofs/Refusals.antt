@@ -1,29 +1,28 @@
 -- One pass finds the first refusal from 3 on that applies, and its leftmost place.
 use mathlib.Core.Path.{_≡_, refl, sym, _∙_, ap, ap₂, subst}
-use mathlib.Core.Logic.{_≢_, _↔_, _⊎_, inl, inr, ite, if-pos, if-neg}
-use mathlib.Core.Bool.{Bool, true, false, _&&_, _||_, cond, not, false≢true}
-use mathlib.Core.Option.{Option, none, some, Option·map}
+use mathlib.Core.Logic.{_≢_, _↔_, _⊎_, inl, inr, ite}
+use mathlib.Core.Bool.{Bool, true, false, _||_, cond}
+use mathlib.Core.Option.{some, Option·map}
 use mathlib.Core.List.{List, [], _∷_, _++_, foldl, append-nil}
-use Prim.Native.Nat.{ℕ, zero, suc, _+_, _-_, _<_, _≤_, min}
+use Prim.Native.Nat.{ℕ, zero, suc, _+_, _-_, _<_, _≤_}
 use native.Mathlib.Omega.{arith}
-use native.Mathlib.Decide.{ℕ-discrete, decLt}
+use native.Mathlib.Decide.{decLt}
 use borrow.Author.Tests.{lt-ltb, le-ltb, eq-eqb, ne-eqb}
-use lib.Dec.{eqb, ltb, leb·suc-suc}
+use lib.Dec.{ltb}
 use lib.ListN.{length, take}
 use Rattle.lists.specs.Seqs.{All, Any}
 use Rattle.order.specs.Order.{basic, list}
-use Rattle.order.specs.Types.{integer, string, atom}
 use Rattle.order.specs.Values.{kindOf, kindFrom, kindOf-from}
 use Rattle.text.specs.Sizes.{mostDigits, largestInteger, longestString, largestNumber, mostFields}
 use Rattle.text.specs.Grammar.{Raw, raw-int, raw-str, raw-var, raw-empty, spell, spellF, FieldOk}
 use Rattle.text.specs.Numbers.{value}
 use Rattle.text.specs.Leftmost.{leftmost}
 use Rattle.text.specs.Marks.{Mark, marks, marksF, marksT, FifthField, TooMany, Over, over?, fifth?, many?, listNo, Occ, occ, occs, Clash, ClashOf, clashOf?, IsVar, isVar?}
-use Rattle.text.specs.Read.{Reason, fields, terms, limits, linear, variable, Bad, bad?, placeOfMark, Outcome, refused, tell}
+use Rattle.text.specs.Read.{Reason, Bad, bad?, placeOfMark, Outcome, tell}
 use Rattle.text.proofs.Fields.{occs-append}
 use Rattle.linearity.specs.declared.Lists.{Lists}
 use Rattle.linearity.specs.Lists.{noLists, nextField, stillOk, addList}
-use Rattle.linearity.proofs.Linear.{Tracks, tracks-none, tracks-next, tracks-add, tracks-still, tracks-clash}
+use Rattle.linearity.proofs.Linear.{Tracks, tracks-none, tracks-next, tracks-add, tracks-clash}
 use Rattle.scanning.specs.declared.Piece.{Piece}
 use Rattle.scanning.specs.Pieces.{capped, pieceOf}
 use Rattle.reading.specs.declared.At.{At}

@@ -5,21 +5,20 @@ use Prim.Native.Nat.{ℕ, zero, suc, _+_, _%_, _<_, _≤_, min}
 use native.Mathlib.Numerals.{add-one}
 use native.Mathlib.Omega.{arith}
 use native.Mathlib.Decide.{ℕ-discrete}
-use lib.ListN.{length, getD, take, drop, replicate, length-take}
-use lib.Seq.{drop-cons, take-take, take-all}
+use lib.ListN.{length, getD, take, drop, replicate}
+use lib.Seq.{drop-cons, take-all}
 use Rattle.order.specs.declared.Kind.{Kind}
 use Rattle.order.specs.Values.{kindFrom}
 use Rattle.text.specs.Sizes.{longestString}
 use Rattle.text.specs.Bytes.{Begins, b-digit, b-quote, b-letter, b-e, b-none, begins}
 use Rattle.text.specs.Grammar.{Raw, raw-int, raw-str, raw-var, raw-empty}
 use Rattle.text.specs.Walk.{leadingDigits, quote1, untilQuote, frontB, front}
-use Rattle.terms.specs.declared.Term.{Term}
 use Rattle.terms.specs.declared.Form.the-variants as form
 use Rattle.terms.specs.Values.{pad, blankTerm}
 use Rattle.scanning.specs.declared.Piece.{Piece}
 use Rattle.scanning.specs.declared.Spelled.{Spelled}
 use Rattle.scanning.specs.declared.Spelled.the-variants.{Int, Str, Var, Empty}
-use Rattle.scanning.specs.Pieces.{capped, pieceOf}
+use Rattle.scanning.specs.Pieces.{pieceOf}
 use Rattle.reading.specs.Build.{termFrom, isEmpty, emptyBy}
 
 never : {A : Type 0} (n : ℕ) → _≡_ {A = ℕ} 0 1 → A

@@ -1,22 +1,20 @@
 -- What the code does case by case is reading.
 use mathlib.Core.Path.{_≡_, refl, sym, _∙_, ap, ap₂, subst}
-use mathlib.Core.Logic.{_≢_, _↔_, _⊎_, inl, inr, ite, if-pos, if-neg}
+use mathlib.Core.Logic.{if-pos, if-neg}
 use mathlib.Core.Bool.{Bool, true, false}
-use mathlib.Core.Option.{Option, none, some, Option·map}
+use mathlib.Core.Option.{Option, none, some}
 use mathlib.Core.List.{List, [], _∷_, foldl}
-use Prim.Native.Nat.{ℕ, zero, suc, _+_, _-_, _<_, _≤_}
+use Prim.Native.Nat.{ℕ, zero, suc, _-_, _<_, _≤_}
 use native.Mathlib.Omega.{arith}
 use native.Mathlib.Decide.{decLt}
-use lib.ListN.{length, length-map}
+use lib.ListN.{length}
 use Rattle.lists.specs.Seqs.{All}
-use Rattle.text.specs.Sizes.{mostFields}
-use Rattle.text.specs.Grammar.{Raw, FieldOk, TextOk, Says, Grammar}
+use Rattle.text.specs.Grammar.{Raw, Says}
 use Rattle.text.specs.Machine.{place2}
-use Rattle.text.specs.Leftmost.{leftmost, NoneOf}
 use Rattle.text.specs.Marks.{Mark, marks, FifthField, TooMany, MarkOver, Over}
 use Rattle.text.specs.Terms.{OurTerm, fieldsOf}
 use Rattle.text.specs.Walk.{walked}
-use Rattle.text.specs.Read.{Reason, long, grammar, fields, terms, limits, linear, variable, Sort, rule, slip, Bad, bad?, placeOfMark, Refuses, said, longer, placeOf, Never, NoReason, Outcome, refused, accepted, tell, chain, read, readRule, readSlip}
+use Rattle.text.specs.Read.{Reason, long, grammar, fields, terms, limits, Sort, rule, slip, Refuses, said, placeOf, NoReason, Outcome, refused, accepted, tell, chain, read, readRule, readSlip}
 use Rattle.text.proofs.Place.{place2-none}
 use Rattle.text.proofs.Walk.{walk-says}
 use Rattle.text.proofs.Leftmost.{none-all}
@@ -25,14 +23,12 @@ use Rattle.text.proofs.Read.{read-accepted}
 use Rattle.text.proofs.Accepted.{Base, in-grammar, said-is, clean-to}
 use Rattle.terms.specs.declared.Rule.{Rule}
 use Rattle.terms.specs.declared.Slip.{Slip}
-use Rattle.terms.specs.Values.{blankRule, blankSlip, encodeRule, encodeSlip}
+use Rattle.terms.specs.Values.{blankRule, blankSlip}
 use Rattle.scanning.specs.declared.Found.{Found}
 use Rattle.scanning.specs.declared.Found.the-variants as found
 use Rattle.scanning.specs.Places.{foundOf}
 use Rattle.reading.specs.declared.Verdict.{Verdict}
 use Rattle.reading.specs.declared.Verdict.the-variants.{Accepted, Refused}
-use Rattle.reading.specs.declared.RuleRead.{RuleRead}
-use Rattle.reading.specs.declared.SlipRead.{SlipRead}
 use Rattle.reading.specs.declared.Survey.{Survey}
 use Rattle.reading.specs.Build.{builtRule, builtSlip}
 use Rattle.reading.specs.Refusals.{surveyMark, nothingYet, lastReason, reasons, refusedAt, outcome}

@@ -1,7 +1,7 @@
 -- The value of a text: each term into the field, each field into the rule or the slip.
 -- `rule-built`, `slip-built` of proofs/Build say that, of a text without refusals, this is the one value of what it says.
 use mathlib.Core.Bool.{Bool, true, false, cond, _&&_}
-use mathlib.Core.List.{List, [], _∷_, foldl}
+use mathlib.Core.List.{List, foldl}
 use Prim.Native.Nat.{ℕ, _+_, _%_, min}
 use lib.Dec.{eqb, ltb}
 use lib.ListN.{length, take, set, replicate}
@@ -10,8 +10,7 @@ use Rattle.text.specs.Sizes.{longestString, mostFields}
 use Rattle.text.specs.Grammar.{Raw, raw-int, raw-str, raw-var, raw-empty}
 use Rattle.text.specs.Numbers.{value}
 use Rattle.text.specs.Marks.{Mark}
-use Rattle.text.specs.Read.{Sort, rule, slip}
-use Rattle.terms.specs.declared.Form.{Form}
+use Rattle.text.specs.Read.{rule, slip}
 use Rattle.terms.specs.declared.Form.the-variants.{Int, Str, Var}
 use Rattle.terms.specs.declared.Term.{Term}
 use Rattle.terms.specs.declared.Field.{Field}

@@ -1,10 +1,10 @@
 -- Going through a text from the left: where a term stands, and where the next one does.
 use mathlib.Core.Bool.{Bool, _&&_, cond}
-use mathlib.Core.List.{List, [], _∷_}
+use mathlib.Core.List.{List}
 use Prim.Native.Nat.{ℕ, _+_, _-_}
 use lib.Dec.{eqb, ltb}
 use lib.ListN.{length, getD, drop}
-use Rattle.text.specs.Grammar.{Raw, spell}
+use Rattle.text.specs.Grammar.{Raw}
 use Rattle.text.specs.Marks.{Mark}
 use Rattle.text.specs.Walk.{front, walk}
 use Rattle.scanning.specs.declared.Piece.{Piece}

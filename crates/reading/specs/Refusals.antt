@@ -1,6 +1,6 @@
 -- All refusals from 3 on in one pass: the lowest number that some term meets, and the place of the first that meets it.
 -- `survey-is` of proofs/Refusals says that this is the first refusal that applies, at its leftmost place.
-use mathlib.Core.Bool.{Bool, true, false, not, cond, _&&_, _||_}
+use mathlib.Core.Bool.{Bool, true, false, cond, _||_}
 use mathlib.Core.List.{List, [], _∷_}
 use Prim.Native.Nat.{ℕ, zero, suc, _-_}
 use lib.Dec.{eqb, ltb}
@@ -18,7 +18,6 @@ use Rattle.scanning.specs.declared.Spelled.the-variants.{Int, Str, Var, Empty}
 use Rattle.scanning.specs.Pieces.{pieceOf}
 use Rattle.reading.specs.declared.At.{At}
 use Rattle.reading.specs.declared.Survey.{Survey}
-use Rattle.reading.specs.Places.{markAt}
 
 -- refusal 5
 abbrev pub overBy : Spelled → ℕ → ℕ → Bool

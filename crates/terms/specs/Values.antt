@@ -6,7 +6,7 @@ use Rattle.order.specs.Values.{kindOf, kindFrom}
 use Rattle.theory.specs.Terms.{con, var}
 use Rattle.text.specs.Terms.{OurTerm, int, str}
 use Rattle.text.specs.Sizes.{longestString, mostFields}
-use Rattle.text.specs.Read.{Sort, rule, slip}
+use Rattle.text.specs.Read.{rule, slip}
 use Rattle.terms.specs.declared.Form.{Form}
 use Rattle.terms.specs.declared.Form.the-variants.{Int, Str, Var}
 use Rattle.terms.specs.declared.Term.{Term}

@@ -2,19 +2,19 @@
 use Prim.Native.Nat.{ℕ}
 use Prim.Native.String as S
 use Prim.Native.String.{String}
-use Prim.Native.Char.{Char, code}
+use Prim.Native.Char.{code}
 use mathlib.Core.Path.{_≡_, refl}
-use mathlib.Core.List.{List, [], _∷_, map, _++_}
+use mathlib.Core.List.{List, [], _∷_, map}
 use native.Mathlib.Decide.{ℕ-discrete, decLe, decLt}
 use lib.ListN.{replicate, length}
 use Rattle.lists.specs.Seqs.{any?}
 use Rattle.order.specs.Order.{basic, list}
-use Rattle.order.specs.Types.{integer, string, atom}
+use Rattle.order.specs.Types.{atom}
 use Rattle.theory.specs.Terms.{con, var}
 use Rattle.text.specs.Bytes.{digit?, begins, follows, first, holds}
 use Rattle.text.specs.Marks.{fifth?, many?, over?, clash?, clashOf?}
-use Rattle.text.specs.Terms.{OurTerm, int, str}
-use Rattle.text.specs.Read.{long, grammar, fields, terms, limits, linear, variable, Outcome, refused, accepted, readRule, readSlip}
+use Rattle.text.specs.Terms.{int, str}
+use Rattle.text.specs.Read.{long, grammar, fields, terms, limits, linear, variable, refused, accepted, readRule, readSlip}
 use Rattle.text.specs.Plain.{plain}
 
 unfoldable pub bytes : String → List ℕ

@@ -1,31 +1,20 @@
 -- No accepted text is longer than the longest plain text, and so none is near refusal 1.
-use mathlib.Core.Path.{_≡_, refl, sym, _∙_, ap, ap₂, subst}
-use mathlib.Core.Logic.{_≢_, _↔_, _⊎_, inl, inr, ite}
-use mathlib.Core.Option.{Option, none, some, Option·map, Option·getD}
-use mathlib.Core.List.{List, [], _∷_, _++_, map, append-nil, append-assoc}
-use Prim.Native.Nat.{ℕ, zero, suc, _+_, _*_, _≤_, _<_}
+use mathlib.Core.Path.{_≡_, sym, ap, subst}
+use mathlib.Core.Logic.{inl}
+use mathlib.Core.List.{List, [], _∷_}
+use Prim.Native.Nat.{ℕ, suc, _+_, _*_, _≤_, _<_}
 use native.Mathlib.Omega.{arith}
-use native.Mathlib.Decide.{decLe, decLt}
-use lib.ListN.{length, length-append, length-map}
-use Rattle.lists.specs.Seqs.{All, Any, IsCons, all-append, all-left, all-right, all-map}
-use Rattle.order.specs.Order.{basic, list}
-use Rattle.theory.specs.Terms.{con, var}
-use Rattle.text.specs.Sizes.{mostDigits, largestInteger, longestString, largestNumber, mostFields}
-use Rattle.text.specs.Bytes.{Digit, Inside}
-use Rattle.text.specs.Grammar.{Raw, raw-int, raw-str, raw-var, raw-empty, Number, Proper, FieldOk, TextOk, spell, spellF, colons, bars, spellT, Says, Grammar}
-use Rattle.text.specs.Machine.{parse, place2}
-use Rattle.text.specs.Place.{Answers, Stops}
-use Rattle.text.specs.Numbers.{value, digitsOf}
-use Rattle.text.specs.Leftmost.{NoneOf, FirstOf, leftmost, LeftmostAt}
-use Rattle.text.specs.Marks.{Mark, marks, marksF, marksT, FifthField, TooMany, Over, MarkOver, listNo, Occ, occ, occs, Clash, ClashOf, NotLinear, IsVar, MarkVar}
-use Rattle.text.specs.Terms.{OurTerm, int, str, termOf, fieldOf, fieldsOf}
-use Rattle.text.specs.Read.{Reason, long, grammar, fields, terms, limits, linear, variable, Sort, rule, slip, Bad, bad?, placeOfMark, FirstBad, Refuses, said, NoReason, Never, Outcome, refused, accepted, read, readRule, readSlip}
-use Rattle.text.specs.Plain.{rawOf, rawField, plain, TermOk, RuleOk}
-use Rattle.text.specs.Limits.{TermIn, Within, occT, occF, occR, Linear, IsCon, IsRule, IsSlip}
-use Rattle.text.proofs.Parse.{parse-complete, says-one}
-use Rattle.text.proofs.Place.{place2-is, place2-none}
-use Rattle.text.proofs.Numbers.{digits-value, digits-number, digits-ten, digits-one}
-use Rattle.text.proofs.Leftmost.{leftmost-is, none-not, Found, none-all, all-none}
+use lib.ListN.{length, length-append}
+use Rattle.lists.specs.Seqs.{All}
+use Rattle.text.specs.Sizes.{mostDigits}
+use Rattle.text.specs.Grammar.{Raw, raw-int, raw-str, raw-var, raw-empty, Proper, FieldOk, TextOk, spell, spellF, colons, bars, spellT}
+use Rattle.text.specs.Numbers.{value}
+use Rattle.text.specs.Leftmost.{NoneOf}
+use Rattle.text.specs.Marks.{marks, FifthField, TooMany, Over, MarkOver}
+use Rattle.text.specs.Terms.{OurTerm}
+use Rattle.text.specs.Read.{fields, terms, limits, Sort, rule, slip, Bad, accepted, readRule, readSlip}
+use Rattle.text.proofs.Numbers.{digits-ten, digits-one}
+use Rattle.text.proofs.Leftmost.{none-all}
 use Rattle.text.proofs.Read.{read-accepted}
 use Rattle.text.proofs.Fields.{few-to, width-to, each}
 use Rattle.text.proofs.Accepted.{Base, in-grammar, clean-to}

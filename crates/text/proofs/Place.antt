@@ -1,17 +1,17 @@
 -- The place of refusal 2 by the machine is the grammar's own, and there is none exactly when the text is of the grammar.
-use mathlib.Core.Path.{_≡_, refl, sym, _∙_, ap, ap₂, subst}
-use mathlib.Core.Logic.{_≢_, _↔_, _⊎_, inl, inr, ite}
-use mathlib.Core.Option.{Option, none, some, Option·map, Option·none-ne-some, Option·some-injective, IsSome}
-use mathlib.Core.List.{List, [], _∷_, _++_, append-assoc, append-nil, nil≢cons, cons≢nil, head-eq-of-cons-eq, tail-eq-of-cons-eq}
-use Prim.Native.Nat.{ℕ, zero, suc, _+_, _≤_, _<_}
+use mathlib.Core.Path.{_≡_, refl, sym, _∙_, ap, subst}
+use mathlib.Core.Logic.{_↔_, _⊎_, inl, inr, ite}
+use mathlib.Core.Option.{Option, none, some, Option·map, Option·none-ne-some, IsSome}
+use mathlib.Core.List.{List, [], _∷_, _++_, append-assoc}
+use Prim.Native.Nat.{ℕ, zero, suc, _≤_, _<_}
 use native.Mathlib.Omega.{arith}
 use native.Mathlib.Decide.{ℕ-discrete, decLe}
 use lib.ListN.{length, take, drop, take-append-drop}
 use lib.Seq.{take-take}
-use Rattle.text.specs.Bytes.{digit?, begins, follows, first, holds}
-use Rattle.text.specs.Grammar.{Raw, Says, Grammar}
+use Rattle.text.specs.Bytes.{digit?, begins, first, holds}
+use Rattle.text.specs.Grammar.{Raw, Grammar}
 use Rattle.text.specs.Place.{Viable, Stops, Answers}
-use Rattle.text.specs.Machine.{State, after, digits, number, done, quoted, must, Rest, Move, goM, then, move, Final, final?, thenScan, scan, whole, parse, thenStop, stop, place2}
+use Rattle.text.specs.Machine.{State, after, digits, number, done, quoted, must, Rest, Move, goM, then, move, Final, final?, thenScan, scan, whole, thenStop, stop, place2}
 use Rattle.text.proofs.Parse.{Parsed, parsed, parse-complete}
 
 -- THE MACHINE: the states alone

@@ -1,21 +1,17 @@
 -- Plain text says its rule, determines it, and is the only text of it without needless `empty` and leading zeros. No limits here.
-use mathlib.Core.Path.{_≡_, refl, sym, _∙_, ap, ap₂, subst}
-use mathlib.Core.Logic.{_≢_, _↔_, _⊎_, inl, inr}
-use mathlib.Core.Option.{Option, none, some, Option·map, Option·getD}
-use mathlib.Core.List.{List, [], _∷_, _++_, map, append-nil}
-use Prim.Native.Nat.{ℕ, zero, suc, _+_, _≤_, _<_}
-use native.Mathlib.Omega.{arith}
-use lib.ListN.{length}
-use Rattle.lists.specs.Seqs.{All, IsCons}
+use mathlib.Core.Path.{_≡_, refl, sym, _∙_, ap, ap₂}
+use mathlib.Core.Option.{Option, some, Option·getD}
+use mathlib.Core.List.{List, [], _∷_, _++_, map}
+use Prim.Native.Nat.{ℕ}
+use Rattle.lists.specs.Seqs.{All}
 use Rattle.theory.specs.Terms.{con, var}
-use Rattle.text.specs.Bytes.{Digit, Inside}
-use Rattle.text.specs.Grammar.{Raw, raw-int, raw-str, raw-var, raw-empty, Number, Proper, FieldOk, TextOk, spell, spellF, spellT, Says}
+use Rattle.text.specs.Grammar.{Raw, raw-int, raw-str, raw-var, raw-empty, Number, Proper, FieldOk, spellT, Says}
 use Rattle.text.specs.Machine.{parse}
-use Rattle.text.specs.Numbers.{value, digitsOf}
+use Rattle.text.specs.Numbers.{digitsOf}
 use Rattle.text.specs.Terms.{OurTerm, int, str, termOf, fieldOf, fieldsOf}
 use Rattle.text.specs.Read.{said}
 use Rattle.text.specs.Plain.{rawOf, rawField, plain, TermOk, RuleOk}
-use Rattle.text.proofs.Parse.{parse-complete, says-one}
+use Rattle.text.proofs.Parse.{parse-complete}
 use Rattle.text.proofs.Numbers.{digits-value, digits-number, number-digits, digits-one}
 
 proper-raw : (t : OurTerm) → TermOk t → Proper (rawOf t)

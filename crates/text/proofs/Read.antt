@@ -1,20 +1,20 @@
 -- Reading answers what the refusals say: each has one place at most, and the first that applies is reported.
-use mathlib.Core.Path.{_≡_, refl, sym, _∙_, ap, ap₂, subst}
-use mathlib.Core.Logic.{_≢_, _↔_, _⊎_, inl, inr, ite}
-use mathlib.Core.Option.{Option, none, some, Option·map, Option·getD}
-use mathlib.Core.List.{List, [], _∷_, _++_, map}
-use Prim.Native.Nat.{ℕ, zero, suc, _+_, _≤_, _<_}
+use mathlib.Core.Path.{_≡_, refl, sym, ap, ap₂, subst}
+use mathlib.Core.Logic.{_↔_, inl, inr, ite}
+use mathlib.Core.Option.{Option, none, some, Option·getD}
+use mathlib.Core.List.{List, [], _∷_}
+use Prim.Native.Nat.{ℕ, _<_}
 use native.Mathlib.Omega.{arith}
 use native.Mathlib.Decide.{decLt}
 use lib.ListN.{length}
 use Rattle.text.specs.Grammar.{Raw, Says}
-use Rattle.text.specs.Place.{Answers, Stops}
-use Rattle.text.specs.Machine.{parse, place2}
-use Rattle.text.specs.Leftmost.{NoneOf, FirstOf, leftmost, LeftmostAt}
-use Rattle.text.specs.Marks.{Mark, marks}
+use Rattle.text.specs.Place.{Answers}
+use Rattle.text.specs.Machine.{parse}
+use Rattle.text.specs.Leftmost.{LeftmostAt}
+use Rattle.text.specs.Marks.{marks}
 use Rattle.text.specs.Terms.{OurTerm, fieldsOf}
-use Rattle.text.specs.Read.{Reason, long, grammar, fields, terms, limits, linear, variable, Sort, rule, slip, Bad, bad?, placeOfMark, FirstBad, Refuses, said, firstBad, longer, placeOf, Outcome, refused, accepted, tell, chain, Never, NoReason, FirstReason, read}
-use Rattle.text.proofs.Parse.{Parsed, parsed, parse-complete, says-one}
+use Rattle.text.specs.Read.{Reason, long, grammar, fields, terms, limits, linear, variable, Sort, Bad, bad?, placeOfMark, FirstBad, Refuses, said, firstBad, placeOf, refused, accepted, tell, chain, NoReason, FirstReason, read}
+use Rattle.text.proofs.Parse.{Parsed, parsed, says-one}
 use Rattle.text.proofs.Place.{place2-is}
 use Rattle.text.proofs.Leftmost.{leftmost-answers}
 

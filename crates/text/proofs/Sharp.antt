@@ -1,17 +1,16 @@
 -- What the first bad term is: the leftmost place of all bad ones; the first byte of the fifth field; the term just past the limit.
-use mathlib.Core.Path.{_≡_, refl, sym, _∙_, ap, ap₂, subst}
-use mathlib.Core.Logic.{_≢_, _↔_, _⊎_, inl, inr}
-use mathlib.Core.List.{List, [], _∷_, _++_, append-assoc, nil≢cons, head-eq-of-cons-eq, tail-eq-of-cons-eq}
+use mathlib.Core.Path.{_≡_, refl, sym, _∙_, ap, subst}
+use mathlib.Core.Logic.{_⊎_, inl, inr}
+use mathlib.Core.List.{List, [], _∷_, _++_, append-assoc, head-eq-of-cons-eq, tail-eq-of-cons-eq}
 use mathlib.Core.List.{List·Memᴰ, List·Memᴰ·head, List·Memᴰ·tail, List·Memᴰ·cases-cons, List·Memᴰ·not-nil}
-use Prim.Native.Nat.{ℕ, zero, suc, _+_, _≤_, _<_}
+use Prim.Native.Nat.{ℕ, suc, _+_, _≤_, _<_}
 use native.Mathlib.Omega.{arith}
 use lib.ListN.{length}
 use Rattle.lists.specs.Seqs.{All, all-right}
-use Rattle.text.specs.Sizes.{mostFields}
-use Rattle.text.specs.Grammar.{Raw, spell, spellF, spellT, Says, FieldOk, TextOk}
-use Rattle.text.specs.Leftmost.{NoneOf, FirstOf, LeftmostAt}
+use Rattle.text.specs.Grammar.{Raw, spell, spellF, spellT, Says, FieldOk}
+use Rattle.text.specs.Leftmost.{NoneOf, FirstOf}
 use Rattle.text.specs.Marks.{Mark, marks, marksF, marksT, FifthField, TooMany}
-use Rattle.text.specs.Read.{Reason, fields, terms, Bad, bad?, placeOfMark, FirstBad}
+use Rattle.text.specs.Read.{Reason, fields, terms, Bad, FirstBad}
 use Rattle.text.proofs.Marks.{From, Rising, rising, Stands, stands}
 
 -- x stands in xs behind ys and has P there

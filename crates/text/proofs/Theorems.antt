@@ -1,14 +1,14 @@
 -- The statements about reading and plain text. What a rule or slip within the limits is: specs/Limits; the refusals: specs/Read.
 -- See also: `rule-iff`, `slip-iff`, `rule-plain` (Accepted), `leftmost-place`, `fifth-field`, `term-past` (Sharp), `rule-bytes`, `slip-bytes` (Lengths).
 use mathlib.Core.Path.{_≡_, refl, sym, _∙_, ap, subst}
-use mathlib.Core.Logic.{_≢_, _↔_, _⊎_, inl, inr, Iff·trans}
+use mathlib.Core.Logic.{_≢_, _↔_, inl, inr, Iff·trans}
 use mathlib.Core.List.{List, [], _∷_, _++_}
 use Prim.Native.Nat.{ℕ}
 use native.Mathlib.Omega.{arith}
 use Rattle.lists.specs.Seqs.{All}
 use Rattle.text.specs.Grammar.{Raw, Says}
 use Rattle.text.specs.Terms.{OurTerm, fieldsOf}
-use Rattle.text.specs.Read.{Reason, long, grammar, fields, terms, limits, linear, variable, number, Sort, rule, slip, Refuses, said, NoReason, Never, FirstReason, Outcome, refused, accepted, read, readRule, readSlip}
+use Rattle.text.specs.Read.{Reason, long, grammar, fields, terms, limits, linear, variable, number, Sort, rule, slip, Refuses, NoReason, FirstReason, refused, accepted, read, readRule, readSlip}
 use Rattle.text.specs.Plain.{plain}
 use Rattle.text.specs.Limits.{IsRule}
 use Rattle.text.proofs.Read.{read-refused, read-accepted}

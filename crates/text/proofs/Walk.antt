@@ -1,8 +1,8 @@
 -- The walk from the left meets the marks of what a text says.
-use mathlib.Core.Path.{_≡_, refl, sym, _∙_, ap, ap₂, subst}
-use mathlib.Core.Logic.{_≢_, ite, if-pos, if-neg}
+use mathlib.Core.Path.{_≡_, refl, sym, _∙_, ap}
+use mathlib.Core.Logic.{if-pos, if-neg}
 use mathlib.Core.List.{List, [], _∷_, _++_, append-assoc, append-nil}
-use Prim.Native.Nat.{ℕ, zero, suc, _+_, _≤_, _<_}
+use Prim.Native.Nat.{ℕ, zero, suc, _+_, _≤_}
 use native.Mathlib.Omega.{arith}
 use native.Mathlib.Decide.{ℕ-discrete, decLe}
 use lib.ListN.{length, length-append, drop}
@@ -11,7 +11,7 @@ use Rattle.lists.specs.Seqs.{All, IsCons}
 use Rattle.order.specs.Order.{basic, list}
 use Rattle.order.specs.Types.{integer, string, atom, Kind}
 use Rattle.text.specs.Bytes.{Digit, Inside, letter, digit?, Begins, b-digit, b-quote, b-letter, b-e, b-none, begins}
-use Rattle.text.specs.Grammar.{Raw, raw-int, raw-str, raw-var, raw-empty, spell, Number, Proper, colons, spellF, bars, spellT, FieldOk, TextOk, Says}
+use Rattle.text.specs.Grammar.{Raw, raw-int, raw-str, raw-var, raw-empty, spell, Proper, colons, spellF, bars, spellT, FieldOk, TextOk, Says}
 use Rattle.text.specs.Marks.{Mark, marksF, marksT, marks}
 use Rattle.text.specs.Walk.{digits1, leadingDigits, quote1, untilQuote, frontB, front, walkOn, walk, walked}
 use Rattle.text.proofs.Numbers.{number-digits}

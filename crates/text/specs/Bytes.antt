@@ -3,8 +3,8 @@ use mathlib.Core.Path.{_≡_}
 use mathlib.Core.Logic.{_≢_}
 use Prim.Native.Nat.{ℕ, _≤_}
 use native.Mathlib.Decide.{decLe, ℕ-discrete}
-use Rattle.order.specs.Order.{Full, basic, list}
-use Rattle.order.specs.Types.{Basic, integer, string, atom, Kind}
+use Rattle.order.specs.Order.{basic, list}
+use Rattle.order.specs.Types.{integer, string, atom, Kind}
 
 abbrev pub Digit : ℕ → Type 0
 Digit b = (48 ≤ b) × (b ≤ 57)

@@ -10,7 +10,7 @@ use Rattle.text.specs.Bytes.{Inside}
 use Rattle.text.specs.Leftmost.{NoneOf}
 use Rattle.text.specs.Marks.{Occ, Clash}
 use Rattle.text.specs.Terms.{OurTerm, int, str}
-use Rattle.text.specs.Read.{Sort, rule, slip}
+use Rattle.text.specs.Read.{rule, slip}
 
 -- a term within its limits
 abbrev pub TermIn : OurTerm → Type 0

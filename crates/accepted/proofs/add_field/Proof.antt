@@ -1,19 +1,15 @@
+-- `accepted::add_field` meets its contract. The loop's invariant says what is left to do.
 use borrow.Author.Needs.{needs}
-use mathlib.Core.Path.{_≡_, refl, sym, _∙_, ap, ap₂}
+use mathlib.Core.Path.{_≡_, _∙_}
 use Prim.Native.Nat.{_-_, min}
 use native.Mathlib.Omega.{arith}
-use lib.ListN.{length, take, length-take}
-use Rattle.terms.specs.Values.{viewTerm, viewField}
-use Rattle.linearity.specs.Lists.{noLists, nextField, addTerm, addField}
+use lib.ListN.{length, length-take}
+use Rattle.terms.specs.Values.{viewTerm}
+use Rattle.linearity.specs.Lists.{addTerm}
 use Rattle.lists.specs.Seqs.{long-mapped}
 use Rattle.accepted.proofs.Folds.{Folded, folded-none, folded-one, folded-all}
 use Rattle.accepted.proofs.add_field.Statement.{statement}
 use Rattle.accepted.proofs.add_field.Tie as tie
-use Rattle.accepted.proofs.add_field.Reads as reads
-use Rattle.accepted.proofs.add_field.Lts as lts
-use Rattle.linearity.proofs.Lists.next_field.Reads as next-field-reads
-use Rattle.accepted.proofs.add_term.Reads as add-term-reads
-use Rattle.accepted.proofs.least.Reads as least-reads
 
 abbrev Inv-loop : tie.InvT-loop
 Inv-loop f n now₀ i₀ now i = (length (f .terms) ≡ 16) × (n ≡ min (f .n) 16) × Folded viewTerm addTerm (f .n) (f .terms) now₀ i now
@@ -21,43 +17,33 @@ Inv-loop f n now₀ i₀ now i = (length (f .terms) ≡ 16) × (n ≡ min (f .n)
 abbrev μ-loop : tie.MeasureT-loop
 μ-loop f n now₀ i₀ now i = n - i
 
--- src/lib.rt:371:9
 least-requires : tie.Need-least-requires Inv-loop μ-loop
 least-requires c κs = search needs
 
--- src/lib.rt:372:9
 next-field-requires : tie.Need-next-field-requires Inv-loop μ-loop
 next-field-requires c κs = search needs
 
--- src/lib.rt:374:5
 loop-holds : tie.Need-loop-holds Inv-loop μ-loop
 loop-holds c = (search long-mapped, c .before .least .ensures, folded-none viewTerm addTerm (c .before .before .args .t2 .n) (c .before .before .args .t2 .terms) (c .next-field .result))
 
--- src/lib.rt:375:29
 mul-add-term : tie.Need-mul-add-term Inv-loop μ-loop
 mul-add-term c = search needs
 
--- src/lib.rt:375:29
 element-copy-out-add-term : tie.Need-element-copy-out-add-term Inv-loop μ-loop
 element-copy-out-add-term c = search needs
 
--- src/lib.rt:375:9
 add-term-requires : tie.Need-add-term-requires Inv-loop μ-loop
 add-term-requires c κs = search needs
 
--- src/lib.rt:376:9
 add-i : tie.Need-add-i Inv-loop μ-loop
 add-i c = search needs
 
--- src/lib.rt:374:5
 loop-less : tie.Need-loop-less Inv-loop μ-loop
 loop-less c = search needs
 
--- src/lib.rt:374:5
 loop-again : tie.Need-loop-again Inv-loop μ-loop
 loop-again c = let v = c .before .before .before .loop .inv in (v .0, v .1, rw (c .add-term .ensures) (folded-one viewTerm addTerm (c .before .before .before .before .before .before .args .t2 .n) (c .before .before .before .before .before .before .args .t2 .terms) _ (c .before .before .before .loop .i) (c .before .before .before .loop .now) _ (v .2) (omega (arith, length-take (c .before .before .before .before .before .before .args .t2 .n) (c .before .before .before .before .before .before .args .t2 .terms), c .before .before .loop-test .taken))))
 
--- src/lib.rt:368:1
 returns : tie.Need-returns Inv-loop μ-loop
 returns c = let v = c .before .loop .inv in folded-all viewTerm addTerm (c .before .before .before .before .args .t2 .n) (c .before .before .before .before .args .t2 .terms) (c .before .before .next-field .result) (c .before .loop .i) (c .before .loop .now) (v .2) (omega (arith, length-take (c .before .before .before .before .args .t2 .n) (c .before .before .before .before .args .t2 .terms), c .loop-test .left)) ∙ rw (c .before .before .next-field .ensures)
 

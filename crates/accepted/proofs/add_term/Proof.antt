@@ -1,68 +1,50 @@
-use mathlib.Core.Path.{_≡_, refl, sym, _∙_, ap, ap₂}
+-- `accepted::add_term` meets its contract.
 use borrow.Author.Needs.{needs}
 use Rattle.accepted.proofs.add_term.Statement.{statement}
 use Rattle.accepted.proofs.add_term.Tie as tie
-use Rattle.accepted.proofs.add_term.Reads as reads
-use Rattle.accepted.proofs.add_term.Lts as lts
-use Rattle.linearity.proofs.Lists.add.Reads as add-reads
 
--- src/lib.rt:349:25
 enum-told : tie.Need-enum-told
 enum-told c = search needs
 
--- src/lib.rt:350:25
 enum-told-2 : tie.Need-enum-told-2
 enum-told-2 c = search needs
 
--- src/lib.rt:351:19
 enum-known-form : tie.Need-enum-known-form
 enum-known-form c = search needs
 
--- src/lib.rt:352:30
 enum-told-3 : tie.Need-enum-told-3
 enum-told-3 c = search needs
 
--- src/lib.rt:353:29
 enum-told-4 : tie.Need-enum-told-4
 enum-told-4 c = search needs
 
--- src/lib.rt:354:27
 enum-told-5 : tie.Need-enum-told-5
 enum-told-5 c = search needs
 
--- src/lib.rt:355:33
 enum-told-6 : tie.Need-enum-told-6
 enum-told-6 c = search needs
 
--- src/lib.rt:355:33
 cast-add : tie.Need-cast-add
 cast-add c = search needs
 
--- src/lib.rt:355:27
 add-requires : tie.Need-add-requires
 add-requires c κs = search needs
 
--- src/lib.rt:344:1
 returns : tie.Need-returns
 returns c = search needs
 
--- src/lib.rt:344:1
 returns-2 : tie.Need-returns-2
 returns-2 c = search needs
 
--- src/lib.rt:344:1
 returns-3 : tie.Need-returns-3
 returns-3 c = search needs
 
--- src/lib.rt:344:1
 returns-4 : tie.Need-returns-4
 returns-4 c = search needs
 
--- src/lib.rt:344:1
 returns-5 : tie.Need-returns-5
 returns-5 c = search needs
 
--- src/lib.rt:344:1
 returns-6 : tie.Need-returns-6
 returns-6 c = rw (c .before .before .before .before .form .given .1, c .before .enum-told6 .given .1) (c .add .ensures)
 

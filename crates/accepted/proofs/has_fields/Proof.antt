@@ -1,3 +1,4 @@
+-- `accepted::has_fields` meets its contract. The loop's invariant says what is left to do.
 use borrow.Author.Needs.{needs}
 use Prim.Native.Nat.{_-_}
 use mathlib.Core.Path.{_≡_}
@@ -7,9 +8,6 @@ use Rattle.lists.specs.Seqs.{long-mapped}
 use Rattle.accepted.proofs.Filled.{Passed, passed-none, passed-one, passed-not, passed-all, passed-over}
 use Rattle.accepted.proofs.has_fields.Statement.{statement}
 use Rattle.accepted.proofs.has_fields.Tie as tie
-use Rattle.accepted.proofs.has_fields.Reads as reads
-use Rattle.accepted.proofs.has_fields.Lts as lts
-use Rattle.accepted.proofs.is_field_place.Reads as is-field-place-reads
 
 abbrev Inv-loop : tie.InvT-loop
 Inv-loop r n i₀ i = Passed fieldOk fieldBlank 4 n (r .fields) i
@@ -17,43 +15,33 @@ Inv-loop r n i₀ i = Passed fieldOk fieldBlank 4 n (r .fields) i
 abbrev μ-loop : tie.MeasureT-loop
 μ-loop r n i₀ i = 4 - i
 
--- src/lib.rt:248:9
 returns : tie.Need-returns Inv-loop μ-loop
 returns c = let h : length (c .before .args .t1 .fields) ≡ 4 = search long-mapped in passed-over fieldOk fieldBlank 4 _ (c .before .args .t1 .fields) h (c .if1 .taken)
 
--- src/lib.rt:251:5
 loop-holds : tie.Need-loop-holds Inv-loop μ-loop
 loop-holds c = let h : length (c .before .args .t1 .fields) ≡ 4 = search long-mapped in passed-none fieldOk fieldBlank 4 _ (c .before .args .t1 .fields) h (c .if1 .left)
 
--- src/lib.rt:252:28
 mul-is-field-place : tie.Need-mul-is-field-place Inv-loop μ-loop
 mul-is-field-place c = search needs
 
--- src/lib.rt:252:28
 element-copy-out-is-field-place : tie.Need-element-copy-out-is-field-place Inv-loop μ-loop
 element-copy-out-is-field-place c = search needs
 
--- src/lib.rt:252:13
 is-field-place-requires : tie.Need-is-field-place-requires Inv-loop μ-loop
 is-field-place-requires c κs = search needs
 
--- src/lib.rt:253:13
 returns-2 : tie.Need-returns-2 Inv-loop μ-loop
 returns-2 c = passed-not fieldOk fieldBlank 4 _ (c .before .before .before .before .before .before .args .t1 .fields) (c .before .before .before .before .loop .i) _ (c .before .is-field-place .result) (c .before .before .before .before .loop .inv) (c .before .before .before .loop-test .taken) (c .before .is-field-place .ensures) (c .if2 .taken)
 
--- src/lib.rt:255:9
 add-i : tie.Need-add-i Inv-loop μ-loop
 add-i c = search needs
 
--- src/lib.rt:251:5
 loop-less : tie.Need-loop-less Inv-loop μ-loop
 loop-less c = search needs
 
--- src/lib.rt:251:5
 loop-again : tie.Need-loop-again Inv-loop μ-loop
 loop-again c = passed-one fieldOk fieldBlank 4 _ (c .before .before .before .before .before .before .args .t1 .fields) (c .before .before .before .before .loop .i) _ (c .before .is-field-place .result) (c .before .before .before .before .loop .inv) (c .before .before .before .loop-test .taken) (c .before .is-field-place .ensures) (c .if2 .left)
 
--- src/lib.rt:243:1
 returns-3 : tie.Need-returns-3 Inv-loop μ-loop
 returns-3 c = passed-all fieldOk fieldBlank 4 _ (c .before .before .before .args .t1 .fields) (c .before .loop .i) (c .before .loop .inv) (c .loop-test .left)
 

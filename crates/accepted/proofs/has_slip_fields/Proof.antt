@@ -1,3 +1,4 @@
+-- `accepted::has_slip_fields` meets its contract. The loop's invariant says what is left to do.
 use borrow.Author.Needs.{needs}
 use Prim.Native.Nat.{_-_}
 use mathlib.Core.Path.{_≡_}
@@ -7,9 +8,6 @@ use Rattle.lists.specs.Seqs.{long-mapped}
 use Rattle.accepted.proofs.Filled.{Passed, passed-none, passed-one, passed-not, passed-all, passed-over}
 use Rattle.accepted.proofs.has_slip_fields.Statement.{statement}
 use Rattle.accepted.proofs.has_slip_fields.Tie as tie
-use Rattle.accepted.proofs.has_slip_fields.Reads as reads
-use Rattle.accepted.proofs.has_slip_fields.Lts as lts
-use Rattle.accepted.proofs.is_slip_place.Reads as is-slip-place-reads
 
 abbrev Inv-loop : tie.InvT-loop
 Inv-loop s n i₀ i = Passed slipFieldOk slipFieldBlank 4 n (s .fields) i
@@ -17,43 +15,33 @@ Inv-loop s n i₀ i = Passed slipFieldOk slipFieldBlank 4 n (s .fields) i
 abbrev μ-loop : tie.MeasureT-loop
 μ-loop s n i₀ i = 4 - i
 
--- src/lib.rt:294:9
 returns : tie.Need-returns Inv-loop μ-loop
 returns c = let h : length (c .before .args .t1 .fields) ≡ 4 = search long-mapped in passed-over slipFieldOk slipFieldBlank 4 _ (c .before .args .t1 .fields) h (c .if1 .taken)
 
--- src/lib.rt:297:5
 loop-holds : tie.Need-loop-holds Inv-loop μ-loop
 loop-holds c = let h : length (c .before .args .t1 .fields) ≡ 4 = search long-mapped in passed-none slipFieldOk slipFieldBlank 4 _ (c .before .args .t1 .fields) h (c .if1 .left)
 
--- src/lib.rt:298:27
 mul-is-slip-place : tie.Need-mul-is-slip-place Inv-loop μ-loop
 mul-is-slip-place c = search needs
 
--- src/lib.rt:298:27
 element-copy-out-is-slip-place : tie.Need-element-copy-out-is-slip-place Inv-loop μ-loop
 element-copy-out-is-slip-place c = search needs
 
--- src/lib.rt:298:13
 is-slip-place-requires : tie.Need-is-slip-place-requires Inv-loop μ-loop
 is-slip-place-requires c κs = search needs
 
--- src/lib.rt:299:13
 returns-2 : tie.Need-returns-2 Inv-loop μ-loop
 returns-2 c = passed-not slipFieldOk slipFieldBlank 4 _ (c .before .before .before .before .before .before .args .t1 .fields) (c .before .before .before .before .loop .i) _ (c .before .is-slip-place .result) (c .before .before .before .before .loop .inv) (c .before .before .before .loop-test .taken) (c .before .is-slip-place .ensures) (c .if2 .taken)
 
--- src/lib.rt:301:9
 add-i : tie.Need-add-i Inv-loop μ-loop
 add-i c = search needs
 
--- src/lib.rt:297:5
 loop-less : tie.Need-loop-less Inv-loop μ-loop
 loop-less c = search needs
 
--- src/lib.rt:297:5
 loop-again : tie.Need-loop-again Inv-loop μ-loop
 loop-again c = passed-one slipFieldOk slipFieldBlank 4 _ (c .before .before .before .before .before .before .args .t1 .fields) (c .before .before .before .before .loop .i) _ (c .before .is-slip-place .result) (c .before .before .before .before .loop .inv) (c .before .before .before .loop-test .taken) (c .before .is-slip-place .ensures) (c .if2 .left)
 
--- src/lib.rt:289:1
 returns-3 : tie.Need-returns-3 Inv-loop μ-loop
 returns-3 c = passed-all slipFieldOk slipFieldBlank 4 _ (c .before .before .before .args .t1 .fields) (c .before .loop .i) (c .before .loop .inv) (c .loop-test .left)
 

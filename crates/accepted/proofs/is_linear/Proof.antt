@@ -1,21 +1,17 @@
+-- `accepted::is_linear` meets its contract. The loop's invariant says what is left to do.
 use mathlib.Core.List.{map, foldl}
 use Rattle.linearity.specs.declared.Lists.{Lists}
 use borrow.Author.Needs.{needs}
-use mathlib.Core.Path.{_≡_, refl, sym, _∙_, ap, ap₂}
+use mathlib.Core.Path.{_≡_, _∙_, ap}
 use Prim.Native.Nat.{_-_, min}
 use native.Mathlib.Omega.{arith}
 use lib.ListN.{length, take, length-take}
-use Rattle.terms.specs.Values.{viewTerm, viewField}
-use Rattle.linearity.specs.Lists.{noLists, nextField, addTerm, addField}
+use Rattle.terms.specs.Values.{viewField}
+use Rattle.linearity.specs.Lists.{addField}
 use Rattle.lists.specs.Seqs.{long-mapped}
 use Rattle.accepted.proofs.Folds.{Folded, folded-none, folded-one, folded-all}
 use Rattle.accepted.proofs.is_linear.Statement.{statement}
 use Rattle.accepted.proofs.is_linear.Tie as tie
-use Rattle.accepted.proofs.is_linear.Reads as reads
-use Rattle.accepted.proofs.is_linear.Lts as lts
-use Rattle.linearity.proofs.Lists.none.Reads as none-reads
-use Rattle.accepted.proofs.add_field.Reads as add-field-reads
-use Rattle.accepted.proofs.least.Reads as least-reads
 
 abbrev Inv-loop : tie.InvT-loop
 Inv-loop r n l₀ i₀ l i = (length (r .fields) ≡ 4) × (n ≡ min (r .n) 4) × Folded viewField addField (r .n) (r .fields) l₀ i l
@@ -23,43 +19,33 @@ Inv-loop r n l₀ i₀ l i = (length (r .fields) ≡ 4) × (n ≡ min (r .n) 4) 
 abbrev μ-loop : tie.MeasureT-loop
 μ-loop r n l₀ i₀ l i = n - i
 
--- src/lib.rt:396:9
 least-requires : tie.Need-least-requires Inv-loop μ-loop
 least-requires c κs = search needs
 
--- src/lib.rt:397:9
 none-requires : tie.Need-none-requires Inv-loop μ-loop
 none-requires c κs = search needs
 
--- src/lib.rt:399:5
 loop-holds : tie.Need-loop-holds Inv-loop μ-loop
 loop-holds c = (search long-mapped, c .before .least .ensures, folded-none viewField addField (c .before .before .args .t1 .n) (c .before .before .args .t1 .fields) (c .none .result))
 
--- src/lib.rt:400:26
 mul-add-field : tie.Need-mul-add-field Inv-loop μ-loop
 mul-add-field c = search needs
 
--- src/lib.rt:400:26
 element-copy-out-add-field : tie.Need-element-copy-out-add-field Inv-loop μ-loop
 element-copy-out-add-field c = search needs
 
--- src/lib.rt:400:9
 add-field-requires : tie.Need-add-field-requires Inv-loop μ-loop
 add-field-requires c κs = search needs
 
--- src/lib.rt:401:9
 add-i : tie.Need-add-i Inv-loop μ-loop
 add-i c = search needs
 
--- src/lib.rt:399:5
 loop-less : tie.Need-loop-less Inv-loop μ-loop
 loop-less c = search needs
 
--- src/lib.rt:399:5
 loop-again : tie.Need-loop-again Inv-loop μ-loop
 loop-again c = let v = c .before .before .before .loop .inv in (v .0, v .1, rw (c .add-field .ensures) (folded-one viewField addField (c .before .before .before .before .before .before .args .t1 .n) (c .before .before .before .before .before .before .args .t1 .fields) _ (c .before .before .before .loop .i) (c .before .before .before .loop .l) _ (v .2) (omega (arith, length-take (c .before .before .before .before .before .before .args .t1 .n) (c .before .before .before .before .before .before .args .t1 .fields), c .before .before .loop-test .taken))))
 
--- src/lib.rt:393:1
 returns : tie.Need-returns Inv-loop μ-loop
 returns c = let v = c .before .loop .inv in
     ap (λ (x : Lists). x .ok) (folded-all viewField addField (c .before .before .before .before .args .t1 .n) (c .before .before .before .before .args .t1 .fields) (c .before .before .none .result) (c .before .loop .i) (c .before .loop .l) (v .2) (omega (arith, length-take (c .before .before .before .before .args .t1 .n) (c .before .before .before .before .args .t1 .fields), c .loop-test .left)))

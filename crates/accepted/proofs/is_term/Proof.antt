@@ -1,57 +1,42 @@
-use mathlib.Core.Path.{_≡_, refl, sym, _∙_, ap, ap₂}
-use borrow.Author.Tests.{lt-leb, le-leb, lt-ltb, le-ltb, eq-eqb, ne-eqb}
+-- `accepted::is_term` meets its contract.
+use borrow.Author.Tests.{lt-leb, le-leb}
 use borrow.Author.Needs.{needs}
 use Rattle.accepted.proofs.is_term.Statement.{statement}
 use Rattle.accepted.proofs.is_term.Tie as tie
-use Rattle.accepted.proofs.is_term.Reads as reads
-use Rattle.accepted.proofs.is_term.Lts as lts
-use Rattle.accepted.proofs.is_text.Reads as is-text-reads
 
--- src/lib.rt:149:19
 enum-known-form : tie.Need-enum-known-form
 enum-known-form c = search needs
 
--- src/lib.rt:151:17
 returns : tie.Need-returns
 returns c = rw (c .before .before .form .given .1, lt-leb _ _ (c .if1 .taken))
 
--- src/lib.rt:153:13
 is-text-requires : tie.Need-is-text-requires
 is-text-requires c κs = search needs
 
--- src/lib.rt:155:19
 enum-known-form-2 : tie.Need-enum-known-form-2
 enum-known-form-2 c = search needs
 
--- src/lib.rt:155:39
 cast-is-text : tie.Need-cast-is-text
 cast-is-text c = search needs
 
--- src/lib.rt:155:25
 is-text-requires-2 : tie.Need-is-text-requires-2
 is-text-requires-2 c κs = search needs
 
--- src/lib.rt:156:22
 enum-known-form-3 : tie.Need-enum-known-form-3
 enum-known-form-3 c = search needs
 
--- src/lib.rt:158:17
 returns-2 : tie.Need-returns-2
 returns-2 c = rw (c .before .before .form3 .given .1, lt-leb _ _ (c .if2 .taken))
 
--- src/lib.rt:160:13
 is-text-requires-3 : tie.Need-is-text-requires-3
 is-text-requires-3 c κs = search needs
 
--- src/lib.rt:143:1
 returns-3 : tie.Need-returns-3
 returns-3 c = rw (c .before .before .before .form .given .1, le-leb _ _ (c .before .if1 .left)) (c .is-text .ensures)
 
--- src/lib.rt:143:1
 returns-4 : tie.Need-returns-4
 returns-4 c = rw (c .before .before .form2 .given .1) (c .is-text2 .ensures)
 
--- src/lib.rt:143:1
 returns-5 : tie.Need-returns-5
 returns-5 c = rw (c .before .before .before .form3 .given .1, le-leb _ _ (c .before .if2 .left)) (c .is-text3 .ensures)
 

@@ -1,13 +1,13 @@
+-- `reading::build_rule` meets its contract. The loop's invariant says what is left to do.
 use borrow.Author.Needs.{needs}
-use mathlib.Core.Path.{_≡_, refl, sym, _∙_, ap, ap₂}
+use mathlib.Core.Path.{_≡_, sym, _∙_, ap}
 use mathlib.Core.Logic.{⊎-elim}
 use Prim.Native.Nat.{_-_, _≤_, _+_}
 use native.Mathlib.Omega.{arith}
-use lib.ListN.{length, drop}
+use lib.ListN.{length}
 use Rattle.terms.specs.declared.Rule.{Rule}
 use Rattle.terms.specs.declared.Field.{Field}
 use Rattle.terms.specs.Values.{blankRule, blankField}
-use Rattle.text.specs.Walk.{front}
 use Rattle.reading.specs.declared.At.{At}
 use Rattle.reading.specs.Places.{spelled, markAt, termAt}
 use Rattle.reading.specs.Build.{addRaw, pushField, turns, turned, put, whole as whole-of}
@@ -15,15 +15,6 @@ use Rattle.reading.proofs.Build.{turned-yes, turned-no, put-is}
 use Rattle.reading.proofs.Loops.{behind-place, piece-small, Walked, walked-none, walked-one, walked-all}
 use Rattle.reading.proofs.build_rule.Statement.{statement}
 use Rattle.reading.proofs.build_rule.Tie as tie
-use Rattle.reading.proofs.build_rule.Reads as reads
-use Rattle.reading.proofs.build_rule.Lts as lts
-use Rattle.reading.proofs.behind.Reads as behind-reads
-use Rattle.reading.proofs.is_turn.Reads as is-turn-reads
-use Rattle.reading.proofs.push_field.Reads as push-field-reads
-use Rattle.reading.proofs.with_term.Reads as with-term-reads
-use Rattle.scanning.proofs.piece_at.Reads as piece-at-reads
-use Rattle.terms.proofs.blank_field.Reads as blank-field-reads
-use Rattle.terms.proofs.blank_rule.Reads as blank-rule-reads
 
 abbrev Inv-loop : tie.InvT-loop
 Inv-loop text rule₀ field₀ a₀ rule field a = (length text ≤ 8192) × Walked (put blankField addRaw pushField) text (blankRule, blankField) a (rule, field)
@@ -31,46 +22,36 @@ Inv-loop text rule₀ field₀ a₀ rule field a = (length text ≤ 8192) × Wal
 abbrev μ-loop : tie.MeasureT-loop
 μ-loop text rule₀ field₀ a₀ rule field a = length text - a .place
 
--- src/lib.rt:410:9
 blank-rule-requires : tie.Need-blank-rule-requires Inv-loop μ-loop
 blank-rule-requires c κs = search needs
 
--- src/lib.rt:411:9
 blank-field-requires : tie.Need-blank-field-requires Inv-loop μ-loop
 blank-field-requires c κs = search needs
 
--- src/lib.rt:417:5
 loop-holds : tie.Need-loop-holds Inv-loop μ-loop
 loop-holds c = (c .before .before .before .pre, rw (c .blank-field .ensures, c .before .blank-rule .ensures) (walked-none (put blankField addRaw pushField) (c .before .before .before .args .text .now) (blankRule, blankField)))
 
--- src/lib.rt:418:13
 piece-at-requires : tie.Need-piece-at-requires Inv-loop μ-loop
 piece-at-requires c κs = search needs
 
--- src/lib.rt:419:12
 is-turn-requires : tie.Need-is-turn-requires Inv-loop μ-loop
 is-turn-requires c κs = search needs
 
--- src/lib.rt:420:13
 push-field-requires : tie.Need-push-field-requires Inv-loop μ-loop
 push-field-requires c κs = search needs
 
--- src/lib.rt:421:13
 blank-field-requires-2 : tie.Need-blank-field-requires-2 Inv-loop μ-loop
 blank-field-requires-2 c κs = search needs
 
--- src/lib.rt:423:9
 with-term-requires : tie.Need-with-term-requires Inv-loop μ-loop
 with-term-requires c κs = (c .before .before .before .if1 .taken, c .before .before .piece-at .ensures)
 
--- src/lib.rt:424:9
 behind-requires : tie.Need-behind-requires Inv-loop μ-loop
 behind-requires c κs =
     let v = c .before .before .before .before .before .before .loop .inv in
     let h = c .before .before .before .before .if1 .taken in
     (omega (arith, v .0), v .1 .0 .0, v .1 .0 .1, piece-small (c .before .before .before .before .before .before .before .before .before .before .args .text .now) 8192 (c .before .before .before .before .before .before .loop .a .place) (c .before .before .before .piece-at .result) (c .before .before .before .piece-at .ensures) (v .0))
 
--- src/lib.rt:417:5
 loop-less : tie.Need-loop-less Inv-loop μ-loop
 loop-less c = let q = ap (λ (x : At). x .place) (c .behind .ensures) in let b = behind-place (c .before .before .before .before .before .before .before .before .before .before .before .args .text .now) (c .before .before .before .before .before .before .before .loop .a) (c .before .before .before .before .before .before .before .loop .a .place + spelled (c .before .before .before .before .piece-at .result)) in let h = c .before .before .before .before .before .if1 .taken in omega arith
 
@@ -83,7 +64,6 @@ joined c =
     (λ w. turned-no blankField addRaw pushField _ b _ _ (sym (c .before .is-turn .ensures) ∙ w .0 .left) (w .1) (w .2))
     (c .if2 .came)
 
--- src/lib.rt:417:5
 loop-again : tie.Need-loop-again Inv-loop μ-loop
 loop-again c = let v = c .before .before .before .before .before .before .before .loop .inv in (
   v .0,
@@ -93,11 +73,9 @@ loop-again c = let v = c .before .before .before .before .before .before .before
       (c .behind .ensures),
 )
 
--- src/lib.rt:426:5
 push-field-requires-2 : tie.Need-push-field-requires-2 Inv-loop μ-loop
 push-field-requires-2 c κs = search needs
 
--- src/lib.rt:406:1
 returns : tie.Need-returns Inv-loop μ-loop
 returns c = c .push-field2 .ensures ∙ ap (whole-of blankField addRaw pushField) (walked-all (put blankField addRaw pushField) (c .before .before .before .before .before .before .before .args .text .now) (blankRule, blankField) (c .before .before .before .loop .a) (c .before .before .before .loop .rule, c .before .before .before .loop .field) (c .before .before .before .loop .inv .1) (c .before .if1 .left))
 

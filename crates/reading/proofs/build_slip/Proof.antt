@@ -1,13 +1,13 @@
+-- `reading::build_slip` meets its contract. The loop's invariant says what is left to do.
 use borrow.Author.Needs.{needs}
-use mathlib.Core.Path.{_≡_, refl, sym, _∙_, ap, ap₂}
+use mathlib.Core.Path.{_≡_, sym, _∙_, ap}
 use mathlib.Core.Logic.{⊎-elim}
 use Prim.Native.Nat.{_-_, _≤_, _+_}
 use native.Mathlib.Omega.{arith}
-use lib.ListN.{length, drop}
+use lib.ListN.{length}
 use Rattle.terms.specs.declared.Slip.{Slip}
 use Rattle.terms.specs.declared.SlipField.{SlipField}
 use Rattle.terms.specs.Values.{blankSlip, blankSlipField}
-use Rattle.text.specs.Walk.{front}
 use Rattle.reading.specs.declared.At.{At}
 use Rattle.reading.specs.Places.{spelled, markAt, termAt}
 use Rattle.reading.specs.Build.{addItem, pushSlipField, turns, turned, put, whole as whole-of}
@@ -15,15 +15,6 @@ use Rattle.reading.proofs.Build.{turned-yes, turned-no, put-is}
 use Rattle.reading.proofs.Loops.{behind-place, piece-small, Walked, walked-none, walked-one, walked-all}
 use Rattle.reading.proofs.build_slip.Statement.{statement}
 use Rattle.reading.proofs.build_slip.Tie as tie
-use Rattle.reading.proofs.build_slip.Reads as reads
-use Rattle.reading.proofs.build_slip.Lts as lts
-use Rattle.reading.proofs.behind.Reads as behind-reads
-use Rattle.reading.proofs.is_turn.Reads as is-turn-reads
-use Rattle.reading.proofs.push_slip_field.Reads as push-slip-field-reads
-use Rattle.reading.proofs.with_item.Reads as with-item-reads
-use Rattle.scanning.proofs.piece_at.Reads as piece-at-reads
-use Rattle.terms.proofs.blank_slip.Reads as blank-slip-reads
-use Rattle.terms.proofs.blank_slip_field.Reads as blank-slip-field-reads
 
 abbrev Inv-loop : tie.InvT-loop
 Inv-loop text slip₀ field₀ a₀ slip field a = (length text ≤ 8192) × Walked (put blankSlipField addItem pushSlipField) text (blankSlip, blankSlipField) a (slip, field)
@@ -31,46 +22,36 @@ Inv-loop text slip₀ field₀ a₀ slip field a = (length text ≤ 8192) × Wal
 abbrev μ-loop : tie.MeasureT-loop
 μ-loop text slip₀ field₀ a₀ slip field a = length text - a .place
 
--- src/lib.rt:434:9
 blank-slip-requires : tie.Need-blank-slip-requires Inv-loop μ-loop
 blank-slip-requires c κs = search needs
 
--- src/lib.rt:435:9
 blank-slip-field-requires : tie.Need-blank-slip-field-requires Inv-loop μ-loop
 blank-slip-field-requires c κs = search needs
 
--- src/lib.rt:441:5
 loop-holds : tie.Need-loop-holds Inv-loop μ-loop
 loop-holds c = (c .before .before .before .pre, rw (c .blank-slip-field .ensures, c .before .blank-slip .ensures) (walked-none (put blankSlipField addItem pushSlipField) (c .before .before .before .args .text .now) (blankSlip, blankSlipField)))
 
--- src/lib.rt:442:13
 piece-at-requires : tie.Need-piece-at-requires Inv-loop μ-loop
 piece-at-requires c κs = search needs
 
--- src/lib.rt:443:12
 is-turn-requires : tie.Need-is-turn-requires Inv-loop μ-loop
 is-turn-requires c κs = search needs
 
--- src/lib.rt:444:13
 push-slip-field-requires : tie.Need-push-slip-field-requires Inv-loop μ-loop
 push-slip-field-requires c κs = search needs
 
--- src/lib.rt:445:13
 blank-slip-field-requires-2 : tie.Need-blank-slip-field-requires-2 Inv-loop μ-loop
 blank-slip-field-requires-2 c κs = search needs
 
--- src/lib.rt:447:9
 with-item-requires : tie.Need-with-item-requires Inv-loop μ-loop
 with-item-requires c κs = (c .before .before .before .if1 .taken, c .before .before .piece-at .ensures)
 
--- src/lib.rt:448:9
 behind-requires : tie.Need-behind-requires Inv-loop μ-loop
 behind-requires c κs =
     let v = c .before .before .before .before .before .before .loop .inv in
     let h = c .before .before .before .before .if1 .taken in
     (omega (arith, v .0), v .1 .0 .0, v .1 .0 .1, piece-small (c .before .before .before .before .before .before .before .before .before .before .args .text .now) 8192 (c .before .before .before .before .before .before .loop .a .place) (c .before .before .before .piece-at .result) (c .before .before .before .piece-at .ensures) (v .0))
 
--- src/lib.rt:441:5
 loop-less : tie.Need-loop-less Inv-loop μ-loop
 loop-less c = let q = ap (λ (x : At). x .place) (c .behind .ensures) in let b = behind-place (c .before .before .before .before .before .before .before .before .before .before .before .args .text .now) (c .before .before .before .before .before .before .before .loop .a) (c .before .before .before .before .before .before .before .loop .a .place + spelled (c .before .before .before .before .piece-at .result)) in let h = c .before .before .before .before .before .if1 .taken in omega arith
 
@@ -83,7 +64,6 @@ joined c =
     (λ w. turned-no blankSlipField addItem pushSlipField _ b _ _ (sym (c .before .is-turn .ensures) ∙ w .0 .left) (w .1) (w .2))
     (c .if2 .came)
 
--- src/lib.rt:441:5
 loop-again : tie.Need-loop-again Inv-loop μ-loop
 loop-again c = let v = c .before .before .before .before .before .before .before .loop .inv in (
   v .0,
@@ -93,11 +73,9 @@ loop-again c = let v = c .before .before .before .before .before .before .before
       (c .behind .ensures),
 )
 
--- src/lib.rt:450:5
 push-slip-field-requires-2 : tie.Need-push-slip-field-requires-2 Inv-loop μ-loop
 push-slip-field-requires-2 c κs = search needs
 
--- src/lib.rt:430:1
 returns : tie.Need-returns Inv-loop μ-loop
 returns c = c .push-slip-field2 .ensures ∙ ap (whole-of blankSlipField addItem pushSlipField) (walked-all (put blankSlipField addItem pushSlipField) (c .before .before .before .before .before .before .before .args .text .now) (blankSlip, blankSlipField) (c .before .before .before .loop .a) (c .before .before .before .loop .slip, c .before .before .before .loop .field) (c .before .before .before .loop .inv .1) (c .before .if1 .left))
 

@@ -1,44 +1,33 @@
-use mathlib.Core.Path.{_≡_, refl, sym, _∙_, ap, ap₂}
-use borrow.Author.Tests.{lt-ltb, le-ltb, eq-eqb, ne-eqb, not-true, not-false}
+-- `reading::is_over` meets its contract.
+use borrow.Author.Tests.{lt-ltb, le-ltb}
 use borrow.Author.Needs.{needs}
 use Rattle.reading.proofs.is_over.Statement.{statement}
 use Rattle.reading.proofs.is_over.Tie as tie
-use Rattle.reading.proofs.is_over.Reads as reads
-use Rattle.reading.proofs.is_over.Lts as lts
 
--- src/lib.rt:114:16
 enum-told : tie.Need-enum-told
 enum-told c = search needs
 
--- src/lib.rt:115:17
 returns : tie.Need-returns
 returns c = rw (c .before .enum-told .given .1, lt-ltb _ _ (c .if1 .taken))
 
--- src/lib.rt:119:25
 enum-told-2 : tie.Need-enum-told-2
 enum-told-2 c = search needs
 
--- src/lib.rt:120:28
 enum-told-3 : tie.Need-enum-told-3
 enum-told-3 c = search needs
 
--- src/lib.rt:121:27
 enum-told-4 : tie.Need-enum-told-4
 enum-told-4 c = search needs
 
--- src/lib.rt:106:1
 returns-2 : tie.Need-returns-2
 returns-2 c = rw (c .before .enum-told .given .1, le-ltb _ _ (c .if1 .left))
 
--- src/lib.rt:106:1
 returns-3 : tie.Need-returns-3
 returns-3 c = rw (c .enum-told2 .given .1)
 
--- src/lib.rt:106:1
 returns-4 : tie.Need-returns-4
 returns-4 c = rw (c .enum-told3 .given .1)
 
--- src/lib.rt:106:1
 returns-5 : tie.Need-returns-5
 returns-5 c = search needs
 

@@ -1,54 +1,37 @@
-use mathlib.Core.Path.{_≡_, refl, sym, _∙_, ap, ap₂}
+-- `reading::judge` meets its contract.
 use native.Mathlib.Omega.{arith}
 use Rattle.reading.proofs.Verdicts.{bytes-small, judged-long, judged-grammar, judged-survey}
 use borrow.Author.Needs.{needs}
 use Rattle.reading.proofs.judge.Statement.{statement}
 use Rattle.reading.proofs.judge.Tie as tie
-use Rattle.reading.proofs.judge.Reads as reads
-use Rattle.reading.proofs.judge.Lts as lts
-use Rattle.reading.proofs.bytes_of.Reads as bytes-of-reads
-use Rattle.reading.proofs.survey_of.Reads as survey-of-reads
-use Rattle.reading.proofs.verdict_of.Reads as verdict-of-reads
-use Rattle.reading.proofs.width_of.Reads as width-of-reads
-use Rattle.scanning.proofs.grammar_place.Reads as grammar-place-reads
 
--- src/lib.rt:492:9
 bytes-of-requires : tie.Need-bytes-of-requires
 bytes-of-requires c κs = search needs
 
--- src/lib.rt:494:9
 returns : tie.Need-returns
 returns c = judged-long (c .before .before .before .args .slip) (c .before .before .before .args .text .now) (c .before .bytes-of .result) (c .before .bytes-of .ensures) (c .if1 .taken)
 
--- src/lib.rt:496:11
 grammar-place-requires : tie.Need-grammar-place-requires
 grammar-place-requires c κs = search needs
 
--- src/lib.rt:497:19
 enum-known-p : tie.Need-enum-known-p
 enum-known-p c = search needs
 
--- src/lib.rt:499:43
 enum-told : tie.Need-enum-told
 enum-told c = search needs
 
--- src/lib.rt:499:43
 width-of-requires : tie.Need-width-of-requires
 width-of-requires c κs = search needs
 
--- src/lib.rt:499:17
 survey-of-requires : tie.Need-survey-of-requires
 survey-of-requires c κs = let e = c .before .before .before .before .before .bytes-of .ensures in let h = c .before .before .before .before .if1 .left in let b = bytes-small (c .before .before .before .before .before .before .before .args .slip) in omega arith
 
--- src/lib.rt:500:13
 verdict-of-requires : tie.Need-verdict-of-requires
 verdict-of-requires c κs = search needs
 
--- src/lib.rt:489:1
 returns-2 : tie.Need-returns-2
 returns-2 c = judged-grammar (c .before .before .before .before .before .before .before .args .slip) (c .before .before .before .before .before .before .before .args .text .now) (c .before .before .before .before .before .bytes-of .result) (c .before .before .before .before .before .bytes-of .ensures) (c .before .before .before .grammar-place .result) _ (c .before .before .before .before .if1 .left) (c .before .before .before .grammar-place .ensures) (c .before .p .given .1)
 
--- src/lib.rt:489:1
 returns-3 : tie.Need-returns-3
 returns-3 c = judged-survey (c .before .before .before .before .before .before .before .before .before .args .slip) (c .before .before .before .before .before .before .before .before .before .args .text .now) (c .before .before .before .before .before .before .before .bytes-of .result) (c .before .before .before .before .before .before .before .bytes-of .ensures) (c .before .before .before .before .before .grammar-place .result) (c .before .before .width-of .result) (c .before .survey-of .result) (c .verdict-of .result) (c .before .before .before .before .before .before .if1 .left) (c .before .before .before .before .before .grammar-place .ensures) (c .before .before .before .enum-told .given .1) (c .before .before .width-of .ensures) (c .before .survey-of .ensures) (c .verdict-of .ensures)
 

@@ -1,30 +1,21 @@
+-- `reading::note` meets its contract.
 use Rattle.reading.proofs.Refusals.{noted-now, noted-before}
 use borrow.Author.Needs.{needs}
 use Rattle.reading.proofs.note.Statement.{statement}
 use Rattle.reading.proofs.note.Tie as tie
-use Rattle.reading.proofs.note.Reads as reads
-use Rattle.reading.proofs.note.Lts as lts
-use Rattle.reading.proofs.add_piece.Reads as add-piece-reads
-use Rattle.reading.proofs.lists_at.Reads as lists-at-reads
-use Rattle.reading.proofs.severity.Reads as severity-reads
 
--- src/lib.rt:219:9
 lists-at-requires : tie.Need-lists-at-requires
 lists-at-requires c κs = search needs
 
--- src/lib.rt:220:9
 severity-requires : tie.Need-severity-requires
 severity-requires c κs = search needs
 
--- src/lib.rt:221:9
 add-piece-requires : tie.Need-add-piece-requires
 add-piece-requires c κs = search needs
 
--- src/lib.rt:223:9
 returns : tie.Need-returns
 returns c = noted-now (c .before .before .before .before .before .before .args .slip) (c .before .before .before .before .before .before .args .width) (c .before .before .before .before .before .before .args .s) (c .before .before .before .before .before .before .args .a) (c .before .before .before .before .before .before .args .p) (c .before .before .before .before .lists-at .result) (c .before .before .add-piece .result) (c .before .before .before .severity .result) (c .before .before .before .before .lists-at .ensures) (c .before .before .before .severity .ensures) (c .before .before .add-piece .ensures) (c .if1 .taken)
 
--- src/lib.rt:215:1
 returns-2 : tie.Need-returns-2
 returns-2 c = noted-before (c .before .before .before .before .before .before .args .slip) (c .before .before .before .before .before .before .args .width) (c .before .before .before .before .before .before .args .s) (c .before .before .before .before .before .before .args .a) (c .before .before .before .before .before .before .args .p) (c .before .before .before .before .lists-at .result) (c .before .before .add-piece .result) (c .before .before .before .severity .result) (c .before .before .before .before .lists-at .ensures) (c .before .before .before .severity .ensures) (c .before .before .add-piece .ensures) (c .if1 .left)
 

@@ -1,28 +1,21 @@
-use mathlib.Core.Path.{_≡_, refl, sym, _∙_, ap, ap₂}
-use borrow.Author.Tests.{lt-ltb, le-ltb, eq-eqb, ne-eqb}
+-- `reading::push_field` meets its contract.
+use borrow.Author.Tests.{lt-ltb, le-ltb}
 use borrow.Author.Needs.{needs}
 use Rattle.reading.proofs.push_field.Statement.{statement}
 use Rattle.reading.proofs.push_field.Tie as tie
-use Rattle.reading.proofs.push_field.Reads as reads
-use Rattle.reading.proofs.push_field.Lts as lts
 
--- src/lib.rt:349:9
 returns : tie.Need-returns
 returns c = rw (le-ltb _ _ (c .if1 .taken))
 
--- src/lib.rt:352:5
 mul-f : tie.Need-mul-f
 mul-f c = search needs
 
--- src/lib.rt:352:5
 element-set-from-f : tie.Need-element-set-from-f
 element-set-from-f c = search needs
 
--- src/lib.rt:353:11
 add-s : tie.Need-add-s
 add-s c = search needs
 
--- src/lib.rt:344:1
 returns-2 : tie.Need-returns-2
 returns-2 c = rw (lt-ltb _ _ (c .if1 .left))
 

@@ -1,28 +1,21 @@
-use mathlib.Core.Path.{_≡_, refl, sym, _∙_, ap, ap₂}
-use borrow.Author.Tests.{lt-ltb, le-ltb, eq-eqb, ne-eqb}
+-- `reading::push_term` meets its contract.
+use borrow.Author.Tests.{lt-ltb, le-ltb}
 use borrow.Author.Needs.{needs}
 use Rattle.reading.proofs.push_term.Statement.{statement}
 use Rattle.reading.proofs.push_term.Tie as tie
-use Rattle.reading.proofs.push_term.Reads as reads
-use Rattle.reading.proofs.push_term.Lts as lts
 
--- src/lib.rt:336:9
 returns : tie.Need-returns
 returns c = rw (le-ltb _ _ (c .if1 .taken))
 
--- src/lib.rt:339:5
 mul-t : tie.Need-mul-t
 mul-t c = search needs
 
--- src/lib.rt:339:5
 element-set-from-t : tie.Need-element-set-from-t
 element-set-from-t c = search needs
 
--- src/lib.rt:340:11
 add-g : tie.Need-add-g
 add-g c = search needs
 
--- src/lib.rt:331:1
 returns-2 : tie.Need-returns-2
 returns-2 c = rw (lt-ltb _ _ (c .if1 .left))
 

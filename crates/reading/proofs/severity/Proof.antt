@@ -1,43 +1,31 @@
-use mathlib.Core.Path.{_≡_, refl, sym, _∙_, ap, ap₂}
-use borrow.Author.Tests.{lt-ltb, le-ltb, eq-eqb, ne-eqb, not-true, not-false}
+-- `reading::severity` meets its contract.
+use mathlib.Core.Path.{sym, _∙_}
+use borrow.Author.Tests.{lt-ltb, le-ltb}
 use borrow.Author.Needs.{needs}
 use Rattle.reading.proofs.severity.Statement.{statement}
 use Rattle.reading.proofs.severity.Tie as tie
-use Rattle.reading.proofs.severity.Reads as reads
-use Rattle.reading.proofs.severity.Lts as lts
-use Rattle.reading.proofs.is_over.Reads as is-over-reads
-use Rattle.reading.proofs.linear_refusal.Reads as linear-refusal-reads
-use Rattle.reading.proofs.variable_refusal.Reads as variable-refusal-reads
 
--- src/lib.rt:173:9
 returns : tie.Need-returns
 returns c = rw (lt-ltb _ _ (c .if1 .taken))
 
--- src/lib.rt:176:9
 returns-2 : tie.Need-returns-2
 returns-2 c = rw (le-ltb _ _ (c .before .before .if1 .left), lt-ltb _ _ (c .if2 .taken))
 
--- src/lib.rt:178:8
 is-over-requires : tie.Need-is-over-requires
 is-over-requires c κs = search needs
 
--- src/lib.rt:179:9
 returns-3 : tie.Need-returns-3
 returns-3 c = rw (le-ltb _ _ (c .before .before .before .before .if1 .left), le-ltb _ _ (c .before .before .if2 .left), sym (c .before .is-over .ensures) ∙ c .if3 .taken)
 
--- src/lib.rt:182:9
 variable-refusal-requires : tie.Need-variable-refusal-requires
 variable-refusal-requires c κs = search needs
 
--- src/lib.rt:182:9
 returns-4 : tie.Need-returns-4
 returns-4 c = rw (le-ltb _ _ (c .before .before .before .before .before .before .if1 .left), le-ltb _ _ (c .before .before .before .before .if2 .left), sym (c .before .before .before .is-over .ensures) ∙ c .before .before .if3 .left, c .before .if4 .taken) (c .variable-refusal .ensures)
 
--- src/lib.rt:184:5
 linear-refusal-requires : tie.Need-linear-refusal-requires
 linear-refusal-requires c κs = search needs
 
--- src/lib.rt:169:1
 returns-5 : tie.Need-returns-5
 returns-5 c = rw (le-ltb _ _ (c .before .before .before .before .before .before .if1 .left), le-ltb _ _ (c .before .before .before .before .if2 .left), sym (c .before .before .before .is-over .ensures) ∙ c .before .before .if3 .left, c .before .if4 .left) (c .linear-refusal .ensures)
 

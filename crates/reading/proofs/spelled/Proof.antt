@@ -1,47 +1,35 @@
-use mathlib.Core.Path.{_≡_, refl, sym, _∙_, ap, ap₂}
+-- `reading::spelled` meets its contract.
 use borrow.Author.Needs.{needs}
 use Rattle.reading.proofs.spelled.Statement.{statement}
 use Rattle.reading.proofs.spelled.Tie as tie
-use Rattle.reading.proofs.spelled.Reads as reads
-use Rattle.reading.proofs.spelled.Lts as lts
 
--- src/lib.rt:76:25
 enum-told : tie.Need-enum-told
 enum-told c = search needs
 
--- src/lib.rt:77:25
 enum-told-2 : tie.Need-enum-told-2
 enum-told-2 c = search needs
 
--- src/lib.rt:77:25
 add-result : tie.Need-add-result
 add-result c = search needs
 
--- src/lib.rt:78:28
 enum-told-3 : tie.Need-enum-told-3
 enum-told-3 c = search needs
 
--- src/lib.rt:78:28
 add-result-2 : tie.Need-add-result-2
 add-result-2 c = search needs
 
--- src/lib.rt:79:27
 enum-told-4 : tie.Need-enum-told-4
 enum-told-4 c = search needs
 
--- src/lib.rt:69:1
 returns : tie.Need-returns
 returns c = search needs
 
--- src/lib.rt:69:1
 returns-2 : tie.Need-returns-2
 returns-2 c = rw (c .enum-told2 .given .1)
 
--- src/lib.rt:69:1
 returns-3 : tie.Need-returns-3
 returns-3 c = rw (c .enum-told3 .given .1)
 
--- src/lib.rt:69:1
 returns-4 : tie.Need-returns-4
 returns-4 c = search needs
 

@@ -1,5 +1,6 @@
+-- `reading::string_at` meets its contract. The loop's invariant says what is left to do.
 use borrow.Author.Needs.{needs}
-use mathlib.Core.Path.{_≡_, refl}
+use mathlib.Core.Path.{refl}
 use mathlib.Core.Logic.{inl, inr}
 use Prim.Native.Nat.{_-_, _≤_}
 use native.Mathlib.Omega.{arith}
@@ -7,8 +8,6 @@ use lib.ListN.{length}
 use Rattle.reading.proofs.Build.{Copied, copied-one, copied-all}
 use Rattle.reading.proofs.string_at.Statement.{statement}
 use Rattle.reading.proofs.string_at.Tie as tie
-use Rattle.reading.proofs.string_at.Reads as reads
-use Rattle.reading.proofs.string_at.Lts as lts
 
 abbrev Inv-loop : tie.InvT-loop
 Inv-loop text from n bytes₀ i₀ bytes i = (from ≤ length text) × (n ≤ 15) × (i ≤ n) × Copied 15 text from i bytes
@@ -16,43 +15,33 @@ Inv-loop text from n bytes₀ i₀ bytes i = (from ≤ length text) × (n ≤ 15
 abbrev μ-loop : tie.MeasureT-loop
 μ-loop text from n bytes₀ i₀ bytes i = n - i
 
--- src/lib.rt:266:5
 loop-holds : tie.Need-loop-holds Inv-loop μ-loop
 loop-holds c = (c .pre .0, c .pre .1, omega arith, (omega arith, refl))
 
--- src/lib.rt:267:12
 sub-if1 : tie.Need-sub-if1 Inv-loop μ-loop
 sub-if1 c = c .before .loop .inv .0
 
--- src/lib.rt:268:13
 returns : tie.Need-returns Inv-loop μ-loop
 returns c = copied-all 15 (c .before .before .before .args .text .now) (c .before .before .before .args .from) (c .before .before .loop .i) (c .before .before .before .args .n) (c .before .before .loop .bytes) (c .before .before .loop .inv .3) (c .before .before .loop .inv .2) (inr (c .if1 .taken))
 
--- src/lib.rt:270:25
 add-bytes : tie.Need-add-bytes Inv-loop μ-loop
 add-bytes c = search needs
 
--- src/lib.rt:270:20
 shared-slice-read-bytes : tie.Need-shared-slice-read-bytes Inv-loop μ-loop
 shared-slice-read-bytes c = search needs
 
--- src/lib.rt:270:9
 array-write-bytes : tie.Need-array-write-bytes Inv-loop μ-loop
 array-write-bytes c = search needs
 
--- src/lib.rt:271:9
 add-i : tie.Need-add-i Inv-loop μ-loop
 add-i c = search needs
 
--- src/lib.rt:266:5
 loop-less : tie.Need-loop-less Inv-loop μ-loop
 loop-less c = search needs
 
--- src/lib.rt:266:5
 loop-again : tie.Need-loop-again Inv-loop μ-loop
 loop-again c = let v = c .before .before .before .loop .inv in let h = c .before .before .loop-test .taken in let k = c .before .if1 .left in (v .0, v .1, omega arith, copied-one 15 (c .before .before .before .before .args .text .now) (c .before .before .before .before .args .from) (c .before .before .before .loop .i) (c .before .before .before .loop .bytes) (v .3) (omega arith) (omega arith))
 
--- src/lib.rt:260:1
 returns-2 : tie.Need-returns-2 Inv-loop μ-loop
 returns-2 c = copied-all 15 (c .before .before .args .text .now) (c .before .before .args .from) (c .before .loop .i) (c .before .before .args .n) (c .before .loop .bytes) (c .before .loop .inv .3) (c .before .loop .inv .2) (inl (c .loop-test .left))
 

@@ -1,4 +1,5 @@
-use mathlib.Core.Path.{_≡_, refl, sym, _∙_, ap, ap₂}
+-- `reading::with_term` meets its contract.
+use mathlib.Core.Path.{sym, _∙_, ap}
 use lib.ListN.{drop}
 use Rattle.text.specs.Walk.{front}
 use Rattle.reading.specs.Build.{pushTerm}
@@ -6,29 +7,19 @@ use Rattle.reading.proofs.Terms.{empty-is}
 use borrow.Author.Needs.{needs}
 use Rattle.reading.proofs.with_term.Statement.{statement}
 use Rattle.reading.proofs.with_term.Tie as tie
-use Rattle.reading.proofs.with_term.Reads as reads
-use Rattle.reading.proofs.with_term.Lts as lts
-use Rattle.reading.proofs.is_empty.Reads as is-empty-reads
-use Rattle.reading.proofs.push_term.Reads as push-term-reads
-use Rattle.reading.proofs.term_at.Reads as term-at-reads
 
--- src/lib.rt:335:8
 is-empty-requires : tie.Need-is-empty-requires
 is-empty-requires c κs = search needs
 
--- src/lib.rt:336:9
 returns : tie.Need-returns
 returns c = rw (sym (empty-is (c .before .before .before .args .p) (front (drop (c .before .before .before .args .place) (c .before .before .before .args .text .now))) (c .before .before .before .pre .1)) ∙ sym (c .before .is-empty .ensures) ∙ c .if1 .taken)
 
--- src/lib.rt:338:9
 term-at-requires : tie.Need-term-at-requires
 term-at-requires c κs = search needs
 
--- src/lib.rt:339:5
 push-term-requires : tie.Need-push-term-requires
 push-term-requires c κs = search needs
 
--- src/lib.rt:331:1
 returns-2 : tie.Need-returns-2
 returns-2 c = rw (sym (empty-is (c .before .before .before .before .before .args .p) (front (drop (c .before .before .before .before .before .args .place) (c .before .before .before .before .before .args .text .now))) (c .before .before .before .before .before .pre .1)) ∙ sym (c .before .before .before .is-empty .ensures) ∙ c .before .before .if1 .left) (c .push-term .ensures ∙ ap (pushTerm (c .before .before .before .before .before .args .f)) (c .before .term-at .ensures))
 

@@ -1,15 +1,11 @@
+-- `terms::blank_slip_field` meets its contract.
 use borrow.Author.Needs.{needs}
 use Rattle.terms.proofs.blank_slip_field.Statement.{statement}
 use Rattle.terms.proofs.blank_slip_field.Tie as tie
-use Rattle.terms.proofs.blank_slip_field.Reads as reads
-use Rattle.terms.proofs.blank_slip_field.Lts as lts
-use Rattle.terms.proofs.blank_term.Reads as blank-term-reads
 
--- src/lib.rt:72:9
 blank-term-requires : tie.Need-blank-term-requires
 blank-term-requires c κs = search needs
 
--- src/lib.rt:69:1
 returns : tie.Need-returns
 returns c = rw (c .blank-term .ensures)
 

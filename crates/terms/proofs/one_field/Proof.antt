@@ -1,16 +1,11 @@
-use mathlib.Core.Path.{_≡_, refl, sym, _∙_, ap, ap₂}
+-- `terms::one_field` meets its contract.
 use borrow.Author.Needs.{needs}
 use Rattle.terms.proofs.one_field.Statement.{statement}
 use Rattle.terms.proofs.one_field.Tie as tie
-use Rattle.terms.proofs.one_field.Reads as reads
-use Rattle.terms.proofs.one_field.Lts as lts
-use Rattle.terms.proofs.blank_field.Reads as blank-field-reads
 
--- src/lib.rt:407:9
 blank-field-requires : tie.Need-blank-field-requires
 blank-field-requires c κs = search needs
 
--- src/lib.rt:404:1
 returns : tie.Need-returns
 returns c = rw (c .blank-field .ensures)
 

@@ -1,27 +1,21 @@
-use mathlib.Core.Path.{_≡_, refl, sym, _∙_, ap, ap₂}
+-- `linearity::Lists::add` meets its contract.
+use mathlib.Core.Path.{_≡_}
 use lib.ListN.{length}
 use lib.Seq.{set-out}
 use native.Mathlib.Omega.{arith}
 use borrow.Author.Needs.{needs}
 use Rattle.linearity.proofs.Lists.add.Statement.{statement}
 use Rattle.linearity.proofs.Lists.add.Tie as tie
-use Rattle.linearity.proofs.Lists.add.Reads as reads
-use Rattle.linearity.proofs.Lists.add.Lts as lts
-use Rattle.linearity.proofs.Lists.stays_ok.Reads as stays-ok-reads
 
--- src/lib.rt:345:13
 stays-ok-requires : tie.Need-stays-ok-requires
 stays-ok-requires c κs = search needs
 
--- src/lib.rt:350:13
 returns : tie.Need-returns
 returns c = let h : length (c .before .before .args .self .seen) ≡ 16 = search needs in rw (c .before .stays-ok .ensures, set-out (c .before .before .args .self .seen) (c .before .before .args .v) _ (omega arith))
 
--- src/lib.rt:352:9
 element-write-l : tie.Need-element-write-l
 element-write-l c = search needs
 
--- src/lib.rt:342:5
 returns-2 : tie.Need-returns-2
 returns-2 c = rw (c .before .stays-ok .ensures)
 
