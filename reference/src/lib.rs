@@ -5,7 +5,10 @@
 //! - [`terms`]: rules and slips as values.
 //! - [`reading`]: from text to values, with refusals.
 //! - [`writing`]: from values to plain text.
+//! - [`generate`], [`draw`]: seeded texts on which the two are compared.
 
+pub mod draw;
+pub mod generate;
 mod grammar;
 pub mod reading;
 pub mod terms;

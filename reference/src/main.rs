@@ -3,11 +3,15 @@ use std::ffi::OsString;
 use std::io::{self, BufRead, BufWriter, Write};
 use std::process::ExitCode;
 
+use reference::draw::Draw;
+use reference::generate::any_line;
 use reference::reading::{read_rule, read_slip, Refusal};
-use reference::writing::{plain_rule, plain_slip};
+use reference::writing::plain_rule;
 
 const USAGE: &str = "usage: reference read
-  read   read each line of standard input as a rule and as a slip";
+       reference generate SEED COUNT
+  read       read each line of standard input as a rule and as a slip
+  generate   write COUNT lines for `read`, the same for the same SEED";
 
 fn main() -> ExitCode {
     let arguments: Vec<OsString> = env::args_os().skip(1).collect();
@@ -15,11 +19,21 @@ fn main() -> ExitCode {
     let output = BufWriter::new(io::stdout().lock());
     match arguments.as_slice() {
         [command] if command == "read" => status(read(input, output)),
-        _ => {
-            complain(USAGE);
-            ExitCode::from(2)
-        }
+        [command, seed, count] if command == "generate" => match (number(seed), number(count)) {
+            (Some(seed), Some(count)) => status(generate(seed, count, output)),
+            _ => misused(),
+        },
+        _ => misused(),
     }
+}
+
+fn number(argument: &OsString) -> Option<u64> {
+    argument.to_str()?.parse().ok()
+}
+
+fn misused() -> ExitCode {
+    complain(USAGE);
+    ExitCode::from(2)
 }
 
 fn status(result: io::Result<()>) -> ExitCode {
@@ -44,10 +58,19 @@ fn read(mut input: impl BufRead, mut output: impl Write) -> io::Result<()> {
         // The last newline may be missing.
         let text = line.strip_suffix(b"\n").unwrap_or(&line);
         let rule = read_rule(text).map(|rule| plain_rule(&rule));
-        let slip = read_slip(text).map(|slip| plain_slip(&slip));
+        let slip = read_slip(text).map(|_| b"read".to_vec());
         report(&mut output, "rule", rule)?;
         report(&mut output, "slip", slip)?;
         line.clear();
+    }
+    output.flush()
+}
+
+fn generate(seed: u64, count: u64, mut output: impl Write) -> io::Result<()> {
+    let mut draw = Draw::new(seed);
+    for _ in 0..count {
+        output.write_all(&any_line(&mut draw))?;
+        output.write_all(b"\n")?;
     }
     output.flush()
 }

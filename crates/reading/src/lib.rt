@@ -53,18 +53,18 @@ pub struct SlipRead {
 }
 
 // Where a term stands: its first byte, the number of its field and its number there, both from 1.
-pub struct At {
-    pub place: usize,
-    pub field: usize,
-    pub index: usize,
+struct At {
+    place: usize,
+    field: usize,
+    index: usize,
 }
 
 // The lowest refusal from 3 on that a term has met (6 is the last that is tried, 7 is none),
 // the place of the first that met it, and the list variables so far.
-pub struct Survey {
-    pub reason: u8,
-    pub place: usize,
-    pub lists: Lists,
+struct Survey {
+    reason: u8,
+    place: usize,
+    lists: Lists,
 }
 
 // The number of bytes of a written term.

@@ -1,7 +1,7 @@
--- Laws of a number's digits: the last digit stands behind those of the tenth part, and a number of 32 bits has at most eleven. Assumes nothing.
+-- Laws of a number's digits: the last digit stands behind those of the tenth part, and a number below a power of ten has at most as many as the power says. Assumes nothing.
 use mathlib.Core.Path.{_≡_, refl, sym, ap, _∙_}
 use mathlib.Core.List.{List, [], _∷_, _++_}
-use Prim.Native.Nat.{ℕ, _+_, _*_, _-_, _/_, _%_, _≤_, _<_}
+use Prim.Native.Nat.{ℕ, zero, suc, _+_, _*_, _-_, _/_, _%_, _^_, _≤_, _<_}
 use native.Mathlib.Omega.{arith}
 use native.Mathlib.Decide.{decLt}
 use lib.ListN.{length, set, length-append}
@@ -10,7 +10,7 @@ use Rattle.lists.specs.Seqs.{IsCons, all-append}
 use Rattle.text.specs.Bytes.{Digit}
 use Rattle.text.specs.Grammar.{Number}
 use Rattle.text.specs.Numbers.{value, digitsOf}
-use Rattle.text.proofs.Numbers.{val-append, digits-value, digits-number, number-digits, digits-ten, digits-one}
+use Rattle.text.proofs.Numbers.{val-append, digits-value, digits-number, number-digits, digits-one}
 use Rattle.writing.specs.Room.{Put}
 use Rattle.writing.proofs.Stores.{put-behind, put-as}
 
@@ -46,12 +46,20 @@ one-digit n h = ap length (digits-small n h)
 pub one-more : (n : ℕ) → 10 ≤ n → length (digitsOf n) ≡ length (digitsOf (n / 10)) + 1
 one-more n h = ap length (digits-more n h) ∙ length-append (digitsOf (n / 10)) ((48 + n % 10) ∷ [])
 
-pub digits-eleven : (n : ℕ) → n < 4294967296 → length (digitsOf n) ≤ 11
-digits-eleven n h = go (decLt n 10)
+pub digits-most : (k n : ℕ) → n < 10 ^ suc k → length (digitsOf n) ≤ suc k
+digits-most zero n h = omega (arith, one-digit n (omega arith))
+digits-most (suc k) n h = go (decLt n 10) (λ m l. digits-most k m l)
   where
-    go : Dec (n < 10) → length (digitsOf n) ≤ 11
-    go (yes p) = omega (arith, one-digit n p)
-    go (no p) = omega (arith, one-more n (omega arith), digits-ten (n / 10) (omega arith))
+    go : Dec (n < 10) → ((m : ℕ) → m < 10 ^ suc k → length (digitsOf m) ≤ suc k) → length (digitsOf n) ≤ suc (suc k)
+    go (yes p) rec = omega (arith, one-digit n p)
+    go (no p) rec = omega (arith, one-more n (omega arith), rec (n / 10) (omega arith))
+
+-- of 32 bits, and of 64
+pub digits-32 : (n : ℕ) → n < 4294967296 → length (digitsOf n) ≤ 10
+digits-32 n h = digits-most 9 n (omega arith)
+
+pub digits-64 : (n : ℕ) → n < 18446744073709551616 → length (digitsOf n) ≤ 20
+digits-64 n h = digits-most 19 n (omega arith)
 
 -- ---- writing them
 

@@ -1,4 +1,4 @@
-// Writing: a rule's and a field's one plain text, into lent bytes.
+// Writing: a rule's and a field's one plain text, and a number's digits, into lent bytes.
 // Document 01: "Writing a rule gives its one plain text: no `empty` unless the field has no terms, integers without leading zeros."
 // The bytes are counted first, so that a buffer that is too small keeps its old bytes (refusal 8); then they are written into room that is known.
 ghost use mathlib.Core.Path.{_≡_};
@@ -36,9 +36,9 @@ fn at_most(n: usize, most: usize) -> usize
 
 // ---- how many bytes. Each count has a bound beside it, so that the sums of counts can't wrap.
 
-// Document 01: "integers without leading zeros". (Ten digits at most; a bound of eleven is shorter to prove and does as well.)
-fn digits_size(n: u32) -> usize
-    ensures { λ r. ⌜ (r ≡ length (digitsOf n)) × (r ≤ 11) ⌝ }
+// Document 01: "integers without leading zeros".
+fn digits_size(n: u64) -> usize
+    ensures { λ r. ⌜ (r ≡ length (digitsOf n)) × (r ≤ 20) ⌝ }
 {
     let mut size: usize = 1;
     let mut m = n;
@@ -54,9 +54,9 @@ fn term_size(t: Term) -> usize
 {
     let form = t.form;
     match form {
-        Form::Int(n) => digits_size(n),
+        Form::Int(n) => digits_size(n as u64),
         Form::Str(k) => at_most(k as usize, 15) + 2,
-        Form::Var(_, n) => digits_size(n as u32) + 1,
+        Form::Var(_, n) => digits_size(n as u64) + 1,
     }
 }
 
@@ -96,7 +96,7 @@ fn rule_size(r: Rule) -> usize
 
 // ---- the bytes, into room that is known; each returns the place behind them
 
-fn put_digits(n: u32, out: &mut [u8], at: usize) -> usize
+fn put_digits(n: u64, out: &mut [u8], at: usize) -> usize
     requires { ⌜ Room (digitsOf n) at (now out) ⌝ }
     ensures { λ r. ⌜ Put (digitsOf n) at (now (out .entry)) r (now (out .exit)) ⌝ }
 {
@@ -151,14 +151,14 @@ fn put_term(t: Term, out: &mut [u8], at: usize) -> usize
 {
     let form = t.form;
     match form {
-        Form::Int(n) => put_digits(n, out, at),
+        Form::Int(n) => put_digits(n as u64, out, at),
         Form::Str(k) => {
             let text = t.text;
             put_string(text, k, out, at)
         }
         Form::Var(k, n) => {
             out[at] = letter(k);
-            put_digits(n as u32, out, at + 1)
+            put_digits(n as u64, out, at + 1)
         }
     }
 }
@@ -221,4 +221,15 @@ pub fn write_field(f: Field, out: &mut [u8]) -> Written
     ensures { λ w. ⌜ (w ≡ writtenOf (plain (countedField f)) (now (out .entry))) × (now (out .exit) ≡ after (plain (countedField f)) (now (out .entry))) ⌝ }
 {
     write_rule(terms::one_field(f), out)
+}
+
+// A number's digits, without leading zeros.
+pub fn write_number(n: u64, out: &mut [u8]) -> Written
+    ensures { λ w. ⌜ (w ≡ writtenOf (digitsOf n) (now (out .entry))) × (now (out .exit) ≡ after (digitsOf n) (now (out .entry))) ⌝ }
+{
+    let size = digits_size(n);
+    if out.len() < size {
+        return Written::TooSmall(size);
+    }
+    Written::Bytes(put_digits(n, out, 0))
 }

@@ -38,7 +38,7 @@ fn prints_a_rule_and_a_slip_for_each_line() {
 rule a0:l0
 slip refused 7 at 0
 rule 7|\"m\"
-slip 7|\"m\"
+slip read
 rule refused 2 at 3
 slip refused 2 at 3
 rule refused 6 at 3
@@ -52,11 +52,11 @@ slip refused 5 at 0
 #[test]
 fn the_last_newline_may_be_missing() {
     assert_eq!(read(b""), "");
-    assert_eq!(read(b"1"), "rule 1\nslip 1\n");
-    assert_eq!(read(b"1\n"), "rule 1\nslip 1\n");
+    assert_eq!(read(b"1"), "rule 1\nslip read\n");
+    assert_eq!(read(b"1\n"), "rule 1\nslip read\n");
     let empty_line = "rule refused 2 at 0\nslip refused 2 at 0\n";
     assert_eq!(read(b"\n"), empty_line);
-    assert_eq!(read(b"1\n\n"), format!("rule 1\nslip 1\n{empty_line}"));
+    assert_eq!(read(b"1\n\n"), format!("rule 1\nslip read\n{empty_line}"));
     assert_eq!(read(b"1\r\n"), "rule refused 2 at 1\nslip refused 2 at 1\n");
 }
 
@@ -64,7 +64,7 @@ fn the_last_newline_may_be_missing() {
 fn long_lines() {
     let mut input = vec![b'x'; 1_000_000];
     input.extend(b"\n1");
-    let expected = "rule refused 1 at 2048\nslip refused 1 at 8192\nrule 1\nslip 1\n";
+    let expected = "rule refused 1 at 2048\nslip refused 1 at 8192\nrule 1\nslip read\n";
     assert_eq!(read(&input), expected);
 }
 
@@ -79,8 +79,32 @@ fn any_bytes_are_answered() {
 }
 
 #[test]
+fn generated_lines_are_those_of_the_seed() {
+    let generate = |seed: &str, count: &str| run(&["generate", seed, count], b"").stdout;
+    let lines = generate("7", "1000");
+    assert_eq!(lines.iter().filter(|&&byte| byte == b'\n').count(), 1000);
+    assert_eq!(lines.last(), Some(&b'\n'));
+    assert_eq!(lines, generate("7", "1000"));
+    assert_ne!(lines, generate("8", "1000"));
+    assert!(lines.starts_with(&generate("7", "10")));
+    assert!(generate("0", "0").is_empty());
+}
+
+#[test]
 fn other_commands_are_refused() {
-    for arguments in [&[][..], &["write"], &["read", "read"], &[""], &["--help"]] {
+    let misuses = [
+        &[][..],
+        &["write"],
+        &["read", "read"],
+        &[""],
+        &["--help"],
+        &["generate"],
+        &["generate", "1"],
+        &["generate", "1", "2", "3"],
+        &["generate", "one", "2"],
+        &["generate", "1", "-2"],
+    ];
+    for arguments in misuses {
         let output = run(arguments, b"1\n");
         assert_eq!(output.status.code(), Some(2), "{arguments:?}");
         assert!(output.stdout.is_empty());

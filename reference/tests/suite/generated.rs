@@ -1,86 +1,13 @@
 //! Seeded sets: generated values are written and read back; generated texts
 //! with offences against the limits are held against a plain restatement of
-//! refusals 3 to 7.
+//! refusals 3 to 7; the lines for comparison have every answer.
 
+use reference::generate::{any_line, any_rule, any_slip, loose_text};
 use reference::reading::{read_rule, read_slip, Refusal};
-use reference::terms::{Field, Kind, Rule, Slip, Term};
-use reference::writing::{plain_fields, plain_rule, plain_slip};
+use reference::terms::{Field, Kind, Term};
+use reference::writing::{plain_rule, plain_slip};
 
 use crate::support::*;
-
-const INTEGERS: [u32; 8] = [0, 1, 7, 10, 99, 999_999_999, 1_000_000_000, 2_147_483_647];
-
-fn any_string(draw: &mut Draw) -> Term {
-    let byte = |draw: &mut Draw| match 32 + draw.below(95) as u8 {
-        b'"' => b'~',
-        other => other,
-    };
-    let length = draw.below(16);
-    string((0..length).map(|_| byte(draw)).collect::<Vec<u8>>())
-}
-
-fn any_constant(draw: &mut Draw) -> Term {
-    match draw.below(3) {
-        0 => any_string(draw),
-        1 => int(draw.pick(&INTEGERS)),
-        _ => int(draw.below(1 << 31) as u32),
-    }
-}
-
-fn any_atom(draw: &mut Draw) -> Term {
-    if draw.one_in(2) {
-        any_constant(draw)
-    } else {
-        let letter = draw.pick(b"isa");
-        var(letter, draw.below(16) as u32)
-    }
-}
-
-fn any_slip(draw: &mut Draw) -> Slip {
-    let field = |draw: &mut Draw| (0..draw.below(65)).map(|_| any_constant(draw)).collect();
-    Slip((0..=draw.below(4)).map(|_| field(draw)).collect())
-}
-
-/// Fields of atoms, with a list variable of its own in some of them.
-fn any_rule(draw: &mut Draw) -> Rule {
-    let shift = draw.below(16);
-    let field = |index: usize| {
-        let mut terms: Field = (0..draw.below(17)).map(|_| any_atom(draw)).collect();
-        if terms.len() < 16 && draw.one_in(2) {
-            let number = (shift + 5 * index) % 16;
-            let at = draw.below(terms.len() + 1);
-            terms.insert(at, var(b'l', number as u32));
-        }
-        terms
-    };
-    let mut fields: Vec<Field> = (0..4).map(field).collect();
-    fields.truncate(1 + draw.below(4));
-    Rule(fields)
-}
-
-/// Another text of the same fields: `empty` and leading zeros put in.
-fn loose_text(fields: &[Field], most_terms: usize, draw: &mut Draw) -> Vec<u8> {
-    let mut texts = Vec::new();
-    for field in fields {
-        let mut terms: Vec<Vec<u8>> = field.iter().map(|term| loose_term(term, draw)).collect();
-        while terms.is_empty() || (terms.len() < most_terms && draw.one_in(2)) {
-            let at = draw.below(terms.len() + 1);
-            terms.insert(at, b"empty".to_vec());
-        }
-        texts.push(terms.join(&b':'));
-    }
-    texts.join(&b'|')
-}
-
-fn loose_term(term: &Term, draw: &mut Draw) -> Vec<u8> {
-    match term {
-        Term::Int(value) => {
-            let width = draw.below(11);
-            format!("{value:0width$}").into_bytes()
-        }
-        other => plain_fields(&[vec![other.clone()]]),
-    }
-}
 
 #[test]
 fn rules_return_from_their_plain_text() {
@@ -274,5 +201,33 @@ fn slips_with_offences() {
     let counts = compare_limits(64, false, 5);
     for number in [0, 3, 4, 5, 7] {
         assert!(counts[number] >= 50, "{counts:?}");
+    }
+}
+
+/// How often each number comes among the answers, with acceptance under 0.
+fn count_answers(answers: impl Iterator<Item = Option<u8>>) -> [usize; 8] {
+    let mut counts = [0; 8];
+    for number in answers {
+        counts[usize::from(number.unwrap_or(0))] += 1;
+    }
+    counts
+}
+
+#[test]
+fn generated_lines_have_every_answer() {
+    for seed in [0, 1] {
+        let mut draw = Draw::new(seed);
+        let lines: Vec<Vec<u8>> = (0..20_000).map(|_| any_line(&mut draw)).collect();
+        assert!(lines.iter().all(|line| !line.contains(&b'\n')));
+        let rule = |line: &Vec<u8>| read_rule(line).err().map(|refusal| refusal.number);
+        let slip = |line: &Vec<u8>| read_slip(line).err().map(|refusal| refusal.number);
+        let rules = count_answers(lines.iter().map(rule));
+        let slips = count_answers(lines.iter().map(slip));
+        for number in [0, 1, 2, 3, 4, 5, 6] {
+            assert!(rules[number] >= 50, "rules {rules:?}");
+        }
+        for number in [0, 1, 2, 3, 4, 5, 7] {
+            assert!(slips[number] >= 50, "slips {slips:?}");
+        }
     }
 }

@@ -1,6 +1,6 @@
-//! What the tests share: short names for terms, texts of a given size, a
-//! seeded generator.
+//! What the tests share: short names for terms, texts of a given size.
 
+pub use reference::draw::Draw;
 use reference::reading::{read_rule, read_slip, Refusal};
 use reference::terms::{Field, Kind, Rule, Slip, Term};
 
@@ -55,34 +55,4 @@ pub fn assert_slip_refused(text: impl AsRef<[u8]>, number: u8, place: usize) {
 pub fn assert_not_grammar(text: impl AsRef<[u8]>, place: usize) {
     assert_rule_refused(&text, 2, place);
     assert_slip_refused(&text, 2, place);
-}
-
-/// Marsaglia's xorshift with 64 bits of state.
-pub struct Draw(u64);
-
-impl Draw {
-    /// The seed must not be 0.
-    pub fn new(seed: u64) -> Draw {
-        Draw(seed)
-    }
-
-    fn next(&mut self) -> u64 {
-        self.0 ^= self.0 << 13;
-        self.0 ^= self.0 >> 7;
-        self.0 ^= self.0 << 17;
-        self.0
-    }
-
-    /// A number from 0 up to but not including `bound`.
-    pub fn below(&mut self, bound: usize) -> usize {
-        (self.next() >> 16) as usize % bound
-    }
-
-    pub fn one_in(&mut self, bound: usize) -> bool {
-        self.below(bound) == 0
-    }
-
-    pub fn pick<T: Copy>(&mut self, from: &[T]) -> T {
-        from[self.below(from.len())]
-    }
 }

@@ -5,18 +5,18 @@ use Prim.Native.Nat.{_+_, _≤_}
 use native.Mathlib.Omega.{arith}
 use lib.ListN.{length}
 use Rattle.text.specs.Numbers.{digitsOf}
-use Rattle.writing.proofs.Digits.{digits-some, digits-eleven, one-digit, one-more}
+use Rattle.writing.proofs.Digits.{digits-some, digits-64, one-digit, one-more}
 use Rattle.writing.proofs.digits_size.Statement.{statement}
 use Rattle.writing.proofs.digits_size.Tie as tie
 
 abbrev Inv-loop : tie.InvT-loop
-Inv-loop n size₀ m₀ size m = (size + length (digitsOf m) ≡ length (digitsOf n) + 1) × (length (digitsOf n) ≤ 11)
+Inv-loop n size₀ m₀ size m = (size + length (digitsOf m) ≡ length (digitsOf n) + 1) × (length (digitsOf n) ≤ 20)
 
 abbrev μ-loop : tie.MeasureT-loop
 μ-loop n size₀ m₀ size m = m
 
 loop-holds : tie.Need-loop-holds Inv-loop μ-loop
-loop-holds c = (omega arith, digits-eleven _ (omega arith))
+loop-holds c = (omega arith, digits-64 _ (omega arith))
 
 add-size : tie.Need-add-size Inv-loop μ-loop
 add-size c = omega (arith, digits-some (c .before .loop .m))

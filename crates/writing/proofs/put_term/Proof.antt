@@ -11,6 +11,9 @@ use Rattle.writing.proofs.put_term.Tie as tie
 enum-known-form : tie.Need-enum-known-form
 enum-known-form c = search needs
 
+cast-put-digits : tie.Need-cast-put-digits
+cast-put-digits c = search needs
+
 put-digits-requires : tie.Need-put-digits-requires
 put-digits-requires c κs =
     let z = c .before .before .before .before .before in
@@ -35,8 +38,8 @@ slice-write-out c =
     let z = c .before .before .before .before .before in
     omega (arith, z .pre, ap length (var-text (z .args .t .form) (z .args .t .text) _ _ (c .before .before .form3 .given .1)))
 
-cast-put-digits : tie.Need-cast-put-digits
-cast-put-digits c = search needs
+cast-put-digits-2 : tie.Need-cast-put-digits-2
+cast-put-digits-2 c = search needs
 
 add-put-digits : tie.Need-add-put-digits
 add-put-digits c = search needs
@@ -78,13 +81,14 @@ put-term-spec =
     tie.close
     (tie.spec
     enum-known-form
+    cast-put-digits
     put-digits-requires
     enum-known-form-2
     put-string-requires
     enum-known-form-3
     letter-requires
     slice-write-out
-    cast-put-digits
+    cast-put-digits-2
     add-put-digits
     put-digits-requires-2
     same-length

@@ -3,12 +3,16 @@ use mathlib.Core.Path.{_≡_, ap}
 use native.Mathlib.Omega.{arith}
 use lib.ListN.{length}
 use borrow.Author.Needs.{needs}
+use Rattle.writing.proofs.Digits.{digits-32}
 use Rattle.writing.proofs.Terms.{int-text, str-text, var-text, quoted-length}
 use Rattle.writing.proofs.term_size.Statement.{statement}
 use Rattle.writing.proofs.term_size.Tie as tie
 
 enum-known-form : tie.Need-enum-known-form
 enum-known-form c = search needs
+
+cast-digits-size : tie.Need-cast-digits-size
+cast-digits-size c = search needs
 
 digits-size-requires : tie.Need-digits-size-requires
 digits-size-requires c κs = search needs
@@ -28,8 +32,8 @@ add-result c = search needs
 enum-known-form-3 : tie.Need-enum-known-form-3
 enum-known-form-3 c = search needs
 
-cast-digits-size : tie.Need-cast-digits-size
-cast-digits-size c = search needs
+cast-digits-size-2 : tie.Need-cast-digits-size-2
+cast-digits-size-2 c = search needs
 
 digits-size-requires-2 : tie.Need-digits-size-requires-2
 digits-size-requires-2 c κs = search needs
@@ -40,8 +44,9 @@ add-result-2 c = search needs
 returns : tie.Need-returns
 returns c =
     let z = c .before .before .before .before .args .t in
-    let e = int-text (z .form) (z .text) _ (c .before .before .form .given .1) in
-    (omega (arith, ap length e), omega arith)
+    let n = c .before .before .form .given .0 .0 in
+    let e = int-text (z .form) (z .text) n (c .before .before .form .given .1) in
+    (omega (arith, ap length e), omega (arith, digits-32 n (search needs)))
 
 returns-2 : tie.Need-returns-2
 returns-2 c =
@@ -53,21 +58,23 @@ returns-2 c =
 returns-3 : tie.Need-returns-3
 returns-3 c =
     let z = c .before .before .before .before .args .t in
-    let e = var-text (z .form) (z .text) _ _ (c .before .before .form3 .given .1) in
-    (omega (arith, ap length e), omega arith)
+    let n = c .before .before .form3 .given .0 .1 .0 in
+    let e = var-text (z .form) (z .text) _ n (c .before .before .form3 .given .1) in
+    (omega (arith, ap length e), omega (arith, digits-32 n (omega arith)))
 
 pub term-size-spec : {M : Type 1} → statement M
 term-size-spec =
     tie.close
     (tie.spec
     enum-known-form
+    cast-digits-size
     digits-size-requires
     enum-known-form-2
     cast-at-most
     at-most-requires
     add-result
     enum-known-form-3
-    cast-digits-size
+    cast-digits-size-2
     digits-size-requires-2
     add-result-2
     returns

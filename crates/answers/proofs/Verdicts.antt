@@ -1,0 +1,75 @@
+-- What the reading functions answer says the same as what is read. Assumes nothing.
+use mathlib.Core.Path.{_≡_, refl, sym, ap, _∙_}
+use mathlib.Core.List.{List, _++_}
+use Prim.Native.Nat.{ℕ}
+use Rattle.text.specs.Terms.{OurTerm}
+use Rattle.text.specs.Plain.{plain}
+use Rattle.text.specs.Limits.{IsRule}
+use Rattle.text.specs.Read as read
+use Rattle.text.specs.Read.{Outcome, refused, accepted, number, readRule, readSlip}
+use Rattle.text.proofs.Accepted.{rule-read}
+use Rattle.terms.specs.Values.{encodeRule}
+use Rattle.accepted.specs.Accepted.{countedRule}
+use Rattle.accepted.proofs.Accepted.{view-encode-rule, encode-accepted-rule}
+use Rattle.reading.specs.declared.Reason.{Reason}
+use Rattle.reading.specs.declared.Verdict.{Verdict}
+use Rattle.reading.specs.declared.Verdict.the-variants.{Accepted, Refused}
+use Rattle.reading.specs.declared.RuleRead.{RuleRead}
+use Rattle.reading.specs.declared.SlipRead.{SlipRead}
+use Rattle.reading.specs.Answers.{reasonFrom, numberOf, ruleRead, slipRead}
+use Rattle.answers.specs.Ascii.{ascii, newline}
+use Rattle.answers.specs.Texts.{refusalText, ruleText, slipText, ruleAnswer, slipAnswer}
+use Rattle.answers.specs.Verdicts.{refusedText, verdictText, ruleSaid}
+
+-- ---- a verdict's text, by the verdict
+
+module _ (v : Verdict) (t : List ℕ) where
+  pub text-accepted : v ≡ Accepted → verdictText v t ≡ t
+  text-accepted e = rw e
+
+  pub text-refused : (r : Reason) (p : ℕ) → v ≡ Refused r p → verdictText v t ≡ refusedText r p
+  text-refused r p e = rw e
+
+-- ---- the value of a reason has the same number
+
+number-is : (r : read.Reason) → numberOf (reasonFrom r) ≡ number r
+number-is read.long = refl
+number-is read.grammar = refl
+number-is read.fields = refl
+number-is read.terms = refl
+number-is read.limits = refl
+number-is read.linear = refl
+number-is read.variable = refl
+
+refused-is : (r : read.Reason) (p : ℕ) → refusedText (reasonFrom r) p ≡ refusalText r p
+refused-is r p = rw number-is
+
+-- ---- what is read of a text
+
+-- the value that is returned is the one of the rule, so its plain text is the rule's
+plain-is : (r : List (List OurTerm)) → IsRule r → plain (countedRule (encodeRule r)) ≡ plain r
+plain-is r h = rw (encode-accepted-rule r h, view-encode-rule r h)
+
+rule-said : (t : List ℕ) → ruleSaid (ruleRead (readRule t)) ≡ ruleText (readRule t)
+rule-said t = go (readRule t) refl
+  where
+    go : (o : Outcome) → readRule t ≡ o → ruleSaid (ruleRead o) ≡ ruleText o
+    go (refused r p) e = refused-is r p
+    go (accepted x) e = plain-is x (rule-read t x e)
+
+slip-said : (t : List ℕ) → verdictText (slipRead (readSlip t) .verdict) (ascii "read") ≡ slipText (readSlip t)
+slip-said t = go (readSlip t)
+  where
+    go : (o : Outcome) → verdictText (slipRead o .verdict) (ascii "read") ≡ slipText o
+    go (refused r p) = refused-is r p
+    go (accepted x) = refl
+
+-- ---- an answer's pieces, by the value that is returned
+
+pub rule-pieces : (t : List ℕ) (r : RuleRead) → r ≡ ruleRead (readRule t) → ruleAnswer t ≡ ascii "rule " ++ ruleSaid r ++ newline
+unfolding ruleAnswer
+rule-pieces t r e = ap (λ (s : List ℕ). ascii "rule " ++ s ++ newline) (sym (ap ruleSaid e ∙ rule-said t))
+
+pub slip-pieces : (t : List ℕ) (r : SlipRead) → r ≡ slipRead (readSlip t) → slipAnswer t ≡ ascii "slip " ++ verdictText (r .verdict) (ascii "read") ++ newline
+unfolding slipAnswer
+slip-pieces t r e = ap (λ (s : List ℕ). ascii "slip " ++ s ++ newline) (sym (ap (λ (q : SlipRead). verdictText (q .verdict) (ascii "read")) e ∙ slip-said t))

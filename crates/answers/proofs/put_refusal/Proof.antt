@@ -1,0 +1,50 @@
+-- `answers::put_refusal` meets its contract: the word, then the number and the place. Assumes nothing.
+use mathlib.Core.Path.{sym, ap}
+use mathlib.Core.List.{_++_}
+use Prim.Native.Nat.{ℕ}
+use borrow.Author.Needs.{needs}
+use Rattle.writing.proofs.Stores.{put-as}
+use Rattle.answers.specs.Ascii.{ascii}
+use Rattle.answers.specs.Texts.{numberAt}
+use Rattle.answers.proofs.Pieces.{room-as, room-next, put-next}
+use Rattle.answers.proofs.put_refusal.Statement.{statement}
+use Rattle.answers.proofs.put_refusal.Tie as tie
+
+number-requires : tie.Need-number-requires
+number-requires c κs = search needs
+
+slice-aggregate-put-bytes : tie.Need-slice-aggregate-put-bytes
+slice-aggregate-put-bytes c = search needs
+
+put-bytes-requires : tie.Need-put-bytes-requires
+put-bytes-requires c κs = search needs
+
+cast-put-number-at : tie.Need-cast-put-number-at
+cast-put-number-at c = search needs
+
+put-number-at-requires : tie.Need-put-number-at-requires
+put-number-at-requires c κs =
+    let z = c .before .before .before .before .before .before .before .before in
+    let n = c .before .before .before .before .before .before .number in
+    room-next (ascii "refused ") (numberAt (n .result) (z .args .place)) (z .args .out .now) (z .args .at) (room-as (z .args .out .now) (z .args .at) (ap (λ (n : ℕ). ascii "refused " ++ numberAt n (z .args .place)) (sym (n .ensures))) (z .pre)) (c .before .before .before .put-bytes .ensures)
+
+same-length : tie.Need-same-length
+same-length c = search needs
+
+returns : tie.Need-returns
+returns c =
+    let z = c .before .before .before .before .before .before .before .before .before .before .before in
+    let n = c .before .before .before .before .before .before .before .before .before .number in
+    put-as (z .args .out .now) (z .args .at) (ap (λ (n : ℕ). ascii "refused " ++ numberAt n (z .args .place)) (sym (n .ensures))) (put-next (ascii "refused ") (numberAt (n .result) (z .args .place)) (z .args .out .now) (z .args .at) (c .before .before .before .before .before .before .put-bytes .ensures) (c .before .before .put-number-at .ensures))
+
+pub put-refusal-spec : {M : Type 1} → statement M
+put-refusal-spec =
+    tie.close
+    (tie.spec
+    number-requires
+    slice-aggregate-put-bytes
+    put-bytes-requires
+    cast-put-number-at
+    put-number-at-requires
+    same-length
+    returns)

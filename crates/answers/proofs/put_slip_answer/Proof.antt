@@ -1,0 +1,54 @@
+-- `answers::put_slip_answer` meets its contract: three pieces. Assumes nothing.
+use borrow.Author.Needs.{needs}
+use Rattle.writing.proofs.Stores.{put-as}
+use Rattle.answers.specs.Ascii.{ascii, newline}
+use Rattle.answers.specs.Verdicts.{verdictText}
+use Rattle.answers.proofs.Pieces.{room-as, room-first-3, room-second, room-third, put-three}
+use Rattle.answers.proofs.Verdicts.{slip-pieces}
+use Rattle.answers.proofs.put_slip_answer.Statement.{statement}
+use Rattle.answers.proofs.put_slip_answer.Tie as tie
+
+read-slip-requires : tie.Need-read-slip-requires
+read-slip-requires c κs = search needs
+
+slice-aggregate-put-bytes : tie.Need-slice-aggregate-put-bytes
+slice-aggregate-put-bytes c = search needs
+
+put-bytes-requires : tie.Need-put-bytes-requires
+put-bytes-requires c κs =
+    let z = c .before .before .before .before .before in
+    let R = c .before .before .read-slip in
+    room-first-3 (ascii "slip ") (verdictText (R .result .verdict) (ascii "read")) newline (z .args .out .now) (z .args .at) (room-as (z .args .out .now) (z .args .at) (slip-pieces (z .args .line .now) (R .result) (R .ensures)) (z .pre))
+
+put-slip-verdict-requires : tie.Need-put-slip-verdict-requires
+put-slip-verdict-requires c κs =
+    let z = c .before .before .before .before .before .before .before .before .before in
+    let R = c .before .before .before .before .before .before .read-slip in
+    room-second (ascii "slip ") (verdictText (R .result .verdict) (ascii "read")) newline (z .args .out .now) (z .args .at) (room-as (z .args .out .now) (z .args .at) (slip-pieces (z .args .line .now) (R .result) (R .ensures)) (z .pre)) (c .before .before .before .put-bytes .ensures)
+
+put-newline-requires : tie.Need-put-newline-requires
+put-newline-requires c κs =
+    let z = c .before .before .before .before .before .before .before .before .before .before .before .before .before in
+    let R = c .before .before .before .before .before .before .before .before .before .before .read-slip in
+    room-third (ascii "slip ") (verdictText (R .result .verdict) (ascii "read")) newline (z .args .out .now) (z .args .at) (room-as (z .args .out .now) (z .args .at) (slip-pieces (z .args .line .now) (R .result) (R .ensures)) (z .pre)) (c .before .before .before .before .before .before .before .put-bytes .ensures) (c .before .before .before .put-slip-verdict .ensures)
+
+same-length : tie.Need-same-length
+same-length c = search needs
+
+returns : tie.Need-returns
+returns c =
+    let z = c .before .before .before .before .before .before .before .before .before .before .before .before .before .before .before .before in
+    let R = c .before .before .before .before .before .before .before .before .before .before .before .before .before .read-slip in
+    put-as (z .args .out .now) (z .args .at) (slip-pieces (z .args .line .now) (R .result) (R .ensures)) (put-three (ascii "slip ") (verdictText (R .result .verdict) (ascii "read")) newline (z .args .out .now) (z .args .at) (c .before .before .before .before .before .before .before .before .before .before .put-bytes .ensures) (c .before .before .before .before .before .before .put-slip-verdict .ensures) (c .before .before .put-newline .ensures))
+
+pub put-slip-answer-spec : {M : Type 1} → statement M
+put-slip-answer-spec =
+    tie.close
+    (tie.spec
+    read-slip-requires
+    slice-aggregate-put-bytes
+    put-bytes-requires
+    put-slip-verdict-requires
+    put-newline-requires
+    same-length
+    returns)

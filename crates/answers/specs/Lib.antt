@@ -1,0 +1,4 @@
+pub mod Ascii
+pub mod Sizes
+pub mod Texts
+pub mod Verdicts

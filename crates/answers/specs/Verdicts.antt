@@ -1,0 +1,23 @@
+-- The same texts, from the values that the reading functions answer. `rule-said`, `slip-said` of proofs/Verdicts say that they are the same.
+use mathlib.Core.List.{List, _++_}
+use Prim.Native.Nat.{ℕ}
+use Rattle.text.specs.Plain.{plain}
+use Rattle.accepted.specs.Accepted.{countedRule}
+use Rattle.reading.specs.declared.Verdict.{Verdict}
+use Rattle.reading.specs.declared.Verdict.the-variants.{Accepted, Refused}
+use Rattle.reading.specs.declared.Reason.{Reason}
+use Rattle.reading.specs.declared.RuleRead.{RuleRead}
+use Rattle.reading.specs.Answers.{numberOf}
+use Rattle.answers.specs.Ascii.{ascii}
+use Rattle.answers.specs.Texts.{numberAt}
+
+abbrev pub refusedText : Reason → ℕ → List ℕ
+refusedText r p = ascii "refused " ++ numberAt (numberOf r) p
+
+-- the refusal's text, or the text t where there is none
+abbrev pub verdictText : Verdict → List ℕ → List ℕ
+verdictText Accepted t = t
+verdictText (Refused r p) t = refusedText r p
+
+abbrev pub ruleSaid : RuleRead → List ℕ
+ruleSaid r = verdictText (r .verdict) (plain (countedRule (r .rule)))

@@ -1,0 +1,78 @@
+-- `lines::next_line` meets its contract. The loop's invariant: what is kept is within the line buffer. The measure is the number of turns that are left. Assumes nothing.
+use mathlib.Core.Path.{_≡_, refl, sym, ap, _∙_}
+use Prim.Native.Nat.{_≤_}
+use native.Mathlib.Omega.{arith}
+use lib.ListN.{length}
+use lib.Seq.{length-take-le}
+use Rattle.lines.specs.declared.Line.{Line}
+use Rattle.lines.proofs.next_line.Statement.{statement}
+use Rattle.lines.proofs.next_line.Tie as tie
+
+abbrev Inv-loop : tie.InvT-loop
+Inv-loop chunk₀ line₀ buffer turns₀ t₀ chunk line turns t =
+    (length chunk ≡ length chunk₀) × (length line ≡ length line₀) × (t .line .kept ≤ length line)
+
+abbrev μ-loop : tie.MeasureT-loop
+μ-loop chunk₀ line₀ buffer turns₀ t₀ chunk line turns t = turns
+
+no-line-requires : tie.Need-no-line-requires Inv-loop μ-loop
+no-line-requires c κs = tt
+
+loop-holds : tie.Need-loop-holds Inv-loop μ-loop
+loop-holds c = (refl, refl, omega (arith, ap (λ (l : Line). l .kept) (c .no-line .ensures)))
+
+step-requires : tie.Need-step-requires Inv-loop μ-loop
+step-requires c κs = c .before .before .before .before .before .loop .inv .2
+
+sub-turns : tie.Need-sub-turns Inv-loop μ-loop
+sub-turns c = omega (arith, c .before .before .before .before .before .before .before .before .before .loop-test .taken)
+
+loop-less : tie.Need-loop-less Inv-loop μ-loop
+loop-less c = omega (arith, c .before .before .before .before .before .before .before .before .before .loop-test .taken)
+
+loop-again : tie.Need-loop-again Inv-loop μ-loop
+loop-again c =
+    let s = c .before .before .before .before .step in
+    let h = c .before .before .before .before .before .before .before .before .before .before .loop .inv in
+    (s .kept .1 .0 ∙ h .0, s .kept .1 .1 .0 ∙ h .1, s .ensures)
+
+same-length : tie.Need-same-length Inv-loop μ-loop
+same-length c = c .before .before .before .loop .inv .0
+
+same-length-2 : tie.Need-same-length-2 Inv-loop μ-loop
+same-length-2 c = c .before .before .before .loop .inv .1
+
+returns : tie.Need-returns Inv-loop μ-loop
+returns c =
+    let h = c .before .before .before .loop .inv .2 in
+    (h, sym (length-take-le _ (c .before .before .before .loop .line) h))
+
+same-length-3 : tie.Need-same-length-3 Inv-loop μ-loop
+same-length-3 c = c .before .loop .inv .0
+
+same-length-4 : tie.Need-same-length-4 Inv-loop μ-loop
+same-length-4 c = c .before .loop .inv .1
+
+returns-2 : tie.Need-returns-2 Inv-loop μ-loop
+returns-2 c =
+    let h = c .before .loop .inv .2 in
+    (h, sym (length-take-le _ (c .before .loop .line) h))
+
+pub next-line-spec : {M : Type 1} → statement M
+next-line-spec =
+    tie.close
+    (tie.spec
+    Inv-loop
+    μ-loop
+    no-line-requires
+    loop-holds
+    step-requires
+    sub-turns
+    loop-less
+    loop-again
+    same-length
+    same-length-2
+    returns
+    same-length-3
+    same-length-4
+    returns-2)

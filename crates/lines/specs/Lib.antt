@@ -1,0 +1,4 @@
+pub mod Placing
+pub mod Taking
+pub mod Going
+pub mod Putting

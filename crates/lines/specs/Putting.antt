@@ -1,0 +1,17 @@
+-- What putting bytes behind those that wait does with the output buffer. `used` of its bytes wait, but no more than it has.
+use mathlib.Core.Bool.{cond}
+use mathlib.Core.List.{List}
+use Prim.Native.Nat.{ℕ, _+_, _-_, min}
+use lib.Dec.{leb}
+use lib.ListN.{length}
+use Rattle.lines.specs.Placing.{placed}
+
+-- the bytes have room behind those that wait; or in the whole buffer, once that is written; or nowhere, and are written at once
+abbrev pub usedWith : ℕ → ℕ → ℕ → ℕ
+usedWith used n size = cond (leb n (size - min used size)) (min used size + n) (cond (leb n size) n 0)
+
+abbrev pub bufferWith : ℕ → List ℕ → List ℕ → List ℕ
+bufferWith used text buffer =
+    cond (leb (length text) (length buffer - min used (length buffer)))
+    (placed text (min used (length buffer)) buffer)
+    (cond (leb (length text) (length buffer)) (placed text 0 buffer) buffer)
