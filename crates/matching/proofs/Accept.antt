@@ -1,0 +1,118 @@
+-- Matching on accepted values: their fields are the values of the fields that they were read as.
+use mathlib.Core.Path.{_≡_, refl, sym, _∙_, ap, ap₂}
+use mathlib.Core.Logic.{_≢_}
+use mathlib.Core.Bool.{Bool, true, false, cond}
+use mathlib.Core.List.{List, [], _∷_, map}
+use Prim.Native.Nat.{_-_, _≤_}
+use native.Mathlib.Omega.{arith}
+use lib.ListN.{length, take, replicate, length-map}
+use lib.Seq.{take-at}
+use Rattle.lists.specs.Seqs.{All, IsCons, all-map}
+use Rattle.theory.specs.Terms.{con, var}
+use Rattle.theory.specs.Linear.{OneList}
+use Rattle.text.specs.Sizes.{mostFields}
+use Rattle.text.specs.Terms.{Con, OurTerm}
+use Rattle.text.specs.Limits.{TermIn, IsCon}
+use Rattle.instance.specs.Matching.{constants, matcher}
+use Rattle.instance.proofs.Linear.{left-linear}
+use Rattle.terms.specs.declared.Field.{Field}
+use Rattle.terms.specs.declared.SlipField.{SlipField}
+use Rattle.terms.specs.declared.Rule.{Rule}
+use Rattle.terms.specs.declared.Slip.{Slip}
+use Rattle.terms.specs.Values.{blankField, blankSlipField, encodeField, encodeSlipField, encodeRule, encodeSlip, viewRule, viewSlip}
+use Rattle.accepted.specs.Accepted.{acceptedRule, acceptedSlip, countedRule, countedSlip}
+use Rattle.accepted.proofs.Accepted.{FieldIn, rule-is, slip-is, accepted-rule, accepted-slip}
+use Rattle.matching.specs.declared.Tested.{Tested}
+use Rattle.matching.specs.Tests.{noValues, fieldsTested, runsAll}
+use Rattle.matching.specs.Answers.{noMatch, found, matchOf, fillingOf}
+use Rattle.matching.proofs.Agree.{encodeItems}
+use Rattle.matching.proofs.Found.{answer-counts, answer-no, answer-yes}
+
+-- ---- the fields of a value
+
+fields-of : (r : List (List OurTerm)) → take (length r) ((encodeRule r) .fields) ≡ map encodeField r
+fields-of r = take-at (map encodeField r) (replicate (mostFields - length (map encodeField r)) blankField) (length r) (length-map r encodeField)
+
+slip-fields-of : (s : List (List OurTerm)) → take (length s) ((encodeSlip s) .fields) ≡ map encodeSlipField s
+slip-fields-of s = take-at (map encodeSlipField s) (replicate (mostFields - length (map encodeSlipField s)) blankSlipField) (length s) (length-map s encodeSlipField)
+
+items-again : (f : List OurTerm) → All IsCon f → map con (constants f) ≡ f
+items-again [] i = refl
+items-again (con c ∷ f) i = ap (λ (t : List OurTerm). con c ∷ t) (items-again f (i .1))
+items-again (var k a ∷ f) i = absurd (i .0)
+
+fields-again : (s : List (List OurTerm)) → All (All IsCon) s → map encodeSlipField s ≡ map encodeItems (map constants s)
+fields-again [] i = refl
+fields-again (f ∷ s) i = ap₂ (λ (w : SlipField) (ws : List SlipField). w ∷ ws) (ap encodeSlipField (sym (items-again f (i .0)))) (fields-again s (i .1))
+
+-- ---- what is not accepted has no fields
+
+pub not-rule : (rule : Rule) (slip : Slip) → acceptedRule rule ≡ false → noMatch ≡ matchOf (countedRule rule) (countedSlip slip)
+not-rule rule slip e = sym (ap (λ (b : Bool). matchOf (cond b (viewRule rule) []) (countedSlip slip)) e)
+
+no-fields : (r : List (List OurTerm)) → matchOf r [] ≡ noMatch
+no-fields [] = refl
+no-fields (f ∷ r) = refl
+
+pub not-slip : (rule : Rule) (slip : Slip) → acceptedSlip slip ≡ false → noMatch ≡ matchOf (countedRule rule) (countedSlip slip)
+not-slip rule slip e = sym (ap (λ (b : Bool). matchOf (countedRule rule) (cond b (viewSlip slip) [])) e ∙ no-fields (countedRule rule))
+
+-- ---- accepted values
+
+with-fields : (r s : List (List OurTerm)) → IsCons r → IsCons s → matchOf r s ≡ found r (map constants s) (matcher r (map constants s))
+with-fields (f ∷ r) (w ∷ s) i j = refl
+with-fields (f ∷ r) [] i j = absurd j
+with-fields [] s i j = absurd i
+
+module _ (rule : Rule) (slip : Slip) (a : acceptedRule rule ≡ true) (b : acceptedSlip slip ≡ true) where
+  abbrev fs : List (List OurTerm)
+  fs = viewRule rule
+
+  abbrev ws : List (List Con)
+  ws = map constants (viewSlip slip)
+
+  rule-fields : take (rule .n) (rule .fields) ≡ map encodeField fs
+  rule-fields = ap (λ (r : Rule). take (r .n) (r .fields)) (sym (accepted-rule rule a .1)) ∙ fields-of fs
+
+  slip-fields : take (slip .n) (slip .fields) ≡ map encodeItems ws
+  slip-fields = ap (λ (s : Slip). take (s .n) (s .fields)) (sym (accepted-slip slip b .1)) ∙ slip-fields-of (viewSlip slip) ∙ fields-again (viewSlip slip) (accepted-slip slip b .0 .1)
+
+  rule-count : rule .n ≡ length fs
+  rule-count = ap (λ (r : Rule). r .n) (sym (accepted-rule rule a .1))
+
+  slip-count : slip .n ≡ length ws
+  slip-count = ap (λ (s : Slip). s .n) (sym (accepted-slip slip b .1)) ∙ sym (length-map (viewSlip slip) constants)
+
+  pub at-most-four : rule .n ≤ 4
+  at-most-four = let h = rule-is fs .0 (accepted-rule rule a .0) .1 .0 in omega (arith, rule-count)
+
+  terms-in : All (All TermIn) fs
+  terms-in = all-map FieldIn (All TermIn) (λ f k. k .1) fs (rule-is fs .0 (accepted-rule rule a .0) .1 .1)
+
+  one-list : All OneList fs
+  one-list = left-linear fs (accepted-rule rule a .0 .1) .1
+
+  answer-is : matchOf (countedRule rule) (countedSlip slip) ≡ found fs ws (matcher fs ws)
+  answer-is =
+      ap₂ (λ (x y : Bool). matchOf (cond x fs []) (cond y (viewSlip slip) [])) a b
+      ∙ with-fields fs (viewSlip slip) (rule-is fs .0 (accepted-rule rule a .0) .0) (slip-is (viewSlip slip) .0 (accepted-slip slip b .0) .0)
+
+  pub says-counts : slip .n ≢ rule .n → noMatch ≡ matchOf (countedRule rule) (countedSlip slip)
+  says-counts n = answer-counts fs ws (λ e. n (slip-count ∙ sym e ∙ sym rule-count)) ∙ sym answer-is
+
+  module _ (same : slip .n ≡ rule .n) (t : Tested) (is-t : t ≡ fieldsTested (take (rule .n) (rule .fields)) (take (slip .n) (slip .fields)) noValues) where
+    tests : t ≡ fieldsTested (map encodeField fs) (map encodeItems ws) noValues
+    tests = is-t ∙ ap₂ (λ (f : List Field) (w : List SlipField). fieldsTested f w noValues) rule-fields slip-fields
+
+    counts : length fs ≡ length ws
+    counts = sym rule-count ∙ sym same ∙ slip-count
+
+    pub says-no : t .ok ≡ false → noMatch ≡ matchOf (countedRule rule) (countedSlip slip)
+    says-no e = answer-no fs ws counts t tests terms-in one-list e ∙ sym answer-is
+
+    pub says-yes : t .ok ≡ true
+        → record { yes = true; filling = runsAll 0 (take (rule .n) (rule .fields)) (take (slip .n) (slip .fields)) (fillingOf (t .values)) } ≡ matchOf (countedRule rule) (countedSlip slip)
+    says-yes e =
+        ap₂ (λ (f : List Field) (w : List SlipField). record { yes = true; filling = runsAll 0 f w (fillingOf (t .values)) }) rule-fields slip-fields
+        ∙ answer-yes fs ws counts t tests terms-in one-list e
+        ∙ sym answer-is

@@ -1,0 +1,6 @@
+pub mod Bytes
+pub mod Tests
+pub mod Walks
+pub mod Agree
+pub mod Found
+pub mod Accept

@@ -1,0 +1,81 @@
+-- What matching answers. Document 01: "no with the blank filling (every number zero), or yes with the value of every variable,
+-- blank for those the rule lacks; a list variable's value is a run of the slip's terms".
+use mathlib.Core.Bool.{Bool, true, false}
+use mathlib.Core.Option.{Option, none, some}
+use mathlib.Core.List.{List, [], _∷_, map}
+use Prim.Native.Nat.{ℕ, zero, suc, _+_, _-_, _/_, _%_}
+use lib.ListN.{length, set, replicate}
+use Rattle.order.specs.Order.{basic, list}
+use Rattle.order.specs.Types.{integer, string, atom, Kind}
+use Rattle.theory.specs.Terms.{con, var}
+use Rattle.theory.specs.Fillings.{Filling}
+use Rattle.theory.specs.Matcher.{atoms}
+use Rattle.text.specs.Terms.{Con, OurTerm}
+use Rattle.instance.specs.Matching.{constants, matcher}
+use Rattle.terms.specs.declared.Term.{Term}
+use Rattle.terms.specs.Values.{blankTerm, encodeTerm}
+use Rattle.matching.specs.declared.Values.{Values}
+use Rattle.matching.specs.declared.Run.{Run}
+use Rattle.matching.specs.declared.Filling.{Filling as FillingValue}
+use Rattle.matching.specs.declared.Match.{Match}
+use Rattle.matching.specs.Tests.{noValues}
+
+-- ---- the atom variables
+
+abbrev pub tabulate : {A : Type 0} → ℕ → (ℕ → A) → List A
+tabulate zero f = []
+tabulate (suc n) f = f 0 ∷ tabulate n (λ i. f (suc i))
+
+-- whose value stands at place i: 16 for each of i, s, a
+abbrev pub kindAt : ℕ → Kind
+kindAt zero = basic integer
+kindAt (suc zero) = basic string
+kindAt (suc (suc n)) = basic atom
+
+abbrev pub isKnown : List Con → Bool
+isKnown [] = false
+isKnown (c ∷ w) = true
+
+abbrev pub valueTerm : List Con → Term
+valueTerm [] = blankTerm
+valueTerm (c ∷ w) = encodeTerm (con c)
+
+abbrev pub encodeValues : Filling Con Kind ℕ → Values
+encodeValues φ = record { known = tabulate 48 (λ i. isKnown (φ (kindAt (i / 16)) (i % 16))); terms = tabulate 48 (λ i. valueTerm (φ (kindAt (i / 16)) (i % 16))) }
+
+-- ---- the list variables: the slip's field, the first item there, how many items
+
+abbrev pub blankRun : Run
+blankRun = record { field = 0; start = 0; count = 0 }
+
+abbrev pub runsField : ℕ → ℕ → ℕ → List OurTerm → List Run → List Run
+runsField j gap i [] rs = rs
+runsField j gap i (con c ∷ f) rs = runsField j gap (i + 1) f rs
+runsField j gap i (var (basic k) n ∷ f) rs = runsField j gap (i + 1) f rs
+runsField j gap i (var list n ∷ f) rs = runsField j gap (i + 1) f (set rs n (record { field = j; start = i; count = gap }))
+
+abbrev pub runsFrom : ℕ → List (List OurTerm) → List (List Con) → List Run → List Run
+runsFrom j [] ws rs = rs
+runsFrom j (f ∷ fs) [] rs = rs
+runsFrom j (f ∷ fs) (w ∷ ws) rs = runsFrom (j + 1) fs ws (runsField j (length w - atoms f) 0 f rs)
+
+abbrev pub runsOf : List (List OurTerm) → List (List Con) → List Run
+runsOf rule slip = runsFrom 0 rule slip (replicate 16 blankRun)
+
+-- ---- the answer
+
+abbrev pub noMatch : Match
+noMatch = record { yes = false; filling = record { values = noValues; runs = replicate 16 blankRun } }
+
+abbrev pub found : List (List OurTerm) → List (List Con) → Option (Filling Con Kind ℕ) → Match
+found rule slip none = noMatch
+found rule slip (some φ) = record { yes = true; filling = record { values = encodeValues φ; runs = runsOf rule slip } }
+
+-- "A rule or slip with no fields gives no"
+abbrev pub matchOf : List (List OurTerm) → List (List OurTerm) → Match
+matchOf [] slip = noMatch
+matchOf (f ∷ fs) [] = noMatch
+matchOf (f ∷ fs) (w ∷ ws) = found (f ∷ fs) (map constants (w ∷ ws)) (matcher (f ∷ fs) (map constants (w ∷ ws)))
+
+abbrev pub fillingOf : Values → FillingValue
+fillingOf v = record { values = v; runs = replicate 16 blankRun }
