@@ -5,8 +5,7 @@ use mathlib.Core.Bool.{Bool, true, false, cond}
 use mathlib.Core.List.{List, [], _∷_, map}
 use Prim.Native.Nat.{_-_, _≤_}
 use native.Mathlib.Omega.{arith}
-use lib.ListN.{length, take, replicate, length-map}
-use lib.Seq.{take-at}
+use lib.ListN.{length, take, length-map}
 use Rattle.lists.specs.Seqs.{All, IsCons, all-map}
 use Rattle.theory.specs.Terms.{con, var}
 use Rattle.theory.specs.Linear.{OneList}
@@ -25,16 +24,16 @@ use Rattle.accepted.proofs.Accepted.{FieldIn, rule-is, slip-is, accepted-rule, 
 use Rattle.matching.specs.declared.Tested.{Tested}
 use Rattle.matching.specs.Tests.{noValues, fieldsTested, runsAll}
 use Rattle.matching.specs.Answers.{noMatch, found, matchOf, fillingOf}
-use Rattle.matching.proofs.Agree.{encodeItems}
+use Rattle.matching.proofs.Agree.{unpadded, encodeItems}
 use Rattle.matching.proofs.Found.{answer-counts, answer-no, answer-yes}
 
 -- ---- the fields of a value
 
 fields-of : (r : List (List OurTerm)) → take (length r) ((encodeRule r) .fields) ≡ map encodeField r
-fields-of r = take-at (map encodeField r) (replicate (mostFields - length (map encodeField r)) blankField) (length r) (length-map r encodeField)
+fields-of r = unpadded mostFields blankField encodeField r
 
 slip-fields-of : (s : List (List OurTerm)) → take (length s) ((encodeSlip s) .fields) ≡ map encodeSlipField s
-slip-fields-of s = take-at (map encodeSlipField s) (replicate (mostFields - length (map encodeSlipField s)) blankSlipField) (length s) (length-map s encodeSlipField)
+slip-fields-of s = unpadded mostFields blankSlipField encodeSlipField s
 
 items-again : (f : List OurTerm) → All IsCon f → map con (constants f) ≡ f
 items-again [] i = refl

@@ -266,17 +266,19 @@ field-agrees f w v φ i o h =
 
 -- ---- the fields
 
+-- the used places of a padded array
+pub unpadded : {A B : Type 0} (w : ℕ) (d : B) (g : A → B) (s : List A) → take (length s) (pad w d (map g s)) ≡ map g s
+unpadded w d g s = take-at (map g s) (replicate (w - length (map g s)) d) (length s) (length-map s g)
+
 pub terms-of : (u : List OurTerm) → termsOf (encodeField u) ≡ map encodeTerm u
-terms-of u = take-at (map encodeTerm u) (replicate (16 - length (map encodeTerm u)) blankTerm) (length u) (length-map u encodeTerm)
+terms-of u = unpadded 16 blankTerm encodeTerm u
 
 -- the value of a field of constants
 abbrev pub encodeItems : List Con → SlipField
 encodeItems w = encodeSlipField (map con w)
 
 pub items-of : (w : List Con) → itemsOf (encodeItems w) ≡ map enc w
-items-of w =
-    take-at (map encodeTerm (map con w)) (replicate (64 - length (map encodeTerm (map con w))) blankTerm) (length (map con w)) (length-map (map con w) encodeTerm)
-    ∙ map-map encodeTerm con w
+items-of w = unpadded 64 blankTerm encodeTerm (map con w) ∙ map-map encodeTerm con w
 
 pub fields-agree : (fs : List (List OurTerm)) (ws : List (List Con)) (v : Values) (φ : Filling Con Kind ℕ) → All (All TermIn) fs → All OneList fs → Holds v φ
     → Agrees (fieldsTested (map encodeField fs) (map encodeItems ws) v) (matchFields basics consts ℕ-discrete fs ws φ)
