@@ -58,7 +58,8 @@ not-slip rule slip e = sym (ap (λ (b : Bool). matchOf (countedRule rule) (cond 
 
 -- ---- accepted values
 
-with-fields : (r s : List (List OurTerm)) → IsCons r → IsCons s → matchOf r s ≡ found r (map constants s) (matcher r (map constants s))
+-- the answer, where both have fields
+pub with-fields : (r s : List (List OurTerm)) → IsCons r → IsCons s → matchOf r s ≡ found r (map constants s) (matcher r (map constants s))
 with-fields (f ∷ r) (w ∷ s) i j = refl
 with-fields (f ∷ r) [] i j = absurd j
 with-fields [] s i j = absurd i
