@@ -15,7 +15,7 @@ use Rattle.text.proofs.Sharp.{bad-stands}
 use Rattle.text.proofs.Accepted.{rule-read, rule-length}
 use Rattle.writing.specs.Room.{Room}
 use Rattle.writing.proofs.Digits.{digits-most}
-use Rattle.answers.specs.Ascii.{ascii, newline}
+use Rattle.text.specs.Ascii.{ascii, newline}
 use Rattle.answers.specs.Texts.{refusalText, ruleText, slipText, ruleAnswer, slipAnswer, textsAnswer}
 
 -- ---- places

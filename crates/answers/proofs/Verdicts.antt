@@ -17,7 +17,7 @@ use Rattle.reading.specs.declared.Verdict.the-variants.{Accepted, Refused}
 use Rattle.reading.specs.declared.RuleRead.{RuleRead}
 use Rattle.reading.specs.declared.SlipRead.{SlipRead}
 use Rattle.reading.specs.Answers.{reasonFrom, numberOf, ruleRead, slipRead}
-use Rattle.answers.specs.Ascii.{ascii, newline}
+use Rattle.text.specs.Ascii.{ascii, newline}
 use Rattle.answers.specs.Texts.{refusalText, ruleText, slipText, ruleAnswer, slipAnswer}
 use Rattle.answers.specs.Verdicts.{refusedText, verdictText, ruleSaid}
 

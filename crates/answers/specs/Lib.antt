@@ -1,4 +1,3 @@
-pub mod Ascii
 pub mod Sizes
 pub mod Texts
 pub mod Verdicts

@@ -4,7 +4,7 @@ use Prim.Native.Nat.{ℕ}
 use Rattle.text.specs.Numbers.{digitsOf}
 use Rattle.text.specs.Plain.{plain}
 use Rattle.text.specs.Read.{Reason, number, Outcome, refused, accepted, readRule, readSlip}
-use Rattle.answers.specs.Ascii.{ascii, newline}
+use Rattle.text.specs.Ascii.{ascii, newline}
 
 -- a refusal's number and its place, "counted from 0", both decimal
 abbrev pub numberAt : ℕ → ℕ → List ℕ

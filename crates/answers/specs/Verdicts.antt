@@ -8,7 +8,7 @@ use Rattle.reading.specs.declared.Verdict.the-variants.{Accepted, Refused}
 use Rattle.reading.specs.declared.Reason.{Reason}
 use Rattle.reading.specs.declared.RuleRead.{RuleRead}
 use Rattle.reading.specs.Answers.{numberOf}
-use Rattle.answers.specs.Ascii.{ascii}
+use Rattle.text.specs.Ascii.{ascii}
 use Rattle.answers.specs.Texts.{numberAt}
 
 abbrev pub refusedText : Reason → ℕ → List ℕ

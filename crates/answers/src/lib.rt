@@ -7,7 +7,7 @@ ghost use Rattle.text.specs.Plain.{plain};
 ghost use Rattle.accepted.specs.Accepted.{countedRule};
 ghost use Rattle.writing.specs.Room.{Room, Put};
 ghost use Rattle.writing.specs.Answers.{writtenOf, after};
-ghost use Rattle.answers.specs.Ascii.{ascii, newline};
+ghost use Rattle.text.specs.Ascii.{ascii, newline};
 ghost use Rattle.answers.specs.Sizes.{sizeOf};
 ghost use Rattle.answers.specs.Texts.{numberAt, ruleAnswer, slipAnswer, textsAnswer};
 ghost use Rattle.answers.specs.Verdicts.{refusedText, verdictText, ruleSaid};

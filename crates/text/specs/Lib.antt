@@ -1,5 +1,6 @@
 pub mod Sizes
 pub mod Bytes
+pub mod Ascii
 pub mod Grammar
 pub mod Place
 pub mod Machine

@@ -1,7 +1,7 @@
 -- `answers::put_number_at` meets its contract: three pieces. Assumes nothing.
 use borrow.Author.Needs.{needs}
 use Rattle.text.specs.Numbers.{digitsOf}
-use Rattle.answers.specs.Ascii.{ascii}
+use Rattle.text.specs.Ascii.{ascii}
 use Rattle.answers.proofs.Pieces.{room-first-3, room-second, room-third, put-three}
 use Rattle.answers.proofs.put_number_at.Statement.{statement}
 use Rattle.answers.proofs.put_number_at.Tie as tie

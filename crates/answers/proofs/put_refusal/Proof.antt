@@ -4,7 +4,7 @@ use mathlib.Core.List.{_++_}
 use Prim.Native.Nat.{ℕ}
 use borrow.Author.Needs.{needs}
 use Rattle.writing.proofs.Stores.{put-as}
-use Rattle.answers.specs.Ascii.{ascii}
+use Rattle.text.specs.Ascii.{ascii}
 use Rattle.answers.specs.Texts.{numberAt}
 use Rattle.answers.proofs.Pieces.{room-as, room-next, put-next}
 use Rattle.answers.proofs.put_refusal.Statement.{statement}

@@ -1,7 +1,7 @@
 -- `answers::put_rule_answer` meets its contract: three pieces. Assumes nothing.
 use borrow.Author.Needs.{needs}
 use Rattle.writing.proofs.Stores.{put-as}
-use Rattle.answers.specs.Ascii.{ascii, newline}
+use Rattle.text.specs.Ascii.{ascii, newline}
 use Rattle.answers.specs.Verdicts.{ruleSaid}
 use Rattle.answers.proofs.Pieces.{room-as, room-first-3, room-second, room-third, put-three}
 use Rattle.answers.proofs.Verdicts.{rule-pieces}

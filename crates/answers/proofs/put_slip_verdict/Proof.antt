@@ -1,7 +1,7 @@
 -- `answers::put_slip_verdict` meets its contract: by the verdict. Assumes nothing.
 use borrow.Author.Needs.{needs}
 use Rattle.writing.proofs.Stores.{put-as}
-use Rattle.answers.specs.Ascii.{ascii}
+use Rattle.text.specs.Ascii.{ascii}
 use Rattle.answers.proofs.Pieces.{room-as}
 use Rattle.answers.proofs.Verdicts.{text-accepted, text-refused}
 use Rattle.answers.proofs.put_slip_verdict.Statement.{statement}

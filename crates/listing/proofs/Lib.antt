@@ -1,0 +1,5 @@
+pub mod Cut
+pub mod Lines
+pub mod Rising
+pub mod Variables
+pub mod Examples

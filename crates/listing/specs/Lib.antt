@@ -1,0 +1,3 @@
+-- Overlap lines: their text (Lines), and the variables that they bind (Variables).
+pub mod Lines
+pub mod Variables
