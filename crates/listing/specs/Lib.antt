@@ -1,3 +1,4 @@
 -- Overlap lines: their text (Lines), and the variables that they bind (Variables).
 pub mod Lines
 pub mod Variables
+pub mod Overlaps

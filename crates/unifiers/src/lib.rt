@@ -1,0 +1,1 @@
+// The mathematics of overlap lists, without structs: specs and their proofs only.
