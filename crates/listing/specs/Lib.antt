@@ -2,3 +2,4 @@
 pub mod Lines
 pub mod Variables
 pub mod Overlaps
+pub mod Fits
