@@ -1,8 +1,8 @@
 -- The candidate that a run picks by its length: it is one of the list, and no other candidate is for the run.
 use mathlib.Core.Path.{_≡_, refl, sym, _∙_, ap, subst as along}
 use mathlib.Core.Logic.{_⊎_, inl, inr, ite, if-pos, if-neg}
-use mathlib.Core.Bool.{Bool, true, false, cond, false≢true}
-use mathlib.Core.List.{List, [], _∷_, _++_, map, List·Memᴰ, List·Memᴰ·head, List·Memᴰ·tail, List·Memᴰ·not-nil, Memᴰ·append-left, Memᴰ·append-right, List·Memᴰ·append-cases, List·Memᴰ·cases-cons, List·Memᴰ·eq-of-singleton, Memᴰ·map, Memᴰ·of-map}
+use mathlib.Core.Bool.{Bool, true, false, cond}
+use mathlib.Core.List.{[], _∷_, _++_, map, List·Memᴰ, List·Memᴰ·head, List·Memᴰ·tail, List·Memᴰ·not-nil, Memᴰ·append-left, Memᴰ·append-right, List·Memᴰ·append-cases, List·Memᴰ·cases-cons, List·Memᴰ·eq-of-singleton, Memᴰ·map, Memᴰ·of-map}
 use Prim.Native.Nat.{ℕ, zero, suc, _+_, _-_, _≤_, _<_, max}
 use native.Mathlib.Omega.{arith}
 use native.Mathlib.Decide.{decLt, ℕ-discrete}
@@ -10,7 +10,7 @@ use borrow.Author.Tests.{leb-true, le-leb, eqb-true, eq-eqb}
 use lib.ListN.{length, length-append, length-map}
 use Rattle.theory.specs.Seqs.{Distinct}
 use Rattle.unifiers.specs.Shapes.{Shape, closed, gapped}
-use Rattle.unifiers.specs.Candidates.{Cand, exact, long, range, before, behind, canHave, wide, least, cands}
+use Rattle.unifiers.specs.Candidates.{Cand, exact, long, range, canHave, wide, cands}
 use Rattle.unifiers.proofs.Seqs.{distinct-append, distinct-map}
 
 pub in-range : (a k n : ℕ) → a ≤ n → n < a + k → List·Memᴰ n (range a k)

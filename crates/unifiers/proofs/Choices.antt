@@ -1,7 +1,7 @@
 -- The entries are the choices (one candidate a field, the first field slowest) that nothing kills, in the order of the choices.
 use mathlib.Core.Path.{_≡_, refl, sym, _∙_, ap, ap₂}
 use mathlib.Core.Option.{Option, none, some}
-use mathlib.Core.List.{List, [], _∷_, _++_, map, append-assoc, append-nil}
+use mathlib.Core.List.{List, [], _∷_, _++_, map}
 use Rattle.order.specs.Order.{Order}
 use Rattle.theory.specs.Constants.{Consts}
 use Rattle.theory.specs.Matcher.{andThen}

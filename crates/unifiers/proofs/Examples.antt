@@ -1,4 +1,4 @@
--- The starred pairs of document 01 and three more, computed from the definitions: entries' fields and the values that their lines show.
+-- The starred pairs of document 01 and others, computed from the definitions: entries' fields and the values that their lines show.
 use mathlib.Core.Path.{_≡_, refl}
 use mathlib.Core.Bool.{true}
 use mathlib.Core.List.{List, [], _∷_, map}
@@ -169,13 +169,25 @@ table =
       right-vars = a0 ∷ [];
       out = ((# 2 ∷ # 1 ∷ []) ∷ [], (# 2 ∷ []) ∷ [], (# 1 ∷ []) ∷ []) ∷ [];
     } ∷
-    -- i3:s0:i0|l1 and l0|l1: renumbered in each type by first occurrence
+    -- 1|a0:l0 and l1|l0:2: the length varies in the second field too
     record {
-      left = (i3 ∷ s0 ∷ i0 ∷ []) ∷ (l1 ∷ []) ∷ [];
+      left = (# 1 ∷ []) ∷ (a0 ∷ l0 ∷ []) ∷ [];
+      right = (l1 ∷ []) ∷ (l0 ∷ # 2 ∷ []) ∷ [];
+      left-vars = a0 ∷ l0 ∷ [];
+      right-vars = l0 ∷ l1 ∷ [];
+      out =
+          ((# 1 ∷ []) ∷ (# 2 ∷ []) ∷ [], (# 2 ∷ []) ∷ [] ∷ [], [] ∷ (# 1 ∷ []) ∷ []) ∷
+          ((# 1 ∷ []) ∷ (a0 ∷ l0 ∷ # 2 ∷ []) ∷ [], (a0 ∷ []) ∷ (l0 ∷ # 2 ∷ []) ∷ [], (a0 ∷ l0 ∷ []) ∷ (# 1 ∷ []) ∷ []) ∷ [];
+    } ∷
+    -- s0 and 1: a constant that is not of the variable's type
+    record { left = (s0 ∷ []) ∷ []; right = (# 1 ∷ []) ∷ []; left-vars = s0 ∷ []; right-vars = []; out = [] } ∷
+    -- i3:i3:s0:i0|l1 and l0|l1: renumbered in each type by first occurrence
+    record {
+      left = (i3 ∷ i3 ∷ s0 ∷ i0 ∷ []) ∷ (l1 ∷ []) ∷ [];
       right = (l0 ∷ []) ∷ (l1 ∷ []) ∷ [];
       left-vars = i0 ∷ i3 ∷ s0 ∷ l1 ∷ [];
       right-vars = l0 ∷ l1 ∷ [];
-      out = ((i0 ∷ s0 ∷ i1 ∷ []) ∷ (l0 ∷ []) ∷ [], (i1 ∷ []) ∷ (i0 ∷ []) ∷ (s0 ∷ []) ∷ (l0 ∷ []) ∷ [], (i0 ∷ s0 ∷ i1 ∷ []) ∷ (l0 ∷ []) ∷ []) ∷ [];
+      out = ((i0 ∷ i0 ∷ s0 ∷ i1 ∷ []) ∷ (l0 ∷ []) ∷ [], (i1 ∷ []) ∷ (i0 ∷ []) ∷ (s0 ∷ []) ∷ (l0 ∷ []) ∷ [], (i0 ∷ i0 ∷ s0 ∷ i1 ∷ []) ∷ (l0 ∷ []) ∷ []) ∷ [];
     } ∷ []
 
 pub starred : map lines table ≡ map (λ (c : Case). c .out) table

@@ -1,7 +1,7 @@
 -- Our terms and their shapes: to fill a field is to fill its shape. By constants and by terms alike.
 use mathlib.Core.Path.{_≡_, refl, ap, ap₂, subst as along}
-use mathlib.Core.Option.{Option, none, some, Option·none-ne-some}
-use mathlib.Core.List.{List, [], _∷_, _++_, map, append-assoc}
+use mathlib.Core.Option.{Option, none, some}
+use mathlib.Core.List.{List, [], _∷_, _++_, map}
 use Prim.Native.Nat.{ℕ}
 use Rattle.order.specs.Order.{Full, basic, list}
 use Rattle.theory.specs.Terms.{Term, con, var}

@@ -1,6 +1,6 @@
 -- A slip that both rules match fits an entry; a slip that fits an entry picks its choice; and an entry is known by its choice.
 use mathlib.Core.Path.{_≡_, refl, sym, _∙_, ap, ap₂, subst as along, fun-ext}
-use mathlib.Core.Option.{Option, Option·some-injective}
+use mathlib.Core.Option.{Option·some-injective}
 use mathlib.Core.List.{List, [], _∷_, _++_, map, map-map, head-eq-of-cons-eq, tail-eq-of-cons-eq}
 use mathlib.Core.List.{List·Memᴰ, List·Memᴰ·not-nil, List·Memᴰ·eq-of-singleton}
 use Prim.Native.Nat.{ℕ}
@@ -53,7 +53,7 @@ module _ (O : Order) (C : Consts O) (N : Vars O) (L M : Type 0) where
     through-fields e τ ws = insts-map (valG τ) (subA (e .1)) (fieldsFor 0 Ss Ts (e .0)) ws
         ∙ ap (λ (v : At O C N → C .Con). Insts v (fieldsFor 0 Ss Ts (e .0)) ws) (fun-ext (λ a. val-sub (λ c. c) τ (e .1) a))
 
-    pub from-start : (e : List Cand × State O C N) → List·Memᴰ e (the-entries Ss Ts) → Known O C N L M 0 Ss Ts e
+    from-start : (e : List Cand × State O C N) → List·Memᴰ e (the-entries Ss Ts) → Known O C N L M 0 Ss Ts e
     from-start e i = known O C N L M 0 Ss Ts (start O C N) (start-good O C N) e i
 
     -- a slip that both rules match fits an entry

@@ -8,7 +8,7 @@ use Rattle.order.specs.Order.{Order}
 use Rattle.theory.specs.Constants.{Consts}
 use Rattle.theory.specs.Matcher.{andThen}
 use Rattle.unifiers.specs.Shapes.{Atom, fixed, free, val, Vars}
-use Rattle.unifiers.specs.Joins.{At, State, start, resolve, replace, bind, joinClasses, join, joins}
+use Rattle.unifiers.specs.Joins.{At, State, start, replace, bind, joinClasses, join, joins}
 use Rattle.unifiers.proofs.Seqs.{SolvesV}
 
 module _ {C X : Type 0} where
@@ -80,17 +80,6 @@ module _ (O : Order) (C : Consts O) (N : Vars O) where
   pub sub-idem : (s : State O C N) → Good s → (a : At O C N) → subA s (subA s a) ≡ subA s a
   sub-idem s g (fixed c) = refl
   sub-idem s g (free x) = g .idem x
-
-  -- any τ, put through the state, respects it
-  pub through : (s : State O C N) → Good s → (τ : Var → Con) → Respects (λ x. valG τ (s x)) s
-  through s g τ x = sym (sym (val-sub (λ c. c) τ s (s x)) ∙ ap (valG τ) (g .idem x))
-
-  pub typed-atom : (θ : Var → Con) → Typed θ → (a : At O C N) → le (kind-of (valG θ a)) (kindA a) ≡ true
-  typed-atom θ h (fixed c) = le-refl (kind-of c)
-  typed-atom θ h (free x) = h x
-
-  pub through-typed : (s : State O C N) → Good s → (τ : Var → Con) → Typed τ → Typed (λ x. valG τ (s x))
-  through-typed s g τ h x = le-trans (kind-of (valG τ (s x))) (kindA (s x)) (sort x) (typed-atom τ h (s x)) (g .kinds x)
 
   -- replacing
   module _ {Y : Type 0} (ι : Con → Y) where
@@ -172,23 +161,23 @@ module _ (O : Order) (C : Consts O) (N : Vars O) where
   out-flip : (s : State O C N) (a b : At O C N) (o : Option (State O C N)) → Out s (Eqn a b) o → Out s (Eqn b a) o
   out-flip s a b o h = out-iff s (Eqn a b) (Eqn b a) (λ θ r. (λ e. sym e, λ e. sym e)) o h
 
-  join2-out : (s : State O C N) → Good s → (a b : At O C N) → subA s a ≡ a → subA s b ≡ b → Out s (Eqn a b) (joinClasses O C N s a b)
-  join2-out s g (fixed c) (fixed d) ha hb = go (con-eq c d)
+  classes-out : (s : State O C N) → Good s → (a b : At O C N) → subA s a ≡ a → subA s b ≡ b → Out s (Eqn a b) (joinClasses O C N s a b)
+  classes-out s g (fixed c) (fixed d) ha hb = go (con-eq c d)
     where
       go : (q : Dec (c ≡ d)) → Out s (Eqn (fixed c) (fixed d)) (ite q (some s) none)
       go (yes e) = out-refl s g (fixed c) (fixed d) (ap {B = At O C N} fixed e)
       go (no n) = λ θ t r e. n e
-  join2-out s g (fixed c) (free y) ha hb = go (le (kind-of c) (sort y)) refl
+  classes-out s g (fixed c) (free y) ha hb = go (le (kind-of c) (sort y)) refl
     where
       go : (b : Bool) → le (kind-of c) (sort y) ≡ b → Out s (Eqn (fixed c) (free y)) (cond b (some (bind O C N y (fixed c) s)) none)
       go true e = out-flip s (free y) (fixed c) (some (bind O C N y (fixed c) s)) (out-bind s g y (fixed c) hb refl fixed≢free e)
       go false e = λ θ t r e′. false≢true (sym e ∙ ap (λ (k : Con). le (kind-of k) (sort y)) e′ ∙ t y)
-  join2-out s g (free x) (fixed d) ha hb = go (le (kind-of d) (sort x)) refl
+  classes-out s g (free x) (fixed d) ha hb = go (le (kind-of d) (sort x)) refl
     where
       go : (b : Bool) → le (kind-of d) (sort x) ≡ b → Out s (Eqn (free x) (fixed d)) (cond b (some (bind O C N x (fixed d) s)) none)
       go true e = out-bind s g x (fixed d) ha refl fixed≢free e
       go false e = λ θ t r e′. false≢true (sym e ∙ ap (λ (k : Con). le (kind-of k) (sort x)) (sym e′) ∙ t x)
-  join2-out s g (free x) (free y) ha hb = go₁ (var-eq x y)
+  classes-out s g (free x) (free y) ha hb = go₁ (var-eq x y)
     where
       no-meet : le (sort y) (sort x) ≡ false → le (sort x) (sort y) ≡ false → (θ : Var → Con) → Typed θ → θ x ≡ θ y → ⊥
       no-meet e f θ t e′ = clash (le-meet (kind-of (θ x)) (sort x) (sort y) (t x) (ap (λ (k : Con). le (kind-of k) (sort y)) e′ ∙ t y))
@@ -214,7 +203,7 @@ module _ (O : Order) (C : Consts O) (N : Vars O) where
   pub join-out : (s : State O C N) → Good s → (t u : At O C N) → Out s (Eqn t u) (join O C N s t u)
   join-out s g t u = out-iff s (Eqn (subA s t) (subA s u)) (Eqn t u)
       (λ θ r. (λ e. sym (val-respects θ s r t) ∙ e ∙ val-respects θ s r u, λ e. val-respects θ s r t ∙ e ∙ sym (val-respects θ s r u)))
-      (join O C N s t u) (join2-out s g (subA s t) (subA s u) (sub-idem s g t) (sub-idem s g u))
+      (join O C N s t u) (classes-out s g (subA s t) (subA s u) (sub-idem s g t) (sub-idem s g u))
 
   abbrev pub Solves : List (At O C N × At O C N) → (Var → Con) → Type 0
   Solves es θ = SolvesV (valG θ) es
@@ -246,16 +235,16 @@ module _ (O : Order) (C : Consts O) (N : Vars O) where
     snd-cond true s P o o′ h h′ = h
     snd-cond false s P o o′ h h′ = h′
 
-    join2-snd : (s : State O C N) (a b : At O C N) → subA s a ≡ a → subA s b ≡ b → Snd s (EqnY a b) (joinClasses O C N s a b)
-    join2-snd s (fixed c) (fixed d) ha hb = go (con-eq c d)
+    classes-snd : (s : State O C N) (a b : At O C N) → subA s a ≡ a → subA s b ≡ b → Snd s (EqnY a b) (joinClasses O C N s a b)
+    classes-snd s (fixed c) (fixed d) ha hb = go (con-eq c d)
       where
         go : (q : Dec (c ≡ d)) → Snd s (EqnY (fixed c) (fixed d)) (ite q (some s) none)
         go (yes e) = snd-refl s (fixed c) (fixed d) (ap {B = At O C N} fixed e)
         go (no n) = tt
-    join2-snd s (fixed c) (free y) ha hb = snd-cond (le (kind-of c) (sort y)) s (EqnY (fixed c) (free y)) (some (bind O C N y (fixed c) s)) none
+    classes-snd s (fixed c) (free y) ha hb = snd-cond (le (kind-of c) (sort y)) s (EqnY (fixed c) (free y)) (some (bind O C N y (fixed c) s)) none
         (snd-flip s (free y) (fixed c) (some (bind O C N y (fixed c) s)) (snd-bind s y (fixed c) hb)) tt
-    join2-snd s (free x) (fixed d) ha hb = snd-cond (le (kind-of d) (sort x)) s (EqnY (free x) (fixed d)) (some (bind O C N x (fixed d) s)) none (snd-bind s x (fixed d) ha) tt
-    join2-snd s (free x) (free y) ha hb = go (var-eq x y)
+    classes-snd s (free x) (fixed d) ha hb = snd-cond (le (kind-of d) (sort x)) s (EqnY (free x) (fixed d)) (some (bind O C N x (fixed d) s)) none (snd-bind s x (fixed d) ha) tt
+    classes-snd s (free x) (free y) ha hb = go (var-eq x y)
       where
         rest : Option (State O C N)
         rest = cond (le (sort x) (sort y)) (some (bind O C N y (free x) s)) none
@@ -272,7 +261,7 @@ module _ (O : Order) (C : Consts O) (N : Vars O) where
     pub joins-snd : (es : List (At O C N × At O C N)) (s : State O C N) → Good s → Snd s (λ θ. SolvesV (val ι θ) es) (joins O C N es s)
     joins-snd [] s g = λ θ r. (r, tt)
     joins-snd (e ∷ es) s g = go (join O C N s (e .0) (e .1)) (join-out s g (e .0) (e .1))
-        (join-snd s g (e .0) (e .1) (join O C N s (e .0) (e .1)) (join2-snd s (subA s (e .0)) (subA s (e .1)) (sub-idem s g (e .0)) (sub-idem s g (e .1))))
+        (join-snd s g (e .0) (e .1) (join O C N s (e .0) (e .1)) (classes-snd s (subA s (e .0)) (subA s (e .1)) (sub-idem s g (e .0)) (sub-idem s g (e .1))))
         (λ s′ g′. joins-snd es s′ g′)
       where
         both : (s₁ : State O C N) → ((θ : Var → Y) → RespectsY ι θ s₁ → RespectsY ι θ s × EqnY (e .0) (e .1) θ) → (o : Option (State O C N)) → Snd s₁ (λ θ. SolvesV (val ι θ) es) o

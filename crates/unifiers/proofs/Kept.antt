@@ -1,5 +1,5 @@
 -- What holds of the atoms of both rules holds of the atoms of the entries, whatever it is.
-use mathlib.Core.Path.{_≡_, refl, sym, _∙_, ap, subst as along}
+use mathlib.Core.Path.{_≡_, sym, subst as along}
 use mathlib.Core.Logic.{ite}
 use mathlib.Core.Bool.{Bool, true, false, cond}
 use mathlib.Core.Option.{Option, none, some}
@@ -8,13 +8,14 @@ use mathlib.Core.List.{List·Memᴰ, List·Memᴰ·not-nil, List·Memᴰ·eq-of-
 use Prim.Native.Nat.{ℕ, zero, suc, _+_, _-_, max}
 use lib.ListN.{length, take, drop, replicate}
 use Rattle.lists.specs.Seqs.{All, all-append}
-use Rattle.order.specs.Order.{Order}
+use Rattle.order.specs.Order.{Order, Full, basic, list}
+use Rattle.theory.specs.Terms.{Term, con, var}
 use Rattle.theory.specs.Constants.{Consts}
 use Rattle.theory.specs.Matcher.{andThen}
-use Rattle.unifiers.specs.Shapes.{Atom, fixed, free, Vars, Shape, closed, gapped}
+use Rattle.unifiers.specs.Shapes.{Atom, fixed, free, Vars, Side, Variable, of, Shape, closed, gapped, withAtom, withList, both, shapeOf, shapesOf}
 use Rattle.unifiers.specs.Candidates.{Cand, exact, long, before, cands}
 use Rattle.unifiers.specs.Joins.{At, State, start, resolve, replace, bind, joinClasses, join, joins}
-use Rattle.unifiers.specs.Entries.{grow, row, meeting, merge, span, cells, equations, fieldFor, fieldsFor, entries}
+use Rattle.unifiers.specs.Entries.{row, meeting, merge, span, cells, equations, fieldFor, fieldsFor, entries}
 use Rattle.unifiers.specs.Overlaps.{mapShape}
 use Rattle.unifiers.proofs.Walks.{From, branch-from}
 
@@ -28,6 +29,59 @@ module _ {A : Type 0} (P : A → Type 0) where
   all-drop zero l h = h
   all-drop (suc n) [] h = tt
   all-drop (suc n) (x ∷ l) h = all-drop n l (h .1)
+
+-- ---- the shapes of a rule's fields
+
+module _ {C K A : Type 0} (Q : Atom C (Variable K A) → Type 0) (d : Side) where
+  -- Q holds of the atom that the term is
+  abbrev pub OnTerm : Term C (Full K) A → Type 0
+  OnTerm (con c) = Q (fixed c)
+  OnTerm (var (basic k) a) = Q (free (of d k a))
+  OnTerm (var list a) = Unit {0}
+
+module _ {A : Type 0} (P : A → Type 0) where
+  module _ {L : Type 0} where
+    -- P holds of every atom of the shape
+    abbrev pub Every : Shape A L → Type 0
+    Every (closed xs) = All P xs
+    Every (gapped f l t) = All P f × All P t
+
+module _ {C K A : Type 0} (Q : Atom C (Variable K A) → Type 0) (d : Side) where
+  abbrev EverySome : Option (Shape (Atom C (Variable K A)) A) → Type 0
+  EverySome none = Unit {0}
+  EverySome (some S) = Every Q S
+
+  with-atom : (a : Atom C (Variable K A)) → Q a → (o : Option (Shape (Atom C (Variable K A)) A)) → EverySome o → EverySome (withAtom a o)
+  with-atom a h none k = tt
+  with-atom a h (some (closed xs)) k = (h, k)
+  with-atom a h (some (gapped p l t)) k = ((h, k .0), k .1)
+
+  with-list : (l : A) (o : Option (Shape (Atom C (Variable K A)) A)) → EverySome o → EverySome (withList l o)
+  with-list l none k = tt
+  with-list l (some (closed xs)) k = (tt, k)
+  with-list l (some (gapped p m t)) k = tt
+
+  shape-every : (f : List (Term C (Full K) A)) → All (OnTerm Q d) f → EverySome (shapeOf d f)
+  shape-every [] h = tt
+  shape-every (con c ∷ f) h = with-atom (fixed c) (h .0) (shapeOf d f) (shape-every f (h .1))
+  shape-every (var (basic k) a ∷ f) h = with-atom (free (of d k a)) (h .0) (shapeOf d f) (shape-every f (h .1))
+  shape-every (var list a ∷ f) h = with-list a (shapeOf d f) (shape-every f (h .1))
+
+  abbrev AllSome : Option (List (Shape (Atom C (Variable K A)) A)) → Type 0
+  AllSome none = Unit {0}
+  AllSome (some Ss) = All (Every Q) Ss
+
+  shapes-every : (r : List (List (Term C (Full K) A))) → All (All (OnTerm Q d)) r → AllSome (shapesOf d r)
+  shapes-every [] h = tt
+  shapes-every (f ∷ r) h = go (shapeOf d f) (shape-every f (h .0)) (shapesOf d r) (shapes-every r (h .1))
+    where
+      go : (o : Option (Shape (Atom C (Variable K A)) A)) → EverySome o → (p : Option (List (Shape (Atom C (Variable K A)) A))) → AllSome p → AllSome (both o p)
+      go none k p k′ = tt
+      go (some S) k none k′ = tt
+      go (some S) k (some Ss) k′ = (k, k′)
+
+  pub rule-every : (r : List (List (Term C (Full K) A))) (Ss : List (Shape (Atom C (Variable K A)) A)) → shapesOf d r ≡ some Ss → All (All (OnTerm Q d)) r → All (Every Q) Ss
+  rule-every r Ss e h = along AllSome e (shapes-every r h)
 
 -- ---- rows and their merging
 
@@ -62,32 +116,27 @@ module _ {A : Type 0} (P : A → Type 0) where
   all-merge (none ∷ r) (none ∷ q) h h′ = all-merge r q (h .1) (h′ .1)
 
   module _ {L : Type 0} where
-    -- P holds of every atom of the shape
-    abbrev pub Every : Shape A L → Type 0
-    Every (closed xs) = All P xs
-    Every (gapped f l t) = All P f × All P t
-
-    all-row : (n : ℕ) (S : Shape A L) → Every S → All OnSome (row n S)
+    all-row : (n : ℕ) (S : Shape A L) → Every P S → All OnSome (row n S)
     all-row n (closed xs) h = all-some xs h
     all-row n (gapped f l t) h =
         let mid = replicate (n - (length f + length t)) none in
         all-append OnSome (map some f) (mid ++ map some t) (all-some f (h .0)) (all-append OnSome mid (map some t) (all-none (n - (length f + length t))) (all-some t (h .1)))
 
   module _ {L M : Type 0} where
-    pub all-equations : (S : Shape A L) (T : Shape A M) (c : Cand) → Every S → Every T → All Both (equations S T c)
+    pub all-equations : (S : Shape A L) (T : Shape A M) (c : Cand) → Every P S → Every P T → All Both (equations S T c)
     all-equations S T c h h′ = all-meeting (row (span S T c) S) (row (span S T c) T) (all-row (span S T c) S h) (all-row (span S T c) T h′)
 
-    all-cells : (S : Shape A L) (T : Shape A M) (c : Cand) → Every S → Every T → All P (cells S T c)
+    all-cells : (S : Shape A L) (T : Shape A M) (c : Cand) → Every P S → Every P T → All P (cells S T c)
     all-cells S T c h h′ = all-merge (row (span S T c) S) (row (span S T c) T) (all-row (span S T c) S h) (all-row (span S T c) T h′)
 
-    every-field : (g : ℕ) (S : Shape A L) (T : Shape A M) (c : Cand) → Every S → Every T → Every (fieldFor g S T c)
+    every-field : (g : ℕ) (S : Shape A L) (T : Shape A M) (c : Cand) → Every P S → Every P T → Every P (fieldFor g S T c)
     every-field g S T (exact n) h h′ = all-cells S T (exact n) h h′
     every-field g S T long h h′ =
         let H = max (before S) (before T) in
         let z = all-cells S T long h h′ in
         (all-take P H (cells S T long) z, all-drop P H (cells S T long) z)
 
-    pub every-fields : (g : ℕ) (Ss : List (Shape A L)) (Ts : List (Shape A M)) (cs : List Cand) → All Every Ss → All Every Ts → All Every (fieldsFor g Ss Ts cs)
+    pub every-fields : (g : ℕ) (Ss : List (Shape A L)) (Ts : List (Shape A M)) (cs : List Cand) → All (Every P) Ss → All (Every P) Ts → All (Every P) (fieldsFor g Ss Ts cs)
     every-fields g [] Ts cs h h′ = tt
     every-fields g (S ∷ Ss) [] cs h h′ = tt
     every-fields g (S ∷ Ss) (T ∷ Ts) [] h h′ = tt
@@ -177,3 +226,10 @@ module _ (O : Order) (C : Consts O) (N : Vars O) (P : At O C N → Type 0) where
 
         next : Keeps (f .next)
         next = along KeepsSome (f .joined) (joins-keep (equations S T (f .cand)) (all-equations P S T (f .cand) (h .0) (h′ .0)) s k)
+
+    -- the fields of an entry, every atom as its state has it
+    pub entry-every : (Ss : List (Shape (At O C N) L)) (Ts : List (Shape (At O C N) M)) → All (Every P) Ss → All (Every P) Ts → (e : List Cand × State O C N) → List·Memᴰ e (entries O C N L M Ss Ts (start O C N))
+        → Keeps (e .1) × All (Every P) (map (mapShape (resolve O C N (e .1))) (fieldsFor 0 Ss Ts (e .0)))
+    entry-every Ss Ts h h′ e i =
+        let k = entries-keep Ss Ts h h′ (start O C N) start-keeps e i in
+        (k, all-shapes-mapped P (resolve O C N (e .1)) k (fieldsFor 0 Ss Ts (e .0)) (every-fields P 0 Ss Ts (e .0) h h′))

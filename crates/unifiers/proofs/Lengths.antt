@@ -1,21 +1,21 @@
 -- Fields of at most 16 terms have entries whose fields have at most 31.
-use mathlib.Core.Path.{_≡_, refl, sym, _∙_, ap, subst as along}
+use mathlib.Core.Path.{_≡_, refl, sym, ap, subst as along}
 use mathlib.Core.Option.{Option, none, some}
-use mathlib.Core.List.{List, [], _∷_, _++_, map}
-use mathlib.Core.List.{List·Memᴰ, List·Memᴰ·not-nil, List·Memᴰ·eq-of-singleton}
-use Prim.Native.Nat.{ℕ, suc, _+_, _≤_, max}
+use mathlib.Core.List.{List, [], _∷_, map}
+use mathlib.Core.List.{List·Memᴰ}
+use Prim.Native.Nat.{ℕ, suc, _≤_}
 use native.Mathlib.Omega.{arith}
-use lib.ListN.{length, take, drop, length-append, length-map, length-take, length-drop}
+use lib.ListN.{length, length-append, length-map, length-take, length-drop}
 use Rattle.lists.specs.Seqs.{All}
 use Rattle.order.specs.Order.{Order, Full, basic, list}
 use Rattle.theory.specs.Terms.{Term, con, var}
 use Rattle.theory.specs.Constants.{Consts}
-use Rattle.unifiers.specs.Shapes.{Atom, fixed, free, Vars, Side, Variable, of, pairVars, Shape, closed, gapped, withAtom, withList, both, shapeOf, shapesOf}
-use Rattle.unifiers.specs.Candidates.{Cand, exact, long, before, wide, cands}
+use Rattle.unifiers.specs.Shapes.{Atom, fixed, free, Vars, Side, left, right, Variable, of, pairVars, Shape, closed, gapped, withAtom, withList, both, shapeOf, shapesOf}
+use Rattle.unifiers.specs.Candidates.{Cand, exact, long, wide, cands}
 use Rattle.unifiers.specs.Joins.{At, State, start, resolve, joins}
-use Rattle.unifiers.specs.Entries.{cells, equations, fieldFor, fieldsFor, entries}
+use Rattle.unifiers.specs.Entries.{equations, fieldFor, fieldsFor, entries}
 use Rattle.unifiers.specs.Overlaps.{Mark, fieldOf, mapShape, rename, PairShape, PairState, markedFields, numbersOf, shown}
-use Rattle.unifiers.proofs.Candidates.{terms}
+use Rattle.unifiers.proofs.Candidates.{terms, cands-few}
 use Rattle.unifiers.proofs.Pairs.{room-of, reach-of, cells-length, no-long₁, no-long₂}
 use Rattle.unifiers.proofs.Walks.{From, branch-from}
 use Rattle.unifiers.proofs.Listed.{raw}
@@ -44,8 +44,12 @@ module _ {C K A : Type 0} where
   long-shape d (var list a ∷ f) = with-list (var list a) f a (shapeOf d f) (long-shape d f)
 
   -- the terms of a field's shape are the field's
-  pub shape-terms : (d : Side) (f : List (Term C (Full K) A)) (S : Shape (Atom C (Variable K A)) A) → shapeOf d f ≡ some S → terms S ≡ length f
+  shape-terms : (d : Side) (f : List (Term C (Full K) A)) (S : Shape (Atom C (Variable K A)) A) → shapeOf d f ≡ some S → terms S ≡ length f
   shape-terms d f S e = along (Long f) e (long-shape d f)
+
+  -- document 01: "So a field has at most 16 candidates"
+  pub few-candidates : (f g : List (Term C (Full K) A)) (S T : Shape (Atom C (Variable K A)) A) → shapeOf left f ≡ some S → shapeOf right g ≡ some T → length f ≤ 16 → length g ≤ 16 → length (cands S T) ≤ 16
+  few-candidates f g S T e e′ p q = cands-few S T (omega (arith, shape-terms left f S e)) (omega (arith, shape-terms right g T e′))
 
   abbrev pub AtMost : ℕ → List (Term C (Full K) A) → Type 0
   AtMost n f = length f ≤ n

@@ -17,5 +17,6 @@ pub mod Kept
 pub mod Ours
 pub mod Lengths
 pub mod Parts
+pub mod Numbers
 pub mod Overlaps
 pub mod Examples

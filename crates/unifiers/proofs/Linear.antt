@@ -1,8 +1,8 @@
 -- The fields of a left-linear rule have shapes, and no list variable is twice in them.
 use mathlib.Core.Path.{_≡_, refl, sym, _∙_, ap, ap₂, subst as along}
-use mathlib.Core.Option.{Option, some}
+use mathlib.Core.Option.{Option, none, some}
 use mathlib.Core.List.{List, [], _∷_, _++_}
-use Prim.Native.Nat.{ℕ, _≤_}
+use Prim.Native.Nat.{suc}
 use native.Mathlib.Omega.{arith}
 use lib.ListN.{length}
 use Rattle.lists.specs.Seqs.{All}
@@ -47,3 +47,20 @@ module _ {C K A : Type 0} (d : Side) where
 
   pub linear-shapes : (r : List (List (Term C (Full K) A))) → LeftLinear r → (Ss : List (Shape (Atom C (Variable K A)) A)) × (shapesOf d r ≡ some Ss) × Distinct (gaps Ss)
   linear-shapes r h = let t = shapes r (h .1) in (t .0, t .1, along Distinct (sym (t .2)) (h .0))
+
+  abbrev Count : List (List (Term C (Full K) A)) → Option (List (Shape (Atom C (Variable K A)) A)) → Type 0
+  Count r none = Unit {0}
+  Count r (some Ss) = length Ss ≡ length r
+
+  count : (r : List (List (Term C (Full K) A))) → Count r (shapesOf d r)
+  count [] = refl
+  count (f ∷ r) = go (shapeOf d f) (shapesOf d r) (count r)
+    where
+      go : (o : Option (Shape (Atom C (Variable K A)) A)) (p : Option (List (Shape (Atom C (Variable K A)) A))) → Count r p → Count (f ∷ r) (both o p)
+      go none p h = tt
+      go (some S) none h = tt
+      go (some S) (some Ss) h = ap suc h
+
+  -- as many shapes as fields
+  pub shapes-count : (r : List (List (Term C (Full K) A))) (Ss : List (Shape (Atom C (Variable K A)) A)) → shapesOf d r ≡ some Ss → length Ss ≡ length r
+  shapes-count r Ss e = along (Count r) e (count r)

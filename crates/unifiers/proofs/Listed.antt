@@ -3,32 +3,31 @@ use mathlib.Core.Path.{_≡_, refl, sym, _∙_, ap, ap₂, subst as along}
 use mathlib.Core.Logic.{_⊎_, inl, inr}
 use mathlib.Core.Bool.{true}
 use mathlib.Core.Option.{some}
-use mathlib.Core.List.{List, [], _∷_, _++_, map, map-map}
-use mathlib.Core.List.{List·Memᴰ, List·Memᴰ·not-nil, List·Memᴰ·cases-cons, Memᴰ·map, Memᴰ·of-map}
+use mathlib.Core.List.{List, [], _∷_, _++_, map}
+use mathlib.Core.List.{List·Memᴰ, List·Memᴰ·not-nil, List·Memᴰ·cases-cons}
 use Prim.Native.Nat.{ℕ, suc, _≤_}
 use native.Mathlib.Omega.{arith}
 use native.Mathlib.Decide.{ℕ-discrete}
-use lib.ListN.{length}
 use Rattle.order.specs.Order.{Order, Full, basic, list, full-le}
 use Rattle.theory.specs.Terms.{Term, con, var}
 use Rattle.theory.specs.Constants.{Consts, TermOver}
 use Rattle.theory.specs.Seqs.{Distinct}
-use Rattle.theory.specs.Fillings.{FillingOver, OfKind, Typed, fill}
+use Rattle.theory.specs.Fillings.{FillingOver, Typed, fill}
 use Rattle.theory.specs.Matching.{Matches}
-use Rattle.unifiers.specs.Substitutions.{Subst, substitute, kindOf, TypedSubst}
+use Rattle.unifiers.specs.Substitutions.{substitute, kindOf, TypedSubst}
 use Rattle.unifiers.specs.Shapes.{Atom, fixed, free, val, Vars, Side, left, right, side-eq, Variable, of, pairVars, Shape, closed, gapped, shapesOf}
 use Rattle.unifiers.specs.Candidates.{Cand, exact, long}
-use Rattle.unifiers.specs.Joins.{At, State, start}
+use Rattle.unifiers.specs.Joins.{At, start}
 use Rattle.unifiers.specs.Entries.{fieldsFor, entries}
-use Rattle.unifiers.specs.Overlaps.{Mark, named, place, mark-eq, termOf, fieldOf, mapShape, runOf, rename, Entry, PairShape, PairState, markedFields, markedValue, numbersOf, shown}
+use Rattle.unifiers.specs.Overlaps.{Mark, named, place, mark-eq, termOf, fieldOf, mapShape, runOf, rename, PairShape, PairState, markedFields, markedValue, numbersOf, shown}
 use Rattle.unifiers.proofs.Joins.{valG, subA, kindA, Good, start-good, RespectsY}
 use Rattle.unifiers.proofs.Rows.{Inst}
 use Rattle.unifiers.proofs.Walks.{Insts, walk-back, known, picks}
 use Rattle.unifiers.proofs.Fits.{FitsEntry, resolved, has-entry, fits-picks, by-choice}
-use Rattle.unifiers.proofs.Named.{gaps, fillShape, named-from, named-to}
-use Rattle.unifiers.proofs.Filled.{fillBy, fills-by, substs-by, shapes-fill, marked-fill}
-use Rattle.unifiers.proofs.Typed.{fill-substs, fill-typed, rename-typed}
-use Rattle.unifiers.proofs.Renumbered.{someValue, some-value-typed, renumbered-from, renumbered-to, rename-substs}
+use Rattle.unifiers.proofs.Named.{gaps, named-from, named-to}
+use Rattle.unifiers.proofs.Filled.{fills-by, substs-by, shapes-fill, marked-fill}
+use Rattle.unifiers.proofs.Typed.{rename-typed}
+use Rattle.unifiers.proofs.Renumbered.{renumbered-from, renumbered-to, rename-substs}
 
 -- ---- the list variables of an entry are distinct: each has the place of its field
 

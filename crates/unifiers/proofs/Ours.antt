@@ -1,23 +1,23 @@
 -- The constants of the entries, in their fields and in the values shown, are constants of the rules.
-use mathlib.Core.Path.{_≡_, refl, ap, subst as along}
+use mathlib.Core.Path.{_≡_}
 use mathlib.Core.Logic.{ite}
-use mathlib.Core.Option.{Option, none, some}
-use mathlib.Core.List.{List, [], _∷_, _++_, map}
+use mathlib.Core.Option.{some}
+use mathlib.Core.List.{List, [], _∷_, map}
 use mathlib.Core.List.{List·Memᴰ}
 use Prim.Native.Nat.{ℕ, _+_, _-_}
-use lib.ListN.{length, take, drop}
-use Rattle.lists.specs.Seqs.{All, all-append}
+use lib.ListN.{length, drop}
+use Rattle.lists.specs.Seqs.{All, all-append, all-map}
 use Rattle.order.specs.Order.{Order, Full, basic, list}
 use Rattle.theory.specs.Terms.{Term, con, var}
-use Rattle.theory.specs.Constants.{Consts, TermOver}
+use Rattle.theory.specs.Constants.{Consts}
 use Rattle.theory.specs.Fillings.{Filling, fill}
 use Rattle.unifiers.specs.Constants.{ConstantIn}
-use Rattle.unifiers.specs.Shapes.{Atom, fixed, free, Side, left, right, Variable, of, pairVars, Shape, closed, gapped, withAtom, withList, both, shapeOf, shapesOf}
+use Rattle.unifiers.specs.Shapes.{Atom, fixed, free, Side, left, right, Variable, of, pairVars, Shape, closed, gapped, shapesOf}
 use Rattle.unifiers.specs.Candidates.{Cand}
-use Rattle.unifiers.specs.Joins.{At, start, resolve}
+use Rattle.unifiers.specs.Joins.{resolve}
 use Rattle.unifiers.specs.Entries.{fieldsFor}
 use Rattle.unifiers.specs.Overlaps.{place, termOf, fieldOf, mapShape, middle, runOf, rename, PairShape, PairState, markedFields, markedValue, numbersOf, shown}
-use Rattle.unifiers.proofs.Kept.{all-take, all-drop, Every, every-fields, all-shapes-mapped, Keeps, start-keeps, entries-keep}
+use Rattle.unifiers.proofs.Kept.{all-take, all-drop, Every, OnTerm, rule-every, Keeps, entry-every}
 use Rattle.unifiers.proofs.Listed.{raw}
 
 module _ {A : Type 0} (P : A → Type 0) where
@@ -41,41 +41,13 @@ module _ {C X : Type 0} (P : C → Type 0) where
   AtomIn (free x) = Unit {0}
 
 module _ {C K A : Type 0} (P : C → Type 0) where
-  abbrev EverySome : Option (Shape (Atom C (Variable K A)) A) → Type 0
-  EverySome none = Unit {0}
-  EverySome (some S) = Every (AtomIn P) S
-
-  with-atom : (a : Atom C (Variable K A)) → AtomIn P a → (o : Option (Shape (Atom C (Variable K A)) A)) → EverySome o → EverySome (withAtom a o)
-  with-atom a h none k = tt
-  with-atom a h (some (closed xs)) k = (h, k)
-  with-atom a h (some (gapped p l t)) k = ((h, k .0), k .1)
-
-  with-list : (l : A) (o : Option (Shape (Atom C (Variable K A)) A)) → EverySome o → EverySome (withList l o)
-  with-list l none k = tt
-  with-list l (some (closed xs)) k = (tt, k)
-  with-list l (some (gapped p m t)) k = tt
-
-  shape-in : (d : Side) (f : List (Term C (Full K) A)) → All (ConstantIn P) f → EverySome (shapeOf d f)
-  shape-in d [] h = tt
-  shape-in d (con c ∷ f) h = with-atom (fixed c) (h .0) (shapeOf d f) (shape-in d f (h .1))
-  shape-in d (var (basic k) a ∷ f) h = with-atom (free (of d k a)) tt (shapeOf d f) (shape-in d f (h .1))
-  shape-in d (var list a ∷ f) h = with-list a (shapeOf d f) (shape-in d f (h .1))
-
-  abbrev AllSome : Option (List (Shape (Atom C (Variable K A)) A)) → Type 0
-  AllSome none = Unit {0}
-  AllSome (some Ss) = All (Every (AtomIn P)) Ss
-
-  shapes-in : (d : Side) (r : List (List (Term C (Full K) A))) → All (All (ConstantIn P)) r → AllSome (shapesOf d r)
-  shapes-in d [] h = tt
-  shapes-in d (f ∷ r) h = go (shapeOf d f) (shape-in d f (h .0)) (shapesOf d r) (shapes-in d r (h .1))
-    where
-      go : (o : Option (Shape (Atom C (Variable K A)) A)) → EverySome o → (p : Option (List (Shape (Atom C (Variable K A)) A))) → AllSome p → AllSome (both o p)
-      go none k p k′ = tt
-      go (some S) k none k′ = tt
-      go (some S) k (some Ss) k′ = (k, k′)
+  on-term : (d : Side) (t : Term C (Full K) A) → ConstantIn P t → OnTerm (AtomIn P) d t
+  on-term d (con c) h = h
+  on-term d (var (basic k) a) h = tt
+  on-term d (var list a) h = tt
 
   pub rule-in : (d : Side) (r : List (List (Term C (Full K) A))) (Ss : List (Shape (Atom C (Variable K A)) A)) → shapesOf d r ≡ some Ss → All (All (ConstantIn P)) r → All (Every (AtomIn P)) Ss
-  rule-in d r Ss e h = along AllSome e (shapes-in d r h)
+  rule-in d r Ss e h = rule-every (AtomIn P) d r Ss e (all-map (All (ConstantIn P)) (All (OnTerm (AtomIn P) d)) (λ f k. all-map (ConstantIn P) (OnTerm (AtomIn P) d) (on-term d) f k) r h)
 
   term-in : (a : Atom C (Variable K A)) → AtomIn P a → ConstantIn P (termOf a)
   term-in (fixed c) h = h
@@ -116,15 +88,14 @@ module _ {C K A : Type 0} (P : C → Type 0) (φ : Filling C K A) (h : (k : K) (
 
 module _ (O : Order) (C : Consts O) {A : Type 0} (name-eq : Discrete A) (Ss Ts : List (PairShape O C name-eq)) (P : C .Con → Type 0)
     (in₁ : All (Every (AtomIn P)) Ss) (in₂ : All (Every (AtomIn P)) Ts) (e : List Cand × PairState O C name-eq) (i : List·Memᴰ e (raw O C name-eq Ss Ts)) where
-  kept : Keeps O C (pairVars O name-eq) (AtomIn P) (e .1)
-  kept = entries-keep O C (pairVars O name-eq) (AtomIn P) A A Ss Ts in₁ in₂ (start O C (pairVars O name-eq)) (start-keeps O C (pairVars O name-eq) (AtomIn P)) e i
+  kept : Keeps O C (pairVars O name-eq) (AtomIn P) (e .1) × All (Every (AtomIn P)) (map (mapShape (resolve O C (pairVars O name-eq) (e .1))) (fieldsFor 0 Ss Ts (e .0)))
+  kept = entry-every O C (pairVars O name-eq) (AtomIn P) A A Ss Ts in₁ in₂ e i
 
   marked-in : All (All (ConstantIn P)) (markedFields O C name-eq Ss Ts e)
-  marked-in = fields-in P (map (mapShape (resolve O C (pairVars O name-eq) (e .1))) (fieldsFor 0 Ss Ts (e .0)))
-      (all-shapes-mapped (AtomIn P) (resolve O C (pairVars O name-eq) (e .1)) kept (fieldsFor 0 Ss Ts (e .0)) (every-fields (AtomIn P) 0 Ss Ts (e .0) in₁ in₂))
+  marked-in = fields-in P (map (mapShape (resolve O C (pairVars O name-eq) (e .1))) (fieldsFor 0 Ss Ts (e .0))) (kept .1)
 
   marked-value-in : (d : Side) (Rs : List (PairShape O C name-eq)) (k : Full (O .Kind)) (a : A) → All (ConstantIn P) (markedValue O C name-eq d Rs (e .1) (markedFields O C name-eq Ss Ts e) k a)
-  marked-value-in d Rs (basic k) a = (term-in P (e .1 (of d k a)) (kept (free (of d k a)) tt), tt)
+  marked-value-in d Rs (basic k) a = (term-in P (e .1 (of d k a)) (kept .0 (free (of d k a)) tt), tt)
   marked-value-in d Rs list a = all-run name-eq (ConstantIn P) Rs (markedFields O C name-eq Ss Ts e) marked-in a
 
   pub fields-ours : All (All (ConstantIn P)) (shown O C name-eq Ss Ts e .fields)

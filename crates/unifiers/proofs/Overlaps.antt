@@ -5,29 +5,34 @@
 --     entry-solves                    an entry is a solution
 --     has-slip                        every entry has a slip
 --     minimal                         no list of solutions that covers all shared slips is shorter
---     entry-constants, fields-short, values-occur, values-short, numbered   what the text of a line needs
+--     entry-constants                 no constants but the rules' come in
+--     numbered                        the entry's variables have in each type the numbers 0, 1, 2, .. by first occurrence
+--     numbers-few, lists-few          no more than the rules have names, no more list variables than fields
+--     fields-short, values-short      at most 31 terms
+--     values-occur                    the values shown have the variables of the entry's fields
 use mathlib.Core.Path.{_≡_, refl, sym, _∙_, ap, ap₂, subst as along}
 use mathlib.Core.Logic.{_↔_}
 use mathlib.Core.Bool.{true, false≢true}
 use mathlib.Core.Option.{some}
-use mathlib.Core.List.{List, [], _∷_, map, List·Memᴰ, Memᴰ·map, Memᴰ·of-map}
-use Prim.Native.Nat.{ℕ, _≤_}
+use mathlib.Core.List.{List, map, List·Memᴰ, Memᴰ·map, Memᴰ·of-map}
+use Prim.Native.Nat.{ℕ, _+_, _≤_, _<_}
+use native.Mathlib.Decide.{ℕ-discrete}
 use lib.ListN.{length, getElem?}
 use Rattle.lists.specs.Seqs.{All, Any}
-use Rattle.order.specs.Order.{Order, Full, basic, list, full-le}
-use Rattle.theory.specs.Terms.{Term, con, var}
+use Rattle.order.specs.Order.{Order, Full, basic, list, full-le, full-eq}
+use Rattle.theory.specs.Terms.{con, var}
 use Rattle.theory.specs.Constants.{Consts, TermOver}
-use Rattle.theory.specs.Seqs.{Distinct}
+use Rattle.theory.specs.Seqs.{concat-map, Distinct}
 use Rattle.theory.specs.Fillings.{FillingOver, Typed, fill, Occurs}
 use Rattle.theory.specs.Matching.{Matches}
 use Rattle.theory.specs.Linear.{LeftLinear}
 use Rattle.theory.proofs.Matching.{typed-one}
-use Rattle.unifiers.specs.Substitutions.{Subst, substitute, kindOf, TypedSubst}
+use Rattle.unifiers.specs.Substitutions.{substitute, kindOf, TypedSubst}
 use Rattle.unifiers.specs.Constants.{ConstantIn}
-use Rattle.unifiers.specs.Shapes.{Atom, fixed, free, val, left, right, Variable, of, pairVars, shapesOf}
-use Rattle.unifiers.specs.Candidates.{Cand}
+use Rattle.unifiers.specs.Shapes.{Atom, fixed, free, val, left, right, side-eq, Variable, of, pairVars, shapesOf}
+use Rattle.unifiers.specs.Candidates.{Cand, range}
 use Rattle.unifiers.specs.Joins.{start}
-use Rattle.unifiers.specs.Overlaps.{Entry, PairShape, PairState, shown, listed, overlaps}
+use Rattle.unifiers.specs.Overlaps.{firsts, namesOf, mark-eq, Entry, PairShape, PairState, markedFields, shown, listed, overlaps}
 use Rattle.unifiers.specs.Solutions.{Solution, fieldsOf, Covers}
 use Rattle.unifiers.proofs.Seqs.{pigeon, distinct-map-in, at-in, same-place}
 use Rattle.unifiers.proofs.Walks.{picks, entries-distinct}
@@ -36,18 +41,16 @@ use Rattle.unifiers.proofs.Filled.{substs-by, shapes-fill}
 use Rattle.unifiers.proofs.Minimal.{IsAtom, same-picks}
 use Rattle.unifiers.proofs.Renumbered.{someValue, some-value-typed}
 use Rattle.unifiers.proofs.Typed.{fill-substs, fill-typed}
-use Rattle.unifiers.proofs.Linear.{linear-shapes}
+use Rattle.unifiers.proofs.Linear.{linear-shapes, shapes-count}
 use Rattle.unifiers.proofs.Listed.{raw, left-typed, right-typed, left-solves, right-solves, covered, fits-choice, same-choice}
 use Rattle.unifiers.proofs.Ours.{rule-in, all-filled-in, fields-ours, left-ours, right-ours}
 use Rattle.unifiers.proofs.Lengths.{AtMost, short-rule, shown-few}
+use Rattle.unifiers.proofs.Numbers.{by-first, numbers-below, lists-below}
 use Rattle.unifiers.proofs.Parts.{part-of-rule, part-occurs, part-short}
 
 module _ (O : Order) (C : Consts O) {A : Type 0} (name-eq : Discrete A) (r₁ r₂ : List (List (TermOver O C A))) (lin₁ : LeftLinear r₁) (lin₂ : LeftLinear r₂) where
   abbrev Slip : Type 0
   Slip = List (List (C .Con))
-
-  abbrev Value : Type 0
-  Value = Subst (C .Con) (Full (O .Kind)) A ℕ
 
   -- ---- the shapes of the rules
 
@@ -266,3 +269,28 @@ module _ (O : Order) (C : Consts O) {A : Type 0} (name-eq : Discrete A) (r₁ r�
       λ o. part-short 31 (e .left k a) (map (substitute (e .left)) r₁) (along (All (AtMost 31)) (sym (solves-left e i)) (fields-short e i)) (part-of-rule (e .left) k a r₁ o),
       λ o. part-short 31 (e .right k a) (map (substitute (e .right)) r₂) (along (All (AtMost 31)) (sym (solves-right e i)) (fields-short e i)) (part-of-rule (e .right) k a r₂ o),
     )
+
+  -- ---- numbers
+
+  -- "renumbered from 0 in each type, by first occurrence in its fields"
+  pub numbered : (e : Entry O C A) → List·Memᴰ e (overlaps O C name-eq r₁ r₂) → (k : Full (O .Kind)) → (n : ℕ) × (firsts ℕ-discrete (concat-map (namesOf (full-eq (O .kind-eq)) k) (e .fields)) ≡ range 0 n)
+  numbered e i k =
+      let x = chosen e i in
+      along (λ (y : Entry O C A). (n : ℕ) × (firsts ℕ-discrete (concat-map (namesOf (full-eq (O .kind-eq)) k) (y .fields)) ≡ range 0 n)) (x .2) (
+        length (firsts (mark-eq side-eq name-eq ℕ-discrete) (concat-map (namesOf (full-eq (O .kind-eq)) k) (markedFields O C name-eq Ss Ts (x .0)))),
+        by-first (full-eq (O .kind-eq)) (mark-eq side-eq name-eq ℕ-discrete) (markedFields O C name-eq Ss Ts (x .0)) k,
+      )
+
+  -- as₁ and as₂: names that the rules' variables of kind k have; with the numbers 0 to 15 on each side, the entry's are below 32
+  pub numbers-few : (e : Entry O C A) → List·Memᴰ e (overlaps O C name-eq r₁ r₂) → (k : O .Kind) (as₁ as₂ : List A)
+      → ((a : A) → Any (Occurs (basic k) a) r₁ → List·Memᴰ a as₁) → ((a : A) → Any (Occurs (basic k) a) r₂ → List·Memᴰ a as₂)
+      → (n : ℕ) → Any (Occurs (basic k) n) (e .fields) → n < length as₁ + length as₂
+  numbers-few e i k as₁ as₂ h₁ h₂ n =
+      let x = chosen e i in
+      along (λ (y : Entry O C A). Any (Occurs (basic k) n) (y .fields) → n < length as₁ + length as₂) (x .2)
+      (numbers-below O C name-eq r₁ r₂ Ss Ts (linear₁ .1) (linear₂ .1) (x .0) (x .1) k as₁ as₂ h₁ h₂ n)
+
+  pub lists-few : (e : Entry O C A) → List·Memᴰ e (overlaps O C name-eq r₁ r₂) → (n : ℕ) → Any (Occurs list n) (e .fields) → n < length r₁
+  lists-few e i n o =
+      let x = chosen e i in
+      along (λ (m : ℕ). n < m) (shapes-count left r₁ Ss (linear₁ .1)) (lists-below O C name-eq r₁ r₂ Ss Ts (x .0) n (along (λ (y : Entry O C A). Any (Occurs list n) (y .fields)) (sym (x .2)) o))

@@ -1,18 +1,17 @@
 -- One pair of fields: the entry's field of a candidate, and exactness field by field.
 use mathlib.Core.Path.{_≡_, refl, sym, _∙_, ap, ap₂, subst as along}
-use mathlib.Core.Logic.{_↔_, _⊎_, inl, inr, ite, if-pos, if-neg}
-use mathlib.Core.Option.{Option, none, some}
-use mathlib.Core.List.{List, [], _∷_, _++_, map, map-append, List·Memᴰ}
-use Prim.Native.Nat.{ℕ, zero, suc, _+_, _-_, _≤_, _<_, max}
+use mathlib.Core.Logic.{ite}
+use mathlib.Core.List.{List, _++_, map, map-append, List·Memᴰ}
+use Prim.Native.Nat.{ℕ, _+_, _-_, _≤_, _<_, max}
 use native.Mathlib.Omega.{arith}
-use native.Mathlib.Decide.{decLe, decLt, ℕ-discrete}
+use native.Mathlib.Decide.{decLt}
 use lib.ListN.{length, take, drop, length-append, length-map, length-take, length-drop, take-append-drop}
 use Rattle.unifiers.specs.Shapes.{Shape, closed, gapped}
 use Rattle.unifiers.specs.Candidates.{Cand, exact, long, before, wide, cands}
-use Rattle.unifiers.specs.Entries.{row, merge, span, cells, equations, fieldFor}
+use Rattle.unifiers.specs.Entries.{row, span, cells, equations, fieldFor}
 use Rattle.unifiers.proofs.Seqs.{cut, split3, SolvesV}
 use Rattle.unifiers.proofs.Candidates.{Room, pick, Runs, pick-in, pick-of, pick-runs, exact≢long}
-use Rattle.unifiers.proofs.Rows.{Covered, merge-length, Fit, merge-fit, fit-merge, Inst, inst-room, inst-fit, fit-inst, long-drop, long-add, Reach, covered-row, row-length}
+use Rattle.unifiers.proofs.Rows.{Covered, merge-length, merge-fit, fit-merge, Inst, inst-room, inst-fit, fit-inst, long-drop, long-add, Reach, covered-row, row-length}
 
 module _ {A L M : Type 0} where
   pub room-of : (S₁ : Shape A L) (S₂ : Shape A M) (c : Cand) → List·Memᴰ c (cands S₁ S₂) → Room S₁ (span S₁ S₂ c) × Room S₂ (span S₁ S₂ c)

@@ -1,6 +1,6 @@
 -- The value of a variable of a rule is a part of a field that the rule is turned into.
-use mathlib.Core.Path.{_≡_, refl, sym, _∙_, ap, subst as along}
-use mathlib.Core.Logic.{_⊎_, inl, inr}
+use mathlib.Core.Path.{_≡_, sym, _∙_, ap, subst as along}
+use mathlib.Core.Logic.{inl, inr}
 use mathlib.Core.List.{List, [], _∷_, _++_, map, append-assoc}
 use Prim.Native.Nat.{ℕ, _≤_}
 use native.Mathlib.Omega.{arith}

@@ -1,8 +1,8 @@
 -- The renumbering by first occurrence in each type is one-to-one on the fields' variables, so they match the same slips.
-use mathlib.Core.Path.{_≡_, refl, sym, _∙_, ap, ap₂, subst as along}
-use mathlib.Core.Logic.{_↔_, _⊎_, inl, inr, ite}
+use mathlib.Core.Path.{_≡_, refl, sym, _∙_, ap, ap₂}
+use mathlib.Core.Logic.{_⊎_, inl, inr, ite}
 use mathlib.Core.Option.{Option, none, some}
-use mathlib.Core.List.{List, [], _∷_, _++_, map, map-map, map-append}
+use mathlib.Core.List.{List, [], _∷_, _++_, map, map-append}
 use mathlib.Core.List.{List·Memᴰ, List·Memᴰ·head, List·Memᴰ·tail, List·Memᴰ·not-nil, List·Memᴰ·cases-cons, Memᴰ·append-left, Memᴰ·append-right}
 use Prim.Native.Nat.{ℕ, zero, suc}
 use lib.ListN.{getElem?}
@@ -29,7 +29,7 @@ module _ {A : Type 0} (d : Discrete A) where
       go (no h) (inl p) rec = List·Memᴰ·head p
       go (no h) (inr j) rec = List·Memᴰ·tail (rec j)
 
-  in-firsts : (z : A) (l : List A) → List·Memᴰ z l → List·Memᴰ z (firsts d l)
+  pub in-firsts : (z : A) (l : List A) → List·Memᴰ z l → List·Memᴰ z (firsts d l)
   in-firsts z [] i = i
   in-firsts z (x ∷ l) i = go (d x z) (List·Memᴰ·cases-cons i) (λ j. in-firsts z l j)
     where
@@ -38,7 +38,7 @@ module _ {A : Type 0} (d : Discrete A) where
       go (no h) (inl p) rec = List·Memᴰ·head p
       go (no h) (inr j) rec = List·Memᴰ·tail (in-without x z (firsts d l) h (rec j))
 
-  at-place : (x : A) (l : List A) → List·Memᴰ x l → getElem? l (placeOf d x l) ≡ some x
+  pub at-place : (x : A) (l : List A) → List·Memᴰ x l → getElem? l (placeOf d x l) ≡ some x
   at-place x [] i = absurd (List·Memᴰ·not-nil i)
   at-place x (y ∷ l) i = go (d x y) (List·Memᴰ·cases-cons i) (λ j. at-place x l j)
     where
@@ -58,7 +58,7 @@ module _ {C K B : Type 0} (kind-eq : Discrete K) where
       go (no n) (inl p) rec = absurd (n (p .0))
       go (no n) (inr i) rec = rec i
 
-  in-all-names : (k : K) (b : B) (fs : List (List (Term C K B))) → Any (Occurs k b) fs → List·Memᴰ b (concat-map (namesOf kind-eq k) fs)
+  pub in-all-names : (k : K) (b : B) (fs : List (List (Term C K B))) → Any (Occurs k b) fs → List·Memᴰ b (concat-map (namesOf kind-eq k) fs)
   in-all-names k b (f ∷ fs) (inl o) = Memᴰ·append-left (concat-map (namesOf kind-eq k) fs) (in-names k b f o)
   in-all-names k b (f ∷ fs) (inr o) = Memᴰ·append-right (namesOf kind-eq k f) (in-all-names k b fs o)
 

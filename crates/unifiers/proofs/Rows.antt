@@ -1,16 +1,15 @@
 -- Two shapes laid over a run of n items: rows of cells, the equations where both have an atom, and the merged row.
 use mathlib.Core.Path.{_≡_, refl, sym, _∙_, ap, ap₂, subst as along}
-use mathlib.Core.Logic.{_↔_, _⊎_, inl, inr, ite, if-pos, if-neg}
 use mathlib.Core.Option.{Option, none, some}
 use mathlib.Core.List.{List, [], _∷_, _++_, map, append-assoc, map-append, head-eq-of-cons-eq, tail-eq-of-cons-eq, nil≢cons, cons≢nil}
-use Prim.Native.Nat.{ℕ, zero, suc, _+_, _-_, _≤_, _<_, max}
+use Prim.Native.Nat.{ℕ, zero, suc, _+_, _-_, _≤_, max}
 use native.Mathlib.Omega.{arith}
-use native.Mathlib.Decide.{decLe, decLt, ℕ-discrete}
-use lib.ListN.{length, take, drop, replicate, length-append, length-map, length-replicate, length-take, length-drop, take-append-drop}
+use native.Mathlib.Decide.{decLe}
+use lib.ListN.{length, replicate, length-append, length-map, length-replicate}
 use Rattle.unifiers.specs.Shapes.{Shape, closed, gapped}
 use Rattle.unifiers.specs.Candidates.{wide}
 use Rattle.unifiers.specs.Entries.{grow, row, meeting, merge}
-use Rattle.unifiers.proofs.Seqs.{cut, pre-of, suf-of, SolvesV}
+use Rattle.unifiers.proofs.Seqs.{pre-of, suf-of, SolvesV}
 use Rattle.unifiers.proofs.Candidates.{Room}
 
 module _ {A : Type 0} where

@@ -1,13 +1,13 @@
 -- Laws of lists: cutting, members, no member twice, the pigeonhole.
-use mathlib.Core.Path.{_≡_, refl, sym, _∙_, ap, ap₂, subst, pathJ′}
-use mathlib.Core.Logic.{_↔_, _⊎_, inl, inr}
-use mathlib.Core.List.{List, [], _∷_, _++_, map, append-assoc, append-nil, head-eq-of-cons-eq, tail-eq-of-cons-eq, nil≢cons, cons≢nil, map-append}
+use mathlib.Core.Path.{_≡_, refl, sym, _∙_, ap, ap₂, subst}
+use mathlib.Core.Logic.{_⊎_, inl, inr}
+use mathlib.Core.List.{List, [], _∷_, _++_, map, head-eq-of-cons-eq, tail-eq-of-cons-eq}
 use mathlib.Core.List.{List·Memᴰ, List·Memᴰ·head, List·Memᴰ·tail, List·Memᴰ·not-nil, Memᴰ·append-left, Memᴰ·append-right, List·Memᴰ·append-cases, List·Memᴰ·cases-cons, Memᴰ·cast, Memᴰ·of-map}
-use Prim.Native.Nat.{ℕ, zero, suc, _+_, _-_, _≤_, _<_}
+use Prim.Native.Nat.{ℕ, zero, suc, _+_, _-_, _≤_}
 use native.Mathlib.Omega.{arith}
 use Rattle.theory.specs.Seqs.{Distinct}
 use mathlib.Core.Option.{some, Option·none-ne-some, Option·some-injective}
-use lib.ListN.{getElem?, length, take, drop, length-append, length-map, length-take, length-drop, take-append-drop}
+use lib.ListN.{getElem?, length, take, drop, length-append, length-take, length-drop, take-append-drop}
 
 module _ {A : Type 0} where
   -- equal lists, cut at the same place
@@ -18,10 +18,6 @@ module _ {A : Type 0} where
   cut (x ∷ s₁) (y ∷ s₂) t₁ t₂ h e =
       let r = cut s₁ s₂ t₁ t₂ (omega arith) (tail-eq-of-cons-eq e) in
       (ap₂ (λ (z : A) (l : List A). z ∷ l) (head-eq-of-cons-eq e) (r .0), r .1)
-
-  -- equal lists, cut at the same place from the end
-  pub cut-end : (s₁ s₂ t₁ t₂ : List A) → length t₁ ≡ length t₂ → s₁ ++ t₁ ≡ s₂ ++ t₂ → (s₁ ≡ s₂) × (t₁ ≡ t₂)
-  cut-end s₁ s₂ t₁ t₂ h e = cut s₁ s₂ t₁ t₂ (omega (arith, simp length-append at (ap length e))) e
 
   -- a shorter beginning begins a longer one
   pub pre-of : (p x a y : List A) → p ++ x ≡ a ++ y → length p ≤ length a → (r : List A) × (a ≡ p ++ r)

@@ -1,5 +1,5 @@
 -- To fill after a substitution is to fill by the filled values, and types are kept.
-use mathlib.Core.Path.{_≡_, refl, sym, _∙_, ap, ap₂}
+use mathlib.Core.Path.{_≡_, refl, _∙_, ap, ap₂}
 use mathlib.Core.Bool.{true, false≢true}
 use mathlib.Core.List.{List, [], _∷_, _++_, map, append-nil}
 use Rattle.order.specs.Order.{Order, Full, basic, list, full-le}
