@@ -2,6 +2,12 @@
 //! refusal of document 01 comes often, and so do the texts on either side of
 //! each limit.
 
+mod halves;
+pub mod large;
+pub mod matches;
+pub mod pairs;
+mod patterns;
+
 use crate::draw::Draw;
 use crate::terms::{Field, Kind, Rule, Slip, Term};
 use crate::writing::plain_fields;
@@ -36,6 +42,15 @@ pub fn any_line(draw: &mut Draw) -> Vec<u8> {
         9 => mixed(draw),
         10 => of_size(draw),
         _ => any_bytes(draw),
+    }
+}
+
+/// A text in which a list variable often clashes, or any line.
+fn rarely_a_rule(draw: &mut Draw) -> Vec<u8> {
+    if draw.one_in(4) {
+        text_of(2, 4, list_term, draw)
+    } else {
+        any_line(draw)
     }
 }
 

@@ -5,11 +5,19 @@
 //! - [`terms`]: rules and slips as values.
 //! - [`reading`]: from text to values, with refusals.
 //! - [`writing`]: from values to plain text.
+//! - [`matching`]: a rule against a slip.
+//! - [`overlaps`]: which slips two rules share.
+//! - [`answers`]: what the programs print for a line.
 //! - [`generate`], [`draw`]: seeded texts on which the two are compared.
 
+pub mod answers;
 pub mod draw;
 pub mod generate;
 mod grammar;
+mod graph;
+mod layouts;
+pub mod matching;
+pub mod overlaps;
 pub mod reading;
 pub mod terms;
 pub mod writing;

@@ -3,37 +3,72 @@ use std::ffi::OsString;
 use std::io::{self, BufRead, BufWriter, Write};
 use std::process::ExitCode;
 
+use reference::answers::{matches_answer, pairs_answer, texts_answer};
 use reference::draw::Draw;
-use reference::generate::any_line;
-use reference::reading::{read_rule, read_slip, Refusal};
-use reference::writing::plain_rule;
+use reference::generate::{any_line, matches::match_line, pairs::pair_line};
 
-const USAGE: &str = "usage: reference read
-       reference generate SEED COUNT
+const USAGE: &str = "usage: reference read | match | pairs
+       reference generate | generate-matches | generate-pairs SEED COUNT
   read       read each line of standard input as a rule and as a slip
-  generate   write COUNT lines for `read`, the same for the same SEED";
+  match      match the rule with the slip behind the tab, line by line
+  pairs      list the overlaps of the rules on either side of the tab
+  generate   write COUNT lines for `read`, the same for the same SEED
+  generate-matches, generate-pairs   write lines for `match`, `pairs`";
+
+/// What a program prints for a line, given the line's number from 1.
+type Answer = fn(usize, &[u8]) -> Vec<u8>;
+
+/// Draws a line without its newline.
+type AnyLine = fn(&mut Draw) -> Vec<u8>;
+
+/// Whether the last generated line always has its newline.
+enum Ending {
+    Closed,
+    SometimesOpen,
+}
 
 fn main() -> ExitCode {
     let arguments: Vec<OsString> = env::args_os().skip(1).collect();
-    let input = io::stdin().lock();
-    let output = BufWriter::new(io::stdout().lock());
     match arguments.as_slice() {
-        [command] if command == "read" => status(read(input, output)),
-        [command, seed, count] if command == "generate" => match (number(seed), number(count)) {
-            (Some(seed), Some(count)) => status(generate(seed, count, output)),
-            _ => misused(),
-        },
+        [command] if command == "read" => answer(texts_answer),
+        [command] if command == "match" => answer(matches_answer),
+        [command] if command == "pairs" => answer(pairs_answer),
+        [command, numbers @ ..] if command == "generate" => {
+            generate(numbers, any_line, Ending::Closed)
+        }
+        [command, numbers @ ..] if command == "generate-matches" => {
+            generate(numbers, match_line, Ending::SometimesOpen)
+        }
+        [command, numbers @ ..] if command == "generate-pairs" => {
+            generate(numbers, pair_line, Ending::SometimesOpen)
+        }
+        _ => misused(),
+    }
+}
+
+fn misused() -> ExitCode {
+    complain(USAGE);
+    ExitCode::from(2)
+}
+
+fn answer(answer: Answer) -> ExitCode {
+    let output = BufWriter::new(io::stdout().lock());
+    status(answer_lines(answer, io::stdin().lock(), output))
+}
+
+fn generate(numbers: &[OsString], line: AnyLine, ending: Ending) -> ExitCode {
+    let numbers: Option<Vec<u64>> = numbers.iter().map(number).collect();
+    match numbers.as_deref() {
+        Some(&[seed, count]) => {
+            let output = BufWriter::new(io::stdout().lock());
+            status(write_lines(line, seed, count, ending, output))
+        }
         _ => misused(),
     }
 }
 
 fn number(argument: &OsString) -> Option<u64> {
     argument.to_str()?.parse().ok()
-}
-
-fn misused() -> ExitCode {
-    complain(USAGE);
-    ExitCode::from(2)
 }
 
 fn status(result: io::Result<()>) -> ExitCode {
@@ -51,37 +86,33 @@ fn complain(message: &str) {
     let _ = writeln!(io::stderr(), "{message}");
 }
 
-/// Two lines of output for each line of input.
-fn read(mut input: impl BufRead, mut output: impl Write) -> io::Result<()> {
+fn answer_lines(answer: Answer, mut input: impl BufRead, mut output: impl Write) -> io::Result<()> {
     let mut line = Vec::new();
+    let mut number = 0;
     while input.read_until(b'\n', &mut line)? > 0 {
+        number += 1;
         // The last newline may be missing.
         let text = line.strip_suffix(b"\n").unwrap_or(&line);
-        let rule = read_rule(text).map(|rule| plain_rule(&rule));
-        let slip = read_slip(text).map(|_| b"read".to_vec());
-        report(&mut output, "rule", rule)?;
-        report(&mut output, "slip", slip)?;
+        output.write_all(&answer(number, text))?;
         line.clear();
     }
     output.flush()
 }
 
-fn generate(seed: u64, count: u64, mut output: impl Write) -> io::Result<()> {
+fn write_lines(
+    line: AnyLine,
+    seed: u64,
+    count: u64,
+    ending: Ending,
+    mut output: impl Write,
+) -> io::Result<()> {
     let mut draw = Draw::new(seed);
-    for _ in 0..count {
-        output.write_all(&any_line(&mut draw))?;
-        output.write_all(b"\n")?;
+    for index in 0..count {
+        output.write_all(&line(&mut draw))?;
+        let last = index + 1 == count;
+        if !(last && matches!(ending, Ending::SometimesOpen) && draw.one_in(4)) {
+            output.write_all(b"\n")?;
+        }
     }
     output.flush()
-}
-
-fn report(output: &mut impl Write, what: &str, result: Result<Vec<u8>, Refusal>) -> io::Result<()> {
-    match result {
-        Ok(plain) => {
-            write!(output, "{what} ")?;
-            output.write_all(&plain)?;
-            writeln!(output)
-        }
-        Err(refusal) => writeln!(output, "{what} {refusal}"),
-    }
 }

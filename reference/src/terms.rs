@@ -1,7 +1,10 @@
 //! Rules and slips as values.
 
-/// The type of a variable.
-#[derive(Clone, Copy, Debug, PartialEq, Eq, Hash)]
+use std::collections::BTreeMap;
+
+/// The type of a variable; they stand in the order in which answers show
+/// them.
+#[derive(Clone, Copy, Debug, PartialEq, Eq, PartialOrd, Ord, Hash)]
 pub enum Kind {
     Integer,
     String,
@@ -29,6 +32,16 @@ impl Kind {
             Kind::List => b'l',
         }
     }
+
+    /// Whether a variable of this type may have this constant as its value;
+    /// a list variable has it as a run of one.
+    pub fn admits(self, constant: &Term) -> bool {
+        match constant {
+            Term::Int(_) => self != Kind::String,
+            Term::Str(_) => self != Kind::Integer,
+            Term::Var(..) => false,
+        }
+    }
 }
 
 /// A term. `empty` is no term here: document 01 counts it in the text and
@@ -41,6 +54,13 @@ pub enum Term {
 }
 
 pub type Field = Vec<Term>;
+
+/// A variable of a rule, by its type and number.
+pub type Name = (Kind, u32);
+
+/// The value of each variable that a rule has, in the order i, s, a, l and
+/// then by number.
+pub type Filling = BTreeMap<Name, Field>;
 
 /// The left side of a rule, field by field.
 #[derive(Clone, Debug, Default, PartialEq, Eq, Hash)]

@@ -1,8 +1,9 @@
 //! Plain text: "no `empty` unless the field has no terms, integers without
 //! leading zeros" (document 01).
 
+use crate::overlaps::Entry;
 use crate::reading::{read_rule, read_slip};
-use crate::terms::{Field, Rule, Slip, Term};
+use crate::terms::{Field, Filling, Rule, Slip, Term};
 
 /// The plain text of a rule. A rule that no reading can return "counts there
 /// as one with no fields", and that has no bytes. Since reading a readable
@@ -40,6 +41,27 @@ pub fn plain_field(terms: &[Term]) -> Vec<u8> {
     }
     let texts: Vec<Vec<u8>> = terms.iter().map(plain_term).collect();
     texts.join(&b':')
+}
+
+/// Each variable with its value, and a blank and the mark before it.
+pub fn plain_filling(filling: &Filling, mark: &str) -> Vec<u8> {
+    let mut text = Vec::new();
+    for ((kind, number), value) in filling {
+        text.extend(format!(" {mark}{}{number}=", char::from(kind.letter())).bytes());
+        text.extend(plain_field(value));
+    }
+    text
+}
+
+/// The line of an overlap entry, with its newline.
+pub fn entry_line(entry: &Entry) -> Vec<u8> {
+    let parts = [
+        plain_fields(&entry.fields),
+        plain_filling(&entry.left, "<"),
+        plain_filling(&entry.right, ">"),
+        b"\n".to_vec(),
+    ];
+    parts.concat()
 }
 
 fn plain_term(term: &Term) -> Vec<u8> {

@@ -24,11 +24,21 @@ fn run(arguments: &[&str], input: &[u8]) -> Output {
     output
 }
 
-fn read(input: &[u8]) -> String {
-    let output = run(&["read"], input);
+fn answer(command: &str, input: &[u8]) -> String {
+    let output = run(&[command], input);
     assert_eq!(output.status.code(), Some(0));
     assert!(output.stderr.is_empty());
     String::from_utf8(output.stdout).unwrap()
+}
+
+fn read(input: &[u8]) -> String {
+    answer("read", input)
+}
+
+/// The lines of the input, the last one with or without its newline.
+fn count_lines(input: &[u8]) -> usize {
+    let pieces = input.split(|&byte| byte == b'\n').count();
+    pieces - usize::from(input.is_empty() || input.ends_with(b"\n"))
 }
 
 #[test]
@@ -72,22 +82,102 @@ fn long_lines() {
 fn any_bytes_are_answered() {
     let mut draw = Draw::new(6);
     let input: Vec<u8> = (0..500_000).map(|_| draw.below(256) as u8).collect();
-    let lines = input.split(|&byte| byte == b'\n').count();
-    let ends_with_newline = input.last() == Some(&b'\n');
-    let expected = 2 * (lines - usize::from(ends_with_newline));
-    assert_eq!(read(&input).lines().count(), expected);
+    assert_eq!(read(&input).lines().count(), 2 * count_lines(&input));
+    let matches = answer("match", &input);
+    assert_eq!(matches.lines().count(), 2 * count_lines(&input));
+    let pairs = answer("pairs", &input);
+    let numbered = pairs.lines().filter(|line| line.starts_with("pair "));
+    assert_eq!(numbered.count(), count_lines(&input));
+}
+
+#[test]
+fn matches_are_numbered() {
+    assert_eq!(answer("match", b""), "");
+    let one = "match 1\nyes a0=1 l0=empty\n";
+    assert_eq!(answer("match", b"a0:l0\t1"), one);
+    assert_eq!(answer("match", b"a0:l0\t1\n"), one);
+    let input = b"1\t1\n\n\t\n1\n1\t2\n1\t\n1\t2\t";
+    let expected = "\
+match 1
+yes
+match 2
+refused rule 2 at 0
+match 3
+refused rule 2 at 0
+match 4
+refused slip 2 at 0
+match 5
+no
+match 6
+refused slip 2 at 0
+match 7
+refused slip 2 at 1
+";
+    assert_eq!(answer("match", input), expected);
+}
+
+#[test]
+fn the_pairs_of_document_01_whole() {
+    let expected = "\
+pair 1
+2 <a0=2 <l0=empty >l0=empty
+a0:l0:2 <a0=a0 <l0=l0:2 >l0=a0:l0
+pair 2
+";
+    assert_eq!(answer("pairs", b"a0:l0\tl0:2\ni0\ts0\n"), expected);
+    assert_eq!(answer("pairs", b"a0:l0\tl0:2\ni0\ts0"), expected);
+}
+
+#[test]
+fn pairs_are_numbered() {
+    assert_eq!(answer("pairs", b""), "");
+    let input = b"1\t1\n\n\t\n1\n1\t2\n1\t1\t\nl0:l1\tl0:l1";
+    let expected = "\
+pair 1
+1
+pair 2
+refused left 2 at 0
+pair 3
+refused left 2 at 0
+pair 4
+refused right 2 at 0
+pair 5
+pair 6
+refused right 2 at 1
+pair 7
+refused left 6 at 3
+";
+    assert_eq!(answer("pairs", input), expected);
+}
+
+const GENERATORS: [&str; 3] = ["generate", "generate-matches", "generate-pairs"];
+
+fn generate(command: &str, seed: &str, count: &str) -> Vec<u8> {
+    run(&[command, seed, count], b"").stdout
 }
 
 #[test]
 fn generated_lines_are_those_of_the_seed() {
-    let generate = |seed: &str, count: &str| run(&["generate", seed, count], b"").stdout;
-    let lines = generate("7", "1000");
-    assert_eq!(lines.iter().filter(|&&byte| byte == b'\n').count(), 1000);
-    assert_eq!(lines.last(), Some(&b'\n'));
-    assert_eq!(lines, generate("7", "1000"));
-    assert_ne!(lines, generate("8", "1000"));
-    assert!(lines.starts_with(&generate("7", "10")));
-    assert!(generate("0", "0").is_empty());
+    for command in GENERATORS {
+        let lines = generate(command, "7", "1000");
+        assert!(count_lines(&lines) >= 999);
+        assert_eq!(lines, generate(command, "7", "1000"));
+        assert_ne!(lines, generate(command, "8", "1000"));
+        assert!(lines.starts_with(&generate(command, "7", "10")));
+        assert!(generate(command, "0", "0").is_empty());
+    }
+}
+
+#[test]
+fn some_generated_sets_end_without_a_newline() {
+    let seeds: Vec<String> = (0..20).map(|seed| seed.to_string()).collect();
+    for command in GENERATORS {
+        let closed = |seed: &&String| generate(command, seed, "20").ends_with(b"\n");
+        let count = seeds.iter().filter(closed).count();
+        let always = command == "generate";
+        assert_eq!(count == seeds.len(), always, "{command}: {count}");
+        assert!(count > 0);
+    }
 }
 
 #[test]
@@ -103,6 +193,14 @@ fn other_commands_are_refused() {
         &["generate", "1", "2", "3"],
         &["generate", "one", "2"],
         &["generate", "1", "-2"],
+        &["match", "1"],
+        &["matches"],
+        &["generate-matches"],
+        &["generate-matches", "1"],
+        &["generate-matches", "1", "two"],
+        &["pairs", "1"],
+        &["generate-pairs"],
+        &["generate-pairs", "1", "2", "3"],
     ];
     for arguments in misuses {
         let output = run(arguments, b"1\n");

@@ -1,9 +1,15 @@
-//! Tests of reading and writing against document 01.
+//! Tests of each part against document 01.
 
 mod command;
 mod generated;
+mod matching;
+mod matching_by_trial;
+mod overlaps_by_trial;
+mod pairs;
 mod places;
 mod reading_rules;
 mod reading_slips;
+mod shown;
 mod support;
+mod universe;
 mod writing;

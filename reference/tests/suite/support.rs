@@ -1,8 +1,10 @@
 //! What the tests share: short names for terms, texts of a given size.
 
+use std::collections::BTreeSet;
+
 pub use reference::draw::Draw;
 use reference::reading::{read_rule, read_slip, Refusal};
-use reference::terms::{Field, Kind, Rule, Slip, Term};
+use reference::terms::{Field, Filling, Kind, Name, Rule, Slip, Term};
 
 pub fn int(value: u32) -> Term {
     Term::Int(value)
@@ -55,4 +57,24 @@ pub fn assert_slip_refused(text: impl AsRef<[u8]>, number: u8, place: usize) {
 pub fn assert_not_grammar(text: impl AsRef<[u8]>, place: usize) {
     assert_rule_refused(&text, 2, place);
     assert_slip_refused(&text, 2, place);
+}
+
+/// The variables of the fields, in the order in which answers show them.
+pub fn names_of(fields: &[Field]) -> Vec<Name> {
+    let name = |term: &Term| match *term {
+        Term::Var(kind, number) => Some((kind, number)),
+        _ => None,
+    };
+    let names: BTreeSet<Name> = fields.iter().flatten().filter_map(name).collect();
+    names.into_iter().collect()
+}
+
+/// The fields with each variable's value in its place.
+pub fn put_in(fields: &[Field], filling: &Filling) -> Vec<Field> {
+    let value = |term: &Term| match *term {
+        Term::Var(kind, number) => filling[&(kind, number)].clone(),
+        _ => vec![term.clone()],
+    };
+    let field = |terms: &Field| terms.iter().flat_map(value).collect();
+    fields.iter().map(field).collect()
 }

@@ -1,0 +1,122 @@
+//! Lines for `match`: a rule, a tab and a slip. About half of them match;
+//! most others are near to it, and every refusal comes on either side.
+
+use super::halves::{of_line_size, rule_text, slip_text, tabbed, with_other_tabs};
+use super::patterns::{few_constant, filled, filling, pattern};
+use super::{any_bytes, any_line, any_slip, damaged, of_size, rarely_a_rule};
+use crate::draw::Draw;
+use crate::terms::{Field, Kind, Rule, Term};
+
+/// As long as a line may be.
+const LIMIT: usize = 10_241;
+
+/// A line without its newline: any bytes but 10.
+pub fn match_line(draw: &mut Draw) -> Vec<u8> {
+    match draw.below(20) {
+        0..=7 => matching(draw),
+        8..=11 => almost_matching(draw),
+        12 => with_long_slip(draw),
+        13 => line(&pattern(draw), &any_slip(draw).0, draw),
+        14..=15 => tabbed(rarely_a_rule(draw), slip_text(&any_slip(draw).0, draw)),
+        16 => tabbed(rule_text(&pattern(draw), draw), any_line(draw)),
+        17 => with_other_tabs(matching(draw), draw),
+        18 => damaged(matching(draw), draw),
+        _ if draw.one_in(2) => any_bytes(draw),
+        _ => of_line_size(any_start(draw), LIMIT, draw),
+    }
+}
+
+fn line(rule: &Rule, slip: &[Field], draw: &mut Draw) -> Vec<u8> {
+    tabbed(rule_text(rule, draw), slip_text(slip, draw))
+}
+
+fn any_start(draw: &mut Draw) -> Vec<u8> {
+    match draw.below(4) {
+        0 => Vec::new(),
+        1 => any_line(draw),
+        2 => of_size(draw),
+        _ => rule_text(&pattern(draw), draw),
+    }
+}
+
+fn matching(draw: &mut Draw) -> Vec<u8> {
+    let rule = pattern(draw);
+    let longest = if draw.one_in(8) { 48 } else { 3 };
+    let slip = filled(&rule, &filling(&rule, longest, draw));
+    line(&rule, &slip, draw)
+}
+
+/// One thing about the slip is changed; it may still match, where a list
+/// variable takes what changed.
+fn almost_matching(draw: &mut Draw) -> Vec<u8> {
+    let rule = pattern(draw);
+    let mut slip = filled(&rule, &filling(&rule, 3, draw));
+    if draw.one_in(8) {
+        change_fields(&mut slip, draw);
+    } else {
+        let at = draw.below(slip.len());
+        change_field(&mut slip[at], draw);
+    }
+    line(&rule, &slip, draw)
+}
+
+/// A field more, a field less, or two in each other's place.
+fn change_fields(slip: &mut Vec<Field>, draw: &mut Draw) {
+    let (at, other) = (draw.below(slip.len()), draw.below(slip.len()));
+    match draw.below(3) {
+        0 if slip.len() < 4 => slip.insert(at, vec![few_constant(draw)]),
+        1 if slip.len() > 1 => {
+            slip.remove(at);
+        }
+        _ => slip.swap(at, other),
+    }
+}
+
+/// An item more, an item less, or another item in its place.
+fn change_field(field: &mut Field, draw: &mut Draw) {
+    let at = draw.below(field.len() + 1);
+    match draw.below(4) {
+        _ if at == field.len() => field.push(few_constant(draw)),
+        0 => field.insert(at, few_constant(draw)),
+        1 => {
+            field.remove(at);
+        }
+        2 => field[at] = few_constant(draw),
+        _ => field[at] = of_other_type(&field[at], draw),
+    }
+}
+
+/// A constant of the other type that looks alike where there is one.
+fn of_other_type(item: &Term, draw: &mut Draw) -> Term {
+    match item {
+        Term::Int(value) => Term::Str(value.to_string().into_bytes()),
+        Term::Str(bytes) => {
+            let value = std::str::from_utf8(bytes)
+                .ok()
+                .and_then(|it| it.parse().ok());
+            Term::Int(value.filter(|&value| value < 1 << 31).unwrap_or(7))
+        }
+        Term::Var(..) => few_constant(draw),
+    }
+}
+
+/// One field of about as many items as are allowed. Its list variable takes
+/// most of them.
+fn with_long_slip(draw: &mut Draw) -> Vec<u8> {
+    let mut rule = pattern(draw);
+    let at = draw.below(rule.0.len());
+    let is_list = |term: &Term| matches!(term, Term::Var(Kind::List, _));
+    let mut slip = filled(&rule, &filling(&rule, 2, draw));
+    let room = (63 + draw.below(3)).saturating_sub(slip[at].len());
+    let Some(place) = rule.0[at].iter().position(is_list) else {
+        // Without one, the rule's field is too short for this slip.
+        slip[at].extend((0..room).map(|_| few_constant(draw)));
+        return line(&rule, &slip, draw);
+    };
+    let run: Field = (0..room).map(|_| few_constant(draw)).collect();
+    slip[at].splice(place..place, run);
+    if draw.one_in(3) {
+        rule.0[at].truncate(place + 1);
+    }
+    line(&rule, &slip, draw)
+}

@@ -1,0 +1,185 @@
+//! Lines for `pairs`: a rule, a tab and a rule. Most pairs share slips, many
+//! of them in several lengths, and every refusal comes on either side.
+
+use super::halves::{of_line_size, rule_text, tabbed, with_other_tabs};
+use super::large::any_large;
+use super::patterns::{any_kinds, few_constant, insert_list, pattern, sliders};
+use super::{any_bytes, any_line, any_rule, damaged, rarely_a_rule, KINDS};
+use crate::draw::Draw;
+use crate::terms::{Field, Filling, Kind, Rule, Term};
+
+/// As long as a line may be.
+const LIMIT: usize = 4_097;
+
+/// A line without its newline: any bytes but 10.
+pub fn pair_line(draw: &mut Draw) -> Vec<u8> {
+    match draw.below(40) {
+        0..=13 => sharing(draw),
+        14..=17 => almost_sharing(draw),
+        18..=23 => sliding(draw),
+        24..=25 => line(&pattern(draw), &pattern(draw), draw),
+        26 => line(&any_rule(draw), &any_rule(draw), draw),
+        27..=28 => recurring(draw),
+        29 => with_itself(draw),
+        30 => any_large(draw),
+        31..=32 => tabbed(rarely_a_rule(draw), rule_text(&pattern(draw), draw)),
+        33..=34 => tabbed(rule_text(&pattern(draw), draw), rarely_a_rule(draw)),
+        35 => tabbed(rarely_a_rule(draw), rarely_a_rule(draw)),
+        36 => with_other_tabs(sharing(draw), draw),
+        37 => damaged(sharing(draw), draw),
+        38 => any_bytes(draw),
+        _ => of_line_size(any_start(draw), LIMIT, draw),
+    }
+}
+
+fn line(left: &Rule, right: &Rule, draw: &mut Draw) -> Vec<u8> {
+    tabbed(rule_text(left, draw), rule_text(right, draw))
+}
+
+fn any_start(draw: &mut Draw) -> Vec<u8> {
+    match draw.below(3) {
+        0 => Vec::new(),
+        1 => any_line(draw),
+        _ => rule_text(&pattern(draw), draw),
+    }
+}
+
+/// Two rules that match the same slip, and so share at least that one.
+fn sharing(draw: &mut Draw) -> Vec<u8> {
+    let slip = common_slip(draw);
+    let (left, right) = (abstracted(&slip, draw), abstracted(&slip, draw));
+    line(&left, &right, draw)
+}
+
+/// The same with one thing changed, after which they may share nothing.
+fn almost_sharing(draw: &mut Draw) -> Vec<u8> {
+    let slip = common_slip(draw);
+    let (mut left, mut right) = (abstracted(&slip, draw), abstracted(&slip, draw));
+    let changed = if draw.one_in(2) {
+        &mut left
+    } else {
+        &mut right
+    };
+    if draw.one_in(6) {
+        change_fields(changed, draw);
+    } else {
+        let at = draw.below(changed.0.len());
+        change_field(&mut changed.0[at], draw);
+    }
+    line(&left, &right, draw)
+}
+
+fn common_slip(draw: &mut Draw) -> Vec<Field> {
+    let longest = if draw.one_in(5) { 15 } else { 4 };
+    let field = |draw: &mut Draw| {
+        let length = draw.below(longest + 1);
+        (0..length).map(|_| few_constant(draw)).collect()
+    };
+    (0..=draw.below(4)).map(|_| field(draw)).collect()
+}
+
+/// A rule that matches the slip: in some fields a list variable stands for a
+/// run of items, and for some items a variable stands.
+fn abstracted(slip: &[Field], draw: &mut Draw) -> Rule {
+    let names = draw.pick(&[2, 4, 16]);
+    let shift = draw.below(16);
+    let mut values = Filling::new();
+    let mut fields = Vec::new();
+    for (index, items) in slip.iter().enumerate() {
+        let atom = |item: &Term| atom_for(item, names, &mut values, draw);
+        let mut field: Field = items.iter().map(atom).collect();
+        if draw.below(3) > 0 {
+            let from = draw.below(field.len() + 1);
+            let to = from + draw.below(field.len() - from + 1);
+            let list = Term::Var(Kind::List, ((shift + 3 * index) % 16) as u32);
+            field.splice(from..to, [list]);
+        }
+        fields.push(field);
+    }
+    Rule(fields)
+}
+
+/// The item, or a variable that has no other value in this rule.
+fn atom_for(item: &Term, names: usize, values: &mut Filling, draw: &mut Draw) -> Term {
+    let own = match item {
+        Term::Int(_) => Kind::Integer,
+        _ => Kind::String,
+    };
+    let name = (draw.pick(&[own, Kind::Atom]), draw.below(names) as u32);
+    if draw.one_in(3) {
+        return item.clone();
+    }
+    let value = values.entry(name).or_insert_with(|| vec![item.clone()]);
+    if value[..] == [item.clone()] {
+        Term::Var(name.0, name.1)
+    } else {
+        item.clone()
+    }
+}
+
+/// A field more or a field less.
+fn change_fields(rule: &mut Rule, draw: &mut Draw) {
+    if rule.0.len() < 4 && draw.one_in(2) {
+        let at = draw.below(rule.0.len() + 1);
+        rule.0.insert(at, vec![few_constant(draw)]);
+    } else if rule.0.len() > 1 {
+        rule.0.pop();
+    }
+}
+
+/// An atom more, an atom less, or another atom in its place.
+fn change_field(field: &mut Field, draw: &mut Draw) {
+    let at = draw.below(field.len() + 1);
+    let atom = match draw.below(3) {
+        0 => few_constant(draw),
+        _ => Term::Var(draw.pick(&KINDS[..3]), draw.below(3) as u32),
+    };
+    match draw.below(3) {
+        0 if field.len() < 16 => field.insert(at, atom),
+        1 if at < field.len() => {
+            field.remove(at);
+        }
+        _ if at < field.len() && !matches!(field[at], Term::Var(Kind::List, _)) => field[at] = atom,
+        _ => {}
+    }
+}
+
+/// List variables on both sides and atoms that seldom clash, so that the
+/// fields can lie on each other in many lengths.
+fn sliding(draw: &mut Draw) -> Vec<u8> {
+    let fields = draw.pick(&[1, 1, 1, 2, 2, 3, 4]);
+    let most = [15, 6, 3, 2][fields - 1];
+    let (left, right) = sliders(fields, most, draw);
+    line(&left, &right, draw)
+}
+
+/// One or two names at many places of both rules.
+fn recurring(draw: &mut Draw) -> Vec<u8> {
+    let fields = 1 + draw.below(4);
+    let left = recurring_rule(fields, draw);
+    let right = recurring_rule(fields, draw);
+    line(&left, &right, draw)
+}
+
+fn recurring_rule(fields: usize, draw: &mut Draw) -> Rule {
+    let kinds = any_kinds(draw);
+    let mut rule = Vec::new();
+    for index in 0..fields {
+        let atom = |draw: &mut Draw| match draw.below(6) {
+            0 => Term::Int(draw.below(2) as u32),
+            _ => Term::Var(draw.pick(kinds), draw.below(2) as u32),
+        };
+        let count = draw.below(5);
+        let mut field: Field = (0..count).map(|_| atom(draw)).collect();
+        if draw.one_in(2) {
+            insert_list(&mut field, index, draw);
+        }
+        rule.push(field);
+    }
+    Rule(rule)
+}
+
+fn with_itself(draw: &mut Draw) -> Vec<u8> {
+    let rule = pattern(draw);
+    line(&rule, &rule, draw)
+}

@@ -1,0 +1,137 @@
+//! Rules in which names and constants recur, and their fillings.
+
+use super::{any_constant, KINDS};
+use crate::draw::Draw;
+use crate::terms::{Field, Filling, Kind, Rule, Term};
+
+const FEW_INTEGERS: [u32; 5] = [0, 1, 2, 7, 2_147_483_647];
+
+/// Some look like the integers, like variables or like separators.
+const FEW_STRINGS: [&[u8]; 8] = [
+    b"",
+    b"1",
+    b"7",
+    b"m",
+    b"i0",
+    b"matt white",
+    b" :|<>=",
+    b"fifteen bytes..",
+];
+
+/// A constant that comes again soon.
+pub(super) fn few_constant(draw: &mut Draw) -> Term {
+    match draw.below(8) {
+        0..=3 => Term::Int(draw.pick(&FEW_INTEGERS)),
+        4..=6 => Term::Str(draw.pick(&FEW_STRINGS).to_vec()),
+        _ => any_constant(draw),
+    }
+}
+
+/// A rule of few names, of all types and in all its fields.
+pub(super) fn pattern(draw: &mut Draw) -> Rule {
+    let most_atoms = if draw.one_in(6) { 16 } else { 4 };
+    let names = if draw.one_in(4) { 16 } else { 2 };
+    let shift = draw.below(16);
+    let mut fields = Vec::new();
+    for index in 0..=draw.below(4) {
+        let count = draw.below(most_atoms + 1);
+        let mut field: Field = (0..count).map(|_| atom(names, draw)).collect();
+        if field.len() < 16 && draw.below(3) > 0 {
+            insert_list(&mut field, (shift + 3 * index) % 16, draw);
+        }
+        fields.push(field);
+    }
+    Rule(fields)
+}
+
+fn atom(names: usize, draw: &mut Draw) -> Term {
+    if draw.one_in(3) {
+        few_constant(draw)
+    } else {
+        Term::Var(draw.pick(&KINDS[..3]), draw.below(names) as u32)
+    }
+}
+
+pub(super) fn insert_list(field: &mut Field, number: usize, draw: &mut Draw) {
+    let at = draw.below(field.len() + 1);
+    field.insert(at, Term::Var(Kind::List, number as u32));
+}
+
+/// Two rules with a list variable in each field and up to so many atoms.
+/// Where one has it at the end and the other at the start, the fields can lie
+/// on each other in the most lengths.
+pub(super) fn sliders(fields: usize, most: usize, draw: &mut Draw) -> (Rule, Rule) {
+    let kinds = any_kinds(draw);
+    let constants = draw.pick(&[3, 10, 100]);
+    let numbers = draw.below(13);
+    let (mut left, mut right) = (Vec::new(), Vec::new());
+    for index in 0..fields {
+        let list = Term::Var(Kind::List, (numbers + index) as u32);
+        let mut rules = [&mut left, &mut right];
+        if draw.one_in(2) {
+            rules.reverse();
+        }
+        for (end, rule) in rules.into_iter().enumerate() {
+            let count = draw.below(most + 1);
+            let mut field: Field = (0..count)
+                .map(|_| sliding_atom(kinds, constants, draw))
+                .collect();
+            let anywhere = draw.below(count + 1);
+            let at = draw.pick(&[end * count, end * count, anywhere]);
+            field.insert(at, list.clone());
+            rule.push(field);
+        }
+    }
+    (Rule(left), Rule(right))
+}
+
+fn sliding_atom(kinds: &[Kind], constants: usize, draw: &mut Draw) -> Term {
+    if draw.one_in(constants) {
+        Term::Int(draw.pick(&[1, 1, 1, 2]))
+    } else {
+        Term::Var(draw.pick(kinds), draw.below(16) as u32)
+    }
+}
+
+/// The types that a rule's variables are drawn from, so that not all clash.
+pub(super) fn any_kinds(draw: &mut Draw) -> &'static [Kind] {
+    draw.pick(&[
+        &[Kind::Atom][..],
+        &[Kind::Atom, Kind::Atom, Kind::Integer],
+        &[Kind::String, Kind::Atom],
+        &[Kind::Integer, Kind::String, Kind::Atom],
+    ])
+}
+
+/// A value for each variable of the rule, a list's of up to `longest` items.
+pub(super) fn filling(rule: &Rule, longest: usize, draw: &mut Draw) -> Filling {
+    let mut filling = Filling::new();
+    for term in rule.0.iter().flatten() {
+        if let Term::Var(kind, number) = *term {
+            filling.insert((kind, number), value(kind, longest, draw));
+        }
+    }
+    filling
+}
+
+fn value(kind: Kind, longest: usize, draw: &mut Draw) -> Field {
+    match kind {
+        Kind::Integer => vec![Term::Int(draw.pick(&FEW_INTEGERS))],
+        Kind::String => vec![Term::Str(draw.pick(&FEW_STRINGS).to_vec())],
+        Kind::Atom => vec![few_constant(draw)],
+        Kind::List => {
+            let length = draw.below(longest + 1);
+            (0..length).map(|_| few_constant(draw)).collect()
+        }
+    }
+}
+
+/// The rule's fields with the values put in.
+pub(super) fn filled(rule: &Rule, filling: &Filling) -> Vec<Field> {
+    let value = |term: &Term| match term {
+        Term::Var(kind, number) => filling[&(*kind, *number)].clone(),
+        constant => vec![constant.clone()],
+    };
+    let field = |terms: &Field| terms.iter().flat_map(value).collect();
+    rule.0.iter().map(field).collect()
+}

@@ -1,0 +1,176 @@
+//! What `match` answers for a line.
+
+use reference::answers::matches_answer;
+
+use crate::support::*;
+
+fn assert_line(line: impl AsRef<[u8]>, answer: &str) {
+    let line = line.as_ref();
+    let expected = format!("match 7\n{answer}\n");
+    let found = matches_answer(7, line);
+    assert_eq!(show(&found), show(expected.as_bytes()), "{}", show(line));
+}
+
+fn assert_match(rule: &str, slip: &str, answer: &str) {
+    assert_line(format!("{rule}\t{slip}"), answer);
+}
+
+#[test]
+fn constants() {
+    assert_match("1", "1", "yes");
+    assert_match("1", "2", "no");
+    assert_match("007", "7", "yes");
+    assert_match("7", "0000000007", "yes");
+    assert_match("70", "7", "no");
+    assert_match("2147483647", "2147483647", "yes");
+    assert_match("\"m\"", "\"m\"", "yes");
+    assert_match("\"m\"", "\"M\"", "no");
+    assert_match("\"m\"", "\"m \"", "no");
+    assert_match("\"\"", "\"\"", "yes");
+    assert_match("\"\"", "empty", "no");
+    assert_match("\"007\"", "\"7\"", "no");
+    assert_match(&quoted(15), &quoted(15), "yes");
+    assert_match(&quoted(15), &quoted(14), "no");
+}
+
+#[test]
+fn strings_are_no_integers() {
+    assert_match("1", "\"1\"", "no");
+    assert_match("\"1\"", "1", "no");
+    assert_match("i0", "\"1\"", "no");
+    assert_match("s0", "1", "no");
+    assert_match("i0", "1", "yes i0=1");
+    assert_match("s0", "\"1\"", "yes s0=\"1\"");
+    assert_match("a0", "1", "yes a0=1");
+    assert_match("a0", "\"1\"", "yes a0=\"1\"");
+    assert_match("l0", "1", "yes l0=1");
+    assert_match("l0", "\"1\":1", "yes l0=\"1\":1");
+}
+
+#[test]
+fn empty_is_dropped() {
+    assert_match("empty", "empty", "yes");
+    assert_match("empty", "empty:empty", "yes");
+    assert_match("empty:1", "1:empty", "yes");
+    assert_match("empty", "1", "no");
+    assert_match("1", "empty", "no");
+    assert_match("a0", "empty", "no");
+    assert_match("a0:empty", "empty:1", "yes a0=1");
+}
+
+#[test]
+fn list_variables_take_any_run() {
+    assert_match("l0", "empty", "yes l0=empty");
+    assert_match("l0:1", "1", "yes l0=empty");
+    assert_match("1:l0", "1", "yes l0=empty");
+    assert_match("1:l0:2", "1:2", "yes l0=empty");
+    assert_match("1:l0:2", "1:3:2", "yes l0=3");
+    assert_match("1:l0:2", "1:2:1:2", "yes l0=2:1");
+    assert_match("1:l0:1", "1", "no");
+    assert_match("1:l0:1", "1:1", "yes l0=empty");
+    assert_match("l0:2", "2:2:2", "yes l0=2:2");
+    assert_match("l0:2", "2:2:3", "no");
+    assert_match("a0:l0:a1", "1:007:\"m\":4", "yes a0=1 a1=4 l0=7:\"m\"");
+    let full = times(64, "1");
+    assert_match("l0", &full, &format!("yes l0={full}"));
+    let most = times(62, "1");
+    assert_match("a0:l0:a0", &full, &format!("yes a0=1 l0={most}"));
+    assert_match(&format!("{}:l0", times(15, "1")), &times(14, "1"), "no");
+}
+
+#[test]
+fn variables_that_recur() {
+    assert_match("a0:a0", "1:1", "yes a0=1");
+    assert_match("a0:a0", "1:2", "no");
+    assert_match("a0:a0", "7:007", "yes a0=7");
+    assert_match("a0:a0", "1:\"1\"", "no");
+    assert_match("a0|a0", "\"m\"|\"m\"", "yes a0=\"m\"");
+    assert_match("a0|a0", "1|\"m\"", "no");
+    assert_match("i0|i0:l0", "3|3", "yes i0=3 l0=empty");
+    assert_match("i0|i0:l0", "3|4", "no");
+    assert_match("l0:i0|i0:l1|i0", "1:2|2:1|2", "yes i0=2 l0=1 l1=1");
+    // The same number under another letter is another variable.
+    assert_match("a0:i0", "1:2", "yes i0=2 a0=1");
+    assert_match("i1:i10", "1:2", "yes i1=1 i10=2");
+}
+
+#[test]
+fn variables_in_their_order() {
+    assert_match(
+        "l15:a2:a10|s3:i4:l0|i0:s0|a0:l7",
+        "1:2:3|\"s\":4:5|6:\"t\"|\"u\"",
+        "yes i0=6 i4=4 s0=\"t\" s3=\"s\" a0=\"u\" a2=2 a10=3 l0=5 l7=empty l15=1",
+    );
+}
+
+#[test]
+fn fields_match_one_by_one() {
+    assert_match("l0", "1|2", "no");
+    assert_match("l0|l1", "1", "no");
+    assert_match("l0|l1", "1|2:3", "yes l0=1 l1=2:3");
+    assert_match("1|2|3|4", "1|2|3|4", "yes");
+    assert_match("1|2|3|4", "1|2|4|3", "no");
+    assert_match("empty|l0", "empty|empty", "yes l0=empty");
+    assert_match("a0|a1|a2|a3", "1|2|3|empty", "no");
+}
+
+#[test]
+fn values_are_plain_text() {
+    assert_match("l0", "007:empty:\"a b\"", "yes l0=7:\"a b\"");
+    assert_match("s0", "\" =a0=\"", "yes s0=\" =a0=\"");
+    assert_match("i0", "0000000000", "yes i0=0");
+}
+
+#[test]
+fn refusals_name_the_side() {
+    assert_match("i01", "1", "refused rule 2 at 2");
+    assert_match("l0|l0", "1", "refused rule 6 at 3");
+    assert_match("1|2|3|4|5", "1", "refused rule 3 at 8");
+    assert_match(&times(17, "1"), "1", "refused rule 4 at 32");
+    assert_match("2147483648", "1", "refused rule 5 at 0");
+    assert_match(&"x".repeat(2049), "1", "refused rule 1 at 2048");
+    assert_match("1", "i0", "refused slip 7 at 0");
+    assert_match("1", "1|2|3|4|5", "refused slip 3 at 8");
+    assert_match("1", &times(65, "1"), "refused slip 4 at 128");
+    assert_match("1", "1:2147483648", "refused slip 5 at 2");
+    assert_match("1", "emp", "refused slip 2 at 3");
+    assert_match("1", &"x".repeat(8193), "refused slip 1 at 8192");
+    // A refused rule is named whatever the slip is.
+    assert_match("i16", "i16", "refused rule 5 at 0");
+    assert_match("i16", "1", "refused rule 5 at 0");
+    assert_match("i16", "", "refused rule 5 at 0");
+}
+
+#[test]
+fn the_first_tab_divides() {
+    assert_line("", "refused rule 2 at 0");
+    assert_line("\t", "refused rule 2 at 0");
+    assert_line("\t1", "refused rule 2 at 0");
+    assert_line("1", "refused slip 2 at 0");
+    assert_line("1\t", "refused slip 2 at 0");
+    assert_line("1\t1\t", "refused slip 2 at 1");
+    assert_line("1\t\t1", "refused slip 2 at 0");
+    assert_line("\"\t\"\t1", "refused rule 2 at 1");
+    assert_line("1 \t1", "refused rule 2 at 1");
+    assert_line(b"1\t1\r", "refused slip 2 at 1");
+    assert_line(b"\0\t1", "refused rule 2 at 0");
+    assert_line(b"1\t1:\xff", "refused slip 2 at 2");
+}
+
+#[test]
+fn long_lines() {
+    let line = |rule: usize, slip: usize| ["x".repeat(rule), "y".repeat(slip)].join("\t");
+    assert_line(line(2048, 8192), "refused rule 2 at 0");
+    assert_line(line(2048, 8193), "line too long");
+    assert_line(line(2049, 8192), "line too long");
+    assert_line(line(2049, 8191), "refused rule 1 at 2048");
+    assert_line(line(10_240, 0), "refused rule 1 at 2048");
+    assert_line(line(10_241, 0), "line too long");
+    assert_line("x".repeat(10_241), "refused rule 1 at 2048");
+    assert_line("x".repeat(10_242), "line too long");
+    assert_line([b'\t'; 10_241], "refused rule 2 at 0");
+    assert_line([b'\t'; 10_242], "line too long");
+    assert_match("1", &"y".repeat(10_239), "refused slip 1 at 8192");
+    assert_match("1", &"y".repeat(10_240), "line too long");
+    assert_match("1", &"y".repeat(8192), "refused slip 2 at 0");
+}
