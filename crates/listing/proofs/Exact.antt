@@ -101,7 +101,7 @@ cons-map : {A B : Type 0} (f : A → B) (l : List A) → IsCons l → IsCons (ma
 cons-map f [] h = h
 cons-map f (x ∷ l) h = tt
 
-entries-are : (r₁ r₂ : List (List OurTerm)) → IsCons r₁ → entriesOf r₁ r₂ ≡ overlaps basics consts ℕ-discrete r₁ r₂
+pub entries-are : (r₁ r₂ : List (List OurTerm)) → IsCons r₁ → entriesOf r₁ r₂ ≡ overlaps basics consts ℕ-discrete r₁ r₂
 entries-are [] r₂ h = absurd h
 entries-are (f ∷ r₁) r₂ h = refl
 

@@ -134,15 +134,22 @@ module _ (O : Order) (C : Consts O) {A : Type 0} (name-eq : Discrete A) (Ss Ts :
       substs-by σ r ∙ shapes-fill con σ d (θ (e .1)) (λ k a. refl) r Rs is ∙ named-to (val con (θ (e .1))) name-eq Rs lin (marked e) h
 
   module _ (r₁ r₂ : List (List (TermOver O C A))) (is₁ : shapesOf left r₁ ≡ some Ss) (is₂ : shapesOf right r₂ ≡ some Ts) (lin₁ : Distinct (gaps Ss)) (lin₂ : Distinct (gaps Ts)) where
+    -- before the renumbering
+    pub marked-left : (e : List Cand × PairState O C name-eq) → List·Memᴰ e raw → map (substitute (markedValue O C name-eq left Ss (e .1) (markedFields O C name-eq Ss Ts e))) r₁ ≡ markedFields O C name-eq Ss Ts e
+    marked-left e i = marked-solves left Ss lin₁ r₁ is₁ e (instances e i .0)
+
+    pub marked-right : (e : List Cand × PairState O C name-eq) → List·Memᴰ e raw → map (substitute (markedValue O C name-eq right Ts (e .1) (markedFields O C name-eq Ss Ts e))) r₂ ≡ markedFields O C name-eq Ss Ts e
+    marked-right e i = marked-solves right Ts lin₂ r₂ is₂ e (instances e i .1)
+
     pub left-solves : (e : List Cand × PairState O C name-eq) → List·Memᴰ e raw → map (substitute (shown O C name-eq Ss Ts e .left)) r₁ ≡ shown O C name-eq Ss Ts e .fields
     left-solves e i =
         let ν = numbersOf O C name-eq (marked e) in
-        sym (rename-substs ν (markedValue O C name-eq left Ss (e .1) (marked e)) r₁) ∙ ap (map (map (rename ν))) (marked-solves left Ss lin₁ r₁ is₁ e (instances e i .0))
+        sym (rename-substs ν (markedValue O C name-eq left Ss (e .1) (marked e)) r₁) ∙ ap (map (map (rename ν))) (marked-left e i)
 
     pub right-solves : (e : List Cand × PairState O C name-eq) → List·Memᴰ e raw → map (substitute (shown O C name-eq Ss Ts e .right)) r₂ ≡ shown O C name-eq Ss Ts e .fields
     right-solves e i =
         let ν = numbersOf O C name-eq (marked e) in
-        sym (rename-substs ν (markedValue O C name-eq right Ts (e .1) (marked e)) r₂) ∙ ap (map (map (rename ν))) (marked-solves right Ts lin₂ r₂ is₂ e (instances e i .1))
+        sym (rename-substs ν (markedValue O C name-eq right Ts (e .1) (marked e)) r₂) ∙ ap (map (map (rename ν))) (marked-right e i)
 
     -- ---- a slip that both rules match fits an entry
 
