@@ -1,9 +1,10 @@
--- Every member, some member, none: predicates on lists that compute, and their decisions.
-use mathlib.Core.Path.{_≡_, sym, _∙_}
+-- Every member, some member, none: predicates on lists that compute, and their decisions; the list of a function's values.
+use mathlib.Core.Path.{_≡_, refl, sym, _∙_, ap₂}
 use mathlib.Core.Logic.{_⊎_, inl, inr}
-use mathlib.Core.List.{List, [], _∷_, _++_, map}
-use Prim.Native.Nat.{ℕ}
-use lib.ListN.{length, length-map}
+use mathlib.Core.List.{List, [], _∷_, _++_, map, List·Memᴰ, List·Memᴰ·head, List·Memᴰ·tail}
+use Prim.Native.Nat.{ℕ, zero, suc, _<_}
+use native.Mathlib.Omega.{arith}
+use lib.ListN.{length, getD, length-map}
 
 module _ {A : Type 0} where
   -- every member has P
@@ -71,3 +72,27 @@ both? (no n) d = no (λ h. n (h .0))
 -- what owning an array of structs tells: its length is that of the list under a map
 pub long-mapped : {A B : Type 0} (g : A → B) (l : List A) (n : ℕ) → length (map g l) ≡ n → length l ≡ n
 long-mapped g l n p = sym (length-map l g) ∙ p
+
+-- ---- the values of a function at the numbers below n
+
+abbrev pub tabulate : {A : Type 0} → ℕ → (ℕ → A) → List A
+tabulate zero f = []
+tabulate (suc n) f = f 0 ∷ tabulate n (λ i. f (suc i))
+
+module _ {A : Type 0} where
+  -- a list is what its members are
+  pub tabulated : (n : ℕ) (s : List A) (f : ℕ → A) (d : A) → length s ≡ n → ((i : ℕ) → i < n → getD s i d ≡ f i) → s ≡ tabulate n f
+  tabulated zero [] f d l h = refl
+  tabulated zero (x ∷ s) f d l h = absurd (omega (arith, l))
+  tabulated (suc n) [] f d l h = absurd (omega (arith, l))
+  tabulated (suc n) (x ∷ s) f d l h =
+      ap₂ (λ a t. a ∷ t) (h 0 (omega arith)) (tabulated n s (λ i. f (suc i)) d (omega (arith, l)) (λ i p. h (suc i) (omega arith)))
+
+  pub tabulate-same : (n : ℕ) (f g : ℕ → A) → ((i : ℕ) → i < n → f i ≡ g i) → tabulate n f ≡ tabulate n g
+  tabulate-same zero f g h = refl
+  tabulate-same (suc n) f g h = ap₂ (λ a t. a ∷ t) (h 0 (omega arith)) (tabulate-same n (λ i. f (suc i)) (λ i. g (suc i)) (λ i p. h (suc i) (omega arith)))
+
+  pub tabulate-has : (n : ℕ) (f : ℕ → A) (i : ℕ) → i < n → List·Memᴰ (f i) (tabulate n f)
+  tabulate-has zero f i h = absurd (omega arith)
+  tabulate-has (suc n) f zero h = List·Memᴰ·head refl
+  tabulate-has (suc n) f (suc i) h = List·Memᴰ·tail (tabulate-has n (λ j. f (suc j)) i (omega arith))

@@ -9,7 +9,7 @@ use Prim.Native.Nat.{ℕ, zero, suc, _+_, _-_, _*_, _/_, _%_, _<_, _≤_}
 use native.Mathlib.Omega.{arith}
 use native.Mathlib.Decide.{ℕ-discrete}
 use lib.ListN.{length, getD, set}
-use Rattle.lists.specs.Seqs.{All}
+use Rattle.lists.specs.Seqs.{All, tabulated}
 use Rattle.order.specs.Order.{basic, list}
 use Rattle.order.specs.Types.{integer, string, atom, Kind, basics}
 use Rattle.theory.specs.Terms.{con, var}
@@ -26,18 +26,10 @@ use Rattle.matching.specs.declared.Values.{Values}
 use Rattle.matching.specs.declared.Filling.{Filling as FillingValue}
 use Rattle.matching.specs.declared.Tested.{Tested}
 use Rattle.matching.specs.Tests.{noValues, shapeOf, fieldsTested, runsOver, runsIn, runsAll}
-use Rattle.matching.specs.Answers.{tabulate, kindAt, isKnown, valueTerm, encodeValues, runsField, runsFrom, runsOf, noMatch, found, fillingOf}
+use Rattle.matching.specs.Answers.{kindAt, isKnown, valueTerm, encodeValues, runsField, runsFrom, runsOf, noMatch, found, fillingOf}
 use Rattle.matching.proofs.Agree.{Held, Holds, holds-none, Agrees, gap-is, terms-of, encodeItems, items-of, fields-agree}
 
 -- ---- the values of the atom variables
-
--- a list is what its members are
-tabulated : {A : Type 0} (n : ℕ) (s : List A) (f : ℕ → A) (d : A) → length s ≡ n → ((i : ℕ) → i < n → getD s i d ≡ f i) → s ≡ tabulate n f
-tabulated zero [] f d l h = refl
-tabulated zero (x ∷ s) f d l h = absurd (omega (arith, l))
-tabulated (suc n) [] f d l h = absurd (omega (arith, l))
-tabulated (suc n) (x ∷ s) f d l h =
-    ap₂ (λ a t. a ∷ t) (h 0 (omega arith)) (tabulated n s (λ i. f (suc i)) d (omega (arith, l)) (λ i p. h (suc i) (omega arith)))
 
 held-known : (l : List Con) (b : Bool) (t : TermValue) → Held l b t → b ≡ isKnown l
 held-known [] b t h = h .0

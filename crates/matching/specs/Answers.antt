@@ -5,6 +5,7 @@ use mathlib.Core.Option.{Option, none, some}
 use mathlib.Core.List.{List, [], _∷_, map}
 use Prim.Native.Nat.{ℕ, zero, suc, _+_, _-_, _/_, _%_}
 use lib.ListN.{length, set, replicate}
+use Rattle.lists.specs.Seqs.{tabulate}
 use Rattle.order.specs.Order.{basic, list}
 use Rattle.order.specs.Types.{integer, string, atom, Kind}
 use Rattle.theory.specs.Terms.{con, var}
@@ -21,10 +22,6 @@ use Rattle.matching.specs.declared.Match.{Match}
 use Rattle.matching.specs.Tests.{noValues}
 
 -- ---- the atom variables
-
-abbrev pub tabulate : {A : Type 0} → ℕ → (ℕ → A) → List A
-tabulate zero f = []
-tabulate (suc n) f = f 0 ∷ tabulate n (λ i. f (suc i))
 
 -- whose value stands at place i: 16 for each of i, s, a
 abbrev pub kindAt : ℕ → Kind

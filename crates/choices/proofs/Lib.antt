@@ -1,0 +1,5 @@
+pub mod Loops
+pub mod Cases
+pub mod Arrays
+pub mod Within
+pub mod Agree

@@ -1,0 +1,100 @@
+-- `choices::entry_of` meets its contract. The loop's invariant: pushing the fields from j on pushes all. Assumes nothing.
+use Prim.Native.Nat.{_-_}
+use native.Mathlib.Omega.{arith}
+use borrow.Author.Needs.{needs}
+use Rattle.lists.specs.Seqs.{long-mapped}
+use Rattle.choices.proofs.Loops.{Entering, entering-start, entering-one, entering-all}
+use Rattle.choices.proofs.entry_of.Statement.{statement}
+use Rattle.choices.proofs.entry_of.Tie as tie
+
+abbrev Inv-loop : tie.InvT-loop
+Inv-loop st left right c n e₀ j₀ e j = Entering left right c st n j e
+
+abbrev μ-loop : tie.MeasureT-loop
+μ-loop st left right c n e₀ j₀ e j = n - j
+
+at-most-requires : tie.Need-at-most-requires Inv-loop μ-loop
+at-most-requires c κs = search needs
+
+blank-entry-requires : tie.Need-blank-entry-requires Inv-loop μ-loop
+blank-entry-requires c κs = search needs
+
+loop-holds : tie.Need-loop-holds Inv-loop μ-loop
+loop-holds c =
+    let z = c .before .before .args in
+    let n = c .before .at-most in
+    entering-start (z .t1) (z .t2) (z .t3) (z .st) (n .result) (c .blank-entry .result) (n .ensures) (search long-mapped) (search long-mapped) (c .blank-entry .ensures)
+
+mul-wide-of : tie.Need-mul-wide-of Inv-loop μ-loop
+mul-wide-of c = let h = c .loop-test .taken in omega (arith, c .before .loop .inv .0)
+
+element-copy-out-wide-of : tie.Need-element-copy-out-wide-of Inv-loop μ-loop
+element-copy-out-wide-of c = let h = c .loop-test .taken in omega (arith, c .before .loop .inv .0)
+
+mul-wide-of-2 : tie.Need-mul-wide-of-2 Inv-loop μ-loop
+mul-wide-of-2 c = let h = c .before .loop-test .taken in omega (arith, c .before .before .loop .inv .0)
+
+element-copy-out-wide-of-2 : tie.Need-element-copy-out-wide-of-2 Inv-loop μ-loop
+element-copy-out-wide-of-2 c = let h = c .before .loop-test .taken in omega (arith, c .before .before .loop .inv .0)
+
+mul-wide-of-3 : tie.Need-mul-wide-of-3 Inv-loop μ-loop
+mul-wide-of-3 c = let h = c .before .before .loop-test .taken in omega (arith, c .before .before .before .loop .inv .0)
+
+element-copy-out-wide-of-3 : tie.Need-element-copy-out-wide-of-3 Inv-loop μ-loop
+element-copy-out-wide-of-3 c = let h = c .before .before .loop-test .taken in omega (arith, c .before .before .before .loop .inv .0)
+
+element-copy-out-wide-of-4 : tie.Need-element-copy-out-wide-of-4 Inv-loop μ-loop
+element-copy-out-wide-of-4 c = let h = c .before .before .before .loop-test .taken in omega (arith, c .before .before .before .before .loop .inv .0)
+
+cast-wide-of : tie.Need-cast-wide-of Inv-loop μ-loop
+cast-wide-of c = let h = c .before .before .before .before .loop-test .taken in omega (arith, c .before .before .before .before .before .loop .inv .0)
+
+wide-of-requires : tie.Need-wide-of-requires Inv-loop μ-loop
+wide-of-requires c κs = search needs
+
+push-field-requires : tie.Need-push-field-requires Inv-loop μ-loop
+push-field-requires c κs = search needs
+
+add-j : tie.Need-add-j Inv-loop μ-loop
+add-j c = search needs
+
+loop-less : tie.Need-loop-less Inv-loop μ-loop
+loop-less c = search needs
+
+loop-again : tie.Need-loop-again Inv-loop μ-loop
+loop-again c =
+    let z = c .before .before .before .before .before .before .before .before .before .before .args in
+    let L = c .before .before .before .before .before .before .before .loop in
+    let w = c .before .wide-of in
+    let e = c .push-field in
+    entering-one (z .t1) (z .t2) (z .t3) (z .st) (c .before .before .before .before .before .before .before .before .before .at-most .result) (L .j) (L .e) (L .inv) (w .result) (e .result) (c .before .before .before .before .before .before .loop-test .taken) (w .ensures) (e .ensures)
+
+returns : tie.Need-returns Inv-loop μ-loop
+returns c =
+    let z = c .before .before .before .before .args in
+    let L = c .before .loop in
+    entering-all (z .t1) (z .t2) (z .t3) (z .st) (c .before .before .before .at-most .result) (L .j) (L .e) (L .inv) (c .loop-test .left)
+
+pub entry-of-spec : {M : Type 1} → statement M
+entry-of-spec =
+    tie.close
+    (tie.spec
+    Inv-loop
+    μ-loop
+    at-most-requires
+    blank-entry-requires
+    loop-holds
+    mul-wide-of
+    element-copy-out-wide-of
+    mul-wide-of-2
+    element-copy-out-wide-of-2
+    mul-wide-of-3
+    element-copy-out-wide-of-3
+    element-copy-out-wide-of-4
+    cast-wide-of
+    wide-of-requires
+    push-field-requires
+    add-j
+    loop-less
+    loop-again
+    returns)

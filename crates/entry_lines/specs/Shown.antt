@@ -1,0 +1,59 @@
+-- The line of an entry from its value and the values of the two rules' variables, as code puts it together.
+-- `line-agrees` of proofs/Lines says that it is the overlap list's line.
+use mathlib.Core.Bool.{Bool, true, false}
+use mathlib.Core.List.{List, [], _∷_, map}
+use Prim.Native.Nat.{ℕ, _+_, _*_}
+use lib.ListN.{getD, take, drop, replicate}
+use Rattle.order.specs.Order.{basic, list}
+use Rattle.order.specs.Types.{Kind, rank}
+use Rattle.text.specs.Terms.{OurTerm}
+use Rattle.terms.specs.declared.Term.{Term}
+use Rattle.terms.specs.Values.{viewTerm, blankTerm}
+use Rattle.listing.specs.Variables.{Variable, ofKind, every, keep}
+use Rattle.listing.specs.Lines.{Binding, Line, lineText}
+use Rattle.entries.specs.declared.Wide.{Wide}
+use Rattle.entries.specs.declared.Entry.{Entry}
+use Rattle.entries.specs.declared.Names.{Names}
+use Rattle.entries.specs.Values.{blankWide, wideTerms, entryFields}
+use Rattle.entries.specs.Names.{namesValue, renamedTerm}
+use Rattle.shown.specs.declared.Shown.{Shown}
+use Rattle.shown.specs.Shown.{isKnown, valueTerms}
+
+-- ---- the fields
+
+-- what terms of the entry stand for once they are renumbered
+abbrev pub renamedTerms : Names → List Term → List OurTerm
+renamedTerms x ts = map viewTerm (map (renamedTerm x) ts)
+
+abbrev pub fieldOf : Names → Wide → List OurTerm
+fieldOf x w = renamedTerms x (wideTerms w)
+
+abbrev pub fieldsOf : Names → Entry → List (List OurTerm)
+fieldsOf x e = map (fieldOf x) (entryFields e)
+
+-- ---- the values of a rule's variables
+
+abbrev pub isList : Kind → Bool
+isList (basic k) = false
+isList list = true
+
+-- ---- the line
+
+abbrev pub bindingOf : Names → Entry → Shown → Variable → Binding
+bindingOf x e s v = record { kind = v .0; number = v .1; value = renamedTerms x (valueTerms e s (v .0) (v .1)) }
+
+abbrev pub bindingsFor : Names → Entry → Shown → List Variable → List Binding
+bindingsFor x e s vs = map (bindingOf x e s) (keep (isKnown s) vs)
+
+abbrev pub kindBindings : Names → Entry → Shown → Kind → List Binding
+kindBindings x e s k = bindingsFor x e s (ofKind k)
+
+abbrev pub shownBindings : Names → Entry → Shown → List Binding
+shownBindings x e s = bindingsFor x e s every
+
+abbrev pub lineWith : Names → Entry → Shown → Shown → Line
+lineWith x e l r = record { fields = fieldsOf x e; left = shownBindings x e l; right = shownBindings x e r }
+
+-- THE LINE
+abbrev pub lineValue : Entry → Shown → Shown → List ℕ
+lineValue e l r = lineText (lineWith (namesValue e) e l r)

@@ -1,0 +1,299 @@
+// The line of an entry of the overlap list, into lent bytes.
+// The line is put together in room that is known to be enough, piece behind piece, and then given whole or not at all.
+ghost use mathlib.Core.Path.{_≡_};
+ghost use mathlib.Core.List.{[], _∷_};
+ghost use Prim.Native.Nat.{_-_, _≤_, _<_, min};
+ghost use lib.ListN.{length, getD};
+ghost use Rattle.order.specs.Values.{kindOf};
+ghost use Rattle.text.specs.Plain.{termText, fieldText, plain};
+ghost use Rattle.theory.specs.Terms.{var};
+ghost use Rattle.terms.specs.Values.{viewTerm};
+ghost use Rattle.listing.specs.Lines.{bindingText, bindingsText};
+ghost use Rattle.entries.specs.Values.{blankWide, entryFields};
+ghost use Rattle.entries.specs.Names.{renamedTerm};
+ghost use Rattle.writing.specs.Answers.{after};
+ghost use Rattle.pieces.specs.Placed.{Placed};
+ghost use Rattle.shown.specs.Shown.{wideRun, runTerms, valueTerms};
+ghost use Rattle.entry_lines.specs.Shown.{isList, renamedTerms, fieldOf, fieldsOf, bindingOf, bindingsFor, kindBindings, shownBindings, lineValue};
+ghost use Rattle.entry_lines.specs.Sizes.{valueBound, bindingBound, kindBound, lineBound};
+use entries::Entry;
+use entries::Names;
+use entries::Wide;
+use order::Kind;
+use shown::Run;
+use shown::Shown;
+use terms::Form;
+use terms::Term;
+
+// ---- pieces: each is put at a place as far as there is room, and returns the place behind it
+
+fn put_byte(b: u8, out: &mut [u8], at: usize) -> usize
+    ensures { λ r. ⌜ Placed (b ∷ []) at (now (out .entry)) r (now (out .exit)) ⌝ }
+{
+    if out.len() <= at {
+        return at;
+    }
+    out[at] = b;
+    at + 1
+}
+
+// A term's text has at most 17 bytes.
+fn put_term(t: Term, out: &mut [u8], at: usize) -> usize
+    ensures { λ r. ⌜ Placed (termText (viewTerm t)) at (now (out .entry)) r (now (out .exit)) ⌝ }
+    ensures { λ _. ⌜ length (termText (viewTerm t)) ≤ 17 ⌝ }
+{
+    let mut text = [0u8; 17];
+    let size = pieces::size_of(writing::write_term(t, &mut text));
+    pieces::put_bytes(&text[..size], out, at)
+}
+
+// ---- the entry's fields
+
+// A count beyond the array counts for the whole array.
+fn at_most(n: usize, places: usize) -> usize
+    ensures { λ r. ⌜ r ≡ min n places ⌝ }
+{
+    if n < places { n } else { places }
+}
+
+// How many terms a run of so many from the start has, of a field that has n.
+fn run_length(n: usize, start: usize, count: usize) -> usize
+    ensures { λ r. ⌜ r ≡ min count (min n 31 - start) ⌝ }
+{
+    let m = at_most(n, 31);
+    if m <= start {
+        return 0;
+    }
+    at_most(count, m - start)
+}
+
+fn put_renamed(names: Names, t: Term, out: &mut [u8], at: usize) -> usize
+    ensures { λ r. ⌜ Placed (termText (viewTerm (renamedTerm names t))) at (now (out .entry)) r (now (out .exit)) ⌝ }
+    ensures { λ _. ⌜ length (termText (viewTerm (renamedTerm names t))) ≤ 17 ⌝ }
+{
+    put_term(entries::renamed(names, t), out, at)
+}
+
+fn put_next_term(names: Names, t: Term, out: &mut [u8], at: usize) -> usize
+    ensures { λ r. ⌜ Placed (58 ∷ termText (viewTerm (renamedTerm names t))) at (now (out .entry)) r (now (out .exit)) ⌝ }
+    ensures { λ _. ⌜ length (termText (viewTerm (renamedTerm names t))) ≤ 17 ⌝ }
+{
+    let p = put_byte(b':', out, at);
+    put_renamed(names, t, out, p)
+}
+
+// A run of a field's terms, renumbered, with a `:` between them, or `empty` for none.
+fn put_run(names: Names, w: Wide, start: usize, count: usize, out: &mut [u8], at: usize) -> usize
+    ensures { λ r. ⌜ Placed (fieldText (renamedTerms names (wideRun w start count))) at (now (out .entry)) r (now (out .exit)) ⌝ }
+    ensures { λ _. ⌜ length (fieldText (renamedTerms names (wideRun w start count))) ≤ 558 ⌝ }
+{
+    let n = run_length(w.n, start, count);
+    if n == 0 {
+        return pieces::put_bytes(b"empty", out, at);
+    }
+    let mut p = put_renamed(names, w.terms[start], out, at);
+    let mut i: usize = 1;
+    while i < n {
+        p = put_next_term(names, w.terms[start + i], out, p);
+        i += 1;
+    }
+    p
+}
+
+fn put_field(names: Names, w: Wide, out: &mut [u8], at: usize) -> usize
+    ensures { λ r. ⌜ Placed (fieldText (fieldOf names w)) at (now (out .entry)) r (now (out .exit)) ⌝ }
+    ensures { λ _. ⌜ length (fieldText (fieldOf names w)) ≤ 558 ⌝ }
+{
+    let n = w.n;
+    put_run(names, w, 0, n, out, at)
+}
+
+fn put_next_field(names: Names, w: Wide, out: &mut [u8], at: usize) -> usize
+    ensures { λ r. ⌜ Placed (124 ∷ fieldText (fieldOf names w)) at (now (out .entry)) r (now (out .exit)) ⌝ }
+    ensures { λ _. ⌜ length (fieldText (fieldOf names w)) ≤ 558 ⌝ }
+{
+    let p = put_byte(b'|', out, at);
+    put_field(names, w, out, p)
+}
+
+// The fields with a `|` between them.
+fn put_fields(names: Names, e: Entry, out: &mut [u8], at: usize) -> usize
+    ensures { λ r. ⌜ Placed (plain (fieldsOf names e)) at (now (out .entry)) r (now (out .exit)) ⌝ }
+    ensures { λ _. ⌜ length (plain (fieldsOf names e)) ≤ 2236 ⌝ }
+{
+    let n = at_most(e.n, 4);
+    if n == 0 {
+        return at;
+    }
+    let mut p = put_field(names, e.fields[0], out, at);
+    let mut i: usize = 1;
+    while i < n {
+        p = put_next_field(names, e.fields[i], out, p);
+        i += 1;
+    }
+    p
+}
+
+// ---- the bindings
+
+fn is_list(k: Kind) -> bool
+    ensures { λ r. ⌜ r ≡ isList (kindOf k) ⌝ }
+{
+    match k {
+        Kind::Integer => false,
+        Kind::String => false,
+        Kind::Atom => false,
+        Kind::List => true,
+    }
+}
+
+// The field of number j, or the field with no terms behind the last.
+fn field_at(e: Entry, j: usize) -> Wide
+    ensures { λ r. ⌜ r ≡ getD (entryFields e) j blankWide ⌝ }
+{
+    if e.n <= j {
+        return entries::blank_wide();
+    }
+    if 4 <= j {
+        return entries::blank_wide();
+    }
+    e.fields[j]
+}
+
+fn put_list(names: Names, e: Entry, r: Run, out: &mut [u8], at: usize) -> usize
+    ensures { λ p. ⌜ Placed (fieldText (renamedTerms names (runTerms e r))) at (now (out .entry)) p (now (out .exit)) ⌝ }
+    ensures { λ _. ⌜ length (fieldText (renamedTerms names (runTerms e r))) ≤ 558 ⌝ }
+{
+    let w = field_at(e, r.field);
+    put_run(names, w, r.start, r.count, out, at)
+}
+
+// Document 01: "A value is a field's text".
+fn put_value(
+    names: Names,
+    e: Entry,
+    s: Shown,
+    k: Kind,
+    n: usize,
+    out: &mut [u8],
+    at: usize,
+) -> usize
+    requires { ⌜ n < 16 ⌝ }
+    ensures { λ r. ⌜ Placed (fieldText (renamedTerms names (valueTerms e s (kindOf k) n))) at (now (out .entry)) r (now (out .exit)) ⌝ }
+    ensures { λ _. ⌜ length (fieldText (renamedTerms names (valueTerms e s (kindOf k) n))) ≤ valueBound (kindOf k) ⌝ }
+{
+    if is_list(k) {
+        return put_list(names, e, s.runs[n], out, at);
+    }
+    put_renamed(names, s.atoms[16 * order::rank(k) + n], out, at)
+}
+
+// A variable's name is its own text.
+fn put_name(k: Kind, n: u8, out: &mut [u8], at: usize) -> usize
+    ensures { λ r. ⌜ Placed (termText (var (kindOf k) n)) at (now (out .entry)) r (now (out .exit)) ⌝ }
+    ensures { λ _. ⌜ length (termText (var (kindOf k) n)) ≤ 17 ⌝ }
+{
+    let t = Term {
+        form: Form::Var(k, n),
+        text: [0; 15],
+    };
+    put_term(t, out, at)
+}
+
+// Document 01: "a blank, `<`, name, `=`, value"; the mark is `<` or `>`.
+fn put_binding(
+    names: Names,
+    e: Entry,
+    s: Shown,
+    mark: u8,
+    k: Kind,
+    n: usize,
+    out: &mut [u8],
+    at: usize,
+) -> usize
+    requires { ⌜ n < 16 ⌝ }
+    ensures { λ r. ⌜ Placed (bindingText mark (bindingOf names e s (kindOf k, n))) at (now (out .entry)) r (now (out .exit)) ⌝ }
+    ensures { λ _. ⌜ length (bindingText mark (bindingOf names e s (kindOf k, n))) ≤ bindingBound (kindOf k) ⌝ }
+{
+    let a = put_byte(b' ', out, at);
+    let b = put_byte(mark, out, a);
+    let c = put_name(k, n as u8, out, b);
+    let d = put_byte(b'=', out, c);
+    put_value(names, e, s, k, n, out, d)
+}
+
+// The binding of a variable that the rule has.
+fn put_variable(
+    names: Names,
+    e: Entry,
+    s: Shown,
+    mark: u8,
+    k: Kind,
+    n: usize,
+    out: &mut [u8],
+    at: usize,
+) -> usize
+    requires { ⌜ n < 16 ⌝ }
+    ensures { λ r. ⌜ Placed (bindingsText mark (bindingsFor names e s ((kindOf k, n) ∷ []))) at (now (out .entry)) r (now (out .exit)) ⌝ }
+    ensures { λ _. ⌜ length (bindingsText mark (bindingsFor names e s ((kindOf k, n) ∷ []))) ≤ bindingBound (kindOf k) ⌝ }
+{
+    if !s.known[16 * order::rank(k) + n] {
+        return at;
+    }
+    put_binding(names, e, s, mark, k, n, out, at)
+}
+
+// The bindings of the variables of type k, by number.
+fn put_kind(names: Names, e: Entry, s: Shown, mark: u8, k: Kind, out: &mut [u8], at: usize) -> usize
+    ensures { λ r. ⌜ Placed (bindingsText mark (kindBindings names e s (kindOf k))) at (now (out .entry)) r (now (out .exit)) ⌝ }
+    ensures { λ _. ⌜ length (bindingsText mark (kindBindings names e s (kindOf k))) ≤ kindBound (kindOf k) ⌝ }
+{
+    let mut p = at;
+    let mut n: usize = 0;
+    while n < 16 {
+        p = put_variable(names, e, s, mark, k, n, out, p);
+        n += 1;
+    }
+    p
+}
+
+// Document 01: "Variables go in the order i, s, a, l, then by number."
+fn put_bindings(names: Names, e: Entry, s: Shown, mark: u8, out: &mut [u8], at: usize) -> usize
+    ensures { λ r. ⌜ Placed (bindingsText mark (shownBindings names e s)) at (now (out .entry)) r (now (out .exit)) ⌝ }
+    ensures { λ _. ⌜ length (bindingsText mark (shownBindings names e s)) ≤ 11024 ⌝ }
+{
+    let a = put_kind(names, e, s, mark, Kind::Integer, out, at);
+    let b = put_kind(names, e, s, mark, Kind::String, out, a);
+    let c = put_kind(names, e, s, mark, Kind::Atom, out, b);
+    put_kind(names, e, s, mark, Kind::List, out, c)
+}
+
+// ---- the line
+
+fn put_whole(e: Entry, left: Shown, right: Shown, out: &mut [u8], at: usize) -> usize
+    ensures { λ r. ⌜ Placed (lineValue e left right) at (now (out .entry)) r (now (out .exit)) ⌝ }
+    ensures { λ _. ⌜ length (lineValue e left right) ≤ lineBound ⌝ }
+{
+    let names = entries::names_of(e);
+    let a = put_fields(names, e, out, at);
+    let b = put_bindings(names, e, left, b'<', out, a);
+    let c = put_bindings(names, e, right, b'>', out, b);
+    put_byte(b'\n', out, c)
+}
+
+// Room for any line: four fields, and for each rule 48 atoms' and 16 lists' values.
+fn room() -> [u8; 24285]
+    ensures { λ r. ⌜ length r ≡ 24285 ⌝ }
+{
+    [0; 24285]
+}
+
+// The line of an entry into the lent bytes, or none of it where they are too few; and its size.
+pub fn put_line(e: Entry, left: Shown, right: Shown, out: &mut [u8]) -> usize
+    ensures { λ n. ⌜ (n ≡ length (lineValue e left right)) × (now (out .exit) ≡ after (lineValue e left right) (now (out .entry))) ⌝ }
+    ensures { λ _. ⌜ length (lineValue e left right) ≤ lineBound ⌝ }
+{
+    let mut text = room();
+    let n = put_whole(e, left, right, &mut text, 0);
+    pieces::size_of(pieces::give(&text[..n], out))
+}

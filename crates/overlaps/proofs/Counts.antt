@@ -1,0 +1,137 @@
+-- The whole list: how many lines there can be, and what storing them leaves of a buffer that has room for them. Assumes nothing.
+use mathlib.Core.Path.{_≡_, refl, sym, _∙_, ap, ap₂, subst}
+use mathlib.Core.Bool.{Bool, true, false, cond}
+use mathlib.Core.List.{List, [], _∷_, _++_, append-assoc}
+use Prim.Native.Nat.{ℕ, zero, suc, _+_, _-_, _*_, _≤_, _<_, min}
+use native.Mathlib.Nat.{zero-add, mul-le-mul-right}
+use native.Mathlib.Omega.{arith}
+use lib.ListN.{length, take, drop, length-append, length-drop}
+use lib.Seq.{sets, sets-eq, length-sets, drop-drop}
+use borrow.Author.Tests.{le-leb, lt-leb}
+use Rattle.fillings.specs.declared.Fillings.{Fillings}
+use Rattle.fillings.specs.declared.Joined.{Joined}
+use Rattle.fillings.specs.States.{startValue}
+use Rattle.choices.specs.declared.Choice.{Choice}
+use Rattle.choices.specs.Choices.{noChoice, chosenAt, joinFields}
+use Rattle.writing.specs.Answers.{after}
+use Rattle.writing.proofs.Stores.{sets-append}
+use Rattle.overlaps.specs.declared.Pair.{Pair}
+use Rattle.overlaps.specs.declared.Tally.{Tally}
+use Rattle.overlaps.specs.declared.Candidate.{Candidate}
+use Rattle.overlaps.specs.declared.Listed.the-variants.{Lines, TooSmall}
+use Rattle.overlaps.specs.Answers.{answerOf}
+use Rattle.overlaps.specs.Listing.{leftAt, rightAt, spanAt, candidateOf, afterJoin, candidateLines, choiceLines, linesFrom, allLines, bytesOf, noTally, tallied, storeLine, storeAll, mostEntries, Countable}
+use Rattle.overlaps.proofs.Spans.{few-left}
+use Rattle.overlaps.proofs.Laws.{Listed}
+
+-- ---- how many lines: no field pair has more than 17 candidates, of any values
+
+most : ℕ → ℕ
+most zero = 1
+most (suc m) = 17 * most m
+
+module _ (next : Choice → Fillings → List (List ℕ)) (p : Pair) (j b : ℕ) (few : (ch : Choice) (st : Fillings) → length (next ch st) ≤ b) where
+  join-few : (c : Candidate) (ch : Choice) (st : Fillings) → length (candidateLines next p j c ch st) ≤ b
+  join-few c ch st = go (joinFields (leftAt p j) (rightAt p j) (c .items) st)
+    where
+      by : (x : Bool) (st : Fillings) → length (cond x (next (chosenAt ch j (c .items) (c .long)) st) []) ≤ b
+      by true st = few (chosenAt ch j (c .items) (c .long)) st
+      by false st = omega arith
+
+      go : (r : Joined) → length (afterJoin r (next (chosenAt ch j (c .items) (c .long)))) ≤ b
+      go r = by (r .ok) (r .next)
+
+  choice-few : (k : ℕ) (ch : Choice) (st : Fillings) → length (choiceLines next p j k ch st) ≤ k * b
+  choice-few zero ch st = omega arith
+  choice-few (suc k) ch st =
+      let c = candidateOf (spanAt p j) (suc k) in
+      omega (arith, join-few c ch st, choice-few k ch st, length-append (candidateLines next p j c ch st) (choiceLines next p j k ch st))
+
+lines-few : (m : ℕ) (p : Pair) (j : ℕ) (ch : Choice) (st : Fillings) → length (linesFrom m p j ch st) ≤ most m
+unfolding most
+lines-few zero p j ch st = omega arith
+lines-few (suc m) p j ch st =
+    let f = choice-few (linesFrom m p (j + 1)) p j (most m) (λ c s. lines-few m p (j + 1) c s) (spanAt p j .count) ch st in
+    times-few (spanAt p j .count) (most m) (length (linesFrom (suc m) p j ch st)) (few-left p j) f
+  where
+    times-few : (k b n : ℕ) → k ≤ 17 → n ≤ k * b → n ≤ 17 * b
+    times-few k b n h l = omega (arith, mul-le-mul-right b h)
+
+most-few : (m : ℕ) → m ≤ 4 → most m ≤ mostEntries
+unfolding most
+most-few zero h = omega arith
+most-few (suc zero) h = omega arith
+most-few (suc (suc zero)) h = omega arith
+most-few (suc (suc (suc zero))) h = omega arith
+most-few (suc (suc (suc (suc zero)))) h = omega arith
+most-few (suc (suc (suc (suc (suc m))))) h = absurd (omega arith)
+
+pub countable-all : (p : Pair) → p .left .n ≤ 4 → Countable noTally (allLines p)
+countable-all p h = (omega arith, omega (arith, lines-few (p .left .n) p 0 noChoice startValue, most-few (p .left .n) h))
+
+-- ---- the lent bytes, where the lines have room
+
+store-room : (l : List ℕ) (at : ℕ) (old : List ℕ) → at + length l ≤ length old → storeLine l at old ≡ sets old at l
+store-room l at old h =
+    let m : min at (length old) ≡ at = omega arith in
+    ap (λ (k : ℕ). take k old ++ after l (drop k old)) m
+    ∙ ap (λ (b : Bool). take at old ++ cond b (l ++ drop (length l) (drop at old)) (drop at old)) (le-leb (length l) (length (drop at old)) (omega (arith, length-drop at old)))
+    ∙ ap (λ (r : List ℕ). take at old ++ (l ++ r)) (drop-drop (length l) at old)
+    ∙ sym (append-assoc (take at old) l (drop (at + length l) old))
+    ∙ sym (sets-eq l old at h)
+
+stores-room : (ls : List (List ℕ)) (at : ℕ) (old : List ℕ) → at + length (bytesOf ls) ≤ length old → storeAll ls at old ≡ sets old at (bytesOf ls)
+stores-room [] at old h = refl
+stores-room (l ∷ ls) at old h =
+    let e = length-append l (bytesOf ls) in
+    ap (storeAll ls (at + length l)) (store-room l at old (omega (arith, e)))
+    ∙ stores-room ls (at + length l) (sets old at l) (omega (arith, e, length-sets old at l))
+    ∙ sets-append l (bytesOf ls) old at
+
+-- the whole list in front of the old bytes
+pub stored : (ls : List (List ℕ)) (old : List ℕ) → length (bytesOf ls) ≤ length old → storeAll ls 0 old ≡ after (bytesOf ls) old
+stored ls old h =
+    stores-room ls 0 old (omega arith)
+    ∙ sets-eq (bytesOf ls) old 0 (omega arith)
+    ∙ ap (λ (k : ℕ). bytesOf ls ++ drop k old) (zero-add (length (bytesOf ls)))
+    ∙ sym (ap (λ (b : Bool). cond b (bytesOf ls ++ drop (length (bytesOf ls)) old) old) (le-leb (length (bytesOf ls)) (length old) h))
+
+-- ---- every choice from the first field on
+
+module _ (p : Pair) (ch : Choice) (st : Fillings) (t : Tally) (is-ch : ch ≡ noChoice) (is-st : st ≡ startValue) (is-t : t ≡ noTally) where
+  all-are : linesFrom (p .left .n - 0) p 0 ch st ≡ allLines p
+  all-are =
+      let e : p .left .n - 0 ≡ p .left .n = omega arith in
+      ap (λ (m : ℕ). linesFrom m p 0 ch st) e ∙ ap₂ (linesFrom (p .left .n) p 0) is-ch is-st
+
+  pub all-requires : p .left .n ≤ 4 → (p .left .n ≤ 4) × (0 ≤ p .left .n) × Countable t (linesFrom (p .left .n - 0) p 0 ch st)
+  all-requires h = (h, omega arith, subst (Countable t) (sym all-are) (subst (λ (x : Tally). Countable x (allLines p)) (sym is-t) (countable-all p h)))
+
+  pub all-listed : (u : Tally) (old new : List ℕ) → Listed (linesFrom (p .left .n - 0) p 0 ch st) t old u new → (u ≡ tallied noTally (allLines p)) × (new ≡ storeAll (allLines p) 0 old)
+  all-listed u old new h = (
+    h .0 ∙ ap₂ tallied is-t all-are,
+    h .1 ∙ ap₂ (λ (ls : List (List ℕ)) (x : Tally). storeAll ls (x .bytes) old) all-are is-t,
+  )
+
+-- ---- the answer, by the count
+
+module _ (ls : List (List ℕ)) (old : List ℕ) (t : Tally) (is-t : t ≡ tallied noTally ls) where
+  entries-are : t .entries ≡ length ls
+  entries-are = ap (λ (x : Tally). x .entries) is-t ∙ zero-add (length ls)
+
+  bytes-are : t .bytes ≡ length (bytesOf ls)
+  bytes-are = ap (λ (x : Tally). x .bytes) is-t ∙ zero-add (length (bytesOf ls))
+
+  pub too-small : length old < t .bytes → (TooSmall (t .entries) (t .bytes) ≡ answerOf ls (length old)) × (old ≡ after (bytesOf ls) old)
+  too-small h =
+      let e = lt-leb (length (bytesOf ls)) (length old) (omega (arith, bytes-are)) in
+      (ap₂ TooSmall entries-are bytes-are ∙ rw e, rw e)
+
+  pub room-enough : t .bytes ≤ length old → (u : Tally) (new : List ℕ) → (u ≡ tallied noTally ls) × (new ≡ storeAll ls 0 old)
+      → (Lines (u .entries) (u .bytes) ≡ answerOf ls (length old)) × (new ≡ after (bytesOf ls) old)
+  room-enough h u new k =
+      let r : length (bytesOf ls) ≤ length old = omega (arith, bytes-are) in
+      let e = le-leb (length (bytesOf ls)) (length old) r in (
+        ap (λ (x : Tally). Lines (x .entries) (x .bytes)) (k .0) ∙ ap₂ Lines (zero-add (length ls)) (zero-add (length (bytesOf ls))) ∙ rw e,
+        k .1 ∙ stored ls old r,
+      )

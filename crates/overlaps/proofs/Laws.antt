@@ -1,0 +1,167 @@
+-- Laws of the listing on values: lines one behind the other, their counts, and the lent bytes. Assumes nothing.
+use mathlib.Core.Path.{_≡_, refl, sym, _∙_, ap, ap₂}
+use mathlib.Core.Bool.{Bool, true, false, cond, not}
+use mathlib.Core.List.{List, [], _∷_, _++_, append-nil, append-assoc}
+use Prim.Native.Nat.{ℕ, suc, _+_, _-_, _*_, _≤_, _<_, min}
+use native.Mathlib.Omega.{arith}
+use lib.Dec.{leb}
+use lib.ListN.{length, take, drop, length-append, length-take, length-drop, drop-of-length-le}
+use lib.Seq.{take-all}
+use borrow.Author.Tests.{not-true, not-false, leb-true}
+use Rattle.theory.proofs.Seqs.{concat-map-append}
+use Rattle.fillings.specs.declared.Fillings.{Fillings}
+use Rattle.fillings.specs.declared.Joined.{Joined}
+use Rattle.rows.specs.declared.Span.{Span}
+use Rattle.choices.specs.declared.Choice.{Choice}
+use Rattle.choices.specs.Choices.{chosenAt, joinFields, entryOf}
+use Rattle.entries.specs.declared.Entry.{Entry}
+use Rattle.shown.specs.declared.Shown.{Shown}
+use Rattle.shown.specs.Values.{shownValue}
+use Rattle.writing.specs.Answers.{after}
+use Rattle.entry_lines.specs.Shown.{lineValue}
+use Rattle.entry_lines.specs.Sizes.{lineBound}
+use Rattle.overlaps.specs.declared.Pair.{Pair}
+use Rattle.overlaps.specs.declared.Tally.{Tally}
+use Rattle.overlaps.specs.declared.Candidate.{Candidate}
+use Rattle.overlaps.specs.Lines.{lineAt}
+use Rattle.overlaps.specs.Listing.{leftAt, rightAt, spanAt, candidateOf, candidateLines, choiceLines, linesFrom, bytesOf, tallied, storeLine, storeAll, Moderate, Countable}
+
+-- ---- counts
+
+bytes-append : (a b : List (List ℕ)) → bytesOf (a ++ b) ≡ bytesOf a ++ bytesOf b
+bytes-append a b = concat-map-append (λ l. l) a b
+
+pub bytes-length : (a b : List (List ℕ)) → length (bytesOf (a ++ b)) ≡ length (bytesOf a) + length (bytesOf b)
+bytes-length a b = ap length (bytes-append a b) ∙ length-append (bytesOf a) (bytesOf b)
+
+pub tally-none : (t : Tally) → tallied t [] ≡ t
+tally-none t = ap₂ (λ (e b : ℕ). record { entries = e; bytes = b }) (omega arith) (omega arith)
+
+-- one line more
+one-more : (l : List ℕ) → length (bytesOf (l ∷ [])) ≡ length l
+one-more l = ap length (append-nil l)
+
+pub tally-one : (t : Tally) (l : List ℕ) (n : ℕ) → n ≡ length l → record { entries = t .entries + 1; bytes = t .bytes + n } ≡ tallied t (l ∷ [])
+tally-one t l n e = ap (λ (m : ℕ). record { entries = t .entries + 1; bytes = t .bytes + m }) (e ∙ sym (one-more l))
+
+module _ (t : Tally) (l : List ℕ) (n : ℕ) (is-n : n ≡ length l) (short : length l ≤ lineBound) (h : Countable t (l ∷ [])) where
+  pub more-bytes : t .bytes + n < 18446744073709551616
+  more-bytes = omega (arith, h .0, h .1, is-n, short)
+
+  pub still-moderate : t .bytes + n ≤ lineBound * (t .entries + 1)
+  still-moderate = omega (arith, h .0, is-n, short)
+
+pub tally-append : (t : Tally) (a b : List (List ℕ)) → tallied (tallied t a) b ≡ tallied t (a ++ b)
+tally-append t a b = ap₂ (λ (e n : ℕ). record { entries = e; bytes = n }) (omega (arith, length-append a b)) (omega (arith, bytes-length a b))
+
+module _ (t : Tally) (a b : List (List ℕ)) (h : Countable t (a ++ b)) where
+  pub countable-first : Countable t a
+  countable-first = (h .0, omega (arith, h .1, length-append a b))
+
+  pub countable-next : (u : Tally) → u ≡ tallied t a → Moderate u → Countable u b
+  countable-next u e m = (m, omega (arith, h .1, length-append a b, ap (λ (x : Tally). x .entries) e))
+
+-- ---- the lent bytes
+
+after-length : (l old : List ℕ) → length (after l old) ≡ length old
+after-length l old = go (leb (length l) (length old)) refl
+  where
+    go : (b : Bool) → leb (length l) (length old) ≡ b → length (cond b (l ++ drop (length l) old) old) ≡ length old
+    go true e = omega (arith, length-append l (drop (length l) old), length-drop (length l) old, leb-true (length l) (length old) e)
+    go false e = refl
+
+store-length : (l : List ℕ) (at : ℕ) (old : List ℕ) → length (storeLine l at old) ≡ length old
+store-length l at old =
+    let m = min at (length old) in
+    omega (arith, length-append (take m old) (after l (drop m old)), length-take m old, after-length l (drop m old), length-drop m old)
+
+pub stores-length : (ls : List (List ℕ)) (at : ℕ) (old : List ℕ) → length (storeAll ls at old) ≡ length old
+stores-length [] at old = refl
+stores-length (l ∷ ls) at old = stores-length ls (at + length l) (storeLine l at old) ∙ store-length l at old
+
+pub stores-append : (a b : List (List ℕ)) (at : ℕ) (old : List ℕ) → storeAll b (at + length (bytesOf a)) (storeAll a at old) ≡ storeAll (a ++ b) at old
+stores-append [] b at old = ap (λ (k : ℕ). storeAll b k old) (omega arith)
+stores-append (l ∷ a) b at old =
+    ap (λ (k : ℕ). storeAll b k (storeAll a (at + length l) (storeLine l at old))) (omega (arith, length-append l (bytesOf a)))
+    ∙ stores-append a b (at + length l) (storeLine l at old)
+
+-- a line in the part of the bytes from its place on, which is lent to the line writer
+pub store-part : (l old : List ℕ) (n at : ℕ) {m : List ℕ} → at ≡ min n (length old) → m ≡ after l (take (length old - at) (drop at old))
+    → take at old ++ (m ++ drop (length old - at) (drop at old)) ≡ storeLine l n old
+store-part l old n at {m} a e =
+    ap (λ (r : List ℕ). take at old ++ (m ++ r)) (drop-of-length-le (drop at old) {i = length old - at} (omega (arith, length-drop at old)))
+    ∙ ap (λ (r : List ℕ). take at old ++ r) (append-nil m ∙ e ∙ ap (after l) (take-all (length old - at) (drop at old) (omega (arith, length-drop at old))))
+    ∙ ap (λ (k : ℕ). take k old ++ after l (drop k old)) a
+
+-- ---- what is left to list
+
+pub lines-end : (p : Pair) (j : ℕ) (ch : Choice) (st : Fillings) → p .left .n ≤ j → linesFrom (p .left .n - j) p j ch st ≡ lineAt p ch st ∷ []
+lines-end p j ch st h = let e : p .left .n - j ≡ 0 = omega arith in ap (λ (m : ℕ). linesFrom m p j ch st) e
+
+pub lines-goes : (p : Pair) (j : ℕ) (ch : Choice) (st : Fillings) (s : Span) → s ≡ spanAt p j → j < p .left .n
+    → linesFrom (p .left .n - j) p j ch st ≡ choiceLines (linesFrom (p .left .n - (j + 1)) p (j + 1)) p j (s .count) ch st
+lines-goes p j ch st s e h =
+    let k : p .left .n - j ≡ suc (p .left .n - (j + 1)) = omega arith in
+    ap (λ (m : ℕ). linesFrom m p j ch st) k ∙ ap (λ (x : Span). choiceLines (linesFrom (p .left .n - (j + 1)) p (j + 1)) p j (x .count) ch st) (sym e)
+
+module _ (next : Choice → Fillings → List (List ℕ)) (p : Pair) (j k : ℕ) (ch : Choice) (st : Fillings) where
+  pub choice-none : k ≡ 0 → choiceLines next p j k ch st ≡ []
+  choice-none e = ap (λ (m : ℕ). choiceLines next p j m ch st) e
+
+  choice-goes : 1 ≤ k → choiceLines next p j k ch st ≡ candidateLines next p j (candidateOf (spanAt p j) k) ch st ++ choiceLines next p j (k - 1) ch st
+  choice-goes h = let e : k ≡ suc (k - 1) = omega arith in
+      ap (λ (m : ℕ). choiceLines next p j m ch st) e ∙ ap (λ (m : ℕ). candidateLines next p j (candidateOf (spanAt p j) m) ch st ++ choiceLines next p j (k - 1) ch st) (sym e)
+
+  -- by what the joins of the candidate say
+  module _ (s : Span) (c : Candidate) (r : Joined) (h : 1 ≤ k) (is-s : s ≡ spanAt p j) (is-c : c ≡ candidateOf s k) (is-r : r ≡ joinFields (leftAt p j) (rightAt p j) (c .items) st) where
+    by : choiceLines next p j k ch st ≡ cond (r .ok) (next (chosenAt ch j (c .items) (c .long)) (r .next)) [] ++ choiceLines next p j (k - 1) ch st
+    by =
+        choice-goes h
+        ∙ ap (λ (d : Candidate). candidateLines next p j d ch st ++ choiceLines next p j (k - 1) ch st) (ap (λ (x : Span). candidateOf x k) (sym is-s) ∙ sym is-c)
+        ∙ ap (λ (x : Joined). cond (x .ok) (next (chosenAt ch j (c .items) (c .long)) (x .next)) [] ++ choiceLines next p j (k - 1) ch st) (sym is-r)
+
+    pub choice-clash : not (r .ok) ≡ true → choiceLines next p j k ch st ≡ choiceLines next p j (k - 1) ch st
+    choice-clash e = by ∙ ap (λ (b : Bool). cond b (next (chosenAt ch j (c .items) (c .long)) (r .next)) [] ++ choiceLines next p j (k - 1) ch st) (not-true (r .ok) e)
+
+    pub choice-alive : (d : Choice) → not (r .ok) ≡ false → d ≡ chosenAt ch j (c .items) (c .long) → choiceLines next p j k ch st ≡ next d (r .next) ++ choiceLines next p j (k - 1) ch st
+    choice-alive d e is-d =
+        by
+        ∙ ap (λ (b : Bool). cond b (next (chosenAt ch j (c .items) (c .long)) (r .next)) [] ++ choiceLines next p j (k - 1) ch st) (not-false (r .ok) e)
+        ∙ ap (λ (x : Choice). next x (r .next) ++ choiceLines next p j (k - 1) ch st) (sym is-d)
+
+-- ---- what a call leaves: the counts and the bytes of its lines, from a tally t and the bytes old
+
+abbrev pub Listed : List (List ℕ) → Tally → List ℕ → Tally → List ℕ → Type 0
+Listed ls t old u new = (u ≡ tallied t ls) × (new ≡ storeAll ls (t .bytes) old)
+
+module _ (t : Tally) (old : List ℕ) where
+  pub listed-none : (ls : List (List ℕ)) → ls ≡ [] → Listed ls t old t old
+  listed-none ls e = (sym (ap (tallied t) e ∙ tally-none t), sym (ap (λ (l : List (List ℕ)). storeAll l (t .bytes) old) e))
+
+  -- the same lines
+  pub listed-as : (ls ms : List (List ℕ)) {u : Tally} {new : List ℕ} → ls ≡ ms → Listed ms t old u new → Listed ls t old u new
+  listed-as ls ms e h = (h .0 ∙ ap (tallied t) (sym e), h .1 ∙ ap (λ (l : List (List ℕ)). storeAll l (t .bytes) old) (sym e))
+
+  -- lines a, and then lines b behind them
+  pub listed-both : (a b ls : List (List ℕ)) {u v : Tally} {new more : List ℕ} → ls ≡ a ++ b → Listed a t old u new → Listed b u new v more → Listed ls t old v more
+  listed-both a b ls {u} {v} {new} {more} e h k = (
+    k .0 ∙ ap (λ (x : Tally). tallied x b) (h .0) ∙ tally-append t a b ∙ ap (tallied t) (sym e),
+    k .1
+        ∙ ap (λ (x : Tally). storeAll b (x .bytes) new) (h .0)
+        ∙ ap (storeAll b (t .bytes + length (bytesOf a))) (h .1)
+        ∙ stores-append a b (t .bytes) old
+        ∙ ap (λ (l : List (List ℕ)). storeAll l (t .bytes) old) (sym e),
+  )
+
+  -- the bytes stay as many
+  pub listed-length : (ls : List (List ℕ)) {u : Tally} {new : List ℕ} → Listed ls t old u new → length new ≡ length old
+  listed-length ls h = ap length (h .1) ∙ stores-length ls (t .bytes) old
+
+-- ---- the line of a whole choice
+
+pub line-is : (p : Pair) (ch : Choice) (st : Fillings) (e : Entry) (l r : Shown) → e ≡ entryOf (p .left) (p .sided) ch st → l ≡ shownValue (p .left) (p .left) e st → r ≡ shownValue (p .right) (p .sided) e st
+    → lineValue e l r ≡ lineAt p ch st
+unfolding lineAt
+line-is p ch st e l r a b c =
+    ap₂ (λ (x y : Shown). lineValue e x y) b c
+    ∙ ap (λ (x : Entry). lineValue x (shownValue (p .left) (p .left) x st) (shownValue (p .right) (p .sided) x st)) a

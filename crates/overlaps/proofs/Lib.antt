@@ -1,0 +1,6 @@
+pub mod Laws
+pub mod Spans
+pub mod Counts
+pub mod Entries
+pub mod Lines
+pub mod Rules

@@ -1,0 +1,131 @@
+-- Listing the overlaps of two rule values. Assumes nothing.
+use mathlib.Core.Path.{_≡_, refl, sym, _∙_, ap, ap₂, subst}
+use mathlib.Core.Logic.{_≢_}
+use mathlib.Core.Bool.{Bool, true, false, cond}
+use mathlib.Core.Option.{Option, none, some}
+use mathlib.Core.List.{List, [], _∷_, _++_, map}
+use Prim.Native.Nat.{ℕ, suc, _≤_}
+use native.Mathlib.Omega.{arith}
+use native.Mathlib.Decide.{ℕ-discrete}
+use lib.ListN.{length, drop, length-map}
+use borrow.Author.Tests.{le-leb}
+use Rattle.order.specs.Types.{basics}
+use Rattle.text.specs.Terms.{OurTerm}
+use Rattle.text.specs.Limits.{IsRule}
+use Rattle.instance.specs.Constants.{consts}
+use Rattle.unifiers.specs.Shapes.{left, right, shapesOf}
+use Rattle.unifiers.specs.Candidates.{Cand, cands}
+use Rattle.unifiers.specs.Joins.{joins, start}
+use Rattle.unifiers.specs.Entries.{equations, chosen, branch}
+use Rattle.unifiers.specs.Overlaps.{shown, listed}
+use Rattle.listing.specs.Lines.{Line, lineText, listText}
+use Rattle.listing.specs.Overlaps.{lineOf, linesOf, overlapText}
+use Rattle.terms.specs.declared.Rule.{Rule}
+use Rattle.terms.specs.Values.{viewRule, encodeRule}
+use Rattle.accepted.specs.Accepted.{acceptedRule, countedRule}
+use Rattle.accepted.proofs.Accepted.{accepted-rule}
+use Rattle.sides.specs.Sides.{OurShape, OurState}
+use Rattle.sides.specs.Values.{rightRule}
+use Rattle.sides.proofs.Sides.{shapes-length}
+use Rattle.fillings.proofs.Agree.{names}
+use Rattle.writing.specs.Answers.{after}
+use Rattle.overlaps.specs.declared.Listed.{Listed}
+use Rattle.overlaps.specs.declared.Listed.the-variants.{Lines, TooSmall}
+use Rattle.overlaps.specs.Listing.{allLines, bytesOf}
+use Rattle.overlaps.specs.Answers.{counted, listedOf, answerOf}
+use Rattle.overlaps.proofs.Entries.{Raw, rawFrom}
+use Rattle.overlaps.proofs.Lines.{lines-are}
+
+-- ---- no lines
+
+pub none-listed : (ls : List Line) (old : List ℕ) → ls ≡ [] → (Lines 0 0 ≡ listedOf ls (length old)) × (old ≡ after (listText ls) old)
+none-listed ls old e =
+    let z = le-leb 0 (length old) (omega arith) in
+    subst (λ (l : List Line). (Lines 0 0 ≡ listedOf l (length old)) × (old ≡ after (listText l) old)) (sym e)
+    (sym (ap (λ (b : Bool). cond b (Lines 0 0) (TooSmall 0 0)) z), sym (ap (λ (b : Bool). cond b ([] ++ drop 0 old) old) z))
+
+-- ---- document 01: "Rules with different field counts have no entries."
+
+branch-none : (cs : List Cand) (j : Cand → Option OurState) (k : OurState → List Raw) → ((s : OurState) → k s ≡ []) → branch cs j k ≡ []
+branch-none [] j k h = refl
+branch-none (c ∷ cs) j k h = ap₂ (λ (a b : List Raw). a ++ b) (go (j c)) (branch-none cs j k h)
+  where
+    go : (o : Option OurState) → chosen c o k ≡ []
+    go none = refl
+    go (some s) = ap (map (λ (e : Raw). (c ∷ e .0, e .1))) (h s)
+
+raw-none : (Ss Ts : List OurShape) (s : OurState) → length Ss ≢ length Ts → rawFrom Ss Ts s ≡ []
+raw-none [] [] s n = absurd (n refl)
+raw-none [] (T ∷ Ts) s n = refl
+raw-none (S ∷ Ss) [] s n = refl
+raw-none (S ∷ Ss) (T ∷ Ts) s n =
+    branch-none (cands S T) (λ c. joins basics consts names (equations S T c) s) (λ s′. rawFrom Ss Ts s′) (λ s′. raw-none Ss Ts s′ (λ e. n (ap suc e)))
+
+listed-none : (o p : Option (List OurShape)) → ((Ss Ts : List OurShape) → o ≡ some Ss → p ≡ some Ts → length Ss ≢ length Ts) → listed basics consts ℕ-discrete o p ≡ []
+listed-none none p h = refl
+listed-none (some Ss) none h = refl
+listed-none (some Ss) (some Ts) h = ap (map (shown basics consts ℕ-discrete Ss Ts)) (raw-none Ss Ts (start basics consts names) (h Ss Ts refl refl))
+
+pub lines-none : (r₁ r₂ : List (List OurTerm)) → length r₁ ≢ length r₂ → linesOf r₁ r₂ ≡ []
+lines-none [] r₂ n = refl
+lines-none (f ∷ r₁) r₂ n = ap (map (lineOf (f ∷ r₁) r₂)) (listed-none (shapesOf left (f ∷ r₁)) (shapesOf right r₂)
+    (λ Ss Ts a b e. n (sym (shapes-length left (f ∷ r₁) Ss a) ∙ e ∙ shapes-length right r₂ Ts b)))
+
+pub no-right : (r : List (List OurTerm)) → linesOf r [] ≡ []
+no-right [] = refl
+no-right (f ∷ r) = lines-none (f ∷ r) [] (λ e. absurd (omega (arith, e)))
+
+-- ---- rule values
+
+-- what no reading returns has no fields
+pub not-left : (v w : Rule) → acceptedRule v ≡ false → linesOf (countedRule v) (countedRule w) ≡ []
+not-left v w e = ap (λ (b : Bool). linesOf (cond b (viewRule v) []) (countedRule w)) e
+
+pub not-right : (v w : Rule) → acceptedRule w ≡ false → linesOf (countedRule v) (countedRule w) ≡ []
+not-right v w e = ap (λ (b : Bool). linesOf (countedRule v) (cond b (viewRule w) [])) e ∙ no-right (countedRule v)
+
+module _ (v : Rule) (h : acceptedRule v ≡ true) where
+  counted-is : countedRule v ≡ viewRule v
+  counted-is = ap (λ (b : Bool). cond b (viewRule v) []) h
+
+  value-is : encodeRule (countedRule v) ≡ v
+  value-is = ap encodeRule counted-is ∙ accepted-rule v h .1
+
+  is-rule : IsRule (countedRule v)
+  is-rule = subst IsRule (sym counted-is) (accepted-rule v h .0)
+
+  count-is : v .n ≡ length (countedRule v)
+  count-is = sym (ap (λ (x : Rule). x .n) value-is)
+
+  pub at-most-four : v .n ≤ 4
+  at-most-four = omega (arith, count-is, is-rule .0 .1)
+
+-- ---- the answer
+
+texts-are : (ls : List Line) → bytesOf (map lineText ls) ≡ listText ls
+texts-are [] = refl
+texts-are (l ∷ ls) = ap (λ (t : List ℕ). lineText l ++ t) (texts-are ls)
+
+module _ (v w : Rule) (a : acceptedRule v ≡ true) (b : acceptedRule w ≡ true) where
+  pub other-count : v .n ≢ w .n → linesOf (countedRule v) (countedRule w) ≡ []
+  other-count n = lines-none (countedRule v) (countedRule w) (λ e. n (count-is v a ∙ e ∙ sym (count-is w b)))
+
+  module _ (same : v .n ≡ w .n) (x : Rule) (is-x : x ≡ rightRule w) where
+    lines : allLines (record { left = v; right = w; sided = x }) ≡ map lineText (linesOf (countedRule v) (countedRule w))
+    lines =
+        ap (λ (y : Rule). allLines (record { left = v; right = w; sided = y })) is-x
+        ∙ ap₂ (λ (y z : Rule). allLines (record { left = y; right = z; sided = rightRule z })) (sym (value-is v a)) (sym (value-is w b))
+        ∙ lines-are (countedRule v) (countedRule w) (is-rule v a) (is-rule w b) (sym (count-is v a) ∙ same ∙ count-is w b)
+
+    bytes : bytesOf (allLines (record { left = v; right = w; sided = x })) ≡ overlapText (countedRule v) (countedRule w)
+    bytes = ap bytesOf lines ∙ texts-are (linesOf (countedRule v) (countedRule w))
+
+    entries : length (allLines (record { left = v; right = w; sided = x })) ≡ length (linesOf (countedRule v) (countedRule w))
+    entries = ap length lines ∙ length-map (linesOf (countedRule v) (countedRule w)) lineText
+
+    pub pair-listed : (r : Listed) (old new : List ℕ) → (r ≡ answerOf (allLines (record { left = v; right = w; sided = x })) (length old)) × (new ≡ after (bytesOf (allLines (record { left = v; right = w; sided = x }))) old)
+        → (r ≡ listedOf (linesOf (countedRule v) (countedRule w)) (length old)) × (new ≡ after (overlapText (countedRule v) (countedRule w)) old)
+    pair-listed r old new h = (
+      h .0 ∙ ap₂ (λ (n m : ℕ). counted n m (length old)) entries (ap length bytes),
+      h .1 ∙ ap (λ (t : List ℕ). after t old) bytes,
+    )

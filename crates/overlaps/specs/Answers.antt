@@ -1,0 +1,29 @@
+-- What listing overlaps answers. Document 01: "The entry count, which is their number, and the byte count, which is the length of all
+-- their lines, are returned. 8: as in searching, with the entry count and the needed byte count, the old bytes left."
+use mathlib.Core.Bool.{cond}
+use mathlib.Core.List.{List}
+use mathlib.Core.Option.{Option, none, some}
+use Prim.Native.Nat.{ℕ}
+use lib.Dec.{leb}
+use lib.ListN.{length}
+use Rattle.listing.specs.Lines.{Line, listText}
+use Rattle.overlaps.specs.declared.Listed.{Listed}
+use Rattle.overlaps.specs.declared.Listed.the-variants.{Lines, TooSmall}
+use Rattle.overlaps.specs.Listing.{bytesOf}
+
+-- the two counts, and whether so much room is enough
+abbrev pub counted : ℕ → ℕ → ℕ → Listed
+counted entries bytes room = cond (leb bytes room) (Lines entries bytes) (TooSmall entries bytes)
+
+-- THE ANSWER, of the lines and the room of the lent buffer
+abbrev pub listedOf : List Line → ℕ → Listed
+listedOf ls room = counted (length ls) (length (listText ls)) room
+
+-- document 01's number of each answer
+abbrev pub refusal : Listed → Option ℕ
+refusal (Lines n b) = none
+refusal (TooSmall n b) = some 8
+
+-- the same of lines as bytes
+abbrev pub answerOf : List (List ℕ) → ℕ → Listed
+answerOf ls room = counted (length ls) (length (bytesOf ls)) room

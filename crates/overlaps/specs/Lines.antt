@@ -1,0 +1,17 @@
+-- The line of a whole choice and its last state, on values.
+use mathlib.Core.List.{List}
+use Prim.Native.Nat.{ℕ}
+use Rattle.fillings.specs.declared.Fillings.{Fillings}
+use Rattle.entries.specs.declared.Entry.{Entry}
+use Rattle.choices.specs.declared.Choice.{Choice}
+use Rattle.choices.specs.Choices.{entryOf}
+use Rattle.shown.specs.Values.{shownValue}
+use Rattle.entry_lines.specs.Shown.{lineValue}
+use Rattle.overlaps.specs.declared.Pair.{Pair}
+
+-- the entry before the renumbering
+abbrev pub entryAt : Pair → Choice → Fillings → Entry
+entryAt p ch st = entryOf (p .left) (p .sided) ch st
+
+unfoldable pub lineAt : Pair → Choice → Fillings → List ℕ
+lineAt p ch st = lineValue (entryAt p ch st) (shownValue (p .left) (p .left) (entryAt p ch st) st) (shownValue (p .right) (p .sided) (entryAt p ch st) st)

@@ -1,0 +1,93 @@
+-- Listing overlaps on values, as code does it: "Choosing a length for one field leads to the next field's choices; the first field varies slowest."
+-- The theorems of proofs/Agree say that the lines are those of the overlap list.
+use mathlib.Core.Bool.{Bool, true, false, cond, _&&_}
+use mathlib.Core.List.{List, [], _∷_, _++_}
+use Prim.Native.Nat.{ℕ, zero, suc, _+_, _-_, _*_, _≤_, min}
+use lib.Dec.{eqb}
+use lib.ListN.{length, getD, take, drop}
+use Rattle.theory.specs.Seqs.{concat-map}
+use Rattle.terms.specs.declared.Term.{Term}
+use Rattle.terms.specs.declared.Rule.{Rule}
+use Rattle.terms.specs.Values.{blankField}
+use Rattle.fillings.specs.declared.Fillings.{Fillings}
+use Rattle.fillings.specs.declared.Joined.{Joined}
+use Rattle.fillings.specs.States.{startValue}
+use Rattle.rows.specs.declared.Span.{Span}
+use Rattle.rows.specs.Rows.{termsOf, shapeValue, spanValue}
+use Rattle.choices.specs.declared.Choice.{Choice}
+use Rattle.choices.specs.Choices.{chosenAt, joinFields, noChoice}
+use Rattle.writing.specs.Answers.{after}
+use Rattle.entry_lines.specs.Sizes.{lineBound}
+use Rattle.overlaps.specs.declared.Pair.{Pair}
+use Rattle.overlaps.specs.declared.Tally.{Tally}
+use Rattle.overlaps.specs.declared.Candidate.{Candidate}
+use Rattle.overlaps.specs.Lines.{lineAt}
+
+-- ---- the candidates of a field pair
+
+abbrev pub leftAt : Pair → ℕ → List Term
+leftAt p j = termsOf (getD (p .left .fields) j blankField)
+
+abbrev pub rightAt : Pair → ℕ → List Term
+rightAt p j = termsOf (getD (p .sided .fields) j blankField)
+
+abbrev pub spanAt : Pair → ℕ → Span
+spanAt p j = spanValue (shapeValue (leftAt p j)) (shapeValue (rightAt p j))
+
+-- the candidate that comes next where k are left
+abbrev pub candidateOf : Span → ℕ → Candidate
+candidateOf s k = record { items = s .least + (s .count - k); long = s .long && eqb k 1 }
+
+-- ---- the lines of all choices, in their order
+
+-- what follows a join, nothing where it clashes
+abbrev pub afterJoin : Joined → (Fillings → List (List ℕ)) → List (List ℕ)
+afterJoin j next = cond (j .ok) (next (j .next)) []
+
+-- the lines of one candidate for field j; `next` lists what follows it
+abbrev pub candidateLines : (Choice → Fillings → List (List ℕ)) → Pair → ℕ → Candidate → Choice → Fillings → List (List ℕ)
+candidateLines next p j c ch st = afterJoin (joinFields (leftAt p j) (rightAt p j) (c .items) st) (next (chosenAt ch j (c .items) (c .long)))
+
+-- k candidates are left for field j
+abbrev pub choiceLines : (Choice → Fillings → List (List ℕ)) → Pair → ℕ → ℕ → Choice → Fillings → List (List ℕ)
+choiceLines next p j zero ch st = []
+choiceLines next p j (suc k) ch st = candidateLines next p j (candidateOf (spanAt p j) (suc k)) ch st ++ choiceLines next p j k ch st
+
+-- m fields are left, the first of them field j
+abbrev pub linesFrom : ℕ → Pair → ℕ → Choice → Fillings → List (List ℕ)
+linesFrom zero p j ch st = lineAt p ch st ∷ []
+linesFrom (suc m) p j ch st = choiceLines (linesFrom m p (j + 1)) p j (spanAt p j .count) ch st
+
+abbrev pub allLines : Pair → List (List ℕ)
+allLines p = linesFrom (p .left .n) p 0 noChoice startValue
+
+-- ---- counts
+
+abbrev pub bytesOf : List (List ℕ) → List ℕ
+bytesOf ls = concat-map (λ l. l) ls
+
+abbrev pub noTally : Tally
+noTally = record { entries = 0; bytes = 0 }
+
+abbrev pub tallied : Tally → List (List ℕ) → Tally
+tallied t ls = record { entries = t .entries + length ls; bytes = t .bytes + length (bytesOf ls) }
+
+-- ---- the lent bytes: each line goes behind the one before it, where it has room there
+
+abbrev pub storeLine : List ℕ → ℕ → List ℕ → List ℕ
+storeLine l at old = take (min at (length old)) old ++ after l (drop (min at (length old)) old)
+
+abbrev pub storeAll : List (List ℕ) → ℕ → List ℕ → List ℕ
+storeAll [] at old = old
+storeAll (l ∷ ls) at old = storeAll ls (at + length l) (storeLine l at old)
+
+-- ---- the counts can be held: no field pair has more than 17 candidates, of any values, and no line more bytes than `lineBound`
+
+abbrev pub mostEntries : ℕ
+mostEntries = 83521
+
+abbrev pub Moderate : Tally → Type 0
+Moderate t = t .bytes ≤ lineBound * t .entries
+
+abbrev pub Countable : Tally → List (List ℕ) → Type 0
+Countable t ls = Moderate t × (t .entries + length ls ≤ mostEntries)

@@ -1,0 +1,220 @@
+// Listing the overlaps of two rules: every choice of one candidate a field that nothing kills, the first field slowest.
+ghost use mathlib.Core.Path.{_≡_};
+ghost use mathlib.Core.List.{[], _∷_};
+ghost use Prim.Native.Nat.{_-_, _+_, _≤_, _<_, min};
+ghost use lib.ListN.{length};
+ghost use Rattle.writing.specs.Answers.{after};
+ghost use Rattle.accepted.specs.Accepted.{countedRule};
+ghost use Rattle.listing.specs.Overlaps.{linesOf, overlapText};
+ghost use Rattle.entry_lines.specs.Sizes.{lineBound};
+ghost use Rattle.overlaps.specs.Lines.{lineAt};
+ghost use Rattle.choices.specs.Choices.{joinFields};
+ghost use Rattle.overlaps.specs.Listing.{leftAt, rightAt, spanAt, candidateOf, choiceLines, linesFrom, allLines, bytesOf, noTally, tallied, storeAll, Moderate, Countable};
+ghost use Rattle.overlaps.specs.Answers.{answerOf, listedOf};
+use choices::Choice;
+use fillings::Fillings;
+use fillings::Joined;
+use rows::Span;
+use terms::Rule;
+
+// The two rules, and the right one with its variables kept apart from the left one's.
+pub struct Pair {
+    pub left: Rule,
+    pub right: Rule,
+    pub sided: Rule,
+}
+
+// How many lines so far, and how many bytes they have.
+pub struct Tally {
+    pub entries: usize,
+    pub bytes: usize,
+}
+
+// The answer of a listing: the entry count and the byte count. `refusal` of specs/Answers has document 01's number of each.
+pub enum Listed {
+    // the lines were written
+    Lines(usize, usize),
+    // they would need so many bytes, and none was written
+    TooSmall(usize, usize),
+}
+
+// How many items a field has, and whether a list variable stands among them.
+struct Candidate {
+    items: usize,
+    long: bool,
+}
+
+// The line of a whole choice into the lent bytes, or none of it where they are too few; and its size.
+fn line_into(p: Pair, ch: Choice, st: Fillings, out: &mut [u8]) -> usize
+    ensures { λ n. ⌜ (n ≡ length (lineAt p ch st)) × (now (out .exit) ≡ after (lineAt p ch st) (now (out .entry))) ⌝ }
+    ensures { λ _. ⌜ length (lineAt p ch st) ≤ lineBound ⌝ }
+{
+    let left = p.left;
+    let right = p.right;
+    let sided = p.sided;
+    let e = choices::entry_of(left, sided, ch, st);
+    let l = shown::shown_of(left, left, e, st);
+    let r = shown::shown_of(right, sided, e, st);
+    entry_lines::put_line(e, l, r, out)
+}
+
+fn at_most(n: usize, most: usize) -> usize
+    ensures { λ r. ⌜ r ≡ min n most ⌝ }
+{
+    if n < most { n } else { most }
+}
+
+// An entry's line goes into the part of the buffer behind the line before it.
+fn put_entry(p: Pair, ch: Choice, st: Fillings, out: &mut [u8], t: Tally) -> Tally
+    requires { ⌜ Countable t (lineAt p ch st ∷ []) ⌝ }
+    ensures { λ r. ⌜ (r ≡ tallied t (lineAt p ch st ∷ [])) × (now (out .exit) ≡ storeAll (lineAt p ch st ∷ []) (t .bytes) (now (out .entry))) ⌝ }
+    ensures { λ r. ⌜ Moderate r ⌝ }
+{
+    let at = at_most(t.bytes, out.len());
+    let n = line_into(p, ch, st, &mut out[at..]);
+    Tally {
+        entries: t.entries + 1,
+        bytes: t.bytes + n,
+    }
+}
+
+// The candidates of field j.
+fn span_at(p: Pair, j: usize) -> Span
+    requires { ⌜ j < 4 ⌝ }
+    ensures { λ r. ⌜ r ≡ spanAt p j ⌝ }
+{
+    let l = p.left;
+    let r = p.sided;
+    rows::span_of(rows::shape_of(l.fields[j]), rows::shape_of(r.fields[j]))
+}
+
+// The candidate that comes next where k are left.
+fn candidate_of(s: Span, k: usize) -> Candidate
+    requires { ⌜ (1 ≤ k) × (k ≤ s .count) × (s .least + s .count ≤ 128) ⌝ }
+    ensures { λ r. ⌜ r ≡ candidateOf s k ⌝ }
+{
+    let items = s.least + (s.count - k);
+    if k == 1 {
+        return Candidate {
+            items: items,
+            long: s.long,
+        };
+    }
+    Candidate {
+        items: items,
+        long: false,
+    }
+}
+
+// The state after the joins of a candidate of field j, or a clash.
+fn join_at(p: Pair, j: usize, n: usize, st: Fillings) -> Joined
+    requires { ⌜ j < 4 ⌝ }
+    ensures { λ r. ⌜ r ≡ joinFields (leftAt p j) (rightAt p j) n st ⌝ }
+{
+    let l = p.left;
+    let r = p.sided;
+    choices::join_fields(l.fields[j], r.fields[j], n, st)
+}
+
+// All fields from j on: each choice of the next field, or the line where every field is chosen.
+fn next_field(p: Pair, j: usize, ch: Choice, st: Fillings, out: &mut [u8], t: Tally) -> Tally
+    requires { ⌜ (p .left .n ≤ 4) × (j ≤ p .left .n) × Countable t (linesFrom (p .left .n - j) p j ch st) ⌝ }
+    ensures { λ r. ⌜ (r ≡ tallied t (linesFrom (p .left .n - j) p j ch st)) × (now (out .exit) ≡ storeAll (linesFrom (p .left .n - j) p j ch st) (t .bytes) (now (out .entry))) ⌝ }
+    ensures { λ r. ⌜ Moderate r ⌝ }
+{
+    let l = p.left;
+    if l.n <= j {
+        return put_entry(p, ch, st, out, t);
+    }
+    let s = span_at(p, j);
+    choose(p, j, s.count, ch, st, out, t)
+}
+
+// The candidates of field j that are left, k of them: each leads to the next field's choices.
+fn choose(p: Pair, j: usize, k: usize, ch: Choice, st: Fillings, out: &mut [u8], t: Tally) -> Tally
+    requires { ⌜ (p .left .n ≤ 4) × (j < p .left .n) × (k ≤ spanAt p j .count) × Countable t (choiceLines (linesFrom (p .left .n - (j + 1)) p (j + 1)) p j k ch st) ⌝ }
+    ensures { λ r. ⌜ (r ≡ tallied t (choiceLines (linesFrom (p .left .n - (j + 1)) p (j + 1)) p j k ch st)) × (now (out .exit) ≡ storeAll (choiceLines (linesFrom (p .left .n - (j + 1)) p (j + 1)) p j k ch st) (t .bytes) (now (out .entry))) ⌝ }
+    ensures { λ r. ⌜ Moderate r ⌝ }
+{
+    if k == 0 {
+        return t;
+    }
+    let c = candidate_of(span_at(p, j), k);
+    let joined = join_at(p, j, c.items, st);
+    if !joined.ok {
+        return choose(p, j, k - 1, ch, st, out, t);
+    }
+    let chosen = choices::choose_at(ch, j, c.items, c.long);
+    let u = next_field(p, j + 1, chosen, joined.next, out, t);
+    choose(p, j, k - 1, ch, st, out, u)
+}
+
+// ---- the whole list
+
+fn no_tally() -> Tally
+    ensures { λ r. ⌜ r ≡ noTally ⌝ }
+{
+    Tally {
+        entries: 0,
+        bytes: 0,
+    }
+}
+
+// Every choice from the first field on.
+fn all_lines(p: Pair, out: &mut [u8]) -> Tally
+    requires { ⌜ p .left .n ≤ 4 ⌝ }
+    ensures { λ r. ⌜ (r ≡ tallied noTally (allLines p)) × (now (out .exit) ≡ storeAll (allLines p) 0 (now (out .entry))) ⌝ }
+{
+    next_field(
+        p,
+        0,
+        choices::no_choice(),
+        fillings::start(),
+        out,
+        no_tally(),
+    )
+}
+
+// How many lines there are and how many bytes they have: a buffer of none takes none of them.
+fn count_lines(p: Pair) -> Tally
+    requires { ⌜ p .left .n ≤ 4 ⌝ }
+    ensures { λ r. ⌜ r ≡ tallied noTally (allLines p) ⌝ }
+{
+    let mut none = [0u8; 1];
+    all_lines(p, &mut none[..0])
+}
+
+// Counted first, so that a buffer that is too small keeps its old bytes.
+fn list_pair(p: Pair, out: &mut [u8]) -> Listed
+    requires { ⌜ p .left .n ≤ 4 ⌝ }
+    ensures { λ r. ⌜ (r ≡ answerOf (allLines p) (length (now (out .entry)))) × (now (out .exit) ≡ after (bytesOf (allLines p)) (now (out .entry))) ⌝ }
+{
+    let t = count_lines(p);
+    if out.len() < t.bytes {
+        return Listed::TooSmall(t.entries, t.bytes);
+    }
+    let u = all_lines(p, out);
+    Listed::Lines(u.entries, u.bytes)
+}
+
+// THE OVERLAP LIST of two rules: every choice of one candidate a field that nothing kills, a line for each, the first field slowest.
+// What no reading returns has no fields, and rules with different field counts have no entries.
+pub fn list_overlaps(left: Rule, right: Rule, out: &mut [u8]) -> Listed
+    ensures { λ r. ⌜ (r ≡ listedOf (linesOf (countedRule left) (countedRule right)) (length (now (out .entry)))) × (now (out .exit) ≡ after (overlapText (countedRule left) (countedRule right)) (now (out .entry))) ⌝ }
+{
+    if !accepted::is_rule(left) {
+        return Listed::Lines(0, 0);
+    }
+    if !accepted::is_rule(right) {
+        return Listed::Lines(0, 0);
+    }
+    if left.n != right.n {
+        return Listed::Lines(0, 0);
+    }
+    let p = Pair {
+        left: left,
+        right: right,
+        sided: sides::right_rule(right),
+    };
+    list_pair(p, out)
+}

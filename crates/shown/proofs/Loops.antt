@@ -1,0 +1,77 @@
+-- Loops over the used places of arrays, side by side: what is left to show makes what was to show. Assumes nothing.
+use mathlib.Core.Path.{_≡_, sym, _∙_, ap, ap₂}
+use mathlib.Core.List.{List, [], _∷_}
+use Prim.Native.Nat.{ℕ, _+_, _<_, _≤_, min}
+use native.Mathlib.Numerals.{add-one}
+use native.Mathlib.Omega.{arith}
+use lib.ListN.{length, getD, take, drop, length-take, drop-of-length-le}
+use lib.Seq.{drop-cons, getD-take}
+use Rattle.terms.specs.declared.Term.{Term}
+use Rattle.terms.specs.declared.Field.{Field}
+use Rattle.fillings.specs.declared.Fillings.{Fillings}
+use Rattle.fillings.specs.States.{look}
+use Rattle.entries.specs.declared.Wide.{Wide}
+use Rattle.shown.specs.declared.Run.{Run}
+use Rattle.shown.specs.declared.Shown.{Shown}
+use Rattle.shown.specs.Shown.{blankShown}
+use Rattle.shown.specs.Values.{showTerm, showTerms, showField, runAt, showFields}
+
+-- the member at i, and those behind it
+module _ {A : Type 0} (s : List A) (i : ℕ) (d : A) (l : i < length s) where
+  here : drop i s ≡ getD s i d ∷ drop (i + 1) s
+  here = rw (add-one, drop-cons s i d l)
+
+  here-of : (n : ℕ) → i < n → drop i (take n s) ≡ getD s i d ∷ drop (i + 1) (take n s)
+  here-of n h =
+      let k : i < length (take n s) = omega (arith, length-take n s) in
+      rw (add-one, drop-cons (take n s) i d k, getD-take n s i d h)
+
+no-more : {A : Type 0} (s : List A) (n i : ℕ) → min n (length s) ≤ i → drop i (take n s) ≡ []
+no-more s n i h = drop-of-length-le (take n s) {i = i} (omega (arith, length-take n s))
+
+-- ---- the terms of a field
+
+module _ (run : Run) (st : Fillings) (s₀ : Shown) (n : ℕ) (ts us : List Term) (w : ℕ) where
+  abbrev pub Terms : ℕ → Shown → Type 0
+  Terms i s = (length ts ≡ w) × (length us ≡ w) × (showTerms run st s₀ (take n ts) us ≡ showTerms run st s (drop i (take n ts)) (drop i us))
+
+  module _ (i : ℕ) (s : Shown) (v : Terms i s) where
+    pub terms-one : (y : Shown) (d e : Term) (a : Term) → i < min n w → a ≡ look st (getD us i e) → y ≡ showTerm run s (getD ts i d) a → Terms (i + 1) y
+    terms-one y d e a h is-a is-y =
+        let p = here-of ts i d (omega (arith, v .0)) n (omega arith) in
+        let q = here us i e (omega (arith, v .1)) in
+        let z : y ≡ showTerm run s (getD ts i d) (look st (getD us i e)) = is-y ∙ ap (showTerm run s (getD ts i d)) is-a in
+        (v .0, v .1, v .2 ∙ ap₂ (showTerms run st s) p q ∙ ap (λ (x : Shown). showTerms run st x (drop (i + 1) (take n ts)) (drop (i + 1) us)) (sym z))
+
+    pub terms-all : min n w ≤ i → s ≡ showTerms run st s₀ (take n ts) us
+    terms-all h = sym (v .2 ∙ ap (λ (l : List Term). showTerms run st s l (drop i us)) (no-more ts n i (omega (arith, v .0))))
+
+-- ---- the fields of a rule
+
+module _ (st : Fillings) (n : ℕ) (fs gs : List Field) (ws : List Wide) (w : ℕ) where
+  abbrev pub Fields : ℕ → Shown → Type 0
+  Fields j s =
+      (length fs ≡ w) × (length gs ≡ w) × (length ws ≡ w)
+      × (showFields st 0 blankShown (take n fs) gs ws ≡ showFields st j s (drop j (take n fs)) (drop j gs) (drop j ws))
+
+  module _ (j : ℕ) (s : Shown) (v : Fields j s) where
+    pub fields-one : (y : Shown) (d e : Field) (c : Wide) (r : Run) → j < min n w → r ≡ runAt j (getD gs j e) (getD ws j c) → y ≡ showField r st s (getD fs j d) (getD gs j e) → Fields (j + 1) y
+    fields-one y d e c r h is-r is-y =
+        let f = getD fs j d in
+        let g = getD gs j e in
+        let x = getD ws j c in
+        let p = here-of fs j d (omega (arith, v .0)) n (omega arith) in
+        let q = here gs j e (omega (arith, v .1)) in
+        let o = here ws j c (omega (arith, v .2)) in
+        let z : y ≡ showField (runAt j g x) st s f g = is-y ∙ ap (λ (k : Run). showField k st s f g) is-r in (
+          v .0,
+          v .1,
+          v .2,
+          v .3
+              ∙ ap (λ (l : List Field). showFields st j s l (drop j gs) (drop j ws)) p
+              ∙ ap₂ (showFields st j s (f ∷ drop (j + 1) (take n fs))) q o
+              ∙ ap (λ (k : Shown). showFields st (j + 1) k (drop (j + 1) (take n fs)) (drop (j + 1) gs) (drop (j + 1) ws)) (sym z),
+        )
+
+    pub fields-all : min n w ≤ j → s ≡ showFields st 0 blankShown (take n fs) gs ws
+    fields-all h = sym (v .3 ∙ ap (λ (l : List Field). showFields st j s l (drop j gs) (drop j ws)) (no-more fs n j (omega (arith, v .0))))

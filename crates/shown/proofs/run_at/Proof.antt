@@ -1,0 +1,16 @@
+-- `shown::run_at` meets its contract. Assumes nothing.
+use borrow.Author.Needs.{needs}
+use Rattle.shown.proofs.run_at.Statement.{statement}
+use Rattle.shown.proofs.run_at.Tie as tie
+
+shape-of-requires : tie.Need-shape-of-requires
+shape-of-requires c κs = search needs
+
+between-requires : tie.Need-between-requires
+between-requires c κs = search needs
+
+returns : tie.Need-returns
+returns c = rw (c .between .ensures, c .before .shape-of .ensures)
+
+pub run-at-spec : {M : Type 1} → statement M
+run-at-spec = tie.close (tie.spec shape-of-requires between-requires returns)

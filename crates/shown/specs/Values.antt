@@ -1,0 +1,76 @@
+-- The values of a rule's variables on an entry, as code collects them, term by term.
+-- `known-agree`, `atoms-agree` and `lists-agree` of proofs/Agree say that they are those that the entry's line shows.
+use mathlib.Core.Bool.{true, cond}
+use mathlib.Core.List.{List, [], _∷_}
+use Prim.Native.Nat.{ℕ, _+_, _-_}
+use lib.Dec.{leb}
+use lib.ListN.{set, take}
+use Rattle.order.specs.Order.{basic, list}
+use Rattle.order.specs.Types.{Kind}
+use Rattle.order.specs.Values.{kindOf}
+use Rattle.terms.specs.declared.Form.{Form}
+use Rattle.terms.specs.declared.Form.the-variants.{Int, Str, Var}
+use Rattle.terms.specs.declared.Term.{Term}
+use Rattle.terms.specs.declared.Field.{Field}
+use Rattle.terms.specs.declared.Rule.{Rule}
+use Rattle.sides.specs.Sides.{numbersOfSide}
+use Rattle.rows.specs.Rows.{termsOf, shapeValue}
+use Rattle.fillings.specs.declared.Fillings.{Fillings}
+use Rattle.fillings.specs.States.{look}
+use Rattle.entries.specs.declared.Wide.{Wide}
+use Rattle.entries.specs.declared.Entry.{Entry}
+use Rattle.shown.specs.declared.Run.{Run}
+use Rattle.shown.specs.declared.Shown.{Shown}
+use Rattle.shown.specs.Shown.{blankShown, placeIn}
+
+-- ---- one variable
+
+abbrev pub withAtom : Shown → Kind → ℕ → Term → Shown
+withAtom s k n value = record { known = set (s .known) (placeIn k n) true; atoms = set (s .atoms) (placeIn k n) value; runs = s .runs }
+
+abbrev pub withRun : Shown → ℕ → Run → Shown
+withRun s n run = record { known = set (s .known) (placeIn list n) true; atoms = s .atoms; runs = set (s .runs) n run }
+
+abbrev pub ofKind : Shown → Kind → ℕ → Run → Term → Shown
+ofKind s (basic k) n run value = withAtom s (basic k) n value
+ofKind s list n run value = withRun s n run
+
+-- document 01: "a number 0 to 15"; another has no place
+abbrev pub withVariable : Shown → Kind → ℕ → Run → Term → Shown
+withVariable s k n run value = cond (leb numbersOfSide n) s (ofKind s k n run value)
+
+-- ---- one term: of a list variable the run is its value, of an atom variable what its place in the state has
+
+abbrev pub showForm : Run → Shown → Form → Term → Shown
+showForm run s (Int m) value = s
+showForm run s (Str m) value = s
+showForm run s (Var k n) value = withVariable s (kindOf k) n run value
+
+abbrev pub showTerm : Run → Shown → Term → Term → Shown
+showTerm run s t value = showForm run s (t .form) value
+
+-- ---- a field's terms ts from the left; us are the same terms as they stand in the pair
+
+abbrev pub showTerms : Run → Fillings → Shown → List Term → List Term → Shown
+showTerms run st s [] us = s
+showTerms run st s (t ∷ ts) [] = s
+showTerms run st s (t ∷ ts) (u ∷ us) = showTerms run st (showTerm run s t (look st u)) ts us
+
+abbrev pub showField : Run → Fillings → Shown → Field → Field → Shown
+showField run st s f g = showTerms run st s (termsOf f) (g .terms)
+
+-- the items of the entry's field w, which is its field j, between those of the atoms before and behind the list variable of f
+abbrev pub runAt : ℕ → Field → Wide → Run
+runAt j f w = record { field = j; start = (shapeValue (termsOf f)) .head; count = w .n - ((shapeValue (termsOf f)) .head + (shapeValue (termsOf f)) .tail) }
+
+-- ---- the fields from field j on
+
+abbrev pub showFields : Fillings → ℕ → Shown → List Field → List Field → List Wide → Shown
+showFields st j s [] gs ws = s
+showFields st j s (f ∷ fs) [] ws = s
+showFields st j s (f ∷ fs) (g ∷ gs) [] = s
+showFields st j s (f ∷ fs) (g ∷ gs) (w ∷ ws) = showFields st (j + 1) (showField (runAt j g w) st s f g) fs gs ws
+
+-- THE VALUES
+abbrev pub shownValue : Rule → Rule → Entry → Fillings → Shown
+shownValue r sided e st = showFields st 0 blankShown (take (r .n) (r .fields)) (sided .fields) (e .fields)

@@ -1,0 +1,168 @@
+// The values of one rule's variables on an entry of the overlap list, as the line writer takes them.
+ghost use mathlib.Core.Path.{_≡_};
+ghost use mathlib.Core.Bool.{false};
+ghost use Prim.Native.Nat.{_+_, _-_, _<_, min};
+ghost use Rattle.order.specs.Values.{kindOf};
+ghost use Rattle.rows.specs.Rows.{isList};
+ghost use Rattle.shown.specs.Shown.{blankShown};
+ghost use Rattle.shown.specs.Values.{runAt, withAtom, withRun, withVariable, showTerm, showField, shownValue};
+use entries::Entry;
+use entries::Wide;
+use fillings::Fillings;
+use order::Kind;
+use terms::Field;
+use terms::Form;
+use terms::Rule;
+use terms::Term;
+
+// A list variable's value: a run of the terms of one of the entry's fields.
+pub struct Run {
+    pub field: usize,
+    pub start: usize,
+    pub count: usize,
+}
+
+// The values of a rule's variables on an entry, before the renumbering, and which variables the rule has: 16 places each for integer, string, atom and list variables.
+pub struct Shown {
+    pub known: [bool; 64],
+    pub atoms: [Term; 48],
+    pub runs: [Run; 16],
+}
+
+// The values of a rule that has no variables.
+pub fn blank_shown() -> Shown
+    ensures { λ r. ⌜ r ≡ blankShown ⌝ }
+{
+    let t = terms::blank_term();
+    let r = Run {
+        field: 0,
+        start: 0,
+        count: 0,
+    };
+    Shown {
+        known: [false; 64],
+        atoms: [t; 48],
+        runs: [r; 16],
+    }
+}
+
+fn at_most(n: usize, places: usize) -> usize
+    ensures { λ r. ⌜ r ≡ min n places ⌝ }
+{
+    if n < places { n } else { places }
+}
+
+fn is_list(k: Kind) -> bool
+    ensures { λ r. ⌜ r ≡ isList (kindOf k) ⌝ }
+{
+    match k {
+        Kind::Integer => false,
+        Kind::String => false,
+        Kind::Atom => false,
+        Kind::List => true,
+    }
+}
+
+// How many are left of n behind the first a and before the last b.
+fn between(n: usize, a: usize, b: usize) -> usize
+    ensures { λ r. ⌜ r ≡ n - (a + b) ⌝ }
+{
+    if n <= a {
+        return 0;
+    }
+    if n - a <= b {
+        return 0;
+    }
+    n - a - b
+}
+
+// The items of the entry's field j between those that the atoms of the rule's field f take.
+fn run_at(j: usize, f: Field, w: Wide) -> Run
+    ensures { λ r. ⌜ r ≡ runAt j f w ⌝ }
+{
+    let s = rows::shape_of(f);
+    let n = between(w.n, s.head, s.tail);
+    Run {
+        field: j,
+        start: s.head,
+        count: n,
+    }
+}
+
+// The atom variable of type k and number n has this value.
+fn with_atom(s: Shown, k: Kind, n: usize, value: Term) -> Shown
+    requires { ⌜ (n < 16) × (isList (kindOf k) ≡ false) ⌝ }
+    ensures { λ r. ⌜ r ≡ withAtom s (kindOf k) n value ⌝ }
+{
+    let i = 16 * order::rank(k) + n;
+    let mut x = s;
+    x.known[i] = true;
+    x.atoms[i] = value;
+    x
+}
+
+// The list variable of number n has this run.
+fn with_run(s: Shown, n: usize, run: Run) -> Shown
+    requires { ⌜ n < 16 ⌝ }
+    ensures { λ r. ⌜ r ≡ withRun s n run ⌝ }
+{
+    let mut x = s;
+    x.known[48 + n] = true;
+    x.runs[n] = run;
+    x
+}
+
+// A number over 15, which no reading returns, has no place.
+fn with_variable(s: Shown, k: Kind, n: u8, run: Run, value: Term) -> Shown
+    ensures { λ r. ⌜ r ≡ withVariable s (kindOf k) n run value ⌝ }
+{
+    if 16 <= n {
+        return s;
+    }
+    if is_list(k) {
+        return with_run(s, n as usize, run);
+    }
+    with_atom(s, k, n as usize, value)
+}
+
+// The term t of the rule: a list variable has this run, an atom variable this value.
+fn show_term(s: Shown, t: Term, run: Run, value: Term) -> Shown
+    ensures { λ r. ⌜ r ≡ showTerm run s t value ⌝ }
+{
+    let form = t.form;
+    match form {
+        Form::Int(_) => s,
+        Form::Str(_) => s,
+        Form::Var(k, n) => with_variable(s, k, n, run, value),
+    }
+}
+
+// The terms of the rule's field f; g is the same field as it stands in the pair.
+fn show_field(s: Shown, f: Field, g: Field, run: Run, st: Fillings) -> Shown
+    ensures { λ r. ⌜ r ≡ showField run st s f g ⌝ }
+{
+    let n = at_most(f.n, 16);
+    let mut x = s;
+    let mut i: usize = 0;
+    while i < n {
+        x = show_term(x, f.terms[i], run, st.atom(g.terms[i]));
+        i += 1;
+    }
+    x
+}
+
+// The values on the entry e of the variables of a rule; `sided` is the same rule as it stands in the pair.
+pub fn shown_of(rule: Rule, sided: Rule, e: Entry, st: Fillings) -> Shown
+    ensures { λ r. ⌜ r ≡ shownValue rule sided e st ⌝ }
+{
+    let n = at_most(rule.n, 4);
+    let mut x = blank_shown();
+    let mut j: usize = 0;
+    while j < n {
+        let g = sided.fields[j];
+        let run = run_at(j, g, e.fields[j]);
+        x = show_field(x, rule.fields[j], g, run, st);
+        j += 1;
+    }
+    x
+}

@@ -1,0 +1,34 @@
+-- The right rule of a pair as a value. `right-encoded` of proofs/Sides says that it is the value of the rule with `sideTerm right`.
+use mathlib.Core.Bool.{cond}
+use mathlib.Core.List.{map}
+use Prim.Native.Nat.{ℕ}
+use lib.Dec.{leb}
+use Rattle.order.specs.Order.{basic, list}
+use Rattle.order.specs.Types.{Kind}
+use Rattle.order.specs.Values.{kindOf}
+use Rattle.terms.specs.declared.Form.{Form}
+use Rattle.terms.specs.declared.Form.the-variants.{Int, Str, Var}
+use Rattle.terms.specs.declared.Term.{Term}
+use Rattle.terms.specs.declared.Field.{Field}
+use Rattle.terms.specs.declared.Rule.{Rule}
+use Rattle.unifiers.specs.Shapes.{right}
+use Rattle.sides.specs.Sides.{numbersOfSide, sided}
+
+-- a number that is beyond those of a side, which no reading returns, stays as it is
+abbrev pub rightNumber : Kind → ℕ → ℕ
+rightNumber (basic k) n = cond (leb numbersOfSide n) n (sided right n)
+rightNumber list n = n
+
+abbrev pub rightForm : Form → Form
+rightForm (Int m) = Int m
+rightForm (Str k) = Str k
+rightForm (Var k n) = Var k (rightNumber (kindOf k) n)
+
+abbrev pub rightTerm : Term → Term
+rightTerm t = record { form = rightForm (t .form); text = t .text }
+
+abbrev pub rightField : Field → Field
+rightField f = record { n = f .n; terms = map rightTerm (f .terms) }
+
+abbrev pub rightRule : Rule → Rule
+rightRule r = record { n = r .n; fields = map rightField (r .fields) }
