@@ -6,7 +6,7 @@ use Rattle.text.specs.Terms.{OurTerm}
 use Rattle.text.specs.Plain.{plain}
 use Rattle.text.specs.Limits.{IsRule}
 use Rattle.text.specs.Read as read
-use Rattle.text.specs.Read.{Outcome, refused, accepted, number, readRule, readSlip}
+use Rattle.text.specs.Read.{Outcome, refused, accepted, readRule, readSlip}
 use Rattle.text.proofs.Accepted.{rule-read}
 use Rattle.terms.specs.Values.{encodeRule}
 use Rattle.accepted.specs.Accepted.{countedRule}
@@ -16,7 +16,8 @@ use Rattle.reading.specs.declared.Verdict.{Verdict}
 use Rattle.reading.specs.declared.Verdict.the-variants.{Accepted, Refused}
 use Rattle.reading.specs.declared.RuleRead.{RuleRead}
 use Rattle.reading.specs.declared.SlipRead.{SlipRead}
-use Rattle.reading.specs.Answers.{reasonFrom, numberOf, ruleRead, slipRead}
+use Rattle.reading.specs.Answers.{reasonFrom, ruleRead, slipRead}
+use Rattle.reading.proofs.Verdicts.{number-is}
 use Rattle.text.specs.Ascii.{ascii, newline}
 use Rattle.answers.specs.Texts.{refusalText, ruleText, slipText, ruleAnswer, slipAnswer}
 use Rattle.answers.specs.Verdicts.{refusedText, verdictText, ruleSaid}
@@ -30,16 +31,7 @@ module _ (v : Verdict) (t : List ℕ) where
   pub text-refused : (r : Reason) (p : ℕ) → v ≡ Refused r p → verdictText v t ≡ refusedText r p
   text-refused r p e = rw e
 
--- ---- the value of a reason has the same number
-
-number-is : (r : read.Reason) → numberOf (reasonFrom r) ≡ number r
-number-is read.long = refl
-number-is read.grammar = refl
-number-is read.fields = refl
-number-is read.terms = refl
-number-is read.limits = refl
-number-is read.linear = refl
-number-is read.variable = refl
+-- ---- a refusal
 
 refused-is : (r : read.Reason) (p : ℕ) → refusedText (reasonFrom r) p ≡ refusalText r p
 refused-is r p = rw number-is

@@ -1,14 +1,10 @@
 -- What `texts` prints for one line: how the line is read as a rule, and how as a slip.
 use mathlib.Core.List.{List, _++_}
 use Prim.Native.Nat.{ℕ}
-use Rattle.text.specs.Numbers.{digitsOf}
 use Rattle.text.specs.Plain.{plain}
 use Rattle.text.specs.Read.{Reason, number, Outcome, refused, accepted, readRule, readSlip}
 use Rattle.text.specs.Ascii.{ascii, newline}
-
--- a refusal's number and its place, "counted from 0", both decimal
-abbrev pub numberAt : ℕ → ℕ → List ℕ
-numberAt n p = digitsOf n ++ ascii " at " ++ digitsOf p
+use Rattle.pieces.specs.Refusals.{numberAt}
 
 abbrev pub refusalText : Reason → ℕ → List ℕ
 refusalText r p = ascii "refused " ++ numberAt (number r) p

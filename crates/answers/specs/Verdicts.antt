@@ -9,7 +9,7 @@ use Rattle.reading.specs.declared.Reason.{Reason}
 use Rattle.reading.specs.declared.RuleRead.{RuleRead}
 use Rattle.reading.specs.Answers.{numberOf}
 use Rattle.text.specs.Ascii.{ascii}
-use Rattle.answers.specs.Texts.{numberAt}
+use Rattle.pieces.specs.Refusals.{numberAt}
 
 abbrev pub refusedText : Reason → ℕ → List ℕ
 refusedText r p = ascii "refused " ++ numberAt (numberOf r) p

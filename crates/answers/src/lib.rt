@@ -2,14 +2,12 @@
 // The text is put together in room that is known to be enough, piece behind piece, and then given whole or not at all.
 ghost use mathlib.Core.Path.{_≡_};
 ghost use lib.ListN.{length};
-ghost use Rattle.text.specs.Numbers.{digitsOf};
 ghost use Rattle.text.specs.Plain.{plain};
 ghost use Rattle.accepted.specs.Accepted.{countedRule};
-ghost use Rattle.writing.specs.Room.{Room, Put};
 ghost use Rattle.writing.specs.Answers.{writtenOf, after};
 ghost use Rattle.text.specs.Ascii.{ascii, newline};
-ghost use Rattle.answers.specs.Sizes.{sizeOf};
-ghost use Rattle.answers.specs.Texts.{numberAt, ruleAnswer, slipAnswer, textsAnswer};
+ghost use Rattle.pieces.specs.Placed.{Placed};
+ghost use Rattle.answers.specs.Texts.{ruleAnswer, slipAnswer, textsAnswer};
 ghost use Rattle.answers.specs.Verdicts.{refusedText, verdictText, ruleSaid};
 use reading::Reason;
 use reading::RuleRead;
@@ -19,80 +17,33 @@ use writing::Written;
 
 // ---- pieces: each is put at a place of the room, and returns the place behind it
 
-// How many bytes a writer's answer speaks of.
-fn size_of(w: Written) -> usize
-    ensures { λ r. ⌜ r ≡ sizeOf w ⌝ }
-{
-    match w {
-        Written::Bytes(n) => n,
-        Written::TooSmall(n) => n,
-    }
-}
-
-fn put_bytes(text: &[u8], out: &mut [u8], at: usize) -> usize
-    requires { ⌜ Room (now text) at (now out) ⌝ }
-    ensures { λ r. ⌜ Put (now (text .entry)) at (now (out .entry)) r (now (out .exit)) ⌝ }
-{
-    at + bytes::copy(text, &mut out[at..])
-}
-
 fn put_newline(out: &mut [u8], at: usize) -> usize
-    requires { ⌜ Room newline at (now out) ⌝ }
-    ensures { λ r. ⌜ Put newline at (now (out .entry)) r (now (out .exit)) ⌝ }
+    ensures { λ r. ⌜ Placed newline at (now (out .entry)) r (now (out .exit)) ⌝ }
 {
-    put_bytes(b"\n", out, at)
+    pieces::put_bytes(b"\n", out, at)
 }
 
-fn put_number(n: u64, out: &mut [u8], at: usize) -> usize
-    requires { ⌜ Room (digitsOf n) at (now out) ⌝ }
-    ensures { λ r. ⌜ Put (digitsOf n) at (now (out .entry)) r (now (out .exit)) ⌝ }
-{
-    at + size_of(writing::write_number(n, &mut out[at..]))
-}
-
+// A rule's plain text, which has at most 1,151 bytes.
 fn put_rule(r: Rule, out: &mut [u8], at: usize) -> usize
-    requires { ⌜ Room (plain (countedRule r)) at (now out) ⌝ }
-    ensures { λ p. ⌜ Put (plain (countedRule r)) at (now (out .entry)) p (now (out .exit)) ⌝ }
+    ensures { λ p. ⌜ Placed (plain (countedRule r)) at (now (out .entry)) p (now (out .exit)) ⌝ }
 {
-    at + size_of(writing::write_rule(r, &mut out[at..]))
-}
-
-// The text into the lent bytes, or its size where they are too few.
-fn give(text: &[u8], out: &mut [u8]) -> Written
-    ensures { λ w. ⌜ (w ≡ writtenOf (now (text .entry)) (now (out .entry))) × (now (out .exit) ≡ after (now (text .entry)) (now (out .entry))) ⌝ }
-{
-    if out.len() < text.len() {
-        return Written::TooSmall(text.len());
-    }
-    Written::Bytes(bytes::copy(text, out))
-}
-
-// ---- refusals
-
-// A refusal's number and its place.
-fn put_number_at(n: u64, place: u64, out: &mut [u8], at: usize) -> usize
-    requires { ⌜ Room (numberAt n place) at (now out) ⌝ }
-    ensures { λ r. ⌜ Put (numberAt n place) at (now (out .entry)) r (now (out .exit)) ⌝ }
-{
-    let a = put_number(n, out, at);
-    let b = put_bytes(b" at ", out, a);
-    put_number(place, out, b)
+    let mut text = [0u8; 1151];
+    let size = pieces::size_of(writing::write_rule(r, &mut text));
+    pieces::put_bytes(&text[..size], out, at)
 }
 
 fn put_refusal(reason: Reason, place: usize, out: &mut [u8], at: usize) -> usize
-    requires { ⌜ Room (refusedText reason place) at (now out) ⌝ }
-    ensures { λ r. ⌜ Put (refusedText reason place) at (now (out .entry)) r (now (out .exit)) ⌝ }
+    ensures { λ r. ⌜ Placed (refusedText reason place) at (now (out .entry)) r (now (out .exit)) ⌝ }
 {
     let n = reading::number(reason);
-    let a = put_bytes(b"refused ", out, at);
-    put_number_at(n as u64, place as u64, out, a)
+    let a = pieces::put_bytes(b"refused ", out, at);
+    pieces::put_number_at(n as u64, place as u64, out, a)
 }
 
 // ---- `texts`
 
 fn put_rule_read(read: RuleRead, out: &mut [u8], at: usize) -> usize
-    requires { ⌜ Room (ruleSaid read) at (now out) ⌝ }
-    ensures { λ r. ⌜ Put (ruleSaid read) at (now (out .entry)) r (now (out .exit)) ⌝ }
+    ensures { λ r. ⌜ Placed (ruleSaid read) at (now (out .entry)) r (now (out .exit)) ⌝ }
 {
     let verdict = read.verdict;
     let rule = read.rule;
@@ -104,32 +55,29 @@ fn put_rule_read(read: RuleRead, out: &mut [u8], at: usize) -> usize
 
 // A slip that is read is not shown: it can be of four times as many terms as a rule.
 fn put_slip_verdict(verdict: Verdict, out: &mut [u8], at: usize) -> usize
-    requires { ⌜ Room (verdictText verdict (ascii "read")) at (now out) ⌝ }
-    ensures { λ r. ⌜ Put (verdictText verdict (ascii "read")) at (now (out .entry)) r (now (out .exit)) ⌝ }
+    ensures { λ r. ⌜ Placed (verdictText verdict (ascii "read")) at (now (out .entry)) r (now (out .exit)) ⌝ }
 {
     match verdict {
-        Verdict::Accepted => put_bytes(b"read", out, at),
+        Verdict::Accepted => pieces::put_bytes(b"read", out, at),
         Verdict::Refused(reason, place) => put_refusal(reason, place, out, at),
     }
 }
 
 fn put_rule_answer(line: &[u8], out: &mut [u8], at: usize) -> usize
-    requires { ⌜ Room (ruleAnswer (now line)) at (now out) ⌝ }
-    ensures { λ r. ⌜ Put (ruleAnswer (now (line .entry))) at (now (out .entry)) r (now (out .exit)) ⌝ }
+    ensures { λ r. ⌜ Placed (ruleAnswer (now (line .entry))) at (now (out .entry)) r (now (out .exit)) ⌝ }
 {
     let read = reading::read_rule(line);
-    let a = put_bytes(b"rule ", out, at);
+    let a = pieces::put_bytes(b"rule ", out, at);
     let b = put_rule_read(read, out, a);
     put_newline(out, b)
 }
 
 fn put_slip_answer(line: &[u8], out: &mut [u8], at: usize) -> usize
-    requires { ⌜ Room (slipAnswer (now line)) at (now out) ⌝ }
-    ensures { λ r. ⌜ Put (slipAnswer (now (line .entry))) at (now (out .entry)) r (now (out .exit)) ⌝ }
+    ensures { λ r. ⌜ Placed (slipAnswer (now (line .entry))) at (now (out .entry)) r (now (out .exit)) ⌝ }
 {
     let read = reading::read_slip(line);
     let verdict = read.verdict;
-    let a = put_bytes(b"slip ", out, at);
+    let a = pieces::put_bytes(b"slip ", out, at);
     let b = put_slip_verdict(verdict, out, a);
     put_newline(out, b)
 }
@@ -148,5 +96,5 @@ pub fn texts_answer(line: &[u8], out: &mut [u8]) -> Written
     let mut text = room();
     let a = put_rule_answer(line, &mut text, 0);
     let b = put_slip_answer(line, &mut text, a);
-    give(&text[..b], out)
+    pieces::give(&text[..b], out)
 }

@@ -4,3 +4,4 @@ pub mod Walks
 pub mod Agree
 pub mod Found
 pub mod Accept
+pub mod Runs

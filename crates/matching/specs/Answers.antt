@@ -4,7 +4,7 @@ use mathlib.Core.Bool.{Bool, true, false}
 use mathlib.Core.Option.{Option, none, some}
 use mathlib.Core.List.{List, [], _∷_, map}
 use Prim.Native.Nat.{ℕ, zero, suc, _+_, _-_, _/_, _%_}
-use lib.ListN.{length, set, replicate}
+use lib.ListN.{length, getD, set, replicate}
 use Rattle.lists.specs.Seqs.{tabulate}
 use Rattle.order.specs.Order.{basic, list}
 use Rattle.order.specs.Types.{integer, string, atom, Kind}
@@ -19,7 +19,7 @@ use Rattle.matching.specs.declared.Values.{Values}
 use Rattle.matching.specs.declared.Run.{Run}
 use Rattle.matching.specs.declared.Filling.{Filling as FillingValue}
 use Rattle.matching.specs.declared.Match.{Match}
-use Rattle.matching.specs.Tests.{noValues}
+use Rattle.matching.specs.Tests.{noValues, slot}
 
 -- ---- the atom variables
 
@@ -76,3 +76,11 @@ matchOf (f ∷ fs) (w ∷ ws) = found (f ∷ fs) (map constants (w ∷ ws)) (mat
 
 abbrev pub fillingOf : Values → FillingValue
 fillingOf v = record { values = v; runs = replicate 16 blankRun }
+
+-- ---- the values that a filling has, blank where it has none
+
+abbrev pub atomOf : FillingValue → Kind → ℕ → Term
+atomOf x k n = getD (x .values .terms) (slot k n) blankTerm
+
+abbrev pub runOf : FillingValue → ℕ → Run
+runOf x n = getD (x .runs) n blankRun

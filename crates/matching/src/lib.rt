@@ -6,7 +6,7 @@ ghost use lib.ListN.{getD, take};
 ghost use Rattle.order.specs.Values.{kindOf, kindFrom};
 ghost use Rattle.terms.specs.Values.{blankTerm};
 ghost use Rattle.matching.specs.Tests.{sameBytes, sameTerm, itemKind, slot, bound, met, isList, isListTerm, widthOf, tested, walked, shapeWith, shapeOf, fitsLength, fieldTested, termsOf, itemsOf, fieldsTested, noValues, withRun, runsIn, runsAll};
-ghost use Rattle.matching.specs.Answers.{fillingOf, matchOf, noMatch};
+ghost use Rattle.matching.specs.Answers.{fillingOf, matchOf, noMatch, atomOf, runOf};
 ghost use Rattle.accepted.specs.Accepted.{countedRule, countedSlip};
 use order::Kind;
 use terms::Field;
@@ -465,4 +465,28 @@ pub fn match_rule(rule: Rule, slip: Slip) -> Match
         yes: true,
         filling: run_fields(rule, slip, x),
     }
+}
+
+// ---- the values that a filling has
+
+// An atom variable's value, blank where it has none.
+pub fn value_of(x: Filling, k: Kind, n: u8) -> Term
+    ensures { λ t. ⌜ t ≡ atomOf x (kindOf k) n ⌝ }
+{
+    value_at(x.values, slot(k, n))
+}
+
+// A list variable's run, blank where it has none.
+pub fn run_of(x: Filling, n: u8) -> Run
+    ensures { λ r. ⌜ r ≡ runOf x n ⌝ }
+{
+    let place = n as usize;
+    if 16 <= place {
+        return Run {
+            field: 0,
+            start: 0,
+            count: 0,
+        };
+    }
+    x.runs[place]
 }

@@ -14,7 +14,7 @@ use Rattle.text.specs.Machine.{place2}
 use Rattle.text.specs.Marks.{Mark, marks, FifthField, TooMany, MarkOver, Over}
 use Rattle.text.specs.Terms.{OurTerm, fieldsOf}
 use Rattle.text.specs.Walk.{walked}
-use Rattle.text.specs.Read.{Reason, long, grammar, fields, terms, limits, Sort, rule, slip, Refuses, said, placeOf, NoReason, Outcome, refused, accepted, tell, chain, read, readRule, readSlip}
+use Rattle.text.specs.Read.{Reason, long, grammar, fields, terms, limits, linear, variable, number, Sort, rule, slip, Refuses, said, placeOf, NoReason, Outcome, refused, accepted, tell, chain, read, readRule, readSlip}
 use Rattle.text.proofs.Place.{place2-none}
 use Rattle.text.proofs.Walk.{walk-says}
 use Rattle.text.proofs.Leftmost.{none-all}
@@ -32,7 +32,7 @@ use Rattle.reading.specs.declared.Verdict.the-variants.{Accepted, Refuse
 use Rattle.reading.specs.declared.Survey.{Survey}
 use Rattle.reading.specs.Build.{builtRule, builtSlip}
 use Rattle.reading.specs.Refusals.{surveyMark, nothingYet, lastReason, reasons, refusedAt, outcome}
-use Rattle.reading.specs.Answers.{sortOf, reasonFrom, verdictOf, ruleRead, slipRead}
+use Rattle.reading.specs.Answers.{sortOf, reasonFrom, numberOf, verdictOf, ruleRead, slipRead}
 use Rattle.reading.proofs.Build.{Fits, rule-built, slip-built}
 use Rattle.reading.proofs.Refusals.{tellAll, survey-is}
 
@@ -206,3 +206,14 @@ slip-yes t v r e q b = ap₂ (λ (x : Verdict) (y : Slip). record { verdict = x;
 
 pub slip-no : (t : List ℕ) (v : Verdict) (r : Slip) (k : _) (p : ℕ) → v ≡ verdictOf (readSlip t) → v ≡ Refused k p → r ≡ blankSlip → record { verdict = v; slip = r } ≡ slipRead (readSlip t)
 slip-no t v r k p e q b = ap (λ (y : Slip). record { verdict = v; slip = y }) b ∙ sym (slip-refused (readSlip t) v k p e q)
+
+-- ---- the value of a reason has the same number
+
+pub number-is : (r : Reason) → numberOf (reasonFrom r) ≡ number r
+number-is long = refl
+number-is grammar = refl
+number-is fields = refl
+number-is terms = refl
+number-is limits = refl
+number-is linear = refl
+number-is variable = refl

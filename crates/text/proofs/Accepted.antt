@@ -143,7 +143,7 @@ pub rule-ok : (w : ℕ) (r : List (List OurTerm)) → Within w r → RuleOk r
 rule-ok w r h = (h .0, all-map (All TermIn) (All TermOk) (λ f g. all-map TermIn TermOk term-ok f g) r (h .3))
 
 -- the plain text is never too long
-spell-short : (t : OurTerm) → TermIn t → length (spell (rawOf t)) ≤ 17
+pub spell-short : (t : OurTerm) → TermIn t → length (spell (rawOf t)) ≤ 17
 spell-short (con (int n)) h = omega (arith, digits-ten n h)
 spell-short (con (str s)) h = omega (arith, h .1, length-append s (34 ∷ []))
 spell-short (var k n) h = omega (arith, digits-ten n (omega arith))
@@ -152,7 +152,7 @@ colons-short : (ts : List OurTerm) → All TermIn ts → length (colons (map raw
 colons-short [] h = omega arith
 colons-short (t ∷ ts) h = omega (arith, length-append (spell (rawOf t)) (colons (map rawOf ts)), spell-short t (h .0), colons-short ts (h .1))
 
-field-length : (w : ℕ) (f : List OurTerm) → length f ≤ suc w → All TermIn f → suc (length (spellF (rawField f))) ≤ 18 * suc w
+pub field-length : (w : ℕ) (f : List OurTerm) → length f ≤ suc w → All TermIn f → suc (length (spellF (rawField f))) ≤ 18 * suc w
 field-length w [] l h = omega arith
 field-length w (t ∷ ts) l h = omega (arith, length-append (spell (rawOf t)) (colons (map rawOf ts)), spell-short t (h .0), colons-short ts (h .1))
 

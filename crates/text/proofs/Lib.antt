@@ -5,6 +5,7 @@ pub mod Leftmost
 pub mod Marks
 pub mod Read
 pub mod Sharp
+pub mod Refused
 pub mod Plain
 pub mod Fields
 pub mod Accepted

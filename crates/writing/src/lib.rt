@@ -223,6 +223,18 @@ pub fn write_field(f: Field, out: &mut [u8]) -> Written
     write_rule(terms::one_field(f), out)
 }
 
+// A term's text, which has at most 17 bytes.
+pub fn write_term(t: Term, out: &mut [u8]) -> Written
+    ensures { λ w. ⌜ (w ≡ writtenOf (termText (viewTerm t)) (now (out .entry))) × (now (out .exit) ≡ after (termText (viewTerm t)) (now (out .entry))) ⌝ }
+    ensures { λ _. ⌜ length (termText (viewTerm t)) ≤ 17 ⌝ }
+{
+    let long = term_size(t);
+    if out.len() < long {
+        return Written::TooSmall(long);
+    }
+    Written::Bytes(put_term(t, out, 0))
+}
+
 // A number's digits, without leading zeros.
 pub fn write_number(n: u64, out: &mut [u8]) -> Written
     ensures { λ w. ⌜ (w ≡ writtenOf (digitsOf n) (now (out .entry))) × (now (out .exit) ≡ after (digitsOf n) (now (out .entry))) ⌝ }

@@ -3,10 +3,9 @@ use mathlib.Core.Path.{sym, ap}
 use mathlib.Core.List.{_++_}
 use Prim.Native.Nat.{ℕ}
 use borrow.Author.Needs.{needs}
-use Rattle.writing.proofs.Stores.{put-as}
 use Rattle.text.specs.Ascii.{ascii}
-use Rattle.answers.specs.Texts.{numberAt}
-use Rattle.answers.proofs.Pieces.{room-as, room-next, put-next}
+use Rattle.pieces.specs.Refusals.{numberAt}
+use Rattle.pieces.proofs.Pieces.{placed-next, placed-as}
 use Rattle.answers.proofs.put_refusal.Statement.{statement}
 use Rattle.answers.proofs.put_refusal.Tie as tie
 
@@ -23,19 +22,16 @@ cast-put-number-at : tie.Need-cast-put-number-at
 cast-put-number-at c = search needs
 
 put-number-at-requires : tie.Need-put-number-at-requires
-put-number-at-requires c κs =
-    let z = c .before .before .before .before .before .before .before .before in
-    let n = c .before .before .before .before .before .before .number in
-    room-next (ascii "refused ") (numberAt (n .result) (z .args .place)) (z .args .out .now) (z .args .at) (room-as (z .args .out .now) (z .args .at) (ap (λ (n : ℕ). ascii "refused " ++ numberAt n (z .args .place)) (sym (n .ensures))) (z .pre)) (c .before .before .before .put-bytes .ensures)
+put-number-at-requires c κs = search needs
 
 same-length : tie.Need-same-length
 same-length c = search needs
 
 returns : tie.Need-returns
 returns c =
-    let z = c .before .before .before .before .before .before .before .before .before .before .before in
+    let z = c .before .before .before .before .before .before .before .before .before .before .before .args in
     let n = c .before .before .before .before .before .before .before .before .before .number in
-    put-as (z .args .out .now) (z .args .at) (ap (λ (n : ℕ). ascii "refused " ++ numberAt n (z .args .place)) (sym (n .ensures))) (put-next (ascii "refused ") (numberAt (n .result) (z .args .place)) (z .args .out .now) (z .args .at) (c .before .before .before .before .before .before .put-bytes .ensures) (c .before .before .put-number-at .ensures))
+    placed-as (z .at) (z .out .now) (ap (λ (n : ℕ). ascii "refused " ++ numberAt n (z .place)) (sym (n .ensures))) (placed-next (ascii "refused ") (numberAt (n .result) (z .place)) (z .at) (z .out .now) (c .before .before .before .before .before .before .put-bytes .ensures) (c .before .before .put-number-at .ensures))
 
 pub put-refusal-spec : {M : Type 1} → statement M
 put-refusal-spec =

@@ -2,8 +2,7 @@
 use borrow.Author.Needs.{needs}
 use Rattle.text.specs.Plain.{plain}
 use Rattle.accepted.specs.Accepted.{countedRule}
-use Rattle.writing.proofs.Stores.{put-as}
-use Rattle.answers.proofs.Pieces.{room-as}
+use Rattle.pieces.proofs.Pieces.{placed-as}
 use Rattle.answers.proofs.Verdicts.{text-accepted, text-refused}
 use Rattle.answers.proofs.put_rule_read.Statement.{statement}
 use Rattle.answers.proofs.put_rule_read.Tie as tie
@@ -12,33 +11,29 @@ enum-told : tie.Need-enum-told
 enum-told c = search needs
 
 put-rule-requires : tie.Need-put-rule-requires
-put-rule-requires c κs =
-    let z = c .before .before .before .before .before in
-    room-as (z .args .out .now) (z .args .at) (text-accepted (z .args .read .verdict) (plain (countedRule (z .args .read .rule))) (c .before .enum-told .given .1)) (z .pre)
+put-rule-requires c κs = search needs
 
 enum-known-verdict : tie.Need-enum-known-verdict
 enum-known-verdict c = search needs
 
 put-refusal-requires : tie.Need-put-refusal-requires
-put-refusal-requires c κs =
-    let z = c .before .before .before .before .before .before in
-    room-as (z .args .out .now) (z .args .at) (text-refused (z .args .read .verdict) (plain (countedRule (z .args .read .rule))) _ _ (c .before .before .verdict .given .1)) (z .pre)
+put-refusal-requires c κs = search needs
 
 same-length : tie.Need-same-length
 same-length c = search needs
 
 returns : tie.Need-returns
 returns c =
-    let z = c .before .before .before .before .before .before .before .before in
-    put-as (z .args .out .now) (z .args .at) (text-accepted (z .args .read .verdict) (plain (countedRule (z .args .read .rule))) (c .before .before .before .before .enum-told .given .1)) (c .before .before .put-rule .ensures)
+    let z = c .before .before .before .before .before .before .before .before .args in
+    placed-as (z .at) (z .out .now) (text-accepted (z .read .verdict) (plain (countedRule (z .read .rule))) (c .before .before .before .before .enum-told .given .1)) (c .before .before .put-rule .ensures)
 
 same-length-2 : tie.Need-same-length-2
 same-length-2 c = search needs
 
 returns-2 : tie.Need-returns-2
 returns-2 c =
-    let z = c .before .before .before .before .before .before .before .before .before in
-    put-as (z .args .out .now) (z .args .at) (text-refused (z .args .read .verdict) (plain (countedRule (z .args .read .rule))) _ _ (c .before .before .before .before .before .verdict .given .1)) (c .before .before .put-refusal .ensures)
+    let z = c .before .before .before .before .before .before .before .before .before .args in
+    placed-as (z .at) (z .out .now) (text-refused (z .read .verdict) (plain (countedRule (z .read .rule))) _ _ (c .before .before .before .before .before .verdict .given .1)) (c .before .before .put-refusal .ensures)
 
 pub put-rule-read-spec : {M : Type 1} → statement M
 put-rule-read-spec =

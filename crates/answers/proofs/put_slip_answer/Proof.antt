@@ -1,9 +1,8 @@
 -- `answers::put_slip_answer` meets its contract: three pieces. Assumes nothing.
 use borrow.Author.Needs.{needs}
-use Rattle.writing.proofs.Stores.{put-as}
 use Rattle.text.specs.Ascii.{ascii, newline}
+use Rattle.pieces.proofs.Pieces.{placed-three, placed-as}
 use Rattle.answers.specs.Verdicts.{verdictText}
-use Rattle.answers.proofs.Pieces.{room-as, room-first-3, room-second, room-third, put-three}
 use Rattle.answers.proofs.Verdicts.{slip-pieces}
 use Rattle.answers.proofs.put_slip_answer.Statement.{statement}
 use Rattle.answers.proofs.put_slip_answer.Tie as tie
@@ -15,31 +14,22 @@ slice-aggregate-put-bytes : tie.Need-slice-aggregate-put-bytes
 slice-aggregate-put-bytes c = search needs
 
 put-bytes-requires : tie.Need-put-bytes-requires
-put-bytes-requires c κs =
-    let z = c .before .before .before .before .before in
-    let R = c .before .before .read-slip in
-    room-first-3 (ascii "slip ") (verdictText (R .result .verdict) (ascii "read")) newline (z .args .out .now) (z .args .at) (room-as (z .args .out .now) (z .args .at) (slip-pieces (z .args .line .now) (R .result) (R .ensures)) (z .pre))
+put-bytes-requires c κs = search needs
 
 put-slip-verdict-requires : tie.Need-put-slip-verdict-requires
-put-slip-verdict-requires c κs =
-    let z = c .before .before .before .before .before .before .before .before .before in
-    let R = c .before .before .before .before .before .before .read-slip in
-    room-second (ascii "slip ") (verdictText (R .result .verdict) (ascii "read")) newline (z .args .out .now) (z .args .at) (room-as (z .args .out .now) (z .args .at) (slip-pieces (z .args .line .now) (R .result) (R .ensures)) (z .pre)) (c .before .before .before .put-bytes .ensures)
+put-slip-verdict-requires c κs = search needs
 
 put-newline-requires : tie.Need-put-newline-requires
-put-newline-requires c κs =
-    let z = c .before .before .before .before .before .before .before .before .before .before .before .before .before in
-    let R = c .before .before .before .before .before .before .before .before .before .before .read-slip in
-    room-third (ascii "slip ") (verdictText (R .result .verdict) (ascii "read")) newline (z .args .out .now) (z .args .at) (room-as (z .args .out .now) (z .args .at) (slip-pieces (z .args .line .now) (R .result) (R .ensures)) (z .pre)) (c .before .before .before .before .before .before .before .put-bytes .ensures) (c .before .before .before .put-slip-verdict .ensures)
+put-newline-requires c κs = search needs
 
 same-length : tie.Need-same-length
 same-length c = search needs
 
 returns : tie.Need-returns
 returns c =
-    let z = c .before .before .before .before .before .before .before .before .before .before .before .before .before .before .before .before in
+    let z = c .before .before .before .before .before .before .before .before .before .before .before .before .before .before .before .before .args in
     let R = c .before .before .before .before .before .before .before .before .before .before .before .before .before .read-slip in
-    put-as (z .args .out .now) (z .args .at) (slip-pieces (z .args .line .now) (R .result) (R .ensures)) (put-three (ascii "slip ") (verdictText (R .result .verdict) (ascii "read")) newline (z .args .out .now) (z .args .at) (c .before .before .before .before .before .before .before .before .before .before .put-bytes .ensures) (c .before .before .before .before .before .before .put-slip-verdict .ensures) (c .before .before .put-newline .ensures))
+    placed-as (z .at) (z .out .now) (slip-pieces (z .line .now) (R .result) (R .ensures)) (placed-three (ascii "slip ") (verdictText (R .result .verdict) (ascii "read")) newline (z .at) (z .out .now) (c .before .before .before .before .before .before .before .before .before .before .put-bytes .ensures) (c .before .before .before .before .before .before .put-slip-verdict .ensures) (c .before .before .put-newline .ensures))
 
 pub put-slip-answer-spec : {M : Type 1} → statement M
 put-slip-answer-spec =

@@ -1,8 +1,7 @@
 -- `answers::put_slip_verdict` meets its contract: by the verdict. Assumes nothing.
 use borrow.Author.Needs.{needs}
-use Rattle.writing.proofs.Stores.{put-as}
 use Rattle.text.specs.Ascii.{ascii}
-use Rattle.answers.proofs.Pieces.{room-as}
+use Rattle.pieces.proofs.Pieces.{placed-as}
 use Rattle.answers.proofs.Verdicts.{text-accepted, text-refused}
 use Rattle.answers.proofs.put_slip_verdict.Statement.{statement}
 use Rattle.answers.proofs.put_slip_verdict.Tie as tie
@@ -14,33 +13,29 @@ slice-aggregate-put-bytes : tie.Need-slice-aggregate-put-bytes
 slice-aggregate-put-bytes c = search needs
 
 put-bytes-requires : tie.Need-put-bytes-requires
-put-bytes-requires c κs =
-    let z = c .before .before .before .before .before in
-    room-as (z .args .out .now) (z .args .at) (text-accepted (z .args .verdict) (ascii "read") (c .before .before .enum-told .given .1)) (z .pre)
+put-bytes-requires c κs = search needs
 
 enum-known-verdict : tie.Need-enum-known-verdict
 enum-known-verdict c = search needs
 
 put-refusal-requires : tie.Need-put-refusal-requires
-put-refusal-requires c κs =
-    let z = c .before .before .before .before .before in
-    room-as (z .args .out .now) (z .args .at) (text-refused (z .args .verdict) (ascii "read") _ _ (c .before .before .verdict .given .1)) (z .pre)
+put-refusal-requires c κs = search needs
 
 same-length : tie.Need-same-length
 same-length c = search needs
 
 returns : tie.Need-returns
 returns c =
-    let z = c .before .before .before .before .before .before .before .before in
-    put-as (z .args .out .now) (z .args .at) (text-accepted (z .args .verdict) (ascii "read") (c .before .before .before .before .before .enum-told .given .1)) (c .before .before .put-bytes .ensures)
+    let z = c .before .before .before .before .before .before .before .before .args in
+    placed-as (z .at) (z .out .now) (text-accepted (z .verdict) (ascii "read") (c .before .before .before .before .before .enum-told .given .1)) (c .before .before .put-bytes .ensures)
 
 same-length-2 : tie.Need-same-length-2
 same-length-2 c = search needs
 
 returns-2 : tie.Need-returns-2
 returns-2 c =
-    let z = c .before .before .before .before .before .before .before .before in
-    put-as (z .args .out .now) (z .args .at) (text-refused (z .args .verdict) (ascii "read") _ _ (c .before .before .before .before .before .verdict .given .1)) (c .before .before .put-refusal .ensures)
+    let z = c .before .before .before .before .before .before .before .before .args in
+    placed-as (z .at) (z .out .now) (text-refused (z .verdict) (ascii "read") _ _ (c .before .before .before .before .before .verdict .given .1)) (c .before .before .put-refusal .ensures)
 
 pub put-slip-verdict-spec : {M : Type 1} → statement M
 put-slip-verdict-spec =

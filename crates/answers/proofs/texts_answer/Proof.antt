@@ -2,11 +2,12 @@
 use mathlib.Core.Path.{subst}
 use mathlib.Core.List.{List}
 use Prim.Native.Nat.{ℕ}
+use native.Mathlib.Omega.{arith}
 use borrow.Author.Needs.{needs}
 use Rattle.writing.proofs.Answers.{Answers}
+use Rattle.pieces.proofs.Pieces.{placed-next, front-is, front-size}
 use Rattle.answers.specs.Texts.{ruleAnswer, slipAnswer, textsAnswer}
-use Rattle.answers.proofs.Pieces.{room-first, room-next, put-next, front-in, front-is, front-size}
-use Rattle.answers.proofs.Lengths.{texts-room}
+use Rattle.answers.proofs.Lengths.{texts-short}
 use Rattle.answers.proofs.texts_answer.Statement.{statement}
 use Rattle.answers.proofs.texts_answer.Tie as tie
 
@@ -17,31 +18,23 @@ slice-aggregate-put-rule-answer : tie.Need-slice-aggregate-put-rule-answer
 slice-aggregate-put-rule-answer c = search needs
 
 put-rule-answer-requires : tie.Need-put-rule-answer-requires
-unfolding textsAnswer
-put-rule-answer-requires c κs =
-    let z = c .before .before .before .before .args in
-    room-first (ruleAnswer (z .line .now)) (slipAnswer (z .line .now)) (c .before .room .result) 0 (texts-room (z .line .now) (c .before .room .result) (c .before .room .ensures))
+put-rule-answer-requires c κs = search needs
 
 slice-aggregate-put-slip-answer : tie.Need-slice-aggregate-put-slip-answer
 slice-aggregate-put-slip-answer c = search needs
 
 put-slip-answer-requires : tie.Need-put-slip-answer-requires
-unfolding textsAnswer
-put-slip-answer-requires c κs =
-    let z = c .before .before .before .before .before .before .before .args in
-    room-next (ruleAnswer (z .line .now)) (slipAnswer (z .line .now)) (c .before .before .before .before .room .result) 0 (texts-room (z .line .now) (c .before .before .before .before .room .result) (c .before .before .before .before .room .ensures)) (c .before .before .put-rule-answer .ensures)
+put-slip-answer-requires c κs = search needs
 
 array-share-prefix-text : tie.Need-array-share-prefix-text
-unfolding textsAnswer
-array-share-prefix-text c =
-    let z = c .before .before .before .before .before .before .before .before .before .args in
-    front-in (textsAnswer (z .line .now)) (c .before .before .before .before .before .before .room .result) (texts-room (z .line .now) (c .before .before .before .before .before .before .room .result) (c .before .before .before .before .before .before .room .ensures)) (put-next (ruleAnswer (z .line .now)) (slipAnswer (z .line .now)) (c .before .before .before .before .before .before .room .result) 0 (c .before .before .before .before .put-rule-answer .ensures) (c .before .put-slip-answer .ensures))
+array-share-prefix-text c = search needs
 
 slice-aggregate-give : tie.Need-slice-aggregate-give
 unfolding textsAnswer
 slice-aggregate-give c =
     let z = c .before .before .before .before .before .before .before .before .before .before .args in
-    front-size (textsAnswer (z .line .now)) (c .before .before .before .before .before .before .before .room .result) (texts-room (z .line .now) (c .before .before .before .before .before .before .before .room .result) (c .before .before .before .before .before .before .before .room .ensures)) (put-next (ruleAnswer (z .line .now)) (slipAnswer (z .line .now)) (c .before .before .before .before .before .before .before .room .result) 0 (c .before .before .before .before .before .put-rule-answer .ensures) (c .before .before .put-slip-answer .ensures))
+    let l = c .before .before .before .before .before .before .before .room .result in
+    front-size (textsAnswer (z .line .now)) l (omega (arith, texts-short (z .line .now), c .before .before .before .before .before .before .before .room .ensures)) (placed-next (ruleAnswer (z .line .now)) (slipAnswer (z .line .now)) 0 l (c .before .before .before .before .before .put-rule-answer .ensures) (c .before .before .put-slip-answer .ensures))
 
 give-requires : tie.Need-give-requires
 give-requires c κs = search needs
@@ -53,8 +46,9 @@ returns : tie.Need-returns
 unfolding textsAnswer
 returns c =
     let z = c .before .before .before .before .before .before .before .before .before .before .before .before .before .before .args in
+    let l = c .before .before .before .before .before .before .before .before .before .before .before .room .result in
     let G = c .before .before .give in
-    subst (λ (t : List ℕ). Answers t (z .out .now) (G .result) (G .last .1 .0)) (front-is (textsAnswer (z .line .now)) (c .before .before .before .before .before .before .before .before .before .before .before .room .result) (texts-room (z .line .now) (c .before .before .before .before .before .before .before .before .before .before .before .room .result) (c .before .before .before .before .before .before .before .before .before .before .before .room .ensures)) (put-next (ruleAnswer (z .line .now)) (slipAnswer (z .line .now)) (c .before .before .before .before .before .before .before .before .before .before .before .room .result) 0 (c .before .before .before .before .before .before .before .before .before .put-rule-answer .ensures) (c .before .before .before .before .before .before .put-slip-answer .ensures))) (G .ensures)
+    subst (λ (t : List ℕ). Answers t (z .out .now) (G .result) (G .last .1 .0)) (front-is (textsAnswer (z .line .now)) l (omega (arith, texts-short (z .line .now), c .before .before .before .before .before .before .before .before .before .before .before .room .ensures)) (placed-next (ruleAnswer (z .line .now)) (slipAnswer (z .line .now)) 0 l (c .before .before .before .before .before .before .before .before .before .put-rule-answer .ensures) (c .before .before .before .before .before .before .put-slip-answer .ensures))) (G .ensures)
 
 pub texts-answer-spec : {M : Type 1} → statement M
 texts-answer-spec =

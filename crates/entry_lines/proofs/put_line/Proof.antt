@@ -46,9 +46,11 @@ returns c =
     let R = c .before .before .before .before .before .before .before .before .before .room in
     let P = c .before .before .before .before .before .before .before .put-whole in
     let G = c .before .before .before .give in
-    let S = c .size-of in
-    subst (λ (t : List ℕ). (S .result ≡ length t) × (G .last .1 .0 ≡ after t (z .out .now))) (front-is (lineValue (z .e) (z .left) (z .right)) (R .result) (omega (arith, P .ensures .1, R .ensures)) (P .ensures .0))
-    (size-either (take (P .result) (P .last .1 .1 .1 .0)) (z .out .now) (S .ensures) (G .ensures .0), G .ensures .1)
+    let S = c .size-of in (
+      subst (λ (t : List ℕ). (S .result ≡ length t) × (G .last .1 .0 ≡ after t (z .out .now))) (front-is (lineValue (z .e) (z .left) (z .right)) (R .result) (omega (arith, P .ensures .1, R .ensures)) (P .ensures .0))
+          (size-either (take (P .result) (P .last .1 .1 .1 .0)) (z .out .now) (S .ensures) (G .ensures .0), G .ensures .1),
+      P .ensures .1,
+    )
 
 pub put-line-spec : {M : Type 1} → statement M
 put-line-spec =

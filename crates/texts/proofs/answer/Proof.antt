@@ -4,7 +4,7 @@ use native.Mathlib.Omega.{arith}
 use lib.Seq.{length-take-le}
 use borrow.Author.Needs.{needs}
 use Rattle.answers.specs.Texts.{textsAnswer}
-use Rattle.answers.proofs.Pieces.{written-in}
+use Rattle.pieces.proofs.Pieces.{written-in}
 use Rattle.texts.proofs.answer.Statement.{statement}
 use Rattle.texts.proofs.answer.Tie as tie
 

@@ -1,0 +1,53 @@
+-- Lines and their answers, computed from the definitions.
+use Prim.Native.String.{String}
+use mathlib.Core.Path.{_≡_, refl}
+use mathlib.Core.List.{List, [], _∷_, _++_, map}
+use native.Mathlib.Decide.{ℕ-discrete, decLe, decLt}
+use lib.ListN.{replicate}
+use Rattle.lists.specs.Seqs.{any?}
+use Rattle.bytes.specs.Bytes.{indexAfter, indexOf}
+use Rattle.text.specs.Ascii.{ascii, newline}
+use Rattle.text.specs.Bytes.{digit?, begins, follows, first, holds}
+use Rattle.text.specs.Marks.{fifth?, many?, over?, clash?, clashOf?}
+use Rattle.match_answers.specs.Matches.{lineText, matchAnswer}
+
+-- a line and what is said of it
+pub record Case : Type 0 where
+  pub line : String
+  pub said : String
+
+abbrev table : List Case
+table =
+    record { line = "7:i0:l0|\"matt white\"\t7:3:\"a\":4|\"matt white\""; said = "yes i0=3 l0=\"a\":4" } ∷
+    -- a list variable's value may have no terms
+    record { line = "7:i0:l0|\"matt white\"\t7:3|\"matt white\""; said = "yes i0=3 l0=empty" } ∷
+    record { line = "7:i0:l0|\"matt white\"\t7:\"x\"|\"matt white\""; said = "no" } ∷
+    -- the order i, s, a, l and then by number, whatever the rule's
+    record { line = "l0:a1|i10:i2|l1:s0|a0\t1:2|007:8|\"s\"|\"\""; said = "yes i2=8 i10=7 s0=\"s\" a0=\"\" a1=2 l0=1 l1=empty" } ∷
+    -- a variable that occurs twice is shown once
+    record { line = "a0:a0|l3\t1:1|2:3"; said = "yes a0=1 l3=2:3" } ∷
+    record { line = "a0:a0|l3\t1:2|2:3"; said = "no" } ∷
+    record { line = "1:l0:2|s0\t1:5:6:7:2|\"=\""; said = "yes s0=\"=\" l0=5:6:7" } ∷
+    record { line = "empty\tempty"; said = "yes" } ∷
+    record { line = "1|2\t1"; said = "no" } ∷
+    -- the rule's refusal goes before the slip's
+    record { line = "l0:l1\ti0"; said = "refused rule 6 at 3" } ∷
+    record { line = "1\ti0"; said = "refused slip 7 at 0" } ∷
+    -- the first tab divides, and a line without one has an empty slip
+    record { line = "1\t1\t1"; said = "refused slip 2 at 1" } ∷
+    record { line = "i0"; said = "refused slip 2 at 0" } ∷
+    record { line = ""; said = "refused rule 2 at 0" } ∷
+    []
+
+pub lines-said : map (λ (c : Case). lineText (ascii (c .line))) table ≡ map (λ (c : Case). ascii (c .said)) table
+unfolding lineText indexAfter indexOf decLe decLt ℕ-discrete digit? begins follows first holds fifth? many? over? any? clash? clashOf?
+lines-said = refl
+
+-- a line of as many bytes as it may have is read, and one of one more is not
+pub long-lines : map lineText (replicate 10241 49 ∷ replicate 10242 49 ∷ []) ≡ ascii "refused rule 1 at 2048" ∷ ascii "line too long" ∷ []
+unfolding lineText indexAfter indexOf decLe decLt ℕ-discrete digit? begins follows first holds fifth? many? over? any? clash? clashOf?
+long-lines = refl
+
+pub two-lines : matchAnswer 12 (ascii "i0\t5") ≡ ascii "match 12" ++ newline ++ ascii "yes i0=5" ++ newline
+unfolding matchAnswer lineText indexAfter indexOf decLe decLt ℕ-discrete digit? begins follows first holds fifth? many? over? any? clash? clashOf?
+two-lines = refl

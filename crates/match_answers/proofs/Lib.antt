@@ -1,0 +1,5 @@
+pub mod Loops
+pub mod Values
+pub mod Said
+pub mod Lengths
+pub mod Examples

@@ -1,0 +1,79 @@
+-- `match_answers::match_answer` meets its contract: the pieces are put at the front of the room, and the front is given. Assumes nothing.
+use mathlib.Core.Path.{subst}
+use mathlib.Core.List.{List}
+use Prim.Native.Nat.{ℕ}
+use native.Mathlib.Omega.{arith}
+use Rattle.text.specs.Ascii.{newline}
+use Rattle.writing.proofs.Answers.{Answers}
+use Rattle.pieces.proofs.Pieces.{placed-three, front-is, front-size}
+use Rattle.match_answers.specs.Matches.{titleText, lineText, matchAnswer}
+use Rattle.match_answers.proofs.Lengths.{answer-short}
+use borrow.Author.Needs.{needs}
+use Rattle.match_answers.proofs.match_answer.Statement.{statement}
+use Rattle.match_answers.proofs.match_answer.Tie as tie
+
+room-requires : tie.Need-room-requires
+room-requires c κs = search needs
+
+slice-aggregate-put-title : tie.Need-slice-aggregate-put-title
+slice-aggregate-put-title c = search needs
+
+put-title-requires : tie.Need-put-title-requires
+put-title-requires c κs = search needs
+
+slice-aggregate-put-line : tie.Need-slice-aggregate-put-line
+slice-aggregate-put-line c = search needs
+
+put-line-requires : tie.Need-put-line-requires
+put-line-requires c κs = search needs
+
+slice-aggregate-put-bytes : tie.Need-slice-aggregate-put-bytes
+slice-aggregate-put-bytes c = search needs
+
+slice-aggregate-put-bytes-2 : tie.Need-slice-aggregate-put-bytes-2
+slice-aggregate-put-bytes-2 c = search needs
+
+put-bytes-requires : tie.Need-put-bytes-requires
+put-bytes-requires c κs = search needs
+
+array-share-prefix-text : tie.Need-array-share-prefix-text
+array-share-prefix-text c = search needs
+
+slice-aggregate-give : tie.Need-slice-aggregate-give
+unfolding matchAnswer
+slice-aggregate-give c =
+    let z = c .before .before .before .before .before .before .before .before .before .before .before .before .before .before .args in
+    let l = c .before .before .before .before .before .before .before .before .before .before .before .room .result in
+    front-size (matchAnswer (z .k) (z .line .now)) l (omega (arith, answer-short (z .k) (z .line .now) (search needs), c .before .before .before .before .before .before .before .before .before .before .before .room .ensures)) (placed-three (titleText (z .k)) (lineText (z .line .now)) newline 0 l (c .before .before .before .before .before .before .before .before .before .put-title .ensures) (c .before .before .before .before .before .before .put-line .ensures) (c .before .before .put-bytes .ensures))
+
+give-requires : tie.Need-give-requires
+give-requires c κs = search needs
+
+same-length : tie.Need-same-length
+same-length c = search needs
+
+returns : tie.Need-returns
+unfolding matchAnswer
+returns c =
+    let z = c .before .before .before .before .before .before .before .before .before .before .before .before .before .before .before .before .before .before .args in
+    let l = c .before .before .before .before .before .before .before .before .before .before .before .before .before .before .before .room .result in
+    let G = c .before .before .give in
+    subst (λ (t : List ℕ). Answers t (z .out .now) (G .result) (G .last .1 .0)) (front-is (matchAnswer (z .k) (z .line .now)) l (omega (arith, answer-short (z .k) (z .line .now) (search needs), c .before .before .before .before .before .before .before .before .before .before .before .before .before .before .before .room .ensures)) (placed-three (titleText (z .k)) (lineText (z .line .now)) newline 0 l (c .before .before .before .before .before .before .before .before .before .before .before .before .before .put-title .ensures) (c .before .before .before .before .before .before .before .before .before .before .put-line .ensures) (c .before .before .before .before .before .before .put-bytes .ensures))) (G .ensures)
+
+pub match-answer-spec : {M : Type 1} → statement M
+match-answer-spec =
+    tie.close
+    (tie.spec
+    room-requires
+    slice-aggregate-put-title
+    put-title-requires
+    slice-aggregate-put-line
+    put-line-requires
+    slice-aggregate-put-bytes
+    slice-aggregate-put-bytes-2
+    put-bytes-requires
+    array-share-prefix-text
+    slice-aggregate-give
+    give-requires
+    same-length
+    returns)

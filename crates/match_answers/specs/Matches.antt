@@ -1,0 +1,64 @@
+-- What `matches` prints for one line, which has a rule and a slip with a tab between them: how the rule matches the slip.
+use mathlib.Core.Bool.{cond}
+use mathlib.Core.Option.{Option, none, some}
+use mathlib.Core.List.{List, _++_, map}
+use Prim.Native.Nat.{ℕ, suc}
+use lib.Dec.{ltb}
+use lib.ListN.{length, take, drop}
+use Rattle.bytes.specs.Bytes.{indexOf}
+use Rattle.order.specs.Types.{Kind}
+use Rattle.theory.specs.Terms.{con, var}
+use Rattle.theory.specs.Seqs.{concat-map}
+use Rattle.theory.specs.Fillings.{Filling}
+use Rattle.text.specs.Terms.{Con, OurTerm}
+use Rattle.text.specs.Numbers.{digitsOf}
+use Rattle.text.specs.Plain.{termText, fieldText}
+use Rattle.text.specs.Read.{number, Outcome, refused, accepted, readRule, readSlip}
+use Rattle.instance.specs.Matching.{constants, matcher}
+use Rattle.listing.specs.Variables.{Variable, variables}
+use Rattle.text.specs.Ascii.{ascii, newline}
+use Rattle.pieces.specs.Refusals.{numberAt}
+
+-- ---- a line
+
+-- the longest rule, the tab, the longest slip: 2,048 and 1 and 8,192 bytes
+abbrev pub longestLine : ℕ
+longestLine = 10241
+
+-- byte 9
+abbrev pub tab : ℕ
+tab = 9
+
+-- the first tab divides; without one the slip is empty
+abbrev pub rulePart : List ℕ → List ℕ
+rulePart t = take (indexOf tab t) t
+
+abbrev pub slipPart : List ℕ → List ℕ
+slipPart t = drop (suc (indexOf tab t)) t
+
+-- ---- the answer
+
+-- a blank, the variable's name, `=`, its value as a field's text
+abbrev pub valueText : Filling Con Kind ℕ → Variable → List ℕ
+valueText φ v = ascii " " ++ termText (var (v .0) (v .1)) ++ ascii "=" ++ fieldText (map con (φ (v .0) (v .1)))
+
+-- `no`, or `yes` and the value of each of the rule's variables, in the order i, s, a, l and then by number
+abbrev pub foundText : List (List OurTerm) → Option (Filling Con Kind ℕ) → List ℕ
+foundText rule none = ascii "no"
+foundText rule (some φ) = ascii "yes" ++ concat-map (valueText φ) (variables rule)
+
+-- the rule's refusal goes before the slip's
+abbrev pub readText : Outcome → Outcome → List ℕ
+readText (refused r p) o = ascii "refused rule " ++ numberAt (number r) p
+readText (accepted rule) (refused r p) = ascii "refused slip " ++ numberAt (number r) p
+readText (accepted rule) (accepted slip) = foundText rule (matcher rule (map constants slip))
+
+unfoldable pub lineText : List ℕ → List ℕ
+lineText t = cond (ltb longestLine (length t)) (ascii "line too long") (readText (readRule (rulePart t)) (readSlip (slipPart t)))
+
+abbrev pub titleText : ℕ → List ℕ
+titleText k = ascii "match " ++ digitsOf k ++ newline
+
+-- THE ANSWER to line number k: two lines
+unfoldable pub matchAnswer : ℕ → List ℕ → List ℕ
+matchAnswer k t = titleText k ++ lineText t ++ newline
