@@ -8,7 +8,7 @@ use native.Mathlib.Omega.{arith}
 use native.Mathlib.Decide.{ℕ-discrete}
 use lib.ListN.{length, getD, set, take, drop, replicate, length-set, length-append}
 use lib.Seq.{getD-set-same, getD-set-other, getD-drop, drop-drop}
-use Rattle.lists.specs.Seqs.{All, Any, all-left, all-right}
+use Rattle.lists.specs.Seqs.{All, Any, all-left, all-right, tabulate}
 use Rattle.order.specs.Order.{basic, list}
 use Rattle.order.specs.Types.{Basic, integer, string, atom, Kind, basics}
 use Rattle.theory.specs.Terms.{con, var}
@@ -26,7 +26,7 @@ use Rattle.terms.specs.declared.Term.{Term as TermValue}
 use Rattle.terms.specs.Values.{blankTerm}
 use Rattle.matching.specs.declared.Run.{Run}
 use Rattle.matching.specs.Tests.{slot}
-use Rattle.matching.specs.Answers.{tabulate, kindAt, valueTerm, encodeValues, blankRun, runsField, runsFrom, runsOf}
+use Rattle.matching.specs.Answers.{kindAt, valueTerm, encodeValues, blankRun, runsField, runsFrom, runsOf}
 
 -- ---- runs of a field
 

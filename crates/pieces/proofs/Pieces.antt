@@ -20,7 +20,7 @@ use Rattle.pieces.specs.Sizes.{sizeOf}
 use Rattle.pieces.specs.Placed.{placed, placeBehind, Placed}
 
 -- nothing is stored beyond the end
-sets-out : (t l : List ℕ) (at : ℕ) → length l ≤ at → sets l at t ≡ l
+pub sets-out : (t l : List ℕ) (at : ℕ) → length l ≤ at → sets l at t ≡ l
 sets-out [] l at h = refl
 sets-out (b ∷ t) l at h = ap (λ (m : List ℕ). sets m (suc at) t) (set-out l at b h) ∙ sets-out t l (suc at) (omega arith)
 
