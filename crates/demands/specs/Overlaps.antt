@@ -3,15 +3,14 @@
 -- slip. No list of solutions, written with our terms, that covers all shared slips has fewer solutions than the returned entry count.
 -- The only premise is that the lent buffer has room for the whole list."
 -- Over the definitions that the contract cites, for rule values v and w and the lent bytes `old`:
---     overlaps::list_overlaps   leaves `after (overlapText (countedRule v) (countedRule w)) old`; its entry count is
---                               `length (linesOf (countedRule v) (countedRule w))`, its byte count the length of that text
+--     overlaps::list_overlaps   leaves `after (overlapText (countedRule v) (countedRule w)) old`, and answers
+--                               `listedOf (linesOf (countedRule v) (countedRule w)) (length old)`: the two counts
 use mathlib.Core.Path.{_≡_, refl, sym, _∙_, ap}
 use mathlib.Core.Logic.{_↔_}
 use mathlib.Core.Bool.{Bool, true, cond}
 use mathlib.Core.Option.{some}
-use mathlib.Core.List.{List, [], map, _++_, List·Memᴰ}
+use mathlib.Core.List.{List, map, _++_, List·Memᴰ}
 use Prim.Native.Nat.{ℕ, _≤_}
-use native.Mathlib.Omega.{arith}
 use lib.ListN.{length, take, drop, getElem?}
 use lib.Seq.{take-at, drop-at}
 use borrow.Author.Tests.{le-leb}
@@ -32,11 +31,14 @@ use Rattle.terms.specs.Values.{viewRule}
 use Rattle.accepted.specs.Accepted.{acceptedRule, countedRule}
 use Rattle.accepted.proofs.Accepted.{accepted-rule}
 use Rattle.writing.specs.Answers.{after}
+use Rattle.overlaps.specs.declared.Listed.the-variants.{Lines, TooSmall}
+use Rattle.overlaps.specs.Answers.{listedOf}
 
 -- What demand 3 says of the bytes of a list of `count` entries of the rules r₁ and r₂. A slip's fields are of any length.
 pub record Demand3 (r₁ r₂ : List (List OurTerm)) (count : ℕ) (bytes : List ℕ) : Type 1 where
   -- the bytes are the text of some lines, and of no others: so "an entry of the list written" is said of the bytes
   pub lines : List Line
+  pub writable : All WritableLine lines
   pub written : bytes ≡ listText lines
   pub only : (others : List Line) → All WritableLine others → bytes ≡ listText others → others ≡ lines
   -- "the returned entry count"
@@ -62,6 +64,7 @@ of-rules : (r₁ r₂ : List (List OurTerm)) → IsRule r₁ → IsRule r₂ →
 of-rules r₁ r₂ a b =
     record {
       lines = linesOf r₁ r₂;
+      writable = lines-writable r₁ r₂ a b;
       written = refl;
       only = λ others h e. lines-one others (linesOf r₁ r₂) h (lines-writable r₁ r₂ a b) (sym e);
       counted = refl;
@@ -94,9 +97,12 @@ module _ (v w : Rule) (accepted-v : acceptedRule v ≡ true) (accepted-w : accep
     list-front : take (length text) (after text old) ≡ text
     list-front = ap (take (length text)) left-behind ∙ take-at text (drop (length text) old) (length text) refl
 
-    -- THE LENT BUFFER, after the call: the first bytes, as many as the returned byte count, are the list of demand 3, and the others are the old ones
-    pub demand-3 : Demand3 (countedRule v) (countedRule w) count (take (length text) (after text old)) × (drop (length text) (after text old) ≡ drop (length text) old)
+    -- THE LENT BUFFER, after the call: the entry count `count` and the byte count `length text` are returned; the first bytes, as many
+    -- as that, are the list of demand 3, and the others are the old ones
+    pub demand-3 : (listedOf (linesOf (countedRule v) (countedRule w)) (length old) ≡ Lines count (length text))
+        × Demand3 (countedRule v) (countedRule w) count (take (length text) (after text old)) × (drop (length text) (after text old) ≡ drop (length text) old)
     demand-3 = (
+      ap (λ (b : Bool). cond b (Lines count (length text)) (TooSmall count (length text))) (le-leb (length text) (length old) room),
       rw (list-front) (of-rules (countedRule v) (countedRule w) (is-rule v accepted-v) (is-rule w accepted-w)),
       ap (drop (length text)) left-behind ∙ drop-at text (drop (length text) old) (length text) refl,
     )

@@ -22,6 +22,7 @@ use Rattle.terms.specs.declared.Term.{Term}
 use Rattle.terms.specs.Values.{viewTerm, encodeTerm}
 use Rattle.sides.specs.Sides.{markTerm}
 use Rattle.listing.specs.Variables.{Variable, numbersFrom, numbers, ofKind, every, occurs, keep}
+use Rattle.listing.specs.Overlaps.{bindingsOf}
 use Rattle.listing.specs.Lines.{Binding, lineText}
 use Rattle.entries.specs.declared.Wide.{Wide}
 use Rattle.entries.specs.declared.Names.{Names}
@@ -33,7 +34,7 @@ use Rattle.shown.specs.declared.Run.{Run}
 use Rattle.shown.specs.declared.Shown.{Shown}
 use Rattle.shown.specs.Shown.{blankRun, isKnown, runTerms, valueTerms}
 use Rattle.entry_lines.specs.Shown.{renamedTerms, fieldOf, bindingOf, shownBindings, lineValue}
-use Rattle.entry_lines.specs.Shows.{runIn, Shows, boundBy}
+use Rattle.entry_lines.specs.Shows.{runIn, Shows}
 use Rattle.entry_lines.proofs.Runs.{map-drop}
 
 -- ---- lists
@@ -178,12 +179,12 @@ module _ (fs : List (List Marked)) (i : All (All MarkedIn) fs) where
             q
         go false o q = q
 
-    rule-agrees : shownBindings names (entryValue fs) s ≡ boundBy rule (λ k n. map renumber (φ k n))
+    rule-agrees : shownBindings names (entryValue fs) s ≡ bindingsOf rule (λ k n. map renumber (φ k n))
     rule-agrees = bindings-agree every every-small
 
   -- the line that the code writes of an entry's value is that of the renumbered entry
   pub line-agrees : (r₁ r₂ : List (List OurTerm)) (φ ψ : Subst Con Kind ℕ (Mark ℕ)) (l r : Shown) → Shows fs r₁ φ l → Shows fs r₂ ψ r
-      → lineValue (entryValue fs) l r ≡ lineText (record { fields = map (map renumber) fs; left = boundBy r₁ (λ k n. map renumber (φ k n)); right = boundBy r₂ (λ k n. map renumber (ψ k n)) })
+      → lineValue (entryValue fs) l r ≡ lineText (record { fields = map (map renumber) fs; left = bindingsOf r₁ (λ k n. map renumber (φ k n)); right = bindingsOf r₂ (λ k n. map renumber (ψ k n)) })
   line-agrees r₁ r₂ φ ψ l r h g =
       ap (λ (t : List (List OurTerm)). lineText (record { fields = t; left = shownBindings names (entryValue fs) l; right = shownBindings names (entryValue fs) r }))
       (ap (map (fieldOf names)) (entry-fields (map (map markTerm) fs)) ∙ fields-agree fs (all-met fs))

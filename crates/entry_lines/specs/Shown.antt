@@ -1,20 +1,19 @@
 -- The line of an entry from its value and the values of the two rules' variables, as code puts it together.
 -- `line-agrees` of proofs/Lines says that it is the overlap list's line.
 use mathlib.Core.Bool.{Bool, true, false}
-use mathlib.Core.List.{List, [], _∷_, map}
-use Prim.Native.Nat.{ℕ, _+_, _*_}
-use lib.ListN.{getD, take, drop, replicate}
+use mathlib.Core.List.{List, map}
+use Prim.Native.Nat.{ℕ}
 use Rattle.order.specs.Order.{basic, list}
-use Rattle.order.specs.Types.{Kind, rank}
+use Rattle.order.specs.Types.{Kind}
 use Rattle.text.specs.Terms.{OurTerm}
 use Rattle.terms.specs.declared.Term.{Term}
-use Rattle.terms.specs.Values.{viewTerm, blankTerm}
+use Rattle.terms.specs.Values.{viewTerm}
 use Rattle.listing.specs.Variables.{Variable, ofKind, every, keep}
 use Rattle.listing.specs.Lines.{Binding, Line, lineText}
 use Rattle.entries.specs.declared.Wide.{Wide}
 use Rattle.entries.specs.declared.Entry.{Entry}
 use Rattle.entries.specs.declared.Names.{Names}
-use Rattle.entries.specs.Values.{blankWide, wideTerms, entryFields}
+use Rattle.entries.specs.Values.{wideTerms, entryFields}
 use Rattle.entries.specs.Names.{namesValue, renamedTerm}
 use Rattle.shown.specs.declared.Shown.{Shown}
 use Rattle.shown.specs.Shown.{isKnown, valueTerms}

@@ -1,7 +1,7 @@
 -- What it says that values show a rule's variables on an entry; fs are the entry's fields before the renumbering.
 use mathlib.Core.Path.{_≡_}
 use mathlib.Core.Bool.{true}
-use mathlib.Core.List.{List, [], _∷_, map}
+use mathlib.Core.List.{List, [], _∷_}
 use Prim.Native.Nat.{ℕ, _≤_}
 use lib.ListN.{getD, take, drop}
 use Rattle.order.specs.Order.{basic, list}
@@ -13,8 +13,7 @@ use Rattle.unifiers.specs.Overlaps.{Mark}
 use Rattle.terms.specs.declared.Term.{Term}
 use Rattle.terms.specs.Values.{blankTerm, encodeTerm}
 use Rattle.sides.specs.Sides.{markTerm}
-use Rattle.listing.specs.Variables.{occurs, variables}
-use Rattle.listing.specs.Lines.{Binding}
+use Rattle.listing.specs.Variables.{occurs}
 use Rattle.entries.specs.Values.{Marked}
 use Rattle.entries.specs.Marks.{Met}
 use Rattle.shown.specs.declared.Run.{Run}
@@ -34,7 +33,3 @@ pub record Shows (fs : List (List Marked)) (rule : List (List OurTerm)) (φ : Su
   pub known-is : (k : Kind) (n : ℕ) → n ≤ largestNumber → isKnown s (k, n) ≡ occurs k n rule
   pub atom-is : (k : Basic) (n : ℕ) → n ≤ largestNumber → occurs (basic k) n rule ≡ true → IsAtom fs (φ (basic k) n) (getD (s .atoms) (placeIn (basic k) n) blankTerm)
   pub run-is : (n : ℕ) → n ≤ largestNumber → occurs list n rule ≡ true → φ list n ≡ runIn fs (getD (s .runs) n blankRun)
-
--- document 01: "for each variable of the left rule a blank, `<`, name, `=`, value"
-abbrev pub boundBy : List (List OurTerm) → Subst Con Kind ℕ ℕ → List Binding
-boundBy rule σ = map (λ v. record { kind = v .0; number = v .1; value = σ (v .0) (v .1) }) (variables rule)

@@ -1,21 +1,21 @@
 -- The lines of the overlap list of two rules that reading returns: the theorems of the overlap list, said of its lines.
 use mathlib.Core.Path.{_≡_, refl, sym, _∙_, ap, subst}
 use mathlib.Core.Logic.{_↔_, _⊎_, inl, inr}
-use mathlib.Core.Option.{Option, some, Option·none-ne-some, Option·some-injective}
-use mathlib.Core.List.{List, [], _∷_, map, map-map, List·Memᴰ, List·Memᴰ·head, List·Memᴰ·tail, List·Memᴰ·cases-cons, List·Memᴰ·not-nil, Memᴰ·of-map}
+use mathlib.Core.Option.{some, Option·none-ne-some, Option·some-injective}
+use mathlib.Core.List.{List, [], _∷_, map, List·Memᴰ, List·Memᴰ·head, List·Memᴰ·tail, List·Memᴰ·cases-cons, List·Memᴰ·not-nil, Memᴰ·of-map}
 use Prim.Native.Nat.{ℕ, zero, suc, _≤_}
 use native.Mathlib.Omega.{arith}
 use native.Mathlib.Decide.{ℕ-discrete}
 use lib.ListN.{length, getElem?, length-map}
-use Rattle.lists.specs.Seqs.{All, Any, IsCons, all-map}
+use Rattle.lists.specs.Seqs.{All, IsCons, all-map}
 use Rattle.order.specs.Types.{Basic, integer, string, atom, Kind, basics}
 use Rattle.theory.specs.Terms.{con, var}
-use Rattle.theory.specs.Fillings.{Filling, Typed, fill, Occurs}
+use Rattle.theory.specs.Fillings.{Filling, Typed, fill}
 use Rattle.theory.specs.Linear.{LeftLinear}
 use Rattle.theory.proofs.Matching.{match-unique}
 use Rattle.text.specs.Terms.{Con, int, str, OurTerm}
 use Rattle.text.specs.Limits.{TermIn, IsRule}
-use Rattle.text.specs.Plain.{TermOk, RuleOk}
+use Rattle.text.specs.Plain.{TermOk}
 use Rattle.instance.specs.Constants.{consts, some-of}
 use Rattle.instance.specs.Matching.{Matches}
 use Rattle.instance.proofs.Linear.{left-linear}

@@ -1,40 +1,38 @@
 -- The line of a whole choice is that of its entry in the overlap list; so all lines are those of the list. Assumes nothing.
 use mathlib.Core.Path.{_≡_, refl, sym, _∙_, ap, ap₂, subst}
-use mathlib.Core.Option.{Option, none, some, Option·some-injective, Option·none-ne-some}
-use mathlib.Core.Bool.{true}
-use mathlib.Core.List.{List, [], _∷_, _++_, map, map-map, List·Memᴰ}
+use mathlib.Core.Option.{some}
+use mathlib.Core.List.{List, [], _∷_, map, map-map, List·Memᴰ}
 use Prim.Native.Nat.{ℕ, suc, _+_, _-_, _≤_, _<_, max}
 use native.Mathlib.Omega.{arith}
 use native.Mathlib.Decide.{ℕ-discrete}
 use lib.ListN.{length, take, drop, replicate, length-map}
 use Rattle.lists.specs.Seqs.{All, Any, all-append, all-map}
 use Rattle.order.specs.Order.{basic, list}
-use Rattle.order.specs.Types.{Basic, Kind, basics}
+use Rattle.order.specs.Types.{basics}
 use Rattle.theory.specs.Terms.{con, var}
 use Rattle.theory.specs.Seqs.{Distinct}
 use Rattle.text.specs.Sizes.{mostFields}
-use Rattle.text.specs.Terms.{Con, OurTerm}
+use Rattle.text.specs.Terms.{OurTerm}
 use Rattle.text.specs.Limits.{TermIn, IsRule}
 use Rattle.text.specs.Read.{rule}
 use Rattle.instance.specs.Constants.{consts}
 use Rattle.instance.proofs.Linear.{left-linear}
-use Rattle.unifiers.specs.Substitutions.{Subst, substitute}
-use Rattle.unifiers.specs.Shapes.{Atom, fixed, free, Side, left, right, of, Shape, closed, gapped, withAtom, withList, both, shapeOf, shapesOf}
+use Rattle.unifiers.specs.Substitutions.{substitute}
+use Rattle.unifiers.specs.Shapes.{fixed, free, Side, left, right, of, closed, gapped, shapesOf}
 use Rattle.unifiers.specs.Candidates.{Cand, exact, long, before}
 use Rattle.unifiers.specs.Joins.{start, resolve}
 use Rattle.unifiers.specs.Entries.{cells, fieldFor, fieldsFor}
-use Rattle.unifiers.specs.Overlaps.{Mark, place, termOf, fieldOf, mapShape, markedFields, markedValue, shown, listed}
+use Rattle.unifiers.specs.Overlaps.{place, termOf, fieldOf, mapShape, markedFields, markedValue, shown, listed}
 use Rattle.unifiers.proofs.Kept.{OnTerm, Every, rule-every, every-fields}
 use Rattle.unifiers.proofs.Named.{gaps}
 use Rattle.unifiers.proofs.Linear.{linear-shapes}
 use Rattle.unifiers.proofs.Listed.{marked-left, marked-right}
-use Rattle.listing.specs.Lines.{Line, lineText}
-use Rattle.listing.specs.Variables.{occurs}
+use Rattle.listing.specs.Lines.{lineText}
 use Rattle.listing.specs.Overlaps.{OurEntry, entriesOf, lineOf, linesOf}
 use Rattle.listing.proofs.Exact.{entries-are}
 use Rattle.terms.specs.declared.Rule.{Rule}
-use Rattle.terms.specs.Values.{encodeTerm, encodeField, encodeRule, blankField}
-use Rattle.sides.specs.Sides.{OurAtom, OurShape, OurState, AtomIn, shapeTerms, markTerm}
+use Rattle.terms.specs.Values.{encodeField, encodeRule, blankField}
+use Rattle.sides.specs.Sides.{OurAtom, OurShape, OurState, AtomIn, shapeTerms}
 use Rattle.sides.specs.Values.{rightRule}
 use Rattle.sides.proofs.Sides.{shapes-length, shapes-small, left-value, right-value}
 use Rattle.fillings.specs.declared.Fillings.{Fillings}
@@ -45,7 +43,6 @@ use Rattle.entries.specs.Marks.{MarkedIn, Met}
 use Rattle.choices.specs.declared.Choice.{Choice}
 use Rattle.choices.specs.Choices.{entryOf}
 use Rattle.choices.specs.Views.{AtomsIn, ShapeIn, ChoiceHolds}
-use Rattle.choices.proofs.Within.{cells-in}
 use Rattle.choices.proofs.Agree.{entry-agree, FieldsFrom, fields-there}
 use Rattle.shown.specs.declared.Shown.{Shown}
 use Rattle.shown.specs.Values.{shownValue}
@@ -54,7 +51,7 @@ use Rattle.entry_lines.specs.Shown.{lineValue}
 use Rattle.entry_lines.specs.Shows.{Shows}
 use Rattle.entry_lines.proofs.Lines.{line-agrees}
 use Rattle.overlaps.specs.declared.Pair.{Pair}
-use Rattle.overlaps.specs.Lines.{entryAt, lineAt}
+use Rattle.overlaps.specs.Lines.{lineAt}
 use Rattle.overlaps.specs.Listing.{allLines}
 use Rattle.overlaps.proofs.Entries.{Raw, rawFrom, all-agree}
 

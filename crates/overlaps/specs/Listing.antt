@@ -1,13 +1,12 @@
 -- Listing overlaps on values, as code does it: "Choosing a length for one field leads to the next field's choices; the first field varies slowest."
 -- The theorems of proofs/Agree say that the lines are those of the overlap list.
-use mathlib.Core.Bool.{Bool, true, false, cond, _&&_}
+use mathlib.Core.Bool.{cond, _&&_}
 use mathlib.Core.List.{List, [], _∷_, _++_}
 use Prim.Native.Nat.{ℕ, zero, suc, _+_, _-_, _*_, _≤_, min}
 use lib.Dec.{eqb}
 use lib.ListN.{length, getD, take, drop}
 use Rattle.theory.specs.Seqs.{concat-map}
 use Rattle.terms.specs.declared.Term.{Term}
-use Rattle.terms.specs.declared.Rule.{Rule}
 use Rattle.terms.specs.Values.{blankField}
 use Rattle.fillings.specs.declared.Fillings.{Fillings}
 use Rattle.fillings.specs.declared.Joined.{Joined}

@@ -1,15 +1,14 @@
 -- `overlaps::+choose+next_field` meets its contract. Assumes nothing.
 use Prim.Native.Nat.{ℕ, _+_, _*_, _-_, _<_}
-use mathlib.Core.Path.{sym, ap, subst, _∙_}
+use mathlib.Core.Path.{ap, subst, _∙_}
 use mathlib.Core.List.{[], _∷_}
 use native.Mathlib.Omega.{arith}
 use borrow.Author.Needs.{needs}
 use borrow.Fn.Kinds.{In}
 use borrow.Fn.PlainCycle.{Measures, is, falls, and}
 use Rattle.rows.specs.declared.Span.{Span}
-use Rattle.overlaps.specs.declared.Tally.{Tally}
 use Rattle.overlaps.specs.Lines.{lineAt}
-use Rattle.overlaps.specs.Listing.{spanAt, choiceLines, linesFrom, Countable}
+use Rattle.overlaps.specs.Listing.{choiceLines, linesFrom, Countable}
 use Rattle.overlaps.proofs.Spans.{few-candidates, some-left, few-left}
 use Rattle.overlaps.proofs.Laws.{countable-first, countable-next, lines-end, lines-goes, choice-none, choice-clash, choice-alive, listed-none, listed-as, listed-both}
 use Rattle.overlaps.proofs.choose.Reads as choose
