@@ -1,0 +1,5 @@
+pub mod Lists
+pub mod Values
+pub mod Said
+pub mod Lengths
+pub mod Examples

@@ -1,0 +1,42 @@
+-- `pair_answers::put_too_long` meets its contract: three pieces. Assumes nothing.
+use Rattle.text.specs.Numbers.{digitsOf}
+use Rattle.text.specs.Ascii.{ascii, newline}
+use Rattle.pieces.proofs.Pieces.{placed-three}
+use borrow.Author.Needs.{needs}
+use Rattle.pair_answers.proofs.put_too_long.Statement.{statement}
+use Rattle.pair_answers.proofs.put_too_long.Tie as tie
+
+slice-aggregate-put-bytes : tie.Need-slice-aggregate-put-bytes
+slice-aggregate-put-bytes c = search needs
+
+put-bytes-requires : tie.Need-put-bytes-requires
+put-bytes-requires c κs = search needs
+
+put-number-requires : tie.Need-put-number-requires
+put-number-requires c κs = search needs
+
+slice-aggregate-put-bytes-2 : tie.Need-slice-aggregate-put-bytes-2
+slice-aggregate-put-bytes-2 c = search needs
+
+put-bytes-requires-2 : tie.Need-put-bytes-requires-2
+put-bytes-requires-2 c κs = search needs
+
+same-length : tie.Need-same-length
+same-length c = search needs
+
+returns : tie.Need-returns
+returns c =
+    let z = c .before .before .before .before .before .before .before .before .before .before .before .before .before .before .before .args in
+    placed-three (ascii "too long ") (digitsOf (z .bytes)) newline (z .at) (z .out .now) (c .before .before .before .before .before .before .before .before .before .before .before .put-bytes .ensures) (c .before .before .before .before .before .before .before .put-number .ensures) (c .before .before .put-bytes2 .ensures)
+
+pub put-too-long-spec : {M : Type 1} → statement M
+put-too-long-spec =
+    tie.close
+    (tie.spec
+    slice-aggregate-put-bytes
+    put-bytes-requires
+    put-number-requires
+    slice-aggregate-put-bytes-2
+    put-bytes-requires-2
+    same-length
+    returns)

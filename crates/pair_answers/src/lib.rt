@@ -1,0 +1,130 @@
+// The text that `pairs` prints for one line, into lent bytes: the overlaps of the line's two rules.
+// It is put together piece behind piece in room that is known to be enough, and then given whole or not at all.
+ghost use mathlib.Core.Path.{_≡_};
+ghost use mathlib.Core.List.{_++_};
+ghost use Prim.Native.Nat.{_+_, _≤_, min};
+ghost use lib.ListN.{length};
+ghost use Rattle.text.specs.Ascii.{ascii, newline};
+ghost use Rattle.text.specs.Numbers.{digitsOf};
+ghost use Rattle.reading.specs.Answers.{numberOf};
+ghost use Rattle.writing.specs.Answers.{writtenOf, after};
+ghost use Rattle.pieces.specs.Refusals.{numberAt};
+ghost use Rattle.pieces.specs.Placed.{Placed};
+ghost use Rattle.pair_answers.specs.Pairs.{mostBytes, lineText, titleText, longestAnswer, pairAnswer};
+ghost use Rattle.pair_answers.specs.Values.{saidList, saidRight, saidReads};
+use overlaps::Listed;
+use reading::Reason;
+use reading::RuleRead;
+use reading::Verdict;
+use terms::Rule;
+use writing::Written;
+
+// ---- pieces: each is put at a place of the room, and returns the place behind it
+
+fn put_too_long(bytes: usize, out: &mut [u8], at: usize) -> usize
+    ensures { λ r. ⌜ Placed (ascii "too long " ++ digitsOf bytes ++ newline) at (now (out .entry)) r (now (out .exit)) ⌝ }
+{
+    let a = pieces::put_bytes(b"too long ", out, at);
+    let b = pieces::put_number(bytes as u64, out, a);
+    pieces::put_bytes(b"\n", out, b)
+}
+
+// The list is lent no more than the 65,536 bytes that it may have, so that the lister itself tells a list that is too long.
+fn put_list(left: Rule, right: Rule, out: &mut [u8], at: usize) -> usize
+    requires { ⌜ at + mostBytes ≤ length (now out) ⌝ }
+    ensures { λ p. ⌜ Placed (saidList left right) at (now (out .entry)) p (now (out .exit)) ⌝ }
+    ensures { λ _. ⌜ length (saidList left right) ≤ mostBytes ⌝ }
+{
+    let end = at + 65536;
+    match overlaps::list_overlaps(left, right, &mut out[at..end]) {
+        Listed::Lines(_, bytes) => at + bytes,
+        Listed::TooSmall(_, bytes) => put_too_long(bytes, out, at),
+    }
+}
+
+fn put_refusal(words: &[u8], reason: Reason, place: usize, out: &mut [u8], at: usize) -> usize
+    ensures { λ r. ⌜ Placed (now (words .entry) ++ numberAt (numberOf reason) place ++ newline) at (now (out .entry)) r (now (out .exit)) ⌝ }
+{
+    let n = reading::number(reason);
+    let a = pieces::put_bytes(words, out, at);
+    let b = pieces::put_number_at(n as u64, place as u64, out, a);
+    pieces::put_bytes(b"\n", out, b)
+}
+
+// What is said of a right rule that was read, or of its refusal.
+fn put_right(left: Rule, right: RuleRead, out: &mut [u8], at: usize) -> usize
+    requires { ⌜ at + mostBytes ≤ length (now out) ⌝ }
+    ensures { λ p. ⌜ Placed (saidRight left right) at (now (out .entry)) p (now (out .exit)) ⌝ }
+    ensures { λ _. ⌜ length (saidRight left right) ≤ mostBytes ⌝ }
+{
+    let verdict = right.verdict;
+    let r = right.rule;
+    match verdict {
+        Verdict::Accepted => put_list(left, r, out, at),
+        Verdict::Refused(reason, place) => put_refusal(b"refused right ", reason, place, out, at),
+    }
+}
+
+// The left rule's refusal goes before the right one's.
+fn put_reads(left: RuleRead, right: RuleRead, out: &mut [u8], at: usize) -> usize
+    requires { ⌜ at + mostBytes ≤ length (now out) ⌝ }
+    ensures { λ p. ⌜ Placed (saidReads left right) at (now (out .entry)) p (now (out .exit)) ⌝ }
+    ensures { λ _. ⌜ length (saidReads left right) ≤ mostBytes ⌝ }
+{
+    let verdict = left.verdict;
+    let l = left.rule;
+    match verdict {
+        Verdict::Accepted => put_right(l, right, out, at),
+        Verdict::Refused(reason, place) => put_refusal(b"refused left ", reason, place, out, at),
+    }
+}
+
+// The place behind the tab, or the line's end.
+fn behind(tab: usize, n: usize) -> usize
+    ensures { λ r. ⌜ r ≡ min (tab + 1) n ⌝ }
+{
+    if tab < n { tab + 1 } else { n }
+}
+
+// What is said of a line. Two of the longest rules and the tab have 4,097 bytes.
+fn put_line(line: &[u8], out: &mut [u8], at: usize) -> usize
+    requires { ⌜ at + mostBytes ≤ length (now out) ⌝ }
+    ensures { λ r. ⌜ Placed (lineText (now (line .entry))) at (now (out .entry)) r (now (out .exit)) ⌝ }
+    ensures { λ _. ⌜ length (lineText (now (line .entry))) ≤ mostBytes ⌝ }
+{
+    let n = line.len();
+    if 4097 < n {
+        return pieces::put_bytes(b"line too long\n", out, at);
+    }
+    let tab = pieces::tab_place(line);
+    let rest = behind(tab, n);
+    let left = reading::read_rule(&line[..tab]);
+    let right = reading::read_rule(&line[rest..]);
+    put_reads(left, right, out, at)
+}
+
+fn put_title(k: u64, out: &mut [u8], at: usize) -> usize
+    ensures { λ r. ⌜ Placed (titleText k) at (now (out .entry)) r (now (out .exit)) ⌝ }
+{
+    let a = pieces::put_bytes(b"pair ", out, at);
+    let b = pieces::put_number(k, out, a);
+    pieces::put_bytes(b"\n", out, b)
+}
+
+// Room for any answer: a title of at most 26 bytes and a list of at most 65,536.
+fn room() -> [u8; 65562]
+    ensures { λ r. ⌜ length r ≡ longestAnswer ⌝ }
+{
+    [0; 65562]
+}
+
+// The lines that `pairs` prints for line number k.
+pub fn pair_answer(k: u64, line: &[u8], out: &mut [u8]) -> Written
+    ensures { λ w. ⌜ (w ≡ writtenOf (pairAnswer k (now (line .entry))) (now (out .entry))) × (now (out .exit) ≡ after (pairAnswer k (now (line .entry))) (now (out .entry))) ⌝ }
+    ensures { λ _. ⌜ length (pairAnswer k (now (line .entry))) ≤ longestAnswer ⌝ }
+{
+    let mut text = room();
+    let a = put_title(k, &mut text, 0);
+    let b = put_line(line, &mut text, a);
+    pieces::give(&text[..b], out)
+}
