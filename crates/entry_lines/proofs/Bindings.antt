@@ -69,7 +69,7 @@ module _ (x : Names) (e : Entry) (s : Shown) (mark : ℕ) (k : Kind) where
   -- Where a loop over the numbers is when it comes to n.
   pub record Binds (at : ℕ) (old : List ℕ) (n p : ℕ) (out : List ℕ) : Type 0 where
     pub within : n ≤ 16
-    pub todo : Left (textFor numbers) at old (rest n) p out
+    pub remains : Left (textFor numbers) at old (rest n) p out
     pub bound : length (textFor numbers) ≤ bindingBound k * n + length (rest n)
 
   step : (n : ℕ) → n < 16 → rest n ≡ textFor (n ∷ numbersFrom (16 - (n + 1)) (n + 1))
@@ -96,7 +96,7 @@ module _ (x : Names) (e : Entry) (s : Shown) (mark : ℕ) (k : Kind) where
   variable-unknown n q = rw q
 
   pub binds-start : (at : ℕ) (l : List ℕ) → Binds at l 0 at l
-  binds-start at l = record { within = omega arith; todo = all-left (textFor numbers) at l; bound = omega arith }
+  binds-start at l = record { within = omega arith; remains = all-left (textFor numbers) at l; bound = omega arith }
 
   module _ (at : ℕ) (old : List ℕ) (n p : ℕ) (out : List ℕ) (B : Binds at old n p out) where
     pub binds-next : (r : ℕ) (m : List ℕ) → n < 16 → Piece (bindingBound k) (textFor (n ∷ [])) p out r m → Binds at old (n + 1) r m
@@ -104,7 +104,7 @@ module _ (x : Names) (e : Entry) (s : Shown) (mark : ℕ) (k : Kind) where
         let z = step n h ∙ one-more n (numbersFrom (16 - (n + 1)) (n + 1)) in
         record {
           within = omega arith;
-          todo = left-next (textFor numbers) at old (textFor (n ∷ [])) (rest (n + 1)) (rest-as (textFor numbers) at old p out z (B .todo)) (d .0);
+          remains = left-next (textFor numbers) at old (textFor (n ∷ [])) (rest (n + 1)) (rest-as (textFor numbers) at old p out z (B .remains)) (d .0);
           bound = omega (arith, B .bound, ap length z, length-append (textFor (n ∷ [])) (rest (n + 1)), d .1);
         }
 
@@ -112,7 +112,7 @@ module _ (x : Names) (e : Entry) (s : Shown) (mark : ℕ) (k : Kind) where
     binds-last h =
         let z : n ≡ 16 = omega (arith, B .within) in
         let w : rest n ≡ [] = ap rest z in
-        (none-left (textFor numbers) at old (rest-as (textFor numbers) at old p out w (B .todo)), omega (arith, B .bound, ap length w, ap (λ (j : ℕ). bindingBound k * j) z))
+        (none-left (textFor numbers) at old (rest-as (textFor numbers) at old p out w (B .remains)), omega (arith, B .bound, ap length w, ap (λ (j : ℕ). bindingBound k * j) z))
 
 -- ---- the four types
 

@@ -65,7 +65,7 @@ loop-again c =
     (L .inv .0, omega arith, rowing-next (wides (z .args .names)) (take (z .args .t2 .n) (z .args .t2 .fields)) 559 _ _ (L .out) (L .p) (L .i) (L .inv .2) (getD (z .args .t2 .fields) (L .i) no-wide) _ _ (used-here no-wide (z .args .t2 .fields) (z .args .t2 .n) 4 _ (long z) (L .inv .0) (L .i) h) (P .ensures .0) (omega (arith, P .ensures .1)))
 
 same-length : tie.Need-same-length Inv-loop μ-loop
-same-length c = c .before .loop .inv .2 .todo .long ∙ c .before .before .before .before .put-field .kept .1 .1 .0
+same-length c = c .before .loop .inv .2 .remains .long ∙ c .before .before .before .before .put-field .kept .1 .1 .0
 
 returns-2 : tie.Need-returns-2 Inv-loop μ-loop
 returns-2 c =

@@ -32,7 +32,7 @@ loop-again c =
     binds-next (z .names) (z .e) (z .s) (z .mark) (kindOf (z .k)) (z .at) (z .out .now) (L .n) (L .p) (L .out) (L .inv) _ _ (c .before .before .before .before .loop-test .taken) (c .before .before .put-variable .ensures)
 
 same-length : tie.Need-same-length Inv-loop μ-loop
-same-length c = c .before .loop .inv .todo .long
+same-length c = c .before .loop .inv .remains .long
 
 returns : tie.Need-returns Inv-loop μ-loop
 returns c =

@@ -81,7 +81,7 @@ loop-again c =
     (L .inv .0, omega arith, rowing-next terms (run (renamedTerm (z .args .names)) (z .args .t2 .terms) (z .args .t2 .n) (z .args .start) (z .args .count)) 18 _ _ (L .out) (L .p) (L .i) (L .inv .2) (renamedTerm (z .args .names) (getD (z .args .t2 .terms) (z .args .start + L .i) no-term)) _ _ (run-here (renamedTerm (z .args .names)) no-term (z .args .t2 .terms) (z .args .t2 .n) 31 (z .args .start) (z .args .count) _ (long z) (L .inv .0) (L .i) h) (P .ensures .0) (omega (arith, P .ensures .1)))
 
 same-length-2 : tie.Need-same-length-2 Inv-loop μ-loop
-same-length-2 c = c .before .loop .inv .2 .todo .long ∙ c .before .before .before .before .put-renamed .kept .1 .1 .0
+same-length-2 c = c .before .loop .inv .2 .remains .long ∙ c .before .before .before .before .put-renamed .kept .1 .1 .0
 
 returns-2 : tie.Need-returns-2 Inv-loop μ-loop
 returns-2 c =
