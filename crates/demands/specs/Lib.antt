@@ -1,3 +1,4 @@
 pub mod Texts
 pub mod Matching
 pub mod Overlaps
+pub mod Library

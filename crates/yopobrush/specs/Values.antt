@@ -1,0 +1,16 @@
+-- The same answers, from the values that reading and listing return. `reading-said` and `listing-said` of proofs/Said say that they are the same.
+use Rattle.reading.specs.declared.Verdict.{Verdict}
+use Rattle.reading.specs.declared.Verdict.the-variants.{Accepted, Refused}
+use Rattle.reading.specs.Answers.{numberOf}
+use Rattle.overlaps.specs.declared.Listed.{Listed}
+use Rattle.overlaps.specs.declared.Listed.the-variants.{Lines, TooSmall}
+use Rattle.yopobrush.specs.declared.Reading.{Reading}
+use Rattle.yopobrush.specs.declared.Listing.{Listing}
+
+abbrev pub readingBy : Verdict → Reading
+readingBy Accepted = record { refusal = 0; place = 0 }
+readingBy (Refused r p) = record { refusal = numberOf r; place = p }
+
+abbrev pub listingBy : Reading → Reading → Listed → Listing
+listingBy left right (Lines n b) = record { left = left; right = right; refusal = 0; entries = n; bytes = b }
+listingBy left right (TooSmall n b) = record { left = left; right = right; refusal = 8; entries = n; bytes = b }

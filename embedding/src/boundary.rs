@@ -1,0 +1,54 @@
+//! The static library's functions as `yopobrush.h` declares them, and safe
+//! functions over them. All unsafe code of this crate is here.
+#![allow(unsafe_code)]
+
+/// The number of a text's refusal and its place, or 0 and 0.
+#[repr(C)]
+pub struct Reading {
+    pub refusal: u64,
+    pub place: u64,
+}
+
+/// How each text is read; 8 or 0; the entries and bytes of the list.
+#[repr(C)]
+pub struct Listing {
+    pub left: Reading,
+    pub right: Reading,
+    pub refusal: u64,
+    pub entries: u64,
+    pub bytes: u64,
+}
+
+extern "C" {
+    fn yopobrush_read_rule(text: *const u8, length: usize) -> Reading;
+
+    fn yopobrush_list_overlaps(
+        left: *const u8,
+        left_length: usize,
+        right: *const u8,
+        right_length: usize,
+        out: *mut u8,
+        out_length: usize,
+    ) -> Listing;
+}
+
+pub fn read_rule(text: &[u8]) -> Reading {
+    // SAFETY: the pointer and the length are a slice's. The function only
+    // reads it, keeps no pointer, and is proved to do nothing undefined.
+    unsafe { yopobrush_read_rule(text.as_ptr(), text.len()) }
+}
+
+pub fn list_overlaps(left: &[u8], right: &[u8], out: &mut [u8]) -> Listing {
+    // SAFETY: as above; `out` is lent as mutable, so no other slice shares a
+    // byte with it.
+    unsafe {
+        yopobrush_list_overlaps(
+            left.as_ptr(),
+            left.len(),
+            right.as_ptr(),
+            right.len(),
+            out.as_mut_ptr(),
+            out.len(),
+        )
+    }
+}

@@ -1,0 +1,82 @@
+//! Document 01's cases, "Pairs on either side of an edge".
+
+use yopobrush::{list_overlaps, overlaps, read_rule, Error, Refusal};
+
+fn assert_list(left: &str, right: &str, lines: &[&str]) {
+    let list: String = lines.iter().map(|line| format!("{line}\n")).collect();
+    let listed = overlaps(left.as_bytes(), right.as_bytes());
+    assert_eq!(listed, Ok(list.clone().into_bytes()), "{left} and {right}");
+    let mut room = [0; 1000];
+    let listing = list_overlaps(left.as_bytes(), right.as_bytes(), &mut room).unwrap();
+    assert_eq!(listing.entries, lines.len(), "{left} and {right}");
+    assert_eq!(&room[..listing.bytes], list.as_bytes());
+}
+
+fn assert_refused(text: impl AsRef<[u8]>, number: u8, place: usize) {
+    let text = text.as_ref();
+    assert_eq!(read_rule(text), Err(Refusal { number, place }));
+}
+
+#[test]
+fn starred_pairs() {
+    assert_list(
+        "a0:l0",
+        "l0:2",
+        &[
+            "2 <a0=2 <l0=empty >l0=empty",
+            "a0:l0:2 <a0=a0 <l0=l0:2 >l0=a0:l0",
+        ],
+    );
+    assert_list("l0", "l0", &["l0 <l0=l0 >l0=l0"]);
+    assert_list("empty", "empty", &["empty"]);
+    assert_list("i0", "2:l0", &["2 <i0=2 >l0=empty"]);
+    assert_list("i0", "s0", &[]);
+    assert_list(
+        "1:2:l0",
+        "l0:2:3",
+        &["1:2:3 <l0=3 >l0=1", "1:2:l0:2:3 <l0=l0:2:3 >l0=1:2:l0"],
+    );
+    assert_list("a0|a0", "1|\"m\"", &[]);
+    assert_list("i0|i0:l0", "3|a0", &["3|3 <i0=3 <l0=empty >a0=3"]);
+    assert_list("a0:a0", "i0:l0", &["i0:i0 <a0=i0 >i0=i0 >l0=i0"]);
+    assert_list("a0:a0", "1:\"1\"", &[]);
+    assert_list("l0", "l0|l1", &[]);
+}
+
+#[test]
+fn every_refusal_of_a_rule() {
+    assert_eq!(read_rule(b"2147483647"), Ok(()));
+    assert_refused("2147483648", 5, 0);
+    assert_eq!(read_rule(b"\"123456789012345\""), Ok(()));
+    assert_refused("\"1234567890123456\"", 5, 0);
+    assert_refused("i01", 2, 2);
+    assert_refused("l0|l0", 6, 3);
+    assert_refused("l0:l1", 6, 3);
+    assert_refused("", 2, 0);
+    assert_refused(vec![b'1'; 2049], 1, 2048);
+    assert_refused("1|1|1|1|1", 3, 8);
+    assert_refused(vec!["1"; 17].join(":"), 4, 32);
+    assert_refused([0, 255], 2, 0);
+}
+
+#[test]
+fn the_left_refusal_goes_first() {
+    let refusal = |number, place| Refusal { number, place };
+    let list = |left: &[u8], right: &[u8]| list_overlaps(left, right, &mut [0; 100]);
+    assert_eq!(list(b"i01", b"l0:l1"), Err(Error::Left(refusal(2, 2))));
+    assert_eq!(list(b"a0", b"l0:l1"), Err(Error::Right(refusal(6, 3))));
+    assert_eq!(overlaps(b"", b""), Err(Error::Left(refusal(2, 0))));
+    assert_eq!(overlaps(b"1", b""), Err(Error::Right(refusal(2, 0))));
+}
+
+#[test]
+fn what_errors_say() {
+    let said = |left: &[u8], right: &[u8]| match list_overlaps(left, right, &mut []) {
+        Ok(_) => String::new(),
+        Err(error) => error.to_string(),
+    };
+    assert_eq!(said(b"i01", b"1"), "left rule refused 2 at 2");
+    assert_eq!(said(b"1", b"l0:l1"), "right rule refused 6 at 3");
+    assert_eq!(said(b"1", b"1"), "2 bytes are needed");
+    assert_eq!(said(b"1", b"2"), "");
+}

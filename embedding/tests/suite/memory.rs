@@ -1,0 +1,82 @@
+//! The lent bytes, memory that the wrapper takes itself, and the stack.
+
+use std::thread;
+
+use yopobrush::{list_overlaps, overlaps, Error, Listing};
+
+const LEFT: &[u8] = b"a0:l0";
+const RIGHT: &[u8] = b"l0:2";
+const LIST: &[u8] = b"2 <a0=2 <l0=empty >l0=empty\na0:l0:2 <a0=a0 <l0=l0:2 >l0=a0:l0\n";
+
+#[test]
+fn a_list_takes_as_many_bytes_as_it_has() {
+    for room in 0..LIST.len() + 10 {
+        let mut out = vec![7; room];
+        let listing = Listing {
+            entries: 2,
+            bytes: LIST.len(),
+        };
+        let listed = list_overlaps(LEFT, RIGHT, &mut out);
+        if room < LIST.len() {
+            assert_eq!(listed, Err(Error::TooSmall(listing)));
+            assert_eq!(out, vec![7; room]);
+        } else {
+            assert_eq!(listed, Ok(listing));
+            assert_eq!(&out[..LIST.len()], LIST);
+            assert_eq!(&out[LIST.len()..], vec![7; room - LIST.len()]);
+        }
+    }
+}
+
+#[test]
+fn what_is_refused_leaves_the_lent_bytes() {
+    let mut out = [7; 100];
+    assert!(list_overlaps(b"i01", RIGHT, &mut out).is_err());
+    assert!(list_overlaps(LEFT, b"i01", &mut out).is_err());
+    assert_eq!(out, [7; 100]);
+}
+
+#[test]
+fn nothing_is_lent() {
+    let none = Listing {
+        entries: 0,
+        bytes: 0,
+    };
+    assert_eq!(list_overlaps(b"1", b"2", &mut []), Ok(none));
+    assert!(list_overlaps(&[], &[], &mut []).is_err());
+}
+
+/// Fifteen variables before or behind a list variable, in each field: as many
+/// choices as two rules can have.
+fn deepest(fields: usize) -> (Vec<u8>, Vec<u8>) {
+    let atoms = (0..15).map(|n| format!("a{n}")).collect::<Vec<_>>();
+    let atoms = atoms.join(":");
+    let field = |n: usize| (format!("{atoms}:l{n}"), format!("l{n}:{atoms}"));
+    let (left, right): (Vec<_>, Vec<_>) = (0..fields).map(field).unzip();
+    (left.join("|").into_bytes(), right.join("|").into_bytes())
+}
+
+#[test]
+fn a_list_beyond_the_first_room() {
+    let (left, right) = deepest(2);
+    let list = overlaps(&left, &right).unwrap();
+    let lines = list.iter().filter(|&&byte| byte == b'\n').count();
+    assert_eq!(lines, 256);
+    let mut room = vec![0; list.len()];
+    let listing = list_overlaps(&left, &right, &mut room).unwrap();
+    assert_eq!((listing.entries, listing.bytes), (256, list.len()));
+    assert_eq!(room, list);
+}
+
+#[test]
+fn a_megabyte_of_stack_is_enough() {
+    let (left, right) = deepest(4);
+    let list = move || list_overlaps(&left, &right, &mut [7; 10]);
+    let thread = thread::Builder::new().stack_size(1 << 20);
+    let listed = thread.spawn(list).unwrap().join().unwrap();
+    let needed = Listing {
+        entries: 65_536,
+        bytes: 47_250_381,
+    };
+    assert_eq!(listed, Err(Error::TooSmall(needed)));
+}
