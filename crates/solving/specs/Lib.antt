@@ -1,0 +1,2 @@
+-- The lines of the search for one field pair.
+pub mod Answers
