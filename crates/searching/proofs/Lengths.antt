@@ -150,7 +150,7 @@ module _ (E : Setting) where
       nM = count-absent E (pick u) M (all-map (Unbound E σ u) (Other E (listvar (pick u))) (λ t o. o .1 (pick u) (pick-new u)) M (i .ok .1))
 
   -- and so no value of a variable of the root is longer than the bound
-  cut-long : (A B : Field E) (bnd : ℕ) (n : Rest E) → Cut E A B bnd n → (length A ≤ bnd) × (length B ≤ bnd)
+  pub cut-long : (A B : Field E) (bnd : ℕ) (n : Rest E) → Cut E A B bnd n → (length A ≤ bnd) × (length B ≤ bnd)
   cut-long A B bnd n c = go (c .same-as)
     where
       sizes : (n : Rest E) → (length (leftOf E n) ≤ termsLeft E n) × (length (rightOf E n) ≤ termsLeft E n)

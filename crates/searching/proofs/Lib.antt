@@ -15,6 +15,8 @@ pub mod Lengths
 pub mod Tree
 pub mod Complete
 pub mod Fresh
+pub mod Sizes
+pub mod Few
 pub mod Searching
 pub mod Slips
 pub mod Examples
