@@ -6,6 +6,10 @@ use crate::reading::{read_rule, read_slip, Refusal};
 use crate::terms::Rule;
 use crate::writing::{entry_line, plain_filling, plain_rule};
 
+mod solve;
+
+pub use solve::solve_answer;
+
 /// A rule, a tab and a slip, each as long as reading allows.
 const LONGEST_MATCH_LINE: usize = 10_241;
 

@@ -7,6 +7,7 @@ pub mod large;
 pub mod matches;
 pub mod pairs;
 mod patterns;
+pub mod searches;
 
 use crate::draw::Draw;
 use crate::terms::{Field, Kind, Rule, Slip, Term};

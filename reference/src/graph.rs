@@ -3,7 +3,7 @@
 
 use crate::terms::{Kind, Term};
 
-#[derive(Clone, Copy, Debug, PartialEq, Eq)]
+#[derive(Clone, Copy, Debug, PartialEq, Eq, Hash)]
 pub(crate) enum Side {
     Left,
     Right,

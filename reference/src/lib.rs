@@ -7,6 +7,7 @@
 //! - [`writing`]: from values to plain text.
 //! - [`matching`]: a rule against a slip.
 //! - [`overlaps`]: which slips two rules share.
+//! - [`search`]: which values make two fields equal.
 //! - [`answers`]: what the programs print for a line.
 //! - [`generate`], [`draw`]: seeded texts on which the two are compared.
 
@@ -19,5 +20,7 @@ mod layouts;
 pub mod matching;
 pub mod overlaps;
 pub mod reading;
+mod rules;
+pub mod search;
 pub mod terms;
 pub mod writing;

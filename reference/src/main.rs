@@ -3,17 +3,19 @@ use std::ffi::OsString;
 use std::io::{self, BufRead, BufWriter, Write};
 use std::process::ExitCode;
 
-use reference::answers::{matches_answer, pairs_answer, texts_answer};
+use reference::answers::{matches_answer, pairs_answer, solve_answer, texts_answer};
 use reference::draw::Draw;
-use reference::generate::{any_line, matches::match_line, pairs::pair_line};
+use reference::generate::{any_line, matches::match_line, pairs::pair_line, searches::search_line};
 
-const USAGE: &str = "usage: reference read | match | pairs
-       reference generate | generate-matches | generate-pairs SEED COUNT
+const USAGE: &str = "usage: reference read | match | pairs | solve
+       reference generate | generate-matches | generate-pairs | generate-solve SEED COUNT
   read       read each line of standard input as a rule and as a slip
   match      match the rule with the slip behind the tab, line by line
   pairs      list the overlaps of the rules on either side of the tab
+  solve      search for what makes the fields on either side of the tab equal
   generate   write COUNT lines for `read`, the same for the same SEED
-  generate-matches, generate-pairs   write lines for `match`, `pairs`";
+  generate-matches, generate-pairs, generate-solve   write lines for `match`,
+             `pairs`, `solve`";
 
 /// What a program prints for a line, given the line's number from 1.
 type Answer = fn(usize, &[u8]) -> Vec<u8>;
@@ -33,6 +35,7 @@ fn main() -> ExitCode {
         [command] if command == "read" => answer(texts_answer),
         [command] if command == "match" => answer(matches_answer),
         [command] if command == "pairs" => answer(pairs_answer),
+        [command] if command == "solve" => answer(solve_answer),
         [command, numbers @ ..] if command == "generate" => {
             generate(numbers, any_line, Ending::Closed)
         }
@@ -41,6 +44,9 @@ fn main() -> ExitCode {
         }
         [command, numbers @ ..] if command == "generate-pairs" => {
             generate(numbers, pair_line, Ending::SometimesOpen)
+        }
+        [command, numbers @ ..] if command == "generate-solve" => {
+            generate(numbers, search_line, Ending::SometimesOpen)
         }
         _ => misused(),
     }

@@ -3,6 +3,7 @@
 
 use crate::overlaps::Entry;
 use crate::reading::{read_rule, read_slip};
+use crate::search::Answer;
 use crate::terms::{Field, Filling, Rule, Slip, Term};
 
 /// The plain text of a rule. A rule that no reading can return "counts there
@@ -62,6 +63,16 @@ pub fn entry_line(entry: &Entry) -> Vec<u8> {
         b"\n".to_vec(),
     ];
     parts.concat()
+}
+
+/// The line of an answer of the search, with its newline: the values alone,
+/// with blanks between them.
+pub fn answer_line(answer: &Answer) -> Vec<u8> {
+    let left = plain_filling(&answer.left, "<");
+    let right = plain_filling(&answer.right, ">");
+    let values = [left, right].concat();
+    let values = values.strip_prefix(b" ").unwrap_or_default();
+    [values, b"\n"].concat()
 }
 
 fn plain_term(term: &Term) -> Vec<u8> {

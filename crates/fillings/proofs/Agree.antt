@@ -115,7 +115,7 @@ module _ (x : Variable Basic ℕ) (w : OurAtom) (in-x : AtomIn (free x)) (in-w :
       go (yes e) = in-w
       go (no n) = i
 
-  holds-bind : (st : Fillings) (s : OurState) → Holds st s → Holds (replaced (encodeAtom (free x)) (encodeAtom w) st) (bind basics consts names x w s)
+  pub holds-bind : (st : Fillings) (s : OurState) → Holds st s → Holds (replaced (encodeAtom (free x)) (encodeAtom w) st) (bind basics consts names x w s)
   holds-bind st s h =
       record {
         long = length-map (st .atoms) (swap (encodeAtom (free x)) (encodeAtom w)) ∙ h .long;

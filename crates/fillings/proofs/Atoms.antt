@@ -79,7 +79,7 @@ same-atom-is t u = (to, from)
 
 -- ---- one value for each atom
 
-view-encode : (t : OurTerm) → viewTerm (encodeTerm t) ≡ t
+pub view-encode : (t : OurTerm) → viewTerm (encodeTerm t) ≡ t
 view-encode (con (int n)) = refl
 view-encode (con (str s)) = ap (λ (l : List ℕ). con (str l)) (take-at s (replicate (longestString - length s) 0) (length s) refl)
 view-encode (var k n) = ap (λ (j : Full Basic). var j n) (kindOf-from k)

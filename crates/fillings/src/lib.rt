@@ -60,7 +60,7 @@ fn same_form(a: Form, b: Form) -> bool
 }
 
 // Whether two atoms are one, variables too.
-fn same_atom(a: Term, b: Term) -> bool
+pub fn same_atom(a: Term, b: Term) -> bool
     ensures { λ r. ⌜ r ≡ sameAtom a b ⌝ }
 {
     let x = a.form;
@@ -73,7 +73,7 @@ fn same_atom(a: Term, b: Term) -> bool
     same_bytes(s, t)
 }
 
-fn is_variable(t: Term) -> bool
+pub fn is_variable(t: Term) -> bool
     ensures { λ r. ⌜ r ≡ isVariable (t .form) ⌝ }
 {
     let form = t.form;
@@ -84,7 +84,7 @@ fn is_variable(t: Term) -> bool
     }
 }
 
-fn kind_of(t: Term) -> Kind
+pub fn kind_of(t: Term) -> Kind
     ensures { λ r. ⌜ r ≡ kindFrom (kindOfAtom (t .form)) ⌝ }
 {
     let form = t.form;
@@ -183,7 +183,7 @@ impl Fillings {
     }
 
     // The state where every place that has x gets w.
-    fn replace(self, x: Term, w: Term) -> Fillings
+    pub fn replace(self, x: Term, w: Term) -> Fillings
         ensures { λ r. ⌜ r ≡ replaced x w self ⌝ }
     {
         let mut st = self;

@@ -92,6 +92,12 @@ module _ (E : Setting) where
   pub move-does : (L M : Field E) (f : Name) (q : Rule × Move E) → Is L M f q → Does E L M f (some (q .1))
   move-does L M f q e = subst (λ (o : Option (Move E)). Does E L M f o) e (rule-does E (q .0) L M f)
 
+  -- where none of the failure rules applies, each rule that applies gives a child
+  pub rule-child : (L M : Field E) (σ : Bindings E) (u : List Name) (r : Rule) (m : Move E) → fails E L M ≡ false → rule E r L M (pick u) ≡ some m
+      → List·Memᴰ (r, apply E σ u m) (children E (problem (equation L M) σ u))
+  rule-child L M σ u r m nf e = Memᴰ·map (λ q. (q .0, apply E σ u (q .1)))
+      (subst (λ (b : Bool). List·Memᴰ (r, m) (cond b [] (collect E L M (pick u) ruleOrder))) (sym nf) (collect-has L M (pick u) ruleOrder r (all-rules r) m e))
+
   -- what holds of every move's problem holds of every child
   pub all-children : (P : Problem E → Type 0) (L M : Field E) (σ : Bindings E) (u : List Name) → ((m : Move E) → Does E L M (pick u) (some m) → P (apply E σ u m)) → All (λ c. P (c .1)) (childrenOf E (equation L M) σ u)
   all-children P L M σ u h = all-mapped (λ c. P (c .1)) (λ q. (q .0, apply E σ u (q .1))) (moves E L M (pick u))

@@ -49,7 +49,7 @@ module _ (E : Setting) where
   }
 
   -- the names at the root are at most two
-  names-listvars : (L : Field E) → length (namesIn E L) ≡ listvars E L
+  pub names-listvars : (L : Field E) → length (namesIn E L) ≡ listvars E L
   names-listvars [] = refl
   names-listvars (atomic a ∷ L) = names-listvars L
   names-listvars (listvar n ∷ L) = ap suc (names-listvars L)

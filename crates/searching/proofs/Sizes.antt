@@ -42,11 +42,16 @@ module _ (E : Setting) where
   Within k solved = Unit {0}
   Within k (equation L M) = (length L ≤ k) × (length M ≤ k)
 
-  -- so it is behind a rule, where it was before; and a rule that brings in a list variable has three terms before it
+  -- at most one list variable is brought in, and none where the problem is solved
+  abbrev pub New : Rest E → List Name → Type 0
+  New solved v = v ≡ []
+  New (equation L M) v = length v ≤ 1
+
+  -- so it is behind a rule, where it was before; a rule that brings in a list variable has three terms before it; and a value has at most k terms
   abbrev Sized : ℕ → Field E → Field E → Option (Move E) → Type 0
   Sized k L M none = Unit {0}
   Sized k L M (some (keep n)) = Within k n
-  Sized k L M (some (bind x s v n)) = Within k n × ((v ≡ []) ⊎ (3 ≤ termsIn E L M))
+  Sized k L M (some (bind x s v n)) = Within k n × ((v ≡ []) ⊎ (3 ≤ termsIn E L M)) × (length s ≤ k) × New n v
 
   abbrev Sizes : ℕ → Rule → Type 0
   Sizes k r = (L M : Field E) (f : Name) → length L ≤ k → length M ≤ k → Sized k L M (rule E r L M f)
@@ -59,20 +64,20 @@ module _ (E : Setting) where
   swap-when k L M true p q = (q, p)
   swap-when k L M false p q = tt
 
-  bound : (k : ℕ) (L M : Field E) (x : Var) (a : At E) (n : Rest E) → Within k n → Sized k L M (bindAtom E x a n)
-  bound k L M x a n w = go (at-eq E a (free x)) (le (kindOf E a) (sort x))
+  bound : (k : ℕ) (L M : Field E) (x : Var) (a : At E) (n : Rest E) → 1 ≤ k → New n [] → Within k n → Sized k L M (bindAtom E x a n)
+  bound k L M x a n h e w = go (at-eq E a (free x)) (le (kindOf E a) (sort x))
     where
       go : (d : Dec (a ≡ free x)) (b : Bool) → Sized k L M (ite d none (cond b (some (bind (atomic (free x)) (atomic a ∷ []) [] n)) none))
       go (yes e) b = tt
-      go (no e) true = (w, inl refl)
+      go (no e′) true = (w, inl refl, h, e)
       go (no e) false = tt
 
-  solved-by : (k : ℕ) (L M : Field E) (x : Tm E) → Sized k L M (solveBy E x M)
-  solved-by k L M x = go (full-le order (fieldType E M) (termType E x)) (occurs E x M)
+  solved-by : (k : ℕ) (L M : Field E) (x : Tm E) → length M ≤ k → Sized k L M (solveBy E x M)
+  solved-by k L M x q = go (full-le order (fieldType E M) (termType E x)) (occurs E x M)
     where
       go : (a b : Bool) → Sized k L M (cond a (cond b none (some (bind x M [] solved))) none)
       go true true = tt
-      go true false = (tt, inl refl)
+      go true false = (tt, inl refl, q, refl)
       go false b = tt
 
   remove-sized : (k : ℕ) → Sizes k Remove
@@ -87,14 +92,14 @@ module _ (E : Setting) where
   decomp1-sized k (atomic a ∷ L) M f p q = tt
   decomp1-sized k (listvar x ∷ []) M f p q = tt
   decomp1-sized k (listvar x ∷ (t ∷ L)) [] f p q = tt
-  decomp1-sized k (listvar x ∷ (t ∷ L)) (s ∷ M) f p q = ((omega arith, omega arith), inl refl)
+  decomp1-sized k (listvar x ∷ (t ∷ L)) (s ∷ M) f p q = ((omega arith, omega arith), inl refl, omega arith, omega arith)
 
   decomp1′-sized : (k : ℕ) → Sizes k Decomp1′
   decomp1′-sized k [] M f p q = tt
   decomp1′-sized k (atomic (fixed c) ∷ L) M f p q = tt
   decomp1′-sized k (atomic (free x) ∷ []) M f p q = tt
   decomp1′-sized k (atomic (free x) ∷ (t ∷ L)) [] f p q = tt
-  decomp1′-sized k (atomic (free x) ∷ (t ∷ L)) (atomic a ∷ M) f p q = bound k (atomic (free x) ∷ (t ∷ L)) (atomic a ∷ M) x a (equation (ins (t ∷ L)) (ins M)) (omega (arith, put-length E (free x) a (t ∷ L)), omega (arith, put-length E (free x) a M))
+  decomp1′-sized k (atomic (free x) ∷ (t ∷ L)) (atomic a ∷ M) f p q = bound k (atomic (free x) ∷ (t ∷ L)) (atomic a ∷ M) x a (equation (ins (t ∷ L)) (ins M)) (omega arith) (omega arith) (omega (arith, put-length E (free x) a (t ∷ L)), omega (arith, put-length E (free x) a M))
     where
       ins : Field E → Field E
       ins K = putIn E (atomic (free x)) (atomic a ∷ []) K
@@ -107,7 +112,7 @@ module _ (E : Setting) where
   decomp2-sized k (listvar x ∷ []) M f p q = tt
   decomp2-sized k (listvar x ∷ (t ∷ L)) [] f p q = tt
   decomp2-sized k (listvar x ∷ (t ∷ L)) (atomic a ∷ M) f p q = tt
-  decomp2-sized k (listvar x ∷ (t ∷ L)) (listvar y ∷ M) f p q = ((omega arith, omega arith), inr (omega arith))
+  decomp2-sized k (listvar x ∷ (t ∷ L)) (listvar y ∷ M) f p q = ((omega arith, omega arith), inr (omega arith), omega arith, omega arith)
 
   decomp2′-sized : (k : ℕ) → Sizes k Decomp2′
   decomp2′-sized k [] M f p q = tt
@@ -115,7 +120,7 @@ module _ (E : Setting) where
   decomp2′-sized k (listvar x ∷ []) M f p q = tt
   decomp2′-sized k (listvar x ∷ (t ∷ L)) [] f p q = tt
   decomp2′-sized k (listvar x ∷ (t ∷ L)) (atomic a ∷ M) f p q = tt
-  decomp2′-sized k (listvar x ∷ (t ∷ L)) (listvar y ∷ M) f p q = ((omega arith, omega arith), inr (omega arith))
+  decomp2′-sized k (listvar x ∷ (t ∷ L)) (listvar y ∷ M) f p q = ((omega arith, omega arith), inr (omega arith), omega arith, omega arith)
 
   decomp3-sized : (k : ℕ) → Sizes k Decomp3
   decomp3-sized k [] M f p q = tt
@@ -132,7 +137,7 @@ module _ (E : Setting) where
   decomp4-sized k (atomic (free x) ∷ []) [] f p q = tt
   decomp4-sized k (atomic (free x) ∷ []) (atomic a ∷ []) f p q = tt
   decomp4-sized k (atomic (free x) ∷ []) (atomic a ∷ (atomic b ∷ M)) f p q = tt
-  decomp4-sized k (atomic (free x) ∷ []) (atomic a ∷ (listvar y ∷ [])) f p q = bound k (atomic (free x) ∷ []) (atomic a ∷ (listvar y ∷ [])) x a (equation [] (listvar y ∷ [])) (omega arith, omega arith)
+  decomp4-sized k (atomic (free x) ∷ []) (atomic a ∷ (listvar y ∷ [])) f p q = bound k (atomic (free x) ∷ []) (atomic a ∷ (listvar y ∷ [])) x a (equation [] (listvar y ∷ [])) (omega arith) (omega arith) (omega arith, omega arith)
   decomp4-sized k (atomic (free x) ∷ []) (atomic a ∷ (listvar y ∷ (t ∷ M))) f p q = tt
   decomp4-sized k (atomic (free x) ∷ []) (listvar y ∷ M) f p q = tt
   decomp4-sized k (atomic (free x) ∷ (t ∷ L)) M f p q = tt
@@ -141,23 +146,23 @@ module _ (E : Setting) where
   subst1-sized : (k : ℕ) → Sizes k Subst1
   subst1-sized k [] M f p q = tt
   subst1-sized k (atomic (fixed c) ∷ L) M f p q = tt
-  subst1-sized k (atomic (free x) ∷ []) M f p q = solved-by k (atomic (free x) ∷ []) M (atomic (free x))
+  subst1-sized k (atomic (free x) ∷ []) M f p q = solved-by k (atomic (free x) ∷ []) M (atomic (free x)) q
   subst1-sized k (atomic (free x) ∷ (t ∷ L)) M f p q = tt
-  subst1-sized k (listvar x ∷ []) M f p q = solved-by k (listvar x ∷ []) M (listvar x)
+  subst1-sized k (listvar x ∷ []) M f p q = solved-by k (listvar x ∷ []) M (listvar x) q
   subst1-sized k (listvar x ∷ (t ∷ L)) M f p q = tt
 
   subst2-sized : (k : ℕ) → Sizes k Subst2
   subst2-sized k [] M f p q = tt
   subst2-sized k (atomic a ∷ L) M f p q = tt
   subst2-sized k (listvar x ∷ []) M f p q = tt
-  subst2-sized k (listvar x ∷ (t ∷ L)) M f p q = ((omega arith, q), inl refl)
+  subst2-sized k (listvar x ∷ (t ∷ L)) M f p q = ((omega arith, q), inl refl, omega arith, omega arith)
 
   subst3-sized : (k : ℕ) → Sizes k Subst3
   subst3-sized k [] M f p q = tt
   subst3-sized k (atomic a ∷ L) M f p q = tt
   subst3-sized k (listvar x ∷ []) M f p q = tt
   subst3-sized k (listvar x ∷ (t ∷ L)) [] f p q = tt
-  subst3-sized k (listvar x ∷ (t ∷ L)) (atomic a ∷ M) f p q = ((omega arith, omega arith), inr (omega arith))
+  subst3-sized k (listvar x ∷ (t ∷ L)) (atomic a ∷ M) f p q = ((omega arith, omega arith), inr (omega arith), omega arith, omega arith)
   subst3-sized k (listvar x ∷ (t ∷ L)) (listvar y ∷ M) f p q = tt
 
   orient1-sized : (k : ℕ) → Sizes k Orient1
@@ -280,6 +285,11 @@ module _ (E : Setting) where
   -- a rule that brings some in has at least three terms before it
   pub brings-three : (L M : Field E) (f : Name) (r : Rule) (x : Tm E) (s : Field E) (v : List Name) (n : Rest E) → rule E r L M f ≡ some (bind x s v n) → (v ≡ []) ⊎ (3 ≤ termsIn E L M)
   brings-three L M f r x s v n e = subst (λ (o : Option (Move E)). Sized (length L + length M) L M o) e (rule-sized (length L + length M) r L M f (omega arith) (omega arith)) .1
+
+  -- a value that a rule binds has no more terms than the larger side
+  pub value-short : (k : ℕ) (L M : Field E) (f : Name) → length L ≤ k → length M ≤ k
+      → (r : Rule) (x : Tm E) (s : Field E) (v : List Name) (n : Rest E) → rule E r L M f ≡ some (bind x s v n) → (length s ≤ k) × New n v
+  value-short k L M f p q r x s v n e = let h = subst (λ (o : Option (Move E)). Sized k L M o) e (rule-sized k r L M f p q) in (h .2, h .3)
 
 module _ (O : Order) (C : Consts O) (N : Vars O) where
   abbrev Numbered : Setting

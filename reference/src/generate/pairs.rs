@@ -80,7 +80,7 @@ fn common_slip(draw: &mut Draw) -> Vec<Field> {
 
 /// A rule that matches the slip: in some fields a list variable stands for a
 /// run of items, and for some items a variable stands.
-fn abstracted(slip: &[Field], draw: &mut Draw) -> Rule {
+pub(super) fn abstracted(slip: &[Field], draw: &mut Draw) -> Rule {
     let names = draw.pick(&[2, 4, 16]);
     let shift = draw.below(16);
     let mut values = Filling::new();
@@ -128,7 +128,7 @@ fn change_fields(rule: &mut Rule, draw: &mut Draw) {
 }
 
 /// An atom more, an atom less, or another atom in its place.
-fn change_field(field: &mut Field, draw: &mut Draw) {
+pub(super) fn change_field(field: &mut Field, draw: &mut Draw) {
     let at = draw.below(field.len() + 1);
     let atom = match draw.below(3) {
         0 => few_constant(draw),
@@ -161,7 +161,7 @@ fn recurring(draw: &mut Draw) -> Vec<u8> {
     line(&left, &right, draw)
 }
 
-fn recurring_rule(fields: usize, draw: &mut Draw) -> Rule {
+pub(super) fn recurring_rule(fields: usize, draw: &mut Draw) -> Rule {
     let kinds = any_kinds(draw);
     let mut rule = Vec::new();
     for index in 0..fields {

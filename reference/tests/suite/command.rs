@@ -88,6 +88,8 @@ fn any_bytes_are_answered() {
     let pairs = answer("pairs", &input);
     let numbered = pairs.lines().filter(|line| line.starts_with("pair "));
     assert_eq!(numbered.count(), count_lines(&input));
+    let searches = answer("solve", &input);
+    assert_eq!(searches.lines().count(), 2 * count_lines(&input));
 }
 
 #[test]
@@ -150,7 +152,38 @@ refused left 6 at 3
     assert_eq!(answer("pairs", input), expected);
 }
 
-const GENERATORS: [&str; 3] = ["generate", "generate-matches", "generate-pairs"];
+#[test]
+fn searches_are_numbered() {
+    assert_eq!(answer("solve", b""), "");
+    let one = "search 1\nrefusal 0 lines 1 bytes 16\n<i0=2 >l0=empty\n";
+    assert_eq!(answer("solve", b"i0\t2:l0"), one);
+    assert_eq!(answer("solve", b"i0\t2:l0\n"), one);
+    let input = b"1\t1\t1\n\n1\t1\t2\n1\t1\tx\n1\t2\n1\t1\t-\t1";
+    let expected = "\
+search 1
+refusal 9 lines 0 bytes 0
+search 2
+refusal 0 lines 0 bytes 0
+search 3
+refusal 0 lines 2 bytes 2
+
+
+search 4
+bad row
+search 5
+refusal 0 lines 0 bytes 0
+search 6
+refusal 8 lines 2 bytes 2
+";
+    assert_eq!(answer("solve", input), expected);
+}
+
+const GENERATORS: [&str; 4] = [
+    "generate",
+    "generate-matches",
+    "generate-pairs",
+    "generate-solve",
+];
 
 fn generate(command: &str, seed: &str, count: &str) -> Vec<u8> {
     run(&[command, seed, count], b"").stdout
@@ -201,6 +234,8 @@ fn other_commands_are_refused() {
         &["pairs", "1"],
         &["generate-pairs"],
         &["generate-pairs", "1", "2", "3"],
+        &["solve", "1"],
+        &["generate-solve", "1"],
     ];
     for arguments in misuses {
         let output = run(arguments, b"1\n");

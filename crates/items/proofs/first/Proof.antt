@@ -1,0 +1,29 @@
+-- `items::first` meets its contract. Assumes nothing.
+use mathlib.Core.Path.{_≡_}
+use native.Mathlib.Omega.{arith}
+use lib.ListN.{length}
+use Rattle.lists.specs.Seqs.{long-mapped}
+use Rattle.terms.specs.Values.{blankTerm}
+use Rattle.items.proofs.Loops.{first-used}
+use borrow.Author.Needs.{needs}
+use Rattle.items.proofs.first.Statement.{statement}
+use Rattle.items.proofs.first.Tie as tie
+
+blank-term-requires : tie.Need-blank-term-requires
+blank-term-requires c κs = search needs
+
+returns : tie.Need-returns
+returns c = rw (c .blank-term .ensures, c .before .if1 .taken)
+
+element-copy-out-result : tie.Need-element-copy-out-result
+element-copy-out-result c = search needs
+
+returns-2 : tie.Need-returns-2
+returns-2 c =
+    let z = c .before .before .args in
+    let p : length (z .t1 .terms) ≡ 17 = search long-mapped in
+    let h = c .before .if1 .left in
+    first-used (z .t1 .n) (z .t1 .terms) _ blankTerm h (omega arith)
+
+pub first-spec : {M : Type 1} → statement M
+first-spec = tie.close (tie.spec blank-term-requires returns element-copy-out-result returns-2)

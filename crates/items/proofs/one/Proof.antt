@@ -1,0 +1,16 @@
+-- `items::one` meets its contract. Assumes nothing.
+use borrow.Author.Needs.{needs}
+use Rattle.items.proofs.one.Statement.{statement}
+use Rattle.items.proofs.one.Tie as tie
+
+blank-items-requires : tie.Need-blank-items-requires
+blank-items-requires c κs = search needs
+
+push-requires : tie.Need-push-requires
+push-requires c κs = search needs
+
+returns : tie.Need-returns
+returns c = rw (c .push .ensures, c .before .blank-items .ensures)
+
+pub one-spec : {M : Type 1} → statement M
+one-spec = tie.close (tie.spec blank-items-requires push-requires returns)

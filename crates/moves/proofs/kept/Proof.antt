@@ -1,0 +1,16 @@
+-- `moves::kept` meets its contract. Assumes nothing.
+use borrow.Author.Needs.{needs}
+use Rattle.moves.proofs.kept.Statement.{statement}
+use Rattle.moves.proofs.kept.Tie as tie
+
+blank-term-requires : tie.Need-blank-term-requires
+blank-term-requires c κs = search needs
+
+blank-items-requires : tie.Need-blank-items-requires
+blank-items-requires c κs = search needs
+
+returns : tie.Need-returns
+returns c = rw (c .blank-items .ensures, c .before .blank-term .ensures)
+
+pub kept-spec : {M : Type 1} → statement M
+kept-spec = tie.close (tie.spec blank-term-requires blank-items-requires returns)

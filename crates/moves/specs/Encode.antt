@@ -1,0 +1,42 @@
+-- The values of the search's moves, and the rules' numbers.
+use mathlib.Core.Bool.{Bool, true, false}
+use mathlib.Core.Option.{Option, none, some}
+use mathlib.Core.List.{List, [], _∷_}
+use Prim.Native.Nat.{ℕ}
+use Rattle.searching.specs.Problems.{Rest, solved, equation}
+use Rattle.searching.specs.Rules.{Rule, Remove, Decomp1, Decomp1′, Decomp2, Decomp2′, Decomp3, Decomp4, Subst1, Subst2, Subst3, Orient1, Orient2, Orient3, Orient4, keep, bind}
+use Rattle.searching.specs.Rules as rules
+use Rattle.items.specs.Items.{blankItems}
+use Rattle.items.specs.Encode.{setting, encodeTm, encodeItems}
+use Rattle.moves.specs.declared.Move.{Move}
+use Rattle.moves.specs.Moves.{noMove, solvedMove, solvedBy, kept, bound}
+
+-- "in this order: Remove, Decomp1, Decomp1', Decomp2, Decomp2', Decomp3, Decomp4, Subst1, Subst2, Subst3, Orient1 to Orient4"
+abbrev pub number : Rule → ℕ
+number Remove = 0
+number Decomp1 = 1
+number Decomp1′ = 2
+number Decomp2 = 3
+number Decomp2′ = 4
+number Decomp3 = 5
+number Decomp4 = 6
+number Subst1 = 7
+number Subst2 = 8
+number Subst3 = 9
+number Orient1 = 10
+number Orient2 = 11
+number Orient3 = 12
+number Orient4 = 13
+
+-- a rule brings in the fresh list variable or none
+abbrev pub bringsIn : List ℕ → Bool
+bringsIn [] = false
+bringsIn (n ∷ u) = true
+
+-- THE VALUE of what a rule makes of an equation. No rule that solves a problem brings in a list variable.
+abbrev pub encodeMove : Option (rules.Move setting) → Move
+encodeMove none = noMove
+encodeMove (some (keep solved)) = solvedMove
+encodeMove (some (keep (equation L M))) = kept (encodeItems L) (encodeItems M)
+encodeMove (some (bind x s u solved)) = solvedBy (encodeTm x) (encodeItems s)
+encodeMove (some (bind x s u (equation L M))) = bound (bringsIn u) (encodeTm x) (encodeItems s) (encodeItems L) (encodeItems M)

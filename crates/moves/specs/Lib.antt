@@ -1,0 +1,4 @@
+pub mod Heads
+pub mod Moves
+pub mod Fails
+pub mod Encode

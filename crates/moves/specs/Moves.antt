@@ -1,0 +1,116 @@
+-- The transformation rules on values, as code makes them: of the heads a and b of the two sides, of their terms ls and ms, or of the sides l and m.
+-- `move-agrees` of proofs/Agree says that on the values of the search's fields they are the rules of document 001 as document 01 amends them.
+use mathlib.Core.Bool.{Bool, true, false, cond, _&&_, not}
+use mathlib.Core.List.{List, [], _∷_}
+use Prim.Native.Nat.{ℕ}
+use lib.ListN.{getD, drop}
+use Rattle.order.specs.Types.{le, same}
+use Rattle.order.specs.Values.{kindOf}
+use Rattle.theory.specs.Seqs.{concat-map}
+use Rattle.terms.specs.declared.Term.{Term}
+use Rattle.terms.specs.Values.{blankTerm}
+use Rattle.fillings.specs.States.{sameAtom}
+use Rattle.items.specs.declared.Items.{Items}
+use Rattle.items.specs.Items.{blankItems, itemsOf, collect, putTerm, sameTerms, occursIn}
+use Rattle.moves.specs.declared.Head.{Head}
+use Rattle.moves.specs.declared.Move.{Move}
+use Rattle.moves.specs.Heads.{headOf, replaces, strictly, freshTerm}
+
+-- ---- what a rule leaves
+
+abbrev pub moved : Bool → Bool → Bool → Term → Items → Items → Items → Move
+moved o b f x s l m = record { applies = true; «open» = o; binds = b; fresh = f; variable = x; value = s; left = l; right = m }
+
+-- the rule does not apply
+abbrev pub noMove : Move
+noMove =
+    record { applies = false; «open» = false; binds = false; fresh = false; variable = blankTerm; value = blankItems; left = blankItems; right = blankItems }
+
+abbrev pub solvedMove : Move
+solvedMove = moved false false false blankTerm blankItems blankItems blankItems
+
+abbrev pub solvedBy : Term → Items → Move
+solvedBy x s = moved false true false x s blankItems blankItems
+
+abbrev pub kept : Items → Items → Move
+kept l m = moved true false false blankTerm blankItems l m
+
+abbrev pub bound : Bool → Term → Items → Items → Items → Move
+bound f x s l m = moved true true f x s l m
+
+-- ---- the rules
+
+abbrev pub remove : List Term → List Term → Move
+remove ls ms = cond (sameTerms ls ms) solvedMove noMove
+
+abbrev pub decomp1 : Head → Head → List Term → List Term → Move
+decomp1 a b ls ms =
+    cond (a .list && a .longer && b .some) (bound false (a .first) (collect (b .first ∷ [])) (collect (drop 1 ls)) (collect (drop 1 ms))) noMove
+
+-- all but the first term, where x is replaced by t
+abbrev pub putRest : Term → Term → List Term → Items
+putRest x t ls = collect (concat-map (putTerm x (t ∷ [])) (drop 1 ls))
+
+abbrev pub decomp1′ : Head → Head → List Term → List Term → Move
+decomp1′ a b ls ms =
+    cond (a .variable && not (a .list) && a .longer && replaces a b)
+    (bound false (a .first) (collect (b .first ∷ [])) (putRest (a .first) (b .first) ls) (putRest (a .first) (b .first) ms)) noMove
+
+abbrev pub decomp2 : Head → Head → List Term → List Term → ℕ → Move
+decomp2 a b ls ms f =
+    cond (a .list && a .longer && b .list)
+    (bound true (a .first) (collect (b .first ∷ (freshTerm f ∷ []))) (collect (freshTerm f ∷ drop 1 ls)) (collect (drop 1 ms))) noMove
+
+abbrev pub decomp2′ : Head → Head → List Term → List Term → ℕ → Move
+decomp2′ a b ls ms f =
+    cond (a .list && a .longer && b .list)
+    (bound true (b .first) (collect (a .first ∷ (freshTerm f ∷ []))) (collect (drop 1 ls)) (collect (freshTerm f ∷ drop 1 ms))) noMove
+
+abbrev pub decomp3 : Head → Head → List Term → List Term → Move
+decomp3 a b ls ms = cond (a .some && b .some && sameAtom (a .first) (b .first)) (kept (collect (drop 1 ls)) (collect (drop 1 ms))) noMove
+
+-- c is the head of the right side without its first term
+abbrev pub decomp4 : Head → Head → Head → List Term → Move
+decomp4 a b c ms =
+    cond (a .variable && not (a .list) && not (a .longer) && c .list && not (c .longer) && replaces a b)
+    (bound false (a .first) (collect (b .first ∷ [])) blankItems (collect (drop 1 ms))) noMove
+
+abbrev pub subst1 : Head → Head → Items → List Term → Move
+subst1 a b m ms =
+    cond (a .variable && not (a .longer) && le (kindOf (b .whole)) (kindOf (a .kind)) && not (occursIn (a .first) ms)) (solvedBy (a .first) m) noMove
+
+abbrev pub subst2 : Head → Items → List Term → Move
+subst2 a m ls = cond (a .list && a .longer) (bound false (a .first) blankItems (collect (drop 1 ls)) m) noMove
+
+abbrev pub subst3 : Head → Head → List Term → List Term → ℕ → Move
+subst3 a b ls ms f =
+    cond (a .list && a .longer && b .some && not (b .list))
+    (bound true (a .first) (collect (b .first ∷ (freshTerm f ∷ []))) (collect (freshTerm f ∷ drop 1 ls)) (collect (drop 1 ms))) noMove
+
+abbrev pub orient1 : Head → Head → Items → Items → Move
+orient1 a b l m = cond (a .some && not (a .variable) && b .variable) (kept m l) noMove
+
+abbrev pub orient2 : Head → Head → Items → Items → Move
+orient2 a b l m =
+    cond (a .variable && a .longer && b .variable && not (b .longer) && same (kindOf (a .kind)) (kindOf (b .kind))) (kept m l) noMove
+
+abbrev pub orient3 : Head → Head → Items → Items → Move
+orient3 a b l m = cond (a .variable && b .variable && strictly (a .kind) (b .kind)) (kept m l) noMove
+
+abbrev pub orient4 : Head → Head → Items → Items → Move
+orient4 a b l m = cond (not (a .some) && b .list) (kept m l) noMove
+
+-- ---- all of them
+
+-- "in this order: Remove, Decomp1, Decomp1', Decomp2, Decomp2', Decomp3, Decomp4, Subst1, Subst2, Subst3, Orient1 to Orient4"
+abbrev pub allBy : Head → Head → Head → Items → Items → List Term → List Term → ℕ → List Move
+allBy a b c l m ls ms f =
+    remove ls ms ∷ (decomp1 a b ls ms ∷ (decomp1′ a b ls ms ∷ (decomp2 a b ls ms f ∷ (decomp2′ a b ls ms f ∷ (decomp3 a b ls ms ∷ (decomp4 a b c ms ∷
+    (subst1 a b m ms ∷ (subst2 a m ls ∷ (subst3 a b ls ms f ∷ (orient1 a b l m ∷ (orient2 a b l m ∷ (orient3 a b l m ∷ (orient4 a b l m ∷ [])))))))))))))
+
+abbrev pub allOf : Items → Items → List Term → List Term → ℕ → List Move
+allOf l m ls ms f = allBy (headOf ls) (headOf ms) (headOf (drop 1 ms)) l m ls ms f
+
+-- the rule of a number; no number beyond the last has a rule
+abbrev pub moveValue : ℕ → Items → Items → ℕ → Move
+moveValue r l m f = getD (allOf l m (itemsOf l) (itemsOf m) f) r noMove

@@ -1,0 +1,5 @@
+pub mod Loops
+pub mod Holds
+pub mod Bindings
+pub mod Moved
+pub mod Rooted
