@@ -216,7 +216,7 @@ holds-term x L (var j m) i h =
     subst (λ (u : OurTerm). Holds (nameTerm x (encodeTerm u)) (λ k. L k ++ namesIn k (var j m ∷ []))) (sym (mark-var j m))
     (subst (λ (k : Kind). Holds (nameVariable x k (codeOf m)) (λ k. L k ++ namesIn k (var j m ∷ []))) (sym (kindOf-from j)) (holds-variable x L h j m i))
 
-names-append : (k : Kind) (f g : List Marked) → namesIn k (f ++ g) ≡ namesIn k f ++ namesIn k g
+pub names-append : (k : Kind) (f g : List Marked) → namesIn k (f ++ g) ≡ namesIn k f ++ namesIn k g
 names-append k [] g = refl
 names-append k (con c ∷ f) g = names-append k f g
 names-append k (var j m ∷ f) g = go (kind-eq k j) (names-append k f g)

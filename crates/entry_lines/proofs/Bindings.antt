@@ -1,27 +1,30 @@
 -- Laws of values and bindings: a value by its variable's type, and the bindings of a type number by number. Assumes nothing.
-use mathlib.Core.Path.{_≡_, refl, sym, ap, _∙_}
+use mathlib.Core.Path.{_≡_, refl, sym, ap, _∙_, subst}
 use mathlib.Core.Bool.{Bool, true, false, cond, false≢true}
-use mathlib.Core.List.{List, [], _∷_, _++_, map, map-append, append-nil}
-use Prim.Native.Nat.{ℕ, suc, _+_, _-_, _*_, _≤_, _<_}
+use mathlib.Core.List.{List, [], _∷_, _++_, map, append-nil}
+use Prim.Native.Nat.{ℕ, zero, suc, _+_, _-_, _*_, _%_, _≤_, _<_, min}
+use native.Mathlib.Decide.{decLt}
+use native.Mathlib.Nat.{zero-add}
 use native.Mathlib.Numerals.{add-one}
 use native.Mathlib.Omega.{arith}
-use lib.ListN.{length, getD, length-append}
+use lib.ListN.{length, getD, drop, length-append}
+use lib.Seq.{drop-cons}
+use borrow.Author.Tests.{lt-ltb, le-ltb}
 use Rattle.order.specs.Order.{basic, list}
 use Rattle.order.specs.Types.{integer, string, atom, Kind, rank}
-use Rattle.theory.proofs.Seqs.{concat-map-append}
 use Rattle.terms.specs.declared.Term.{Term}
 use Rattle.terms.specs.Values.{blankTerm}
-use Rattle.listing.specs.Variables.{Variable, numbersFrom, numbers, ofKind, keep}
+use Rattle.listing.specs.Variables.{Variable, numbersFrom, every, keep}
 use Rattle.text.specs.Plain.{fieldText, plain}
 use Rattle.listing.specs.Lines.{Binding, Line, nameText, bindingText, leftMark, rightMark, bindingsText, lineText}
 use Rattle.entries.specs.declared.Entry.{Entry}
 use Rattle.entries.specs.declared.Names.{Names}
 use Rattle.shown.specs.declared.Shown.{Shown}
 use Rattle.pieces.specs.Placed.{Placed}
-use Rattle.entry_lines.specs.Sizes.{valueBound, bindingBound, kindBound}
-use Rattle.shown.specs.Shown.{blankRun, isKnown, runTerms, valueTerms}
-use Rattle.entry_lines.specs.Shown.{isList, bindingOf, bindingsFor, kindBindings, shownBindings}
-use Rattle.pieces.proofs.Pieces.{Left, all-left, none-left, rest-as, left-next}
+use Rattle.entry_lines.specs.Sizes.{valueBound, bindingBound}
+use Rattle.shown.specs.Shown.{blankRun, placeIn, isKnown, runTerms, valueTerms}
+use Rattle.entry_lines.specs.Shown.{isList, bindingOf, bindingsFor, kindAt, shownBindings}
+use Rattle.pieces.proofs.Pieces.{Left, all-left, none-left, rest-as, left-next, placed-none}
 use Rattle.entry_lines.proofs.Pieces.{Piece, piece-as, piece-next, piece-byte}
 use Rattle.entry_lines.proofs.Runs.{any-default}
 
@@ -55,100 +58,117 @@ binding-five mark b k at l {p} {q} {r} {o} {n} {c} {d} {f} {g} {h} u v w x y =
     (piece-next 17 (1 + k) (18 + k) name (61 ∷ value) q d w
     (piece-next 1 k (1 + k) (61 ∷ []) value r f (piece-byte 61 r f x) y (omega arith)) (omega arith)) (omega arith)) (omega arith)
 
--- ---- the bindings of a type
+-- ---- the variables by their places
 
-module _ (x : Names) (e : Entry) (s : Shown) (mark : ℕ) (k : Kind) where
-  -- those of the numbers ns
-  abbrev pub textFor : List ℕ → List ℕ
-  textFor ns = bindingsText mark (bindingsFor x e s (map (λ (n : ℕ). (k, n)) ns))
+-- the variable whose place is i
+abbrev variableAt : ℕ → Variable
+variableAt i = (kindAt i, i % 16)
 
-  -- from n on
-  abbrev pub rest : ℕ → List ℕ
-  rest n = textFor (numbersFrom (16 - n) n)
+map-from : {A : Type 0} (f : ℕ → A) (m n i : ℕ) (d : A) → i < m → getD (map f (numbersFrom m n)) i d ≡ f (n + i)
+map-from f zero n i d h = absurd (omega arith)
+map-from f (suc m) n zero d h = ap f (let z : n ≡ n + 0 = omega arith in z)
+map-from f (suc m) n (suc i) d h = map-from f m (suc n) i d (omega arith) ∙ ap f (let z : suc n + i ≡ n + suc i = omega arith in z)
 
-  -- Where a loop over the numbers is when it comes to n.
-  pub record Binds (at : ℕ) (old : List ℕ) (n p : ℕ) (out : List ℕ) : Type 0 where
-    pub within : n ≤ 16
-    pub remains : Left (textFor numbers) at old (rest n) p out
-    pub bound : length (textFor numbers) ≤ bindingBound k * n + length (rest n)
+every-placed : every ≡ map variableAt (numbersFrom 64 0)
+every-placed = refl
 
-  step : (n : ℕ) → n < 16 → rest n ≡ textFor (n ∷ numbersFrom (16 - (n + 1)) (n + 1))
-  step n h = ap (λ (m : ℕ). textFor (numbersFrom m n)) (let z : 16 - n ≡ suc (16 - (n + 1)) = omega arith in z) ∙ ap (λ (j : ℕ). textFor (n ∷ numbersFrom (16 - (n + 1)) j)) (sym (add-one n))
+pub every-at : (i : ℕ) (d : Variable) → i < 64 → getD every i d ≡ (kindAt i, i % 16)
+every-at i d h = ap (λ (l : List Variable). getD l i d) every-placed ∙ map-from variableAt 64 0 i d h ∙ ap variableAt (zero-add i)
 
-  one-more : (n : ℕ) (ns : List ℕ) → textFor (n ∷ ns) ≡ textFor (n ∷ []) ++ textFor ns
-  one-more n ns = go (isKnown s (k, n))
-    where
-      b : List ℕ
-      b = bindingText mark (bindingOf x e s (k, n))
-
-      vs : List Variable
-      vs = keep (isKnown s) (map (λ (j : ℕ). (k, j)) ns)
-
-      go : (c : Bool) → bindingsText mark (map (bindingOf x e s) (cond c ((k, n) ∷ vs) vs)) ≡ bindingsText mark (map (bindingOf x e s) (cond c ((k, n) ∷ []) [])) ++ bindingsText mark (map (bindingOf x e s) vs)
-      go true = ap (λ (l : List ℕ). l ++ textFor ns) (sym (append-nil b))
-      go false = refl
-
-  -- the binding of a variable that the rule has, and none of one that it lacks
-  pub variable-known : (n : ℕ) → isKnown s (k, n) ≡ true → textFor (n ∷ []) ≡ bindingText mark (bindingOf x e s (k, n))
-  variable-known n q = rw q (append-nil (bindingText mark (bindingOf x e s (k, n))))
-
-  pub variable-unknown : (n : ℕ) → isKnown s (k, n) ≡ false → textFor (n ∷ []) ≡ []
-  variable-unknown n q = rw q
-
-  pub binds-start : (at : ℕ) (l : List ℕ) → Binds at l 0 at l
-  binds-start at l = record { within = omega arith; remains = all-left (textFor numbers) at l; bound = omega arith }
-
-  module _ (at : ℕ) (old : List ℕ) (n p : ℕ) (out : List ℕ) (B : Binds at old n p out) where
-    pub binds-next : (r : ℕ) (m : List ℕ) → n < 16 → Piece (bindingBound k) (textFor (n ∷ [])) p out r m → Binds at old (n + 1) r m
-    binds-next r m h d =
-        let z = step n h ∙ one-more n (numbersFrom (16 - (n + 1)) (n + 1)) in
-        record {
-          within = omega arith;
-          remains = left-next (textFor numbers) at old (textFor (n ∷ [])) (rest (n + 1)) (rest-as (textFor numbers) at old p out z (B .remains)) (d .0);
-          bound = omega (arith, B .bound, ap length z, length-append (textFor (n ∷ [])) (rest (n + 1)), d .1);
-        }
-
-    pub binds-last : 16 ≤ n → Piece (kindBound k) (textFor numbers) at old p out
-    binds-last h =
-        let z : n ≡ 16 = omega (arith, B .within) in
-        let w : rest n ≡ [] = ap rest z in
-        (none-left (textFor numbers) at old (rest-as (textFor numbers) at old p out w (B .remains)), omega (arith, B .bound, ap length w, ap (λ (j : ℕ). bindingBound k * j) z))
-
--- ---- the four types
-
-keep-append : {A : Type 0} (p : A → Bool) (a b : List A) → keep p (a ++ b) ≡ keep p a ++ keep p b
-keep-append p [] b = refl
-keep-append {A = A} p (y ∷ a) b = go (p y) (keep-append p a b)
+-- a property of the type at a place, by the place
+by-place : (P : Kind → Type 0) (i : ℕ) → (i < 16 → P (basic integer)) → (16 ≤ i → i < 32 → P (basic string)) → (32 ≤ i → i < 48 → P (basic atom)) → (48 ≤ i → P list) → P (kindAt i)
+by-place P i a b c d = go (decLt i 16) (decLt i 32) (decLt i 48)
   where
-    go : (c : Bool) → keep p (a ++ b) ≡ keep p a ++ keep p b → cond c (y ∷ keep p (a ++ b)) (keep p (a ++ b)) ≡ cond c (y ∷ keep p a) (keep p a) ++ keep p b
-    go true q = ap (λ (l : List A). y ∷ l) q
-    go false q = q
+    go : Dec (i < 16) → Dec (i < 32) → Dec (i < 48) → P (kindAt i)
+    go (yes h) q r = subst P (let z : basic integer ≡ kindAt i = rw (lt-ltb i 16 h) in z) (a h)
+    go (no h) (yes k) r = subst P (let z : basic string ≡ kindAt i = rw (le-ltb i 16 (omega arith), lt-ltb i 32 k) in z) (b (omega arith) k)
+    go (no h) (no k) (yes l) = subst P (let z : basic atom ≡ kindAt i = rw (le-ltb i 16 (omega arith), le-ltb i 32 (omega arith), lt-ltb i 48 l) in z) (c (omega arith) l)
+    go (no h) (no k) (no l) = subst P (let z : list ≡ kindAt i = rw (le-ltb i 16 (omega arith), le-ltb i 32 (omega arith), le-ltb i 48 (omega arith)) in z) (d (omega arith))
+
+place-is : (i : ℕ) → i < 64 → placeIn (kindAt i) (i % 16) ≡ i
+place-is i h = by-place (λ k. placeIn k (i % 16) ≡ i) i (λ a. omega arith) (λ a b. omega arith) (λ a b. omega arith) (λ a. omega arith)
+
+-- how many bytes the bindings before place i have at most
+abbrev boundTo : ℕ → ℕ
+boundTo i = 37 * min i 48 + 578 * (i - 48)
+
+bound-more : (i : ℕ) → bindingBound (kindAt i) + boundTo i ≤ boundTo (i + 1)
+bound-more i = by-place (λ k. bindingBound k + boundTo i ≤ boundTo (i + 1)) i (λ a. omega arith) (λ a b. omega arith) (λ a b. omega arith) (λ a. omega arith)
+
+-- ---- the bindings
 
 module _ (x : Names) (e : Entry) (s : Shown) (mark : ℕ) where
-  abbrev kindText : Kind → List ℕ
-  kindText k = bindingsText mark (kindBindings x e s k)
+  -- those of the variables vs
+  abbrev pub textFor : List Variable → List ℕ
+  textFor vs = bindingsText mark (bindingsFor x e s vs)
 
-  texts-append : (a b : List Variable) → bindingsText mark (bindingsFor x e s (a ++ b)) ≡ bindingsText mark (bindingsFor x e s a) ++ bindingsText mark (bindingsFor x e s b)
-  texts-append a b =
-      ap (λ (l : List Variable). bindingsText mark (map (bindingOf x e s) l)) (keep-append (isKnown s) a b)
-      ∙ ap (bindingsText mark) (map-append (bindingOf x e s) (keep (isKnown s) a) (keep (isKnown s) b))
-      ∙ concat-map-append (bindingText mark) (bindingsFor x e s a) (bindingsFor x e s b)
+  -- from place i on
+  abbrev pub rest : ℕ → List ℕ
+  rest i = textFor (drop i every)
 
-  four : bindingsText mark (shownBindings x e s) ≡ kindText (basic integer) ++ (kindText (basic string) ++ (kindText (basic atom) ++ kindText list))
-  four =
-      texts-append (ofKind (basic integer)) (ofKind (basic string) ++ (ofKind (basic atom) ++ (ofKind list ++ [])))
-      ∙ ap (λ (l : List ℕ). kindText (basic integer) ++ l) (texts-append (ofKind (basic string)) (ofKind (basic atom) ++ (ofKind list ++ []))
-      ∙ ap (λ (l : List ℕ). kindText (basic string) ++ l) (texts-append (ofKind (basic atom)) (ofKind list ++ [])
-      ∙ ap (λ (l : List Variable). kindText (basic atom) ++ bindingsText mark (bindingsFor x e s l)) (append-nil (ofKind list))))
+  -- Where a loop over the places is when it comes to i.
+  pub record Binds (at : ℕ) (old : List ℕ) (i p : ℕ) (out : List ℕ) : Type 0 where
+    pub within : i ≤ 64
+    pub remains : Left (textFor every) at old (rest i) p out
+    pub bound : length (textFor every) ≤ boundTo i + length (rest i)
 
-  pub bindings-four : (at : ℕ) (l : List ℕ) {p q r o : ℕ} {a b c d : List ℕ}
-      → Piece (kindBound (basic integer)) (kindText (basic integer)) at l p a → Piece (kindBound (basic string)) (kindText (basic string)) p a q b → Piece (kindBound (basic atom)) (kindText (basic atom)) q b r c → Piece (kindBound list) (kindText list) r c o d
-      → Piece 11024 (bindingsText mark (shownBindings x e s)) at l o d
-  bindings-four at l {p} {q} {r} {o} {a} {b} {c} {d} i j k m =
-      piece-as 11024 at l four
-      (piece-next 592 10432 11024 (kindText (basic integer)) (kindText (basic string) ++ (kindText (basic atom) ++ kindText list)) at l i
-      (piece-next 592 9840 10432 (kindText (basic string)) (kindText (basic atom) ++ kindText list) p a j
-      (piece-next 592 9248 9840 (kindText (basic atom)) (kindText list) q b k m (omega arith)) (omega arith)) (omega arith))
+  one-more : (v : Variable) (vs : List Variable) → textFor (v ∷ vs) ≡ textFor (v ∷ []) ++ textFor vs
+  one-more v vs = go (isKnown s v)
+    where
+      b : List ℕ
+      b = bindingText mark (bindingOf x e s v)
+
+      ws : List Variable
+      ws = keep (isKnown s) vs
+
+      go : (c : Bool) → bindingsText mark (map (bindingOf x e s) (cond c (v ∷ ws) ws)) ≡ bindingsText mark (map (bindingOf x e s) (cond c (v ∷ []) [])) ++ bindingsText mark (map (bindingOf x e s) ws)
+      go true = ap (λ (l : List ℕ). l ++ textFor vs) (sym (append-nil b))
+      go false = refl
+
+  step : (i : ℕ) → i < 64 → rest i ≡ textFor (variableAt i ∷ []) ++ rest (i + 1)
+  step i h =
+      ap textFor (drop-cons every i (list, 0) h ∙ ap (λ (v : Variable). v ∷ drop (suc i) every) (every-at i (list, 0) h))
+      ∙ one-more (variableAt i) (drop (suc i) every)
+      ∙ ap (λ (k : ℕ). textFor (variableAt i ∷ []) ++ rest k) (sym (add-one i))
+
+  -- the binding of a variable that the rule has, and none of one that it lacks
+  variable-known : (v : Variable) → isKnown s v ≡ true → textFor (v ∷ []) ≡ bindingText mark (bindingOf x e s v)
+  variable-known v q = rw q (append-nil (bindingText mark (bindingOf x e s v)))
+
+  variable-unknown : (v : Variable) → isKnown s v ≡ false → textFor (v ∷ []) ≡ []
+  variable-unknown v q = rw q
+
+  pub binds-start : (at : ℕ) (l : List ℕ) → Binds at l 0 at l
+  binds-start at l = record { within = omega arith; remains = all-left (textFor every) at l; bound = omega arith }
+
+  pub binds-as : (at : ℕ) (old : List ℕ) (i : ℕ) {p q : ℕ} {m n : List ℕ} → n ≡ m → q ≡ p → Binds at old i p m → Binds at old i q n
+  binds-as at old i {p} {q} {m} {n} a b B = subst (λ (r : ℕ). Binds at old i r n) (sym b) (subst (λ (l : List ℕ). Binds at old i p l) (sym a) B)
+
+  module _ (at : ℕ) (old : List ℕ) (i p : ℕ) (out : List ℕ) (B : Binds at old i p out) where
+    binds-next : (k r : ℕ) (m : List ℕ) → i < 64 → k + boundTo i ≤ boundTo (i + 1) → Piece k (textFor (variableAt i ∷ [])) p out r m → Binds at old (i + 1) r m
+    binds-next k r m h b d =
+        let z = step i h in
+        record {
+          within = omega arith;
+          remains = left-next (textFor every) at old (textFor (variableAt i ∷ [])) (rest (i + 1)) (rest-as (textFor every) at old p out z (B .remains)) (d .0);
+          bound = omega (arith, B .bound, ap length z, length-append (textFor (variableAt i ∷ [])) (rest (i + 1)), d .1, b);
+        }
+
+    -- a variable that the rule lacks
+    pub binds-none : i < 64 → getD (s .known) i false ≡ false → Binds at old (i + 1) p out
+    binds-none h q = binds-next 0 p out h (omega arith) (piece-as 0 p out (variable-unknown (variableAt i) (ap (λ (j : ℕ). getD (s .known) j false) (place-is i h) ∙ q)) (placed-none p out, omega arith))
+
+    -- one that it has
+    pub binds-one : (r : ℕ) (m : List ℕ) (k : Kind) → i < 64 → getD (s .known) i false ≡ true → k ≡ kindAt i → Piece (bindingBound k) (bindingText mark (bindingOf x e s (k, i % 16))) p out r m → Binds at old (i + 1) r m
+    binds-one r m k h q is d =
+        let d = subst (λ (j : Kind). Piece (bindingBound j) (bindingText mark (bindingOf x e s (j, i % 16))) p out r m) is d in
+        binds-next (bindingBound (kindAt i)) r m h (bound-more i) (piece-as (bindingBound (kindAt i)) p out (variable-known (variableAt i) (ap (λ (j : ℕ). getD (s .known) j false) (place-is i h) ∙ q)) d)
+
+    pub binds-last : 64 ≤ i → Piece 11024 (bindingsText mark (shownBindings x e s)) at old p out
+    binds-last h =
+        let z : i ≡ 64 = omega (arith, B .within) in
+        let w : rest i ≡ [] = ap rest z in
+        (none-left (textFor every) at old (rest-as (textFor every) at old p out w (B .remains)), omega (arith, B .bound, ap length w))
 
 -- ---- the line
 

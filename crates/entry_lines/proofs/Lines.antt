@@ -179,7 +179,7 @@ module _ (fs : List (List Marked)) (i : All (All MarkedIn) fs) where
             q
         go false o q = q
 
-    rule-agrees : shownBindings names (entryValue fs) s ≡ bindingsOf rule (λ k n. map renumber (φ k n))
+    pub rule-agrees : shownBindings names (entryValue fs) s ≡ bindingsOf rule (λ k n. map renumber (φ k n))
     rule-agrees = bindings-agree every every-small
 
   -- the line that the code writes of an entry's value is that of the renumbered entry

@@ -3,12 +3,15 @@ use mathlib.Core.Path.{_≡_, refl, sym, ap, _∙_}
 use mathlib.Core.Bool.{Bool, true, false, cond}
 use mathlib.Core.List.{List, [], _∷_, _++_}
 use Prim.Native.Nat.{ℕ, _+_, _≤_}
+use native.Mathlib.Nat.{zero-add}
 use native.Mathlib.Omega.{arith}
 use lib.Dec.{leb}
-use lib.ListN.{length, length-append}
+use lib.ListN.{length, drop, length-append}
+use lib.Seq.{sets-eq}
+use borrow.Author.Tests.{le-leb}
 use Rattle.writing.specs.declared.Written.{Written}
 use Rattle.writing.specs.declared.Written.the-variants.{Bytes, TooSmall}
-use Rattle.writing.specs.Answers.{writtenOf}
+use Rattle.writing.specs.Answers.{writtenOf, after}
 use Rattle.pieces.specs.Placed.{Placed}
 use Rattle.pieces.specs.Sizes.{sizeOf}
 use Rattle.pieces.proofs.Pieces.{sets-out, placed-as, placed-next}
@@ -37,3 +40,10 @@ size-either t l e h = e ∙ ap sizeOf h ∙ go (leb (length t) (length l))
     go : (b : Bool) → sizeOf (cond b (Bytes (length t)) (TooSmall (length t))) ≡ length t
     go true = refl
     go false = refl
+
+-- what is put at the start of a buffer that has room for it is the front, and behind it are the old bytes
+pub front-after : (t l : List ℕ) → length t ≤ length l → {p : ℕ} {m : List ℕ} → Placed t 0 l p m → (p ≡ length t) × (m ≡ after t l)
+front-after t l h q = (
+  omega (arith, q .0),
+  q .1 ∙ sets-eq t l 0 (omega arith) ∙ ap (λ (k : ℕ). t ++ drop k l) (zero-add (length t)) ∙ sym (ap (λ (b : Bool). cond b (t ++ drop (length t) l) l) (le-leb (length t) (length l) h)),
+)

@@ -1,14 +1,15 @@
 -- The line of an entry from its value and the values of the two rules' variables, as code puts it together.
 -- `line-agrees` of proofs/Lines says that it is the overlap list's line.
-use mathlib.Core.Bool.{Bool, true, false}
+use mathlib.Core.Bool.{Bool, true, false, cond}
 use mathlib.Core.List.{List, map}
 use Prim.Native.Nat.{ℕ}
+use lib.Dec.{ltb}
 use Rattle.order.specs.Order.{basic, list}
-use Rattle.order.specs.Types.{Kind}
+use Rattle.order.specs.Types.{integer, string, atom, Kind}
 use Rattle.text.specs.Terms.{OurTerm}
 use Rattle.terms.specs.declared.Term.{Term}
 use Rattle.terms.specs.Values.{viewTerm}
-use Rattle.listing.specs.Variables.{Variable, ofKind, every, keep}
+use Rattle.listing.specs.Variables.{Variable, every, keep}
 use Rattle.listing.specs.Lines.{Binding, Line, lineText}
 use Rattle.entries.specs.declared.Wide.{Wide}
 use Rattle.entries.specs.declared.Entry.{Entry}
@@ -44,8 +45,9 @@ bindingOf x e s v = record { kind = v .0; number = v .1; value = renamedTerms x 
 abbrev pub bindingsFor : Names → Entry → Shown → List Variable → List Binding
 bindingsFor x e s vs = map (bindingOf x e s) (keep (isKnown s) vs)
 
-abbrev pub kindBindings : Names → Entry → Shown → Kind → List Binding
-kindBindings x e s k = bindingsFor x e s (ofKind k)
+-- the type of the variable whose place among the 64 is i; `every-at` of proofs/Bindings says that the places are in document 01's order
+abbrev pub kindAt : ℕ → Kind
+kindAt i = cond (ltb i 16) (basic integer) (cond (ltb i 32) (basic string) (cond (ltb i 48) (basic atom) list))
 
 abbrev pub shownBindings : Names → Entry → Shown → List Binding
 shownBindings x e s = bindingsFor x e s every

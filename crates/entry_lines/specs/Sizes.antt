@@ -1,5 +1,5 @@
 -- How long the pieces of a line can get: of any value, also of one that no entry has.
-use Prim.Native.Nat.{ℕ, _+_, _*_}
+use Prim.Native.Nat.{ℕ, _+_}
 use Rattle.order.specs.Order.{basic, list}
 use Rattle.order.specs.Types.{Kind}
 
@@ -11,9 +11,6 @@ valueBound list = 558
 -- the blank, the mark, the name and the `=` have at most 20
 abbrev pub bindingBound : Kind → ℕ
 bindingBound k = 20 + valueBound k
-
-abbrev pub kindBound : Kind → ℕ
-kindBound k = 16 * bindingBound k
 
 abbrev pub lineBound : ℕ
 lineBound = 24285

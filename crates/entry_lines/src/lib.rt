@@ -1,10 +1,10 @@
 // The line of an entry of the overlap list, into lent bytes.
-// The line is put together in room that is known to be enough, piece behind piece, and then given whole or not at all.
+// The line is put together piece behind piece where the room is known to be enough: in the lent bytes, or else in room of its own that is then given whole or not at all.
 ghost use mathlib.Core.Path.{_≡_};
 ghost use mathlib.Core.List.{[], _∷_};
 ghost use Prim.Native.Nat.{_-_, _≤_, _<_, min};
 ghost use lib.ListN.{length, getD};
-ghost use Rattle.order.specs.Values.{kindOf};
+ghost use Rattle.order.specs.Values.{kindOf, kindFrom};
 ghost use Rattle.text.specs.Plain.{termText, fieldText, plain};
 ghost use Rattle.theory.specs.Terms.{var};
 ghost use Rattle.terms.specs.Values.{viewTerm};
@@ -14,8 +14,8 @@ ghost use Rattle.entries.specs.Names.{renamedTerm};
 ghost use Rattle.writing.specs.Answers.{after};
 ghost use Rattle.pieces.specs.Placed.{Placed};
 ghost use Rattle.shown.specs.Shown.{wideRun, runTerms, valueTerms};
-ghost use Rattle.entry_lines.specs.Shown.{isList, renamedTerms, fieldOf, fieldsOf, bindingOf, bindingsFor, kindBindings, shownBindings, lineValue};
-ghost use Rattle.entry_lines.specs.Sizes.{valueBound, bindingBound, kindBound, lineBound};
+ghost use Rattle.entry_lines.specs.Shown.{isList, renamedTerms, fieldOf, fieldsOf, bindingOf, kindAt, shownBindings, lineValue};
+ghost use Rattle.entry_lines.specs.Sizes.{valueBound, bindingBound, lineBound};
 use entries::Entry;
 use entries::Names;
 use entries::Wide;
@@ -222,50 +222,36 @@ fn put_binding(
     put_value(names, e, s, k, n, out, d)
 }
 
-// The binding of a variable that the rule has.
-fn put_variable(
-    names: Names,
-    e: Entry,
-    s: Shown,
-    mark: u8,
-    k: Kind,
-    n: usize,
-    out: &mut [u8],
-    at: usize,
-) -> usize
-    requires { ⌜ n < 16 ⌝ }
-    ensures { λ r. ⌜ Placed (bindingsText mark (bindingsFor names e s ((kindOf k, n) ∷ []))) at (now (out .entry)) r (now (out .exit)) ⌝ }
-    ensures { λ _. ⌜ length (bindingsText mark (bindingsFor names e s ((kindOf k, n) ∷ []))) ≤ bindingBound (kindOf k) ⌝ }
+// The type of the variable whose place is i: 16 places each for integer, string, atom and list variables.
+fn kind_at(i: usize) -> Kind
+    ensures { λ r. ⌜ r ≡ kindFrom (kindAt i) ⌝ }
 {
-    if !s.known[16 * order::rank(k) + n] {
-        return at;
+    if i < 16 {
+        return Kind::Integer;
     }
-    put_binding(names, e, s, mark, k, n, out, at)
+    if i < 32 {
+        return Kind::String;
+    }
+    if i < 48 {
+        return Kind::Atom;
+    }
+    Kind::List
 }
 
-// The bindings of the variables of type k, by number.
-fn put_kind(names: Names, e: Entry, s: Shown, mark: u8, k: Kind, out: &mut [u8], at: usize) -> usize
-    ensures { λ r. ⌜ Placed (bindingsText mark (kindBindings names e s (kindOf k))) at (now (out .entry)) r (now (out .exit)) ⌝ }
-    ensures { λ _. ⌜ length (bindingsText mark (kindBindings names e s (kindOf k))) ≤ kindBound (kindOf k) ⌝ }
-{
-    let mut p = at;
-    let mut n: usize = 0;
-    while n < 16 {
-        p = put_variable(names, e, s, mark, k, n, out, p);
-        n += 1;
-    }
-    p
-}
-
-// Document 01: "Variables go in the order i, s, a, l, then by number."
-fn put_bindings(names: Names, e: Entry, s: Shown, mark: u8, out: &mut [u8], at: usize) -> usize
+// Document 01: "Variables go in the order i, s, a, l, then by number." Nothing is handed on for a variable that the rule lacks.
+pub fn put_bindings(names: Names, e: Entry, s: Shown, mark: u8, out: &mut [u8], at: usize) -> usize
     ensures { λ r. ⌜ Placed (bindingsText mark (shownBindings names e s)) at (now (out .entry)) r (now (out .exit)) ⌝ }
     ensures { λ _. ⌜ length (bindingsText mark (shownBindings names e s)) ≤ 11024 ⌝ }
 {
-    let a = put_kind(names, e, s, mark, Kind::Integer, out, at);
-    let b = put_kind(names, e, s, mark, Kind::String, out, a);
-    let c = put_kind(names, e, s, mark, Kind::Atom, out, b);
-    put_kind(names, e, s, mark, Kind::List, out, c)
+    let mut p = at;
+    let mut i: usize = 0;
+    while i < 64 {
+        if s.known[i] {
+            p = put_binding(names, e, s, mark, kind_at(i), i % 16, out, p);
+        }
+        i += 1;
+    }
+    p
 }
 
 // ---- the line
@@ -293,6 +279,9 @@ pub fn put_line(e: Entry, left: Shown, right: Shown, out: &mut [u8]) -> usize
     ensures { λ n. ⌜ (n ≡ length (lineValue e left right)) × (now (out .exit) ≡ after (lineValue e left right) (now (out .entry))) ⌝ }
     ensures { λ _. ⌜ length (lineValue e left right) ≤ lineBound ⌝ }
 {
+    if 24285 <= out.len() {
+        return put_whole(e, left, right, out, 0);
+    }
     let mut text = room();
     let n = put_whole(e, left, right, &mut text, 0);
     pieces::size_of(pieces::give(&text[..n], out))

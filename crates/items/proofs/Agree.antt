@@ -53,17 +53,21 @@ same-tm t u h k = go (tm-eq setting t u)
 pub items-of : (ts : Field setting) → length ts ≤ mostItems → itemsOf (encodeItems ts) ≡ encodeAll ts
 items-of ts h = items-collect (encodeAll ts) (omega (arith, length-map ts encodeTm))
 
-pub first-agree : (t : Tm setting) (ts : Field setting) → length (t ∷ ts) ≤ mostItems → getD (itemsOf (encodeItems (t ∷ ts))) 0 blankTerm ≡ encodeTm t
+pub first-agree : (t : Tm setting) (ts : Field setting) → length (t ∷ ts) ≤ mostItems
+    → getD (itemsOf (encodeItems (t ∷ ts))) 0 blankTerm ≡ encodeTm t
 first-agree t ts h = ap (λ (l : List Term). getD l 0 blankTerm) (items-of (t ∷ ts) h)
 
-pub rest-agree : (t : Tm setting) (ts : Field setting) → length (t ∷ ts) ≤ mostItems → collect (drop 1 (itemsOf (encodeItems (t ∷ ts)))) ≡ encodeItems ts
+pub rest-agree : (t : Tm setting) (ts : Field setting) → length (t ∷ ts) ≤ mostItems
+    → collect (drop 1 (itemsOf (encodeItems (t ∷ ts)))) ≡ encodeItems ts
 rest-agree t ts h = ap (λ (l : List Term). collect (drop 1 l)) (items-of (t ∷ ts) h)
 
-pub before-agree : (t : Tm setting) (ts : Field setting) → length ts ≤ mostItems → collect (encodeTm t ∷ itemsOf (encodeItems ts)) ≡ encodeItems (t ∷ ts)
+pub before-agree : (t : Tm setting) (ts : Field setting) → length ts ≤ mostItems
+    → collect (encodeTm t ∷ itemsOf (encodeItems ts)) ≡ encodeItems (t ∷ ts)
 before-agree t ts h = ap (λ (l : List Term). collect (encodeTm t ∷ l)) (items-of ts h)
 
 -- L{x ↦ s}
-put-all : (x : Tm setting) (s ts : Field setting) → TmIn x → All TmIn ts → concat-map (putTerm (encodeTm x) (encodeAll s)) (encodeAll ts) ≡ encodeAll (putIn setting x s ts)
+put-all : (x : Tm setting) (s ts : Field setting) → TmIn x → All TmIn ts
+    → concat-map (putTerm (encodeTm x) (encodeAll s)) (encodeAll ts) ≡ encodeAll (putIn setting x s ts)
 put-all x s [] h k = refl
 put-all x s (t ∷ ts) h k =
     ap₂ (λ (a b : List Term). a ++ b)
@@ -75,11 +79,13 @@ put-all x s (t ∷ ts) h k =
     go (yes e) = refl
     go (no n) = refl
 
-pub put-in-agree : (x : Tm setting) (s ts : Field setting) → TmIn x → All TmIn ts → collect (concat-map (putTerm (encodeTm x) (encodeAll s)) (encodeAll ts)) ≡ encodeItems (putIn setting x s ts)
+pub put-in-agree : (x : Tm setting) (s ts : Field setting) → TmIn x → All TmIn ts
+    → collect (concat-map (putTerm (encodeTm x) (encodeAll s)) (encodeAll ts)) ≡ encodeItems (putIn setting x s ts)
 put-in-agree x s ts h k = ap collect (put-all x s ts h k)
 
 -- what `put_in` makes of the values
-pub put-in-items : (x : Tm setting) (s ts : Field setting) → TmIn x → All TmIn ts → length s ≤ mostItems → length ts ≤ mostItems → collect (concat-map (putTerm (encodeTm x) (itemsOf (encodeItems s))) (itemsOf (encodeItems ts))) ≡ encodeItems (putIn setting x s ts)
+pub put-in-items : (x : Tm setting) (s ts : Field setting) → TmIn x → All TmIn ts → length s ≤ mostItems → length ts ≤ mostItems
+    → collect (concat-map (putTerm (encodeTm x) (itemsOf (encodeItems s))) (itemsOf (encodeItems ts))) ≡ encodeItems (putIn setting x s ts)
 put-in-items x s ts h k p q = ap₂ (λ (a b : List Term). collect (concat-map (putTerm (encodeTm x) a) b)) (items-of s p) (items-of ts q) ∙ put-in-agree x s ts h k
 
 terms-same : (s : List Term) → sameTerms s s ≡ true

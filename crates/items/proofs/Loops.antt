@@ -1,7 +1,7 @@
 -- Loops over the used places of an array of terms: one that folds, one that compares two arrays, one that looks for a term. Assumes nothing.
 use mathlib.Core.Path.{_≡_, refl, sym, _∙_, ap, ap₂}
 use mathlib.Core.Bool.{Bool, true, false, _&&_, _||_, not}
-use mathlib.Core.List.{List, [], _∷_, _++_, foldl}
+use mathlib.Core.List.{List, [], _∷_, foldl, foldl-append}
 use Prim.Native.Nat.{ℕ, zero, suc, _+_, _<_, _≤_, min}
 use native.Mathlib.Numerals.{add-one}
 use native.Mathlib.Omega.{arith}
@@ -32,16 +32,12 @@ first-used (suc n) (x ∷ s) d e h k = refl
 -- ---- folds
 
 -- a step that folds over what a member gives
-abbrev pub Each : {A B C : Type 0} → (A → C → A) → (B → List C) → A → B → A
-Each f g x b = foldl f x (g b)
+abbrev pub each : {A B C : Type 0} → (A → C → A) → (B → List C) → A → B → A
+each f g x b = foldl f x (g b)
 
-fold-append : {A C : Type 0} (f : A → C → A) (s t : List C) (x : A) → foldl f x (s ++ t) ≡ foldl f (foldl f x s) t
-fold-append f [] t x = refl
-fold-append f (c ∷ s) t x = fold-append f s t (f x c)
-
-pub fold-each : {A B C : Type 0} (f : A → C → A) (g : B → List C) (s : List B) (x : A) → foldl (Each f g) x s ≡ foldl f x (concat-map g s)
+pub fold-each : {A B C : Type 0} (f : A → C → A) (g : B → List C) (s : List B) (x : A) → foldl (each f g) x s ≡ foldl f x (concat-map g s)
 fold-each f g [] x = refl
-fold-each f g (b ∷ s) x = fold-each f g s (foldl f x (g b)) ∙ sym (fold-append f (g b) (concat-map g s) x)
+fold-each f g (b ∷ s) x = fold-each f g s (foldl f x (g b)) ∙ sym (foldl-append f x (g b) (concat-map g s))
 
 -- what is left to fold makes the whole
 module _ {A B : Type 0} (f : A → B → A) (whole : A) (n : ℕ) (s : List B) (w : ℕ) where

@@ -15,7 +15,9 @@ use Rattle.text.specs.Terms.{Con}
 use Rattle.instance.specs.Constants.{con-eq}
 use Rattle.unifiers.specs.Shapes.{Atom, fixed, free, Variable, kindIn}
 use Rattle.searching.specs.Problems.{atomic, listvar, At, Tm, Field, at-eq, tm-eq, field-eq, termType, fieldType, putIn, solved, equation, fixed-once}
-use Rattle.searching.specs.Rules.{Rule, Remove, Decomp1, Decomp1′, Decomp2, Decomp2′, Decomp3, Decomp4, Subst1, Subst2, Subst3, Orient1, Orient2, Orient3, Orient4, keep, bind, rule}
+use Rattle.searching.specs.Rules.{Rule, keep, bind, rule}
+use Rattle.searching.specs.Rules.{Remove, Decomp1, Decomp1′, Decomp2, Decomp2′, Decomp3, Decomp4}
+use Rattle.searching.specs.Rules.{Subst1, Subst2, Subst3, Orient1, Orient2, Orient3, Orient4}
 use Rattle.searching.specs.Rules as rules
 use Rattle.sides.specs.Sides.{AtomIn}
 use Rattle.terms.specs.declared.Term.{Term}
@@ -46,7 +48,8 @@ made-by : (b : Bool) (m : rules.Move setting) → cond b (encodeMove (some m)) n
 made-by true m = refl
 made-by false m = refl
 
-made-unless : {P : Type 0} (d : Dec P) (b : Bool) (m : rules.Move setting) → cond (not (decided d) && b) (encodeMove (some m)) noMove ≡ encodeMove (ite d none (cond b (some m) none))
+made-unless : {P : Type 0} (d : Dec P) (b : Bool) (m : rules.Move setting)
+    → cond (not (decided d) && b) (encodeMove (some m)) noMove ≡ encodeMove (ite d none (cond b (some m) none))
 made-unless (yes p) b m = refl
 made-unless (no n) true m = refl
 made-unless (no n) false m = refl
@@ -67,7 +70,8 @@ same-at a b h k = go (at-eq setting a b)
     go (yes e) = same-encoded a b e
     go (no n) = other-encoded a b h k n
 
-same-con : (c d : Con) → AtomIn (fixed c) → AtomIn (fixed d) → sameAtom (encodeTm (atomic (fixed c))) (encodeTm (atomic (fixed d))) ≡ decided (con-eq c d)
+same-con : (c d : Con) → AtomIn (fixed c) → AtomIn (fixed d)
+    → sameAtom (encodeTm (atomic (fixed c))) (encodeTm (atomic (fixed d))) ≡ decided (con-eq c d)
 same-con c d h k = go (con-eq c d)
   where
     go : (e : Dec (c ≡ d)) → sameAtom (encodeTm (atomic (fixed c))) (encodeTm (atomic (fixed d))) ≡ decided e
@@ -87,7 +91,8 @@ bind-atom x a n h k =
 -- ---- the rules
 
 module _ (f : ℕ) where
-  remove-agrees : (L M : Field setting) → All TmIn L → All TmIn M → values.remove (encodeAll L) (encodeAll M) ≡ encodeMove (rules.remove setting L M)
+  remove-agrees : (L M : Field setting) → All TmIn L → All TmIn M
+      → values.remove (encodeAll L) (encodeAll M) ≡ encodeMove (rules.remove setting L M)
   remove-agrees L M h k = ap (λ (b : Bool). cond b (encodeMove (some (keep solved))) noMove) (same-agree L M h k) ∙ made-if (field-eq setting L M) (keep solved)
 
   decomp1-agrees : (L M : Field setting) → values.decomp1 (headTm L) (headTm M) (encodeAll L) (encodeAll M) ≡ encodeMove (rules.decomp1 setting L M)
@@ -97,14 +102,17 @@ module _ (f : ℕ) where
   decomp1-agrees (listvar x ∷ (t ∷ L)) [] = refl
   decomp1-agrees (listvar x ∷ (t ∷ L)) (s ∷ M) = refl
 
-  decomp1′-agrees : (L M : Field setting) → All TmIn L → All TmIn M → values.decomp1′ (headTm L) (headTm M) (encodeAll L) (encodeAll M) ≡ encodeMove (rules.decomp1′ setting L M)
+  decomp1′-agrees : (L M : Field setting) → All TmIn L → All TmIn M
+      → values.decomp1′ (headTm L) (headTm M) (encodeAll L) (encodeAll M) ≡ encodeMove (rules.decomp1′ setting L M)
   decomp1′-agrees [] M h k = refl
   decomp1′-agrees (atomic (fixed c) ∷ L) M h k = refl
   decomp1′-agrees (atomic (free x) ∷ []) M h k = refl
   decomp1′-agrees (atomic (free x) ∷ (t ∷ L)) [] h k = refl
   decomp1′-agrees (atomic (free x) ∷ (t ∷ L)) (atomic a ∷ M) h k =
       let X = atomic (free x) in
-      ap₂ (λ (l m : Items). cond (not (sameAtom (encodeTm (atomic a)) (encodeTm X)) && le (kindOf (kindFrom (termType setting (atomic a)))) (kindOf (kindFrom (basic (kindIn x))))) (bound false (encodeTm X) (encodeItems (atomic a ∷ [])) l m) noMove)
+      let p = not (sameAtom (encodeTm (atomic a)) (encodeTm X)) in
+      let q = le (kindOf (kindFrom (termType setting (atomic a)))) (kindOf (kindFrom (basic (kindIn x)))) in
+      ap₂ (λ (l m : Items). cond (p && q) (bound false (encodeTm X) (encodeItems (atomic a ∷ [])) l m) noMove)
       (put-in-agree X (atomic a ∷ []) (t ∷ L) (h .0) (h .1)) (put-in-agree X (atomic a ∷ []) M (h .0) (k .1))
       ∙ bind-atom x a (equation (putIn setting X (atomic a ∷ []) (t ∷ L)) (putIn setting X (atomic a ∷ []) M)) (h .0) (k .0)
   decomp1′-agrees (atomic (free x) ∷ (t ∷ L)) (listvar y ∷ M) h k = refl
@@ -126,13 +134,15 @@ module _ (f : ℕ) where
   decomp2′-agrees (listvar x ∷ (t ∷ L)) (atomic a ∷ M) = refl
   decomp2′-agrees (listvar x ∷ (t ∷ L)) (listvar y ∷ M) = refl
 
-  decomp3-agrees : (L M : Field setting) → All TmIn L → All TmIn M → values.decomp3 (headTm L) (headTm M) (encodeAll L) (encodeAll M) ≡ encodeMove (rules.decomp3 setting L M)
+  decomp3-agrees : (L M : Field setting) → All TmIn L → All TmIn M
+      → values.decomp3 (headTm L) (headTm M) (encodeAll L) (encodeAll M) ≡ encodeMove (rules.decomp3 setting L M)
   decomp3-agrees [] M h k = refl
   decomp3-agrees (s ∷ L) [] h k = refl
   decomp3-agrees (s ∷ L) (t ∷ M) h k =
       ap (λ (b : Bool). cond b (encodeMove (some (keep (equation L M)))) noMove) (same-tm s t (h .0) (k .0)) ∙ made-if (tm-eq setting s t) (keep (equation L M))
 
-  decomp4-agrees : (L M : Field setting) → All TmIn L → All TmIn M → values.decomp4 (headTm L) (headTm M) (headTm (drop 1 M)) (encodeAll M) ≡ encodeMove (rules.decomp4 setting L M)
+  decomp4-agrees : (L M : Field setting) → All TmIn L → All TmIn M
+      → values.decomp4 (headTm L) (headTm M) (headTm (drop 1 M)) (encodeAll M) ≡ encodeMove (rules.decomp4 setting L M)
   decomp4-agrees [] M h k = refl
   decomp4-agrees (atomic (fixed c) ∷ L) M h k = refl
   decomp4-agrees (atomic (free x) ∷ []) [] h k = refl
@@ -156,7 +166,8 @@ module _ (f : ℕ) where
       (ap (λ (j : _). le (kindOf j) (kindOf (kindFrom (termType setting x)))) (whole-is M) ∙ le-agrees (fieldType setting M) (termType setting x)) (occurs-agree x M h k)
       ∙ made-both (full-le basics (fieldType setting M) (termType setting x)) (rules.occurs setting x M) (bind x M [] solved)
 
-  subst1-agrees : (L M : Field setting) → All TmIn L → All TmIn M → values.subst1 (headTm L) (headTm M) (encodeItems M) (encodeAll M) ≡ encodeMove (rules.subst1 setting L M)
+  subst1-agrees : (L M : Field setting) → All TmIn L → All TmIn M
+      → values.subst1 (headTm L) (headTm M) (encodeItems M) (encodeAll M) ≡ encodeMove (rules.subst1 setting L M)
   subst1-agrees [] M h k = refl
   subst1-agrees (atomic (fixed c) ∷ L) M h k = refl
   subst1-agrees (atomic (free x) ∷ []) M h k = solve-by (atomic (free x)) M (h .0) k
@@ -191,7 +202,8 @@ module _ (f : ℕ) where
   abbrev turnedIf : Field setting → Field setting → Bool → Move
   turnedIf L M b = cond b (encodeMove (some (keep (equation M L)))) noMove
 
-  orient2-agrees : (L M : Field setting) → values.orient2 (headTm L) (headTm M) (encodeItems L) (encodeItems M) ≡ encodeMove (rules.orient2 setting L M)
+  orient2-agrees : (L M : Field setting)
+      → values.orient2 (headTm L) (headTm M) (encodeItems L) (encodeItems M) ≡ encodeMove (rules.orient2 setting L M)
   orient2-agrees [] M = refl
   orient2-agrees (atomic (fixed c) ∷ []) M = refl
   orient2-agrees (atomic (free x) ∷ []) M = refl
@@ -217,7 +229,8 @@ module _ (f : ℕ) where
   orient2-agrees (listvar x ∷ (u ∷ L)) (atomic (free y) ∷ (v ∷ M)) = refl
   orient2-agrees (listvar x ∷ (u ∷ L)) (listvar y ∷ (v ∷ M)) = refl
 
-  orient3-agrees : (L M : Field setting) → values.orient3 (headTm L) (headTm M) (encodeItems L) (encodeItems M) ≡ encodeMove (rules.orient3 setting L M)
+  orient3-agrees : (L M : Field setting)
+      → values.orient3 (headTm L) (headTm M) (encodeItems L) (encodeItems M) ≡ encodeMove (rules.orient3 setting L M)
   orient3-agrees [] M = refl
   orient3-agrees (atomic (fixed c) ∷ L) M = refl
   orient3-agrees (atomic (free x) ∷ L) [] = refl
@@ -316,7 +329,8 @@ clash4-agrees (listvar x ∷ []) M = apart-by (listvar x) M
 clash4-agrees (listvar x ∷ (t ∷ L)) M = refl
 
 -- THE AGREEMENT of the failure rules
-pub fails-agrees : (L M : Field setting) → All TmIn L → All TmIn M → length L ≤ mostItems → length M ≤ mostItems → failsValue (encodeItems L) (encodeItems M) ≡ rules.fails setting L M
+pub fails-agrees : (L M : Field setting) → All TmIn L → All TmIn M → length L ≤ mostItems → length M ≤ mostItems
+    → failsValue (encodeItems L) (encodeItems M) ≡ rules.fails setting L M
 fails-agrees L M h k p q =
     ap₂ failsOf (items-of L p) (items-of M q)
     ∙ ap₂ (λ (a b : Head). failsBy a b (encodeAll L) (encodeAll M)) (head-agrees L) (head-agrees M)

@@ -66,7 +66,8 @@ le-agrees j k = ap₂ le (kindOf-from j) (kindOf-from k) ∙ sym (full-is j k)
 pub below-agrees : (j k : Full Basic) → strictly (kindFrom j) (kindFrom k) ≡ below setting j k
 below-agrees j k = ap₂ (λ (p q : Bool). p && not q) (le-agrees j k) (le-agrees k j)
 
-pub apart-agrees : (j k : Full Basic) → (not (le (kindOf (kindFrom j)) (kindOf (kindFrom k))) && not (le (kindOf (kindFrom k)) (kindOf (kindFrom j)))) ≡ apart setting j k
+pub apart-agrees : (j k : Full Basic)
+    → (not (le (kindOf (kindFrom j)) (kindOf (kindFrom k))) && not (le (kindOf (kindFrom k)) (kindOf (kindFrom j)))) ≡ apart setting j k
 apart-agrees j k = ap₂ (λ (p q : Bool). not p && not q) (le-agrees j k) (le-agrees k j)
 
 pub same-basic : (j k : Basic) → same (kindOf (kindFrom (basic j))) (kindOf (kindFrom (basic k))) ≡ decided (basic-eq j k)

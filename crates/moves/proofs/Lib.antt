@@ -1,3 +1,4 @@
 pub mod Sides
 pub mod Heads
 pub mod Agree
+pub mod Limits

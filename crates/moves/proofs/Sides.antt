@@ -12,13 +12,19 @@ use Rattle.fillings.specs.States.{kindOfAtom}
 use Rattle.items.specs.Items.{mostItems}
 use Rattle.moves.specs.Heads.{headBy, headOf}
 
-pub head-used : (n : ℕ) (s : List Term) (d : Term) → (n ≡ 0 → ⊥) → length s ≡ mostItems → headBy (getD s 0 d) (kindFrom (kindOfAtom ((getD s 0 d) .form))) (leb 2 n) ≡ headOf (take n s)
+pub head-used : (n : ℕ) (s : List Term) (d : Term) → (n ≡ 0 → ⊥) → length s ≡ mostItems
+    → headBy (getD s 0 d) (kindFrom (kindOfAtom ((getD s 0 d) .form))) (leb 2 n) ≡ headOf (take n s)
 head-used zero s d h e = absurd (h refl)
 head-used (suc n) [] d h e = absurd (omega (arith, e))
 head-used (suc zero) (t ∷ s) d h e = refl
 head-used (suc (suc n)) (t ∷ []) d h e = absurd (omega (arith, e))
 head-used (suc (suc n)) (t ∷ (u ∷ s)) d h e = rw (le-leb 2 (suc (suc n)) (omega arith))
 
--- one number more is passed
-pub above : (k r : ℕ) → k ≤ r → (r ≡ k → ⊥) → suc k ≤ r
-above k r h n = omega arith
+-- r is none of the numbers below k
+abbrev NotBelow : ℕ → ℕ → Type 0
+NotBelow zero r = Unit {0}
+NotBelow (suc k) r = NotBelow k r × (r ≡ k → ⊥)
+
+pub not-below : (k r : ℕ) → NotBelow k r → k ≤ r
+not-below zero r n = omega arith
+not-below (suc k) r n = let h = not-below k r (n .0) in let d = n .1 in omega arith

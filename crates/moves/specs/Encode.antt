@@ -4,7 +4,9 @@ use mathlib.Core.Option.{Option, none, some}
 use mathlib.Core.List.{List, [], _∷_}
 use Prim.Native.Nat.{ℕ}
 use Rattle.searching.specs.Problems.{Rest, solved, equation}
-use Rattle.searching.specs.Rules.{Rule, Remove, Decomp1, Decomp1′, Decomp2, Decomp2′, Decomp3, Decomp4, Subst1, Subst2, Subst3, Orient1, Orient2, Orient3, Orient4, keep, bind}
+use Rattle.searching.specs.Rules.{Rule, keep, bind}
+use Rattle.searching.specs.Rules.{Remove, Decomp1, Decomp1′, Decomp2, Decomp2′, Decomp3, Decomp4}
+use Rattle.searching.specs.Rules.{Subst1, Subst2, Subst3, Orient1, Orient2, Orient3, Orient4}
 use Rattle.searching.specs.Rules as rules
 use Rattle.items.specs.Items.{blankItems}
 use Rattle.items.specs.Encode.{setting, encodeTm, encodeItems}

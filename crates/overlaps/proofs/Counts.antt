@@ -6,7 +6,7 @@ use Prim.Native.Nat.{ℕ, zero, suc, _+_, _-_, _*_, _≤_, _<_, min}
 use native.Mathlib.Nat.{zero-add, mul-le-mul-right}
 use native.Mathlib.Omega.{arith}
 use lib.ListN.{length, take, drop, length-append, length-drop}
-use lib.Seq.{sets, sets-eq, length-sets, drop-drop}
+use lib.Seq.{sets, sets-eq, length-sets, drop-drop, take-at, take-length}
 use borrow.Author.Tests.{le-leb, lt-leb}
 use Rattle.fillings.specs.declared.Fillings.{Fillings}
 use Rattle.fillings.specs.declared.Joined.{Joined}
@@ -134,4 +134,17 @@ module _ (ls : List (List ℕ)) (old : List ℕ) (t : Tally) (is-t : t ≡ talli
       let e = le-leb (length (bytesOf ls)) (length old) r in (
         ap (λ (x : Tally). Lines (x .entries) (x .bytes)) (k .0) ∙ ap₂ Lines (zero-add (length ls)) (zero-add (length (bytesOf ls))) ∙ rw e,
         k .1 ∙ stored ls old r,
+      )
+
+  -- the list from the room in front of the old bytes
+  pub copied-in : t .bytes ≤ length old → (room room' new : List ℕ) → t .bytes ≤ length room → room' ≡ storeAll ls 0 room → new ≡ take (length (take (t .bytes) room')) (take (t .bytes) room') ++ drop (length (take (t .bytes) room')) old
+      → (Lines (t .entries) (t .bytes) ≡ answerOf ls (length old)) × (new ≡ after (bytesOf ls) old)
+  copied-in h room room' new k is-room is-new =
+      let r : length (bytesOf ls) ≤ length old = omega (arith, bytes-are) in
+      let e = le-leb (length (bytesOf ls)) (length old) r in
+      let f : take (t .bytes) room' ≡ bytesOf ls =
+      ap₂ take bytes-are (is-room ∙ stored ls room (omega (arith, bytes-are)) ∙ rw (le-leb (length (bytesOf ls)) (length room) (omega (arith, bytes-are))))
+      ∙ take-at (bytesOf ls) (drop (length (bytesOf ls)) room) (length (bytesOf ls)) refl in (
+        ap₂ Lines entries-are bytes-are ∙ rw e,
+        is-new ∙ ap (λ (b : List ℕ). take (length b) b ++ drop (length b) old) f ∙ ap (λ (b : List ℕ). b ++ drop (length (bytesOf ls)) old) (take-length (bytesOf ls)) ∙ rw e,
       )

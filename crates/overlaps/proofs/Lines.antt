@@ -99,7 +99,7 @@ module _ (st : Fillings) (s : OurState) (h : Holds st s) where
   field-in g S T (exact n) l i = terms-in (cells S T (exact n)) i
   field-in g S T long l i =
       let H = max (before S) (before T) in
-      all-append MarkedIn (map termOf (map res (take H (cells S T long)))) (var list (place g) ∷ map termOf (map res (drop H (cells S T long)))) (terms-in (take H (cells S T long)) (i .0)) (l, terms-in (drop H (cells S T long)) (i .1))
+      all-append MarkedIn (map termOf (map res (take H (cells S T long)))) (var list (place g) ∷ map termOf (map res (drop H (cells S T long)))) (terms-in (take H (cells S T long)) (i .0)) (omega (arith, l), terms-in (drop H (cells S T long)) (i .1))
 
   fields-in : (g : ℕ) (Ss Ts : List OurShape) (cs : List Cand) → g + length Ss ≤ mostFields → All (Every AtomIn) (fieldsFor g Ss Ts cs) → All (All MarkedIn) (map fieldOf (map (mapShape res) (fieldsFor g Ss Ts cs)))
   fields-in g [] Ts cs l i = tt

@@ -175,31 +175,28 @@ fn all_lines(p: Pair, out: &mut [u8]) -> Tally
     )
 }
 
-// How many lines there are and how many bytes they have: a buffer of none takes none of them.
-fn count_lines(p: Pair) -> Tally
-    requires { ⌜ p .left .n ≤ 4 ⌝ }
-    ensures { λ r. ⌜ r ≡ tallied noTally (allLines p) ⌝ }
-{
-    let mut none = [0u8; 1];
-    all_lines(p, &mut none[..0])
-}
-
-// Counted first, so that a buffer that is too small keeps its old bytes.
-fn list_pair(p: Pair, out: &mut [u8]) -> Listed
+// The lines go into the room first, so that a buffer that is too small keeps its old bytes; where the room is too small it has counted them.
+fn list_pair(p: Pair, room: &mut [u8], out: &mut [u8]) -> Listed
     requires { ⌜ p .left .n ≤ 4 ⌝ }
     ensures { λ r. ⌜ (r ≡ answerOf (allLines p) (length (now (out .entry)))) × (now (out .exit) ≡ after (bytesOf (allLines p)) (now (out .entry))) ⌝ }
 {
-    let t = count_lines(p);
-    if out.len() < t.bytes {
-        return Listed::TooSmall(t.entries, t.bytes);
+    let t = all_lines(p, room);
+    let n = t.bytes;
+    if out.len() < n {
+        return Listed::TooSmall(t.entries, n);
     }
-    let u = all_lines(p, out);
-    Listed::Lines(u.entries, u.bytes)
+    if room.len() < n {
+        let u = all_lines(p, out);
+        return Listed::Lines(u.entries, u.bytes);
+    }
+    bytes::copy(&room[..n], out);
+    Listed::Lines(t.entries, n)
 }
 
 // THE OVERLAP LIST of two rules: every choice of one candidate a field that nothing kills, a line for each, the first field slowest.
 // What no reading returns has no fields, and rules with different field counts have no entries.
-pub fn list_overlaps(left: Rule, right: Rule, out: &mut [u8]) -> Listed
+// The room is for the work, and what it holds afterwards is not said: one that has as many bytes as `out` saves making the list twice.
+pub fn list_with(left: Rule, right: Rule, room: &mut [u8], out: &mut [u8]) -> Listed
     ensures { λ r. ⌜ (r ≡ listedOf (linesOf (countedRule left) (countedRule right)) (length (now (out .entry)))) × (now (out .exit) ≡ after (overlapText (countedRule left) (countedRule right)) (now (out .entry))) ⌝ }
 {
     if !accepted::is_rule(left) {
@@ -216,5 +213,13 @@ pub fn list_overlaps(left: Rule, right: Rule, out: &mut [u8]) -> Listed
         right: right,
         sided: sides::right_rule(right),
     };
-    list_pair(p, out)
+    list_pair(p, room, out)
+}
+
+// The same with no room but the lent bytes.
+pub fn list_overlaps(left: Rule, right: Rule, out: &mut [u8]) -> Listed
+    ensures { λ r. ⌜ (r ≡ listedOf (linesOf (countedRule left) (countedRule right)) (length (now (out .entry)))) × (now (out .exit) ≡ after (overlapText (countedRule left) (countedRule right)) (now (out .entry))) ⌝ }
+{
+    let mut room = [0u8; 1];
+    list_with(left, right, &mut room, out)
 }

@@ -1,5 +1,6 @@
 // The text that `pairs` prints for one line, into lent bytes: the overlaps of the line's two rules.
-// It is put together piece behind piece in room that is known to be enough, and then given whole or not at all.
+// It is put together piece behind piece where the room is known to be enough: in the lent bytes, or else in bytes of its own that are then given whole or not at all.
+// The room that is handed on is for the lister's work, and what it holds afterwards is not said.
 ghost use mathlib.Core.Path.{_≡_};
 ghost use mathlib.Core.List.{_++_};
 ghost use Prim.Native.Nat.{_+_, _≤_, min};
@@ -30,13 +31,13 @@ fn put_too_long(bytes: usize, out: &mut [u8], at: usize) -> usize
 }
 
 // The list is lent no more than the 65,536 bytes that it may have, so that the lister itself tells a list that is too long.
-fn put_list(left: Rule, right: Rule, out: &mut [u8], at: usize) -> usize
+fn put_list(left: Rule, right: Rule, room: &mut [u8], out: &mut [u8], at: usize) -> usize
     requires { ⌜ at + mostBytes ≤ length (now out) ⌝ }
     ensures { λ p. ⌜ Placed (saidList left right) at (now (out .entry)) p (now (out .exit)) ⌝ }
     ensures { λ _. ⌜ length (saidList left right) ≤ mostBytes ⌝ }
 {
     let end = at + 65536;
-    match overlaps::list_overlaps(left, right, &mut out[at..end]) {
+    match overlaps::list_with(left, right, room, &mut out[at..end]) {
         Listed::Lines(_, bytes) => at + bytes,
         Listed::TooSmall(_, bytes) => put_too_long(bytes, out, at),
     }
@@ -52,7 +53,7 @@ fn put_refusal(words: &[u8], reason: Reason, place: usize, out: &mut [u8], at: u
 }
 
 // What is said of a right rule that was read, or of its refusal.
-fn put_right(left: Rule, right: RuleRead, out: &mut [u8], at: usize) -> usize
+fn put_right(left: Rule, right: RuleRead, room: &mut [u8], out: &mut [u8], at: usize) -> usize
     requires { ⌜ at + mostBytes ≤ length (now out) ⌝ }
     ensures { λ p. ⌜ Placed (saidRight left right) at (now (out .entry)) p (now (out .exit)) ⌝ }
     ensures { λ _. ⌜ length (saidRight left right) ≤ mostBytes ⌝ }
@@ -60,13 +61,13 @@ fn put_right(left: Rule, right: RuleRead, out: &mut [u8], at: usize) -> usize
     let verdict = right.verdict;
     let r = right.rule;
     match verdict {
-        Verdict::Accepted => put_list(left, r, out, at),
+        Verdict::Accepted => put_list(left, r, room, out, at),
         Verdict::Refused(reason, place) => put_refusal(b"refused right ", reason, place, out, at),
     }
 }
 
 // The left rule's refusal goes before the right one's.
-fn put_reads(left: RuleRead, right: RuleRead, out: &mut [u8], at: usize) -> usize
+fn put_reads(left: RuleRead, right: RuleRead, room: &mut [u8], out: &mut [u8], at: usize) -> usize
     requires { ⌜ at + mostBytes ≤ length (now out) ⌝ }
     ensures { λ p. ⌜ Placed (saidReads left right) at (now (out .entry)) p (now (out .exit)) ⌝ }
     ensures { λ _. ⌜ length (saidReads left right) ≤ mostBytes ⌝ }
@@ -74,7 +75,7 @@ fn put_reads(left: RuleRead, right: RuleRead, out: &mut [u8], at: usize) -> usiz
     let verdict = left.verdict;
     let l = left.rule;
     match verdict {
-        Verdict::Accepted => put_right(l, right, out, at),
+        Verdict::Accepted => put_right(l, right, room, out, at),
         Verdict::Refused(reason, place) => put_refusal(b"refused left ", reason, place, out, at),
     }
 }
@@ -87,7 +88,7 @@ fn behind(tab: usize, n: usize) -> usize
 }
 
 // What is said of a line. Two of the longest rules and the tab have 4,097 bytes.
-fn put_line(line: &[u8], out: &mut [u8], at: usize) -> usize
+fn put_line(line: &[u8], room: &mut [u8], out: &mut [u8], at: usize) -> usize
     requires { ⌜ at + mostBytes ≤ length (now out) ⌝ }
     ensures { λ r. ⌜ Placed (lineText (now (line .entry))) at (now (out .entry)) r (now (out .exit)) ⌝ }
     ensures { λ _. ⌜ length (lineText (now (line .entry))) ≤ mostBytes ⌝ }
@@ -100,7 +101,7 @@ fn put_line(line: &[u8], out: &mut [u8], at: usize) -> usize
     let rest = behind(tab, n);
     let left = reading::read_rule(&line[..tab]);
     let right = reading::read_rule(&line[rest..]);
-    put_reads(left, right, out, at)
+    put_reads(left, right, room, out, at)
 }
 
 fn put_title(k: u64, out: &mut [u8], at: usize) -> usize
@@ -111,20 +112,41 @@ fn put_title(k: u64, out: &mut [u8], at: usize) -> usize
     pieces::put_bytes(b"\n", out, b)
 }
 
-// Room for any answer: a title of at most 26 bytes and a list of at most 65,536.
-fn room() -> [u8; 65562]
+// The title and what is said of the line.
+fn put_answer(k: u64, line: &[u8], room: &mut [u8], out: &mut [u8]) -> usize
+    requires { ⌜ longestAnswer ≤ length (now out) ⌝ }
+    ensures { λ r. ⌜ Placed (pairAnswer k (now (line .entry))) 0 (now (out .entry)) r (now (out .exit)) ⌝ }
+    ensures { λ _. ⌜ length (pairAnswer k (now (line .entry))) ≤ longestAnswer ⌝ }
+{
+    let a = put_title(k, out, 0);
+    put_line(line, room, out, a)
+}
+
+// Bytes for any answer: a title of at most 26 and a list of at most 65,536.
+fn longest() -> [u8; 65562]
     ensures { λ r. ⌜ length r ≡ longestAnswer ⌝ }
 {
     [0; 65562]
 }
 
-// The lines that `pairs` prints for line number k.
+// The lines that `pairs` prints for line number k. A room of 65,536 bytes saves making the list twice.
+pub fn answer_with(k: u64, line: &[u8], room: &mut [u8], out: &mut [u8]) -> Written
+    ensures { λ w. ⌜ (w ≡ writtenOf (pairAnswer k (now (line .entry))) (now (out .entry))) × (now (out .exit) ≡ after (pairAnswer k (now (line .entry))) (now (out .entry))) ⌝ }
+    ensures { λ _. ⌜ length (pairAnswer k (now (line .entry))) ≤ longestAnswer ⌝ }
+{
+    if 65562 <= out.len() {
+        return Written::Bytes(put_answer(k, line, room, out));
+    }
+    let mut text = longest();
+    let n = put_answer(k, line, room, &mut text);
+    pieces::give(&text[..n], out)
+}
+
+// The same with no room but the lent bytes.
 pub fn pair_answer(k: u64, line: &[u8], out: &mut [u8]) -> Written
     ensures { λ w. ⌜ (w ≡ writtenOf (pairAnswer k (now (line .entry))) (now (out .entry))) × (now (out .exit) ≡ after (pairAnswer k (now (line .entry))) (now (out .entry))) ⌝ }
     ensures { λ _. ⌜ length (pairAnswer k (now (line .entry))) ≤ longestAnswer ⌝ }
 {
-    let mut text = room();
-    let a = put_title(k, &mut text, 0);
-    let b = put_line(line, &mut text, a);
-    pieces::give(&text[..b], out)
+    let mut room = [0u8; 1];
+    answer_with(k, line, &mut room, out)
 }

@@ -3,17 +3,31 @@ use lines::Output;
 use lines::State;
 use writing::Written;
 
-// Puts the answer to line number k behind those that wait. It has room: no answer has more than 65,562 bytes (`pair_answer` ensures it).
-fn answer(k: u64, line: &[u8], buffer: &mut [u8], output: Output) -> Output {
-    let mut text = [0u8; 65562];
-    match pair_answers::pair_answer(k, line, &mut text) {
+// Puts the answer to line number k behind those that wait. It has room in the 65,562 bytes of the text: no answer has more (`answer_with` ensures it).
+fn answer(
+    k: u64,
+    line: &[u8],
+    room: &mut [u8],
+    text: &mut [u8],
+    buffer: &mut [u8],
+    output: Output,
+) -> Output {
+    match pair_answers::answer_with(k, line, room, text) {
         Written::Bytes(n) => lines::put(&text[..n], buffer, output),
         Written::TooSmall(_) => output,
     }
 }
 
 // Takes a line and answers it.
-fn step(k: u64, s: State, chunk: &mut [u8], line: &mut [u8], buffer: &mut [u8]) -> State {
+fn step(
+    k: u64,
+    s: State,
+    chunk: &mut [u8],
+    line: &mut [u8],
+    room: &mut [u8],
+    text: &mut [u8],
+    buffer: &mut [u8],
+) -> State {
     let t = lines::next_line(s, chunk, line, buffer);
     let l = t.line;
     if !l.found {
@@ -21,7 +35,7 @@ fn step(k: u64, s: State, chunk: &mut [u8], line: &mut [u8], buffer: &mut [u8]) 
     }
     let input = t.input;
     let kept = l.kept;
-    let output = answer(k, &line[..kept], buffer, t.output);
+    let output = answer(k, &line[..kept], room, text, buffer, t.output);
     State {
         input: input,
         output: output,
@@ -30,20 +44,29 @@ fn step(k: u64, s: State, chunk: &mut [u8], line: &mut [u8], buffer: &mut [u8]) 
 }
 
 // A proved loop has to end, so the lines are counted to a number that no run reaches.
-fn answer_all(chunk: &mut [u8], line: &mut [u8], buffer: &mut [u8]) {
+fn answer_all(
+    chunk: &mut [u8],
+    line: &mut [u8],
+    room: &mut [u8],
+    text: &mut [u8],
+    buffer: &mut [u8],
+) {
     let mut k: u64 = 0;
     let mut s = lines::start();
     while k < u64::MAX && lines::is_open(s) {
         k += 1;
-        s = step(k, s, chunk, line, buffer);
+        s = step(k, s, chunk, line, room, text, buffer);
     }
     lines::finish(s, buffer);
 }
 
+// The buffers are made once, and lent for every line.
 // Of a line no more than 4,098 bytes are kept: with more it is too long whatever they are (`cut-same` of pair_answers' proofs/Lengths).
 fn main() {
     let mut chunk = io::large_buffer();
     let mut line = [0u8; 4098];
+    let mut room = io::large_buffer();
+    let mut text = [0u8; 65562];
     let mut buffer = io::large_buffer();
-    answer_all(&mut chunk, &mut line, &mut buffer);
+    answer_all(&mut chunk, &mut line, &mut room, &mut text, &mut buffer);
 }

@@ -1,17 +1,16 @@
 -- σ ∘ {x ↦ s} on the record's bindings: its atoms, and the values of the two list variables.
 use mathlib.Core.Path.{_≡_, refl, sym, _∙_, ap, ap₂, subst}
-use mathlib.Core.Logic.{ite, if-pos, if-neg}
+use mathlib.Core.Logic.{ite}
 use mathlib.Core.Bool.{Bool, true, false, cond}
-use mathlib.Core.List.{List, [], _∷_, _++_, map, append-nil}
+use mathlib.Core.List.{List, [], _∷_, map, append-nil}
 use Prim.Native.Nat.{ℕ, _≤_}
 use native.Mathlib.Omega.{arith}
 use native.Mathlib.Decide.{ℕ-discrete}
 use lib.ListN.{length, getD}
 use Rattle.lists.specs.Seqs.{All}
 use Rattle.order.specs.Order.{basic, list}
-use Rattle.order.specs.Types.{Basic, integer, string, atom, basic-eq, Kind, same, basics}
+use Rattle.order.specs.Types.{Basic, integer, string, atom, basic-eq, same, basics}
 use Rattle.order.specs.Values.{kindOf, kindFrom}
-use Rattle.theory.specs.Seqs.{concat-map}
 use Rattle.text.specs.Terms.{int, str}
 use Rattle.instance.specs.Constants.{consts}
 use Rattle.unifiers.specs.Shapes.{fixed, free, side-eq, Variable, of, variable-eq}
@@ -19,7 +18,7 @@ use Rattle.unifiers.specs.Joins.{replace, bind}
 use Rattle.searching.specs.Problems.{atomic, listvar, Tm, Field, tm-eq, Bindings, put, putIn, compose, free-once}
 use Rattle.searching.specs.Answers.{Fits}
 use Rattle.searching.proofs.Terms.{atomic-once, atomic≢listvar}
-use Rattle.searching.proofs.Counts.{Other, put-self, put-ne}
+use Rattle.searching.proofs.Counts.{put-self, put-ne}
 use Rattle.terms.specs.declared.Term.{Term}
 use Rattle.terms.specs.Values.{blankTerm}
 use Rattle.sides.specs.Sides.{OurAtom, OurState, encodeAtom, AtomIn}
@@ -28,12 +27,12 @@ use Rattle.fillings.specs.States.{sameAtom, swap, replaced}
 use Rattle.fillings.proofs.Atoms.{same-atom-is}
 use Rattle.fillings.proofs.Agree.{names, holds-bind}
 use Rattle.fillings.proofs.Agree as fillings
-use Rattle.items.specs.declared.Items.{Items}
 use Rattle.items.specs.Items.{mostItems, itemsOf}
 use Rattle.items.specs.Encode.{setting, encodeTm, encodeItems, TmIn}
 use Rattle.items.proofs.Agree.{first-agree, put-in-items}
-use Rattle.problems.specs.Problems.{isList, putItems, boundAtoms}
-use Rattle.problems.proofs.Holds.{Within, oneAtom, stateOf, valueIn}
+use Rattle.problems.specs.Values.{putItems, boundAtoms}
+use Rattle.problems.proofs.Holds.{Within, within-all, oneAtom, stateOf, valueIn}
+use Rattle.problems.proofs.Own as own
 
 -- ---- states that agree
 
@@ -136,6 +135,6 @@ module _ (σ : Bindings setting) (kinds : (t : Tm setting) → Fits setting t (�
 -- ---- the values of the list variables
 
 pub value-bound : (σ : Bindings setting) (x : Tm setting) (s : Field setting) → TmIn x → length s ≤ mostItems
-    → (u : List ℕ) → All (λ n. (length (σ (listvar n)) ≤ mostItems) × All TmIn (σ (listvar n))) u → putItems (encodeTm x) (encodeItems s) (valueIn σ u) ≡ valueIn (compose setting σ x s) u
+    → (u : List ℕ) → All (own.Fits σ) u → putItems (encodeTm x) (encodeItems s) (valueIn σ u) ≡ valueIn (compose setting σ x s) u
 value-bound σ x s i l [] h = refl
-value-bound σ x s i l (n ∷ u) h = put-in-items x s (σ (listvar n)) i (h .0 .1) l (h .0 .0)
+value-bound σ x s i l (n ∷ u) h = put-in-items x s (σ (listvar n)) i (within-all (σ (listvar n)) (h .0 .1)) l (h .0 .0)

@@ -7,7 +7,7 @@ use lib.ListN.{length, getD}
 use Rattle.terms.specs.declared.Term.{Term}
 use Rattle.items.specs.declared.Items.{Items}
 use Rattle.items.specs.Items.{pushed}
-use Rattle.problems.specs.Problems.{sideTerm}
+use Rattle.problems.specs.Values.{sideTerm}
 
 abbrev pub sidePush : Bool → Items → Term → Items
 sidePush r y t = pushed y (sideTerm r t)

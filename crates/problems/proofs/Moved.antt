@@ -1,50 +1,39 @@
 -- A MOVE on a record is the search's: the record of a problem goes over into that of the child that a rule gives.
 use mathlib.Core.Path.{_≡_, refl, sym, _∙_, ap, ap₂, subst}
 use mathlib.Core.Logic.{_⊎_, inl, inr}
-use mathlib.Core.Bool.{Bool, true, false, cond}
+use mathlib.Core.Bool.{false, cond}
 use mathlib.Core.Option.{some}
-use mathlib.Core.List.{List, [], _∷_, _++_, map, List·Memᴰ, List·Memᴰ·head, List·Memᴰ·tail}
+use mathlib.Core.List.{List, [], _∷_, _++_, map}
 use Prim.Native.Nat.{ℕ, _≤_, _<_}
 use native.Mathlib.Omega.{arith}
+use native.Mathlib.Decide.{ℕ-discrete}
 use lib.ListN.{length}
 use Rattle.lists.specs.Seqs.{All, all-map}
 use Rattle.order.specs.Types.{basics}
-use Rattle.theory.specs.Seqs.{concat-map}
 use Rattle.instance.specs.Constants.{consts}
-use Rattle.searching.specs.Problems.{atomic, listvar, Tm, Field, Bindings, compose, Rest, solved, equation, problem, rest, namesIn}
+use Rattle.unifiers.specs.Overlaps.{firsts}
+use Rattle.searching.specs.Problems.{Tm, Field, Bindings, compose, Rest, solved, equation, problem, namesIn}
 use Rattle.searching.specs.Problems as search
 use Rattle.searching.specs.Fresh.{lowest}
-use Rattle.searching.specs.Rules.{Rule, Move, keep, bind, fails, rule, apply, children, Met, step}
-use Rattle.searching.specs.Answers.{StandsIn, Fits}
-use Rattle.searching.proofs.Seqs.{all-every}
+use Rattle.searching.specs.Rules.{Rule, Move, keep, bind, fails, rule, apply, Met, step}
+use Rattle.searching.specs.Answers.{StandsIn}
 use Rattle.searching.proofs.Counts.{Other, all-put-in}
-use Rattle.searching.proofs.Effects.{AllRest, Does, Bind}
+use Rattle.searching.proofs.Effects.{AllRest, Bind}
 use Rattle.searching.proofs.Children.{move-does, rule-child}
 use Rattle.searching.proofs.Tree.{Fine, met-fine}
 use Rattle.searching.proofs.Searching.{fresh-small}
-use Rattle.searching.proofs.Sizes.{New, sides-short, list-values-short, value-short, fresh-below, names-below}
+use Rattle.searching.proofs.Sizes.{New, sides-short, value-short, fresh-below, names-below}
 use Rattle.fillings.proofs.Agree.{names}
-use Rattle.names.specs.Sets.{digits, setOf, withName, freshValue}
-use Rattle.names.proofs.Laws.{with-one, fresh-lowest}
+use Rattle.names.specs.Sets.{digits, setOf, withName, freshValue, listVariables}
+use Rattle.names.proofs.Laws.{with-one, fresh-lowest, variables-distinct}
 use Rattle.items.specs.declared.Items.{Items}
-use Rattle.items.specs.Items.{mostItems}
-use Rattle.items.specs.Encode.{setting, encodeTm, encodeItems, TmIn}
+use Rattle.items.specs.Encode.{setting, encodeTm, encodeItems}
 use Rattle.moves.specs.Encode.{bringsIn, encodeMove}
 use Rattle.problems.specs.declared.Problem.{Problem}
-use Rattle.problems.specs.Problems.{putItems, appliedValue}
-use Rattle.problems.proofs.Holds.{Within, within-tm, within-all, Equation, stateOf, valueIn, Holds}
+use Rattle.problems.specs.Values.{putItems, appliedValue}
+use Rattle.problems.proofs.Holds.{Within, within-tm, Equation, valueIn, Holds}
+use Rattle.problems.proofs.Own.{names-within, left-fits, right-fits}
 use Rattle.problems.proofs.Bindings.{atoms-bound, value-bound}
-
--- the list variables of a field stand in it
-pub names-stand : (A : Field setting) (R : ℕ → Type 0) → ((n : ℕ) → List·Memᴰ (listvar n) A → R n) → All R (namesIn setting A)
-names-stand [] R h = tt
-names-stand (atomic a ∷ A) R h = names-stand A R (λ n i. h n (List·Memᴰ·tail i))
-names-stand (listvar n ∷ A) R h = (h n (List·Memᴰ·head refl), names-stand A R (λ m i. h m (List·Memᴰ·tail i)))
-
-pub names-within : (A : Field setting) → All Within A → All (λ n. n < 32) (namesIn setting A)
-names-within [] h = tt
-names-within (atomic a ∷ A) h = names-within A (h .1)
-names-within (listvar n ∷ A) h = (h .0, names-within A (h .1))
 
 -- ---- the list variables used
 
@@ -68,6 +57,10 @@ module _ (A B : Field setting) (q : Equation A B) where
   fresh-holds p P h =
       ap freshValue (h .used) ∙ fresh-lowest (search.used setting P) (all-map (λ n. n < 32) (λ n. n < digits) (λ n l. omega arith) (search.used setting P) (used-in P (h .met))) (fresh-in P (h .met))
 
+  -- "ones count variables of a problem": those used, each once
+  pub variables-holds : (p : Problem) (P : search.Problem setting) → Holds A B p P → listVariables (p .used) ≡ length (firsts ℕ-discrete (search.used setting P))
+  variables-holds p P h = ap listVariables (h .used) ∙ variables-distinct (search.used setting P)
+
   module _ (p : Problem) (L M : Field setting) (σ : Bindings setting) (u : List ℕ) (h : Holds A B p (problem (equation L M) σ u)) where
     fine : Fine setting A B (problem (equation L M) σ u)
     fine = met-fine setting A B (q .linear) (problem (equation L M) σ u) (h .met)
@@ -82,12 +75,8 @@ module _ (A B : Field setting) (q : Equation A B) where
     lists-moved x s i l =
         ap (map (putItems (encodeTm x) (encodeItems s))) (h .lists)
         ∙ ap₂ (λ (v w : Items). v ∷ (w ∷ []))
-        (value-bound σ x s (within-tm x i) (omega arith) (namesIn setting A)
-        (names-stand A (λ n. (length (σ (listvar n)) ≤ mostItems) × All TmIn (σ (listvar n)))
-        (λ n j. (omega (arith, list-values-short setting A B (q .linear) (problem (equation L M) σ u) (h .met) n .0 j, q .right-short), within-all (σ (listvar n)) (h .values-in (listvar n) (inl j))))))
-        (value-bound σ x s (within-tm x i) (omega arith) (namesIn setting B)
-        (names-stand B (λ n. (length (σ (listvar n)) ≤ mostItems) × All TmIn (σ (listvar n)))
-        (λ n j. (omega (arith, list-values-short setting A B (q .linear) (problem (equation L M) σ u) (h .met) n .1 j, q .left-short), within-all (σ (listvar n)) (h .values-in (listvar n) (inr j))))))
+        (value-bound σ x s (within-tm x i) (omega arith) (namesIn setting A) (left-fits A B q p (problem (equation L M) σ u) h))
+        (value-bound σ x s (within-tm x i) (omega arith) (namesIn setting B) (right-fits A B q p (problem (equation L M) σ u) h))
 
     -- ---- what a rule binds
 

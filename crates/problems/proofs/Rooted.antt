@@ -1,21 +1,20 @@
 -- THE ROOT: the record of two of document 01's fields is that of their equation.
 use mathlib.Core.Path.{_≡_, refl, sym, _∙_, ap, ap₂, subst}
-use mathlib.Core.Bool.{Bool, true, false, cond}
+use mathlib.Core.Bool.{Bool, true, false}
 use mathlib.Core.List.{List, [], _∷_, _++_, map, append-nil}
 use mathlib.Core.Logic.{inl, inr}
 use Prim.Native.Nat.{ℕ, _-_, _+_, _≤_, _<_}
 use native.Mathlib.Omega.{arith}
 use native.Mathlib.Decide.{ℕ-discrete}
-use lib.ListN.{length, take, replicate, length-map}
+use lib.ListN.{length, replicate, length-map}
 use lib.Seq.{take-at}
 use borrow.Author.Tests.{lt-leb}
-use Rattle.lists.specs.Seqs.{All, all-append}
+use Rattle.lists.specs.Seqs.{All}
 use Rattle.order.specs.Order.{basic, list}
-use Rattle.order.specs.Types.{Basic, integer, string, atom, same, basics}
-use Rattle.order.specs.Values.{kindOf, kindFrom}
+use Rattle.order.specs.Types.{integer, string, atom, basics}
 use Rattle.theory.specs.Terms.{con, var}
 use Rattle.theory.specs.Seqs.{concat-map}
-use Rattle.theory.specs.Linear.{lists, OneList}
+use Rattle.theory.specs.Linear.{lists}
 use Rattle.text.specs.Terms.{OurTerm, int, str}
 use Rattle.text.specs.Limits.{TermIn, IsRule}
 use Rattle.instance.specs.Constants.{consts}
@@ -24,26 +23,25 @@ use Rattle.unifiers.specs.Shapes.{fixed, free, Side, left, right, of}
 use Rattle.searching.specs.Problems.{atomic, listvar, Tm, Field, unbound, namesIn, root}
 use Rattle.searching.specs.Fresh.{numbers}
 use Rattle.searching.specs.Rules.{start}
-use Rattle.searching.specs.Answers.{StandsIn, listvars, Linear}
+use Rattle.searching.specs.Answers.{StandsIn, listvars}
 use Rattle.searching.specs.Pairs.{sideField, sixteenAbove}
 use Rattle.searching.specs.Pairs as pairs
 use Rattle.searching.proofs.Seqs.{all-mem}
 use Rattle.searching.proofs.Root.{names-listvars}
 use Rattle.searching.proofs.Slips.{fields-linear, sixteen-apart}
 use Rattle.terms.specs.declared.Term.{Term}
-use Rattle.terms.specs.Values.{pad, blankTerm, encodeTerm, encodeField}
-use Rattle.sides.specs.Sides.{AtomIn}
+use Rattle.terms.specs.Values.{blankTerm, encodeTerm, encodeField}
 use Rattle.fillings.proofs.Agree.{holds-start}
-use Rattle.names.specs.Sets.{digits, setOf, withName}
+use Rattle.names.specs.Sets.{setOf}
 use Rattle.names.proofs.Laws.{with-one}
 use Rattle.items.specs.declared.Items.{Items}
-use Rattle.items.specs.Items.{mostItems, itemsOf, collect}
-use Rattle.items.specs.Encode.{setting, encodeTm, encodeAll, encodeItems, TmIn}
+use Rattle.items.specs.Items.{collect}
+use Rattle.items.specs.Encode.{setting, encodeTm, encodeAll, encodeItems}
 use Rattle.items.proofs.Agree.{items-of}
 use Rattle.problems.specs.declared.Problem.{Problem}
-use Rattle.problems.specs.Problems.{listOf, listsIn, withList, sideTerm, sideItems, startOf, rootValue}
+use Rattle.problems.specs.Values.{listOf, listsIn, withList, sideTerm, sideItems, startOf, rootValue}
 use Rattle.problems.proofs.Holds.{Within, Equation, valueIn, Holds}
-use Rattle.problems.proofs.Moved.{names-within}
+use Rattle.problems.proofs.Own.{names-within}
 
 -- a field as it stands on a side of the equation
 abbrev pub fieldOn : Side → List OurTerm → Field setting

@@ -2,8 +2,8 @@
 ghost use mathlib.Core.Path.{_≡_};
 ghost use mathlib.Core.Bool.{cond};
 ghost use Prim.Native.Nat.{min};
-ghost use Rattle.names.specs.Sets.{withName};
-ghost use Rattle.problems.specs.Problems.{blankProblem, isList, numberIn, pushedList, listsIn, withList, sideNumber, sideTerm, sideItems, rootValue, boundAtoms, boundTo, leftBy, appliedValue};
+ghost use Rattle.names.specs.Sets.{withName, listVariables};
+ghost use Rattle.problems.specs.Values.{blankProblem, isList, numberIn, pushedList, listsIn, withList, sideNumber, sideTerm, sideItems, rootValue, boundAtoms, boundTo, leftBy, appliedValue};
 use fillings::Fillings;
 use items::Items;
 use moves::Move;
@@ -161,6 +161,13 @@ pub fn root(left: Field, right: Field) -> Problem
         lists: [own_l, own_r],
         used: with_list(with_list(0, own_r), own_l),
     }
+}
+
+// How many list variables the problem and its bindings have.
+pub fn list_variables(p: Problem) -> u32
+    ensures { λ r. ⌜ r ≡ listVariables (p .used) ⌝ }
+{
+    names::list_variables(p.used)
 }
 
 // ---- a move

@@ -86,7 +86,7 @@ terms-of f = take-at (map encodeTerm f) (replicate (rule .width - length (map en
 
 module _ (d : Side) (st : Fillings) (σ : OurState) (h : Holds st σ) where
   -- what an atom variable of the rule stands for in the state
-  abbrev value : Kind → ℕ → Term
+  abbrev pub value : Kind → ℕ → Term
   value (basic k) n = encodeAtom (σ (of d k n))
   value list n = blankTerm
 
@@ -104,10 +104,10 @@ module _ (d : Side) (st : Fillings) (σ : OurState) (h : Holds st σ) where
       ap (λ (x : Shown). showTerms run st x (map encodeTerm f) (map encodeTerm (map (sideTerm d) f) ++ us)) (term-put run s t (i .0))
       ∙ terms-put run (put value run s t) f (i .1) us
 
-  abbrev sidedField : List OurTerm → Field
+  abbrev pub sidedField : List OurTerm → Field
   sidedField f = encodeField (map (sideTerm d) f)
 
-  field-put : (run : Run) (s : Shown) (f : List OurTerm) → All TermIn f → showField run st s (encodeField f) (sidedField f) ≡ foldl (put value run) s f
+  pub field-put : (run : Run) (s : Shown) (f : List OurTerm) → All TermIn f → showField run st s (encodeField f) (sidedField f) ≡ foldl (put value run) s f
   field-put run s f i =
       ap (λ (ts : List Term). showTerms run st s ts ((sidedField f) .terms)) (terms-of f)
       ∙ terms-put run s f i (replicate (rule .width - length (map encodeTerm (map (sideTerm d) f))) blankTerm)
@@ -235,7 +235,7 @@ run-terms fs r =
     ∙ ap (take (r .count)) (map-drop enc (r .start) f)
     ∙ map-take enc (r .count) (drop (r .start) f)
 
-mark-atom : (a : OurAtom) → encodeAtom a ≡ encodeTerm (markTerm (termOf a))
+pub mark-atom : (a : OurAtom) → encodeAtom a ≡ encodeTerm (markTerm (termOf a))
 mark-atom (fixed c) = refl
 mark-atom (free (of d k n)) = refl
 

@@ -138,7 +138,7 @@ fn show_term(s: Shown, t: Term, run: Run, value: Term) -> Shown
 }
 
 // The terms of the rule's field f; g is the same field as it stands in the pair.
-fn show_field(s: Shown, f: Field, g: Field, run: Run, st: Fillings) -> Shown
+pub fn show_field(s: Shown, f: Field, g: Field, run: Run, st: Fillings) -> Shown
     ensures { λ r. ⌜ r ≡ showField run st s f g ⌝ }
 {
     let n = at_most(f.n, 16);

@@ -54,7 +54,7 @@ module _ {A B : Type 0} (e : A → B) (g : B → B) (s : A → A) (P : A → Typ
       ∙ ap₂ (λ (a b : List B). a ++ b) (map-same xs h) (map-blanks (w - length (map e xs)) d q)
       ∙ ap (λ (k : ℕ). map e (map s xs) ++ replicate (w - k) d) (length-map xs e ∙ sym (length-map xs s) ∙ sym (length-map (map s xs) e))
 
-right-field : (f : List OurTerm) → All TermIn f → rightField (encodeField f) ≡ encodeField (map (sideTerm right) f)
+pub right-field : (f : List OurTerm) → All TermIn f → rightField (encodeField f) ≡ encodeField (map (sideTerm right) f)
 right-field f h =
     ap₂ (λ (n : ℕ) (ts : List Term). record { n = n; terms = ts }) (sym (length-map f (sideTerm right)))
     (map-padded encodeTerm rightTerm (sideTerm right) TermIn right-term (rule .width) blankTerm f refl h)
@@ -123,7 +123,7 @@ left-term (con c) = refl
 left-term (var (basic k) n) = refl
 left-term (var list n) = refl
 
-left-field : (f : List OurTerm) → map (sideTerm left) f ≡ f
+pub left-field : (f : List OurTerm) → map (sideTerm left) f ≡ f
 left-field [] = refl
 left-field (t ∷ f) = ap₂ (λ (u : OurTerm) (g : List OurTerm). u ∷ g) (left-term t) (left-field f)
 

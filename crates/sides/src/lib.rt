@@ -37,7 +37,8 @@ fn right_term(t: Term) -> Term
     }
 }
 
-fn right_field(f: Field) -> Field
+// The field with each atom variable's number 16 higher.
+pub fn right_field(f: Field) -> Field
     ensures { λ r. ⌜ r ≡ rightField f ⌝ }
 {
     let mut g = f;

@@ -34,7 +34,8 @@ returns c =
     let z = c .before .before .before .before .before .before .args in
     let L = c .before .before .before .before .loop in
     let h = c .before .before .before .loop-test .taken in
-    missed-not (z .x) (z .t2 .n) (z .t2 .terms) 17 (L .i) _ (c .before .same-atom .result) (L .inv .1) (omega (arith, L .inv .0)) (c .before .same-atom .ensures) (c .if1 .taken)
+    let s = c .before .same-atom in
+    missed-not (z .x) (z .t2 .n) (z .t2 .terms) 17 (L .i) _ (s .result) (L .inv .1) (omega (arith, L .inv .0)) (s .ensures) (c .if1 .taken)
 
 add-i : tie.Need-add-i Inv-loop μ-loop
 add-i c = search needs
@@ -47,7 +48,8 @@ loop-again c =
     let z = c .before .before .before .before .before .before .args in
     let L = c .before .before .before .before .loop in
     let h = c .before .before .before .loop-test .taken in
-    (L .inv .0, missed-one (z .x) (z .t2 .n) (z .t2 .terms) 17 (L .i) _ (c .before .same-atom .result) (L .inv .1) (omega (arith, L .inv .0)) (c .before .same-atom .ensures) (c .if1 .left))
+    let s = c .before .same-atom in
+    (L .inv .0, missed-one (z .x) (z .t2 .n) (z .t2 .terms) 17 (L .i) _ (s .result) (L .inv .1) (omega (arith, L .inv .0)) (s .ensures) (c .if1 .left))
 
 returns-2 : tie.Need-returns-2 Inv-loop μ-loop
 returns-2 c =

@@ -3,16 +3,16 @@ use mathlib.Core.Path.{_≡_, refl}
 use mathlib.Core.List.{foldl}
 use Prim.Native.Nat.{_-_, min}
 use native.Mathlib.Omega.{arith}
-use lib.ListN.{take, drop}
+use lib.ListN.{drop}
 use Rattle.lists.specs.Seqs.{long-mapped}
-use Rattle.items.specs.Items.{pushed}
+use Rattle.items.specs.Items.{itemsOf, pushed}
 use Rattle.items.proofs.Loops.{Folding, folding-one, folding-all}
 use borrow.Author.Needs.{needs}
 use Rattle.items.proofs.push_from.Statement.{statement}
 use Rattle.items.proofs.push_from.Tie as tie
 
 abbrev Inv-loop : tie.InvT-loop
-Inv-loop k w n y₀ i₀ y i = (n ≡ min (w .n) 17) × Folding pushed (foldl pushed y₀ (drop k (take (w .n) (w .terms)))) (w .n) (w .terms) 17 i y
+Inv-loop k w n y₀ i₀ y i = (n ≡ min (w .n) 17) × Folding pushed (foldl pushed y₀ (drop k (itemsOf w))) (w .n) (w .terms) 17 i y
 
 abbrev μ-loop : tie.MeasureT-loop
 μ-loop k w n y₀ i₀ y i = n - i
@@ -43,14 +43,15 @@ loop-again c =
     let z = c .before .before .before .before .before .args in
     let L = c .before .before .before .loop in
     let h = c .before .before .loop-test .taken in
-    (L .inv .0, folding-one pushed (foldl pushed (z .x) (drop (z .k) (take (z .t2 .n) (z .t2 .terms)))) (z .t2 .n) (z .t2 .terms) 17 (L .i) (L .y) (c .push .result) _ (L .inv .1) (omega (arith, L .inv .0)) (c .push .ensures))
+    let whole = foldl pushed (z .x) (drop (z .k) (itemsOf (z .t2))) in
+    (L .inv .0, folding-one pushed whole (z .t2 .n) (z .t2 .terms) 17 (L .i) (L .y) (c .push .result) _ (L .inv .1) (omega (arith, L .inv .0)) (c .push .ensures))
 
 returns : tie.Need-returns Inv-loop μ-loop
 returns c =
     let z = c .before .before .before .args in
     let L = c .before .loop in
     let h = c .loop-test .left in
-    folding-all pushed (foldl pushed (z .x) (drop (z .k) (take (z .t2 .n) (z .t2 .terms)))) (z .t2 .n) (z .t2 .terms) 17 (L .i) (L .y) (L .inv .1) (omega (arith, L .inv .0))
+    folding-all pushed (foldl pushed (z .x) (drop (z .k) (itemsOf (z .t2)))) (z .t2 .n) (z .t2 .terms) 17 (L .i) (L .y) (L .inv .1) (omega (arith, L .inv .0))
 
 pub push-from-spec : {M : Type 1} → statement M
 push-from-spec =

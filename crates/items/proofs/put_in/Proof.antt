@@ -3,17 +3,21 @@ use mathlib.Core.Path.{_≡_, refl, sym, _∙_, ap}
 use mathlib.Core.List.{foldl}
 use Prim.Native.Nat.{_-_, min}
 use native.Mathlib.Omega.{arith}
-use lib.ListN.{take}
 use Rattle.lists.specs.Seqs.{long-mapped}
+use Rattle.terms.specs.declared.Term.{Term}
 use Rattle.items.specs.declared.Items.{Items}
 use Rattle.items.specs.Items.{blankItems, itemsOf, pushed, putTerm}
-use Rattle.items.proofs.Loops.{Folding, folding-one, folding-all, Each, fold-each}
+use Rattle.items.proofs.Loops.{Folding, folding-one, folding-all, each, fold-each}
 use borrow.Author.Needs.{needs}
 use Rattle.items.proofs.put_in.Statement.{statement}
 use Rattle.items.proofs.put_in.Tie as tie
 
+-- what t becomes is put in behind the terms of y
+abbrev putOne : Term → Items → Items → Term → Items
+putOne x s = each pushed (putTerm x (itemsOf s))
+
 abbrev Inv-loop : tie.InvT-loop
-Inv-loop x s w n y₀ i₀ y i = (n ≡ min (w .n) 17) × Folding (Each pushed (putTerm x (itemsOf s))) (foldl (Each pushed (putTerm x (itemsOf s))) blankItems (take (w .n) (w .terms))) (w .n) (w .terms) 17 i y
+Inv-loop x s w n y₀ i₀ y i = (n ≡ min (w .n) 17) × Folding (putOne x s) (foldl (putOne x s) blankItems (itemsOf w)) (w .n) (w .terms) 17 i y
 
 abbrev μ-loop : tie.MeasureT-loop
 μ-loop x s w n y₀ i₀ y i = n - i
@@ -27,7 +31,7 @@ blank-items-requires c κs = search needs
 loop-holds : tie.Need-loop-holds Inv-loop μ-loop
 loop-holds c =
     let z = c .before .before .args in
-    (c .before .used .ensures, (search long-mapped, ap (λ (y : Items). foldl (Each pushed (putTerm (z .x) (itemsOf (z .s)))) y (take (z .t3 .n) (z .t3 .terms))) (sym (c .blank-items .ensures))))
+    (c .before .used .ensures, (search long-mapped, ap (λ (y : Items). foldl (putOne (z .x) (z .s)) y (itemsOf (z .t3))) (sym (c .blank-items .ensures))))
 
 mul-put-term : tie.Need-mul-put-term Inv-loop μ-loop
 mul-put-term c = let h = c .loop-test .taken in let e = c .before .loop .inv .0 in omega arith
@@ -49,17 +53,18 @@ loop-again c =
     let z = c .before .before .before .before .before .before .args in
     let L = c .before .before .before .loop in
     let h = c .before .before .loop-test .taken in
-    let f = Each pushed (putTerm (z .x) (itemsOf (z .s))) in
-    (L .inv .0, folding-one f (foldl f blankItems (take (z .t3 .n) (z .t3 .terms))) (z .t3 .n) (z .t3 .terms) 17 (L .i) (L .y) (c .put-term .result) _ (L .inv .1) (omega (arith, L .inv .0)) (c .put-term .ensures))
+    let f = putOne (z .x) (z .s) in
+    let p = c .put-term in
+    (L .inv .0, folding-one f (foldl f blankItems (itemsOf (z .t3))) (z .t3 .n) (z .t3 .terms) 17 (L .i) (L .y) (p .result) _ (L .inv .1) (omega (arith, L .inv .0)) (p .ensures))
 
 returns : tie.Need-returns Inv-loop μ-loop
 returns c =
     let z = c .before .before .before .before .args in
     let L = c .before .loop in
     let h = c .loop-test .left in
-    let f = Each pushed (putTerm (z .x) (itemsOf (z .s))) in
-    folding-all f (foldl f blankItems (take (z .t3 .n) (z .t3 .terms))) (z .t3 .n) (z .t3 .terms) 17 (L .i) (L .y) (L .inv .1) (omega (arith, L .inv .0))
-    ∙ fold-each pushed (putTerm (z .x) (itemsOf (z .s))) (take (z .t3 .n) (z .t3 .terms)) blankItems
+    let f = putOne (z .x) (z .s) in
+    folding-all f (foldl f blankItems (itemsOf (z .t3))) (z .t3 .n) (z .t3 .terms) 17 (L .i) (L .y) (L .inv .1) (omega (arith, L .inv .0))
+    ∙ fold-each pushed (putTerm (z .x) (itemsOf (z .s))) (itemsOf (z .t3)) blankItems
 
 pub put-in-spec : {M : Type 1} → statement M
 put-in-spec =

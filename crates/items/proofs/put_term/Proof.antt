@@ -16,7 +16,8 @@ push-from-requires c κs = search needs
 returns : tie.Need-returns
 returns c =
     let z = c .before .before .before .args in
-    c .push-from .ensures ∙ ap (λ (b : Bool). foldl pushed (z .y) (cond b (itemsOf (z .s)) (z .t ∷ []))) (sym (c .before .if1 .taken) ∙ c .before .before .same-atom .ensures)
+    c .push-from .ensures
+    ∙ ap (λ (b : Bool). foldl pushed (z .y) (cond b (itemsOf (z .s)) (z .t ∷ []))) (sym (c .before .if1 .taken) ∙ c .before .before .same-atom .ensures)
 
 push-requires : tie.Need-push-requires
 push-requires c κs = search needs
@@ -24,7 +25,8 @@ push-requires c κs = search needs
 returns-2 : tie.Need-returns-2
 returns-2 c =
     let z = c .before .before .before .args in
-    c .push .ensures ∙ ap (λ (b : Bool). foldl pushed (z .y) (cond b (itemsOf (z .s)) (z .t ∷ []))) (sym (c .before .if1 .left) ∙ c .before .before .same-atom .ensures)
+    c .push .ensures
+    ∙ ap (λ (b : Bool). foldl pushed (z .y) (cond b (itemsOf (z .s)) (z .t ∷ []))) (sym (c .before .if1 .left) ∙ c .before .before .same-atom .ensures)
 
 pub put-term-spec : {M : Type 1} → statement M
 put-term-spec =

@@ -55,7 +55,8 @@ returns-2 c =
     let z = c .before .before .before .before .before .before .before .before .before .args in
     let L = c .before .before .before .before .before .loop in
     let h = c .before .before .before .before .loop-test .taken in
-    same-not (z .t1 .n) (z .t1 .terms) (z .t2 .n) (z .t2 .terms) 17 (L .i) _ _ (c .before .same-atom .result) (L .inv .1) (omega (arith, L .inv .0)) (c .before .same-atom .ensures) (c .if2 .taken)
+    let s = c .before .same-atom in
+    same-not (z .t1 .n) (z .t1 .terms) (z .t2 .n) (z .t2 .terms) 17 (L .i) _ _ (s .result) (L .inv .1) (omega (arith, L .inv .0)) (s .ensures) (c .if2 .taken)
 
 add-i : tie.Need-add-i Inv-loop μ-loop
 add-i c = search needs
@@ -68,7 +69,9 @@ loop-again c =
     let z = c .before .before .before .before .before .before .before .before .before .args in
     let L = c .before .before .before .before .before .loop in
     let h = c .before .before .before .before .loop-test .taken in
-    (L .inv .0, same-one (z .t1 .n) (z .t1 .terms) (z .t2 .n) (z .t2 .terms) 17 (L .i) _ _ (c .before .same-atom .result) (L .inv .1) (omega (arith, L .inv .0)) (c .before .same-atom .ensures) (c .if2 .left))
+    let s = c .before .same-atom in
+    let next = same-one (z .t1 .n) (z .t1 .terms) (z .t2 .n) (z .t2 .terms) 17 (L .i) _ _ (s .result) (L .inv .1) (omega (arith, L .inv .0)) (s .ensures) (c .if2 .left) in
+    (L .inv .0, next)
 
 returns-3 : tie.Need-returns-3 Inv-loop μ-loop
 returns-3 c =

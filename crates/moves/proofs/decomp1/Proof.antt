@@ -16,7 +16,9 @@ bound-requires : tie.Need-bound-requires
 bound-requires c κs = search needs
 
 returns : tie.Need-returns
-returns c = rw (c .before .before .before .before .if1 .taken, c .bound .ensures, c .before .before .before .one .ensures, c .before .before .rest .ensures, c .before .rest2 .ensures)
+returns c =
+    let d = c .before .before .before in
+    rw (d .before .if1 .taken, c .bound .ensures, d .one .ensures, c .before .before .rest .ensures, c .before .rest2 .ensures)
 
 no-move-requires : tie.Need-no-move-requires
 no-move-requires c κs = search needs

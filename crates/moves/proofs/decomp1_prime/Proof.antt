@@ -19,7 +19,9 @@ bound-requires : tie.Need-bound-requires
 bound-requires c κs = search needs
 
 returns : tie.Need-returns
-returns c = rw (← c .before .before .before .before .before .replaces .ensures, c .before .before .before .before .if1 .taken, c .bound .ensures, c .before .before .put-rest .ensures, c .before .put-rest2 .ensures, c .before .before .before .one .ensures)
+returns c =
+    let d = c .before .before .before in
+    rw (← d .before .before .replaces .ensures, d .before .if1 .taken, c .bound .ensures, c .before .before .put-rest .ensures, c .before .put-rest2 .ensures, d .one .ensures)
 
 no-move-requires : tie.Need-no-move-requires
 no-move-requires c κs = search needs

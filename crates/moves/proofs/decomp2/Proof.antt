@@ -19,7 +19,9 @@ bound-requires : tie.Need-bound-requires
 bound-requires c κs = search needs
 
 returns : tie.Need-returns
-returns c = rw (c .before .before .before .before .before .if1 .taken, c .bound .ensures, c .before .before .before .two .ensures, c .before .before .before-rest .ensures, c .before .rest .ensures, c .before .before .before .before .fresh-term .ensures)
+returns c =
+    let d = c .before .before .before in
+    rw (d .before .before .if1 .taken, c .bound .ensures, d .two .ensures, c .before .before .before-rest .ensures, c .before .rest .ensures, d .before .fresh-term .ensures)
 
 no-move-requires : tie.Need-no-move-requires
 no-move-requires c κs = search needs

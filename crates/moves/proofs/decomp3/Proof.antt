@@ -16,7 +16,9 @@ kept-requires : tie.Need-kept-requires
 kept-requires c κs = search needs
 
 returns : tie.Need-returns
-returns c = rw (← c .before .before .before .before .same-atom .ensures, c .before .before .before .if1 .taken, c .kept .ensures, c .before .before .rest .ensures, c .before .rest2 .ensures)
+returns c =
+    let d = c .before .before .before in
+    rw (← d .before .same-atom .ensures, d .if1 .taken, c .kept .ensures, c .before .before .rest .ensures, c .before .rest2 .ensures)
 
 no-move-requires : tie.Need-no-move-requires
 no-move-requires c κs = search needs

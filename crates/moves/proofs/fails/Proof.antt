@@ -25,7 +25,10 @@ clash4-requires : tie.Need-clash4-requires
 clash4-requires c κs = search needs
 
 returns : tie.Need-returns
-returns c = rw (c .before .before .before .before .occur .ensures, c .before .before .before .clash1 .ensures, c .before .before .clash2 .ensures, c .before .clash3 .ensures, c .clash4 .ensures, c .before .before .before .before .before .before .head-of .ensures, c .before .before .before .before .before .head-of2 .ensures)
+returns c =
+    let d = c .before .before .before in
+    rw (d .before .occur .ensures, d .clash1 .ensures, c .before .before .clash2 .ensures, c .before .clash3 .ensures, c .clash4 .ensures)
+    (rw (d .before .before .before .head-of .ensures, d .before .before .head-of2 .ensures))
 
 pub fails-spec : {M : Type 1} → statement M
 fails-spec =

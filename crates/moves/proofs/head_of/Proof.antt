@@ -31,9 +31,11 @@ whole-of-requires c κs = search needs
 
 returns-2 : tie.Need-returns-2
 returns-2 c =
-    let z = c .before .before .before .before .before .before .args in
+    let d = c .before .before .before in
+    let z = d .before .before .before .args in
     let e : length (z .t1 .terms) ≡ mostItems = search long-mapped in
-    rw (c .whole-of .ensures, c .before .same-kind .ensures, c .before .before .is-variable .ensures, c .before .before .before .kind-of .ensures) (head-used (z .t1 .n) (z .t1 .terms) _ (c .before .before .before .before .before .if1 .left) e)
+    rw (c .whole-of .ensures, c .before .same-kind .ensures, c .before .before .is-variable .ensures, d .kind-of .ensures)
+    (head-used (z .t1 .n) (z .t1 .terms) _ (d .before .before .if1 .left) e)
 
 pub head-of-spec : {M : Type 1} → statement M
 head-of-spec =

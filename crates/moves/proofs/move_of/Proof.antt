@@ -1,9 +1,8 @@
 -- `moves::move_of` meets its contract. Assumes nothing.
 use lib.ListN.{List·getD-eq-default}
 use Rattle.items.specs.Items.{itemsOf}
-use Rattle.moves.proofs.Sides.{above}
+use Rattle.moves.proofs.Sides.{not-below}
 use mathlib.Core.Path.{_≡_, sym, _∙_}
-use native.Mathlib.Omega.{arith}
 use Rattle.moves.specs.Moves.{noMove, allOf}
 use borrow.Author.Needs.{needs}
 use Rattle.moves.proofs.move_of.Statement.{statement}
@@ -82,7 +81,9 @@ returns-6 : tie.Need-returns-6
 returns-6 c = rw (c .before .match .keys6, c .decomp3 .ensures, c .before .before .before .head-of .ensures, c .before .before .head-of2 .ensures)
 
 returns-7 : tie.Need-returns-7
-returns-7 c = rw (c .before .before .match .keys7, c .decomp4 .ensures, c .before .head-of-rest .ensures, c .before .before .before .before .head-of .ensures, c .before .before .before .head-of2 .ensures)
+returns-7 c =
+    let d = c .before .before .before in
+    rw (c .before .before .match .keys7, c .decomp4 .ensures, c .before .head-of-rest .ensures, d .before .head-of .ensures, d .head-of2 .ensures)
 
 returns-8 : tie.Need-returns-8
 returns-8 c = rw (c .before .match .keys8, c .subst1 .ensures, c .before .before .before .head-of .ensures, c .before .before .head-of2 .ensures)
@@ -108,9 +109,8 @@ returns-14 c = rw (c .before .match .keys14, c .orient4 .ensures, c .before .bef
 returns-15 : tie.Need-returns-15
 returns-15 c =
     let z = c .before .before .before .before .args in
-    let r = c .before .match .rest in
-    let h = (above 13 (z .rule) (above 12 (z .rule) (above 11 (z .rule) (above 10 (z .rule) (above 9 (z .rule) (above 8 (z .rule) (above 7 (z .rule) (above 6 (z .rule) (above 5 (z .rule) (above 4 (z .rule) (above 3 (z .rule) (above 2 (z .rule) (above 1 (z .rule) (above 0 (z .rule) (omega arith) (r .0 .0 .0 .0 .0 .0 .0 .0 .0 .0 .0 .0 .0 .1)) (r .0 .0 .0 .0 .0 .0 .0 .0 .0 .0 .0 .0 .1)) (r .0 .0 .0 .0 .0 .0 .0 .0 .0 .0 .0 .1)) (r .0 .0 .0 .0 .0 .0 .0 .0 .0 .0 .1)) (r .0 .0 .0 .0 .0 .0 .0 .0 .0 .1)) (r .0 .0 .0 .0 .0 .0 .0 .0 .1)) (r .0 .0 .0 .0 .0 .0 .0 .1)) (r .0 .0 .0 .0 .0 .0 .1)) (r .0 .0 .0 .0 .0 .1)) (r .0 .0 .0 .0 .1)) (r .0 .0 .0 .1)) (r .0 .0 .1)) (r .0 .1)) (r .1)) in
-    c .no-move .ensures ∙ sym (List·getD-eq-default (allOf (z .left) (z .right) (itemsOf (z .left)) (itemsOf (z .right)) (z .fresh)) noMove h)
+    let all = allOf (z .left) (z .right) (itemsOf (z .left)) (itemsOf (z .right)) (z .fresh) in
+    c .no-move .ensures ∙ sym (List·getD-eq-default all noMove (not-below 14 (z .rule) (c .before .match .rest)))
 
 pub move-of-spec : {M : Type 1} → statement M
 move-of-spec =

@@ -21,7 +21,7 @@ same-length c = search needs
 
 returns : tie.Need-returns
 returns c =
-    let z = c .before .before .before .before .before .before .before .before .args in
+    let z = c .before .before .before .before .before .before .before .before .before .args in
     piece-as mostBytes (z .at) (z .out .now) (line-long (z .line .now) (c .before .before .before .before .before .if1 .taken)) (c .before .before .put-bytes .ensures, omega arith)
 
 tab-place-requires : tie.Need-tab-place-requires
@@ -32,7 +32,7 @@ behind-requires c κs = search needs
 
 slice-aggregate-read-rule : tie.Need-slice-aggregate-read-rule
 slice-aggregate-read-rule c =
-    sym (length-take-le (c .before .before .tab-place .result) (c .before .before .before .before .before .before .args .line .now) (c .before .before .tab-place .ensures .1))
+    sym (length-take-le (c .before .before .tab-place .result) (c .before .before .before .before .before .before .before .args .line .now) (c .before .before .tab-place .ensures .1))
 
 read-rule-requires : tie.Need-read-rule-requires
 read-rule-requires c κs = search needs
@@ -55,14 +55,17 @@ put-reads-requires c κs = search needs
 same-length-2 : tie.Need-same-length-2
 same-length-2 c = search needs
 
+same-length-3 : tie.Need-same-length-3
+same-length-3 c = search needs
+
 returns-2 : tie.Need-returns-2
 returns-2 c =
-    let z = c .before .before .before .before .before .before .before .before .before .before .before .before .before .args in
-    let T = c .before .before .before .before .before .before .before .before .before .tab-place in
-    let D = c .before .before .before .before .before .before .before .before .behind in
-    let L = c .before .before .before .before .before .before .read-rule in
-    let R = c .before .before .before .before .read-rule2 in
-    piece-as mostBytes (z .at) (z .out .now) (line-said (z .line .now) (T .result) (D .result) (T .ensures .0) (D .ensures) (L .result) (R .result) (c .before .before .before .before .before .before .before .before .before .before .if1 .left) (L .ensures) (R .ensures)) (c .before .before .put-reads .ensures)
+    let z = c .before .before .before .before .before .before .before .before .before .before .before .before .before .before .before .before .before .args in
+    let T = c .before .before .before .before .before .before .before .before .before .before .before .before .tab-place in
+    let D = c .before .before .before .before .before .before .before .before .before .before .before .behind in
+    let L = c .before .before .before .before .before .before .before .before .before .read-rule in
+    let R = c .before .before .before .before .before .before .before .read-rule2 in
+    piece-as mostBytes (z .at) (z .out .now) (line-said (z .line .now) (T .result) (D .result) (T .ensures .0) (D .ensures) (L .result) (R .result) (c .before .before .before .before .before .before .before .before .before .before .before .before .before .if1 .left) (L .ensures) (R .ensures)) (c .before .before .before .before .put-reads .ensures)
 
 pub put-line-spec : {M : Type 1} → statement M
 put-line-spec =
@@ -82,4 +85,5 @@ put-line-spec =
     read-rule-requires-2
     put-reads-requires
     same-length-2
+    same-length-3
     returns-2)

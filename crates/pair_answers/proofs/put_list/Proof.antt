@@ -11,25 +11,25 @@ use Rattle.pair_answers.proofs.put_list.Tie as tie
 add-end : tie.Need-add-end
 add-end c = search needs
 
-sub-list-overlaps : tie.Need-sub-list-overlaps
-sub-list-overlaps c = search needs
+sub-list-with : tie.Need-sub-list-with
+sub-list-with c = search needs
 
-part-list-overlaps-start : tie.Need-part-list-overlaps-start
-part-list-overlaps-start c = search needs
+part-list-with-start : tie.Need-part-list-with-start
+part-list-with-start c = search needs
 
-part-list-overlaps-end : tie.Need-part-list-overlaps-end
-part-list-overlaps-end c = search needs
+part-list-with-end : tie.Need-part-list-with-end
+part-list-with-end c = search needs
 
-list-overlaps-requires : tie.Need-list-overlaps-requires
-list-overlaps-requires c κs = search needs
+list-with-requires : tie.Need-list-with-requires
+list-with-requires c κs = search needs
 
 enum-known-bytes : tie.Need-enum-known-bytes
 enum-known-bytes c = search needs
 
 add-result : tie.Need-add-result
 add-result c =
-    let z = c .before .before .before .before .before .before .before .before in
-    let L = c .before .before .before .before .before .list-overlaps in
+    let z = c .before .before .before .before .before .before .before .before .before .before .before .before in
+    let L = c .before .before .before .before .before .before .before .list-with in
     omega (arith, list-in (linesOf (countedRule (z .args .left)) (countedRule (z .args .right))) (z .args .out .now) (z .args .at) (z .args .at + 65536 - z .args .at) (omega arith) (z .pre) (L .ensures) _ _ (c .before .bytes .given .1))
 
 enum-known-bytes-2 : tie.Need-enum-known-bytes-2
@@ -41,19 +41,25 @@ put-too-long-requires c κs = search needs
 same-length : tie.Need-same-length
 same-length c = search needs
 
-returns : tie.Need-returns
-returns c =
-    let z = c .before .before .before .before .before .before .before .before in
-    let L = c .before .before .before .before .before .list-overlaps in
-    list-put (linesOf (countedRule (z .args .left)) (countedRule (z .args .right))) (z .args .out .now) (z .args .at) (z .args .at + 65536 - z .args .at) (omega arith) (z .pre) (L .ensures) _ _ (c .before .bytes .given .1)
-
 same-length-2 : tie.Need-same-length-2
 same-length-2 c = search needs
 
+returns : tie.Need-returns
+returns c =
+    let z = c .before .before .before .before .before .before .before .before .before .before .before .before in
+    let L = c .before .before .before .before .before .before .before .list-with in
+    list-put (linesOf (countedRule (z .args .left)) (countedRule (z .args .right))) (z .args .out .now) (z .args .at) (z .args .at + 65536 - z .args .at) (omega arith) (z .pre) (L .ensures) _ _ (c .before .bytes .given .1)
+
+same-length-3 : tie.Need-same-length-3
+same-length-3 c = search needs
+
+same-length-4 : tie.Need-same-length-4
+same-length-4 c = search needs
+
 returns-2 : tie.Need-returns-2
 returns-2 c =
-    let z = c .before .before .before .before .before .before .before .before .before .before .before .before in
-    let L = c .before .before .before .before .before .before .before .before .before .list-overlaps in
+    let z = c .before .before .before .before .before .before .before .before .before .before .before .before .before .before .before .before in
+    let L = c .before .before .before .before .before .before .before .before .before .before .before .list-with in
     list-refused (linesOf (countedRule (z .args .left)) (countedRule (z .args .right))) (z .args .out .now) (z .args .at) (z .args .at + 65536 - z .args .at) (omega arith) (z .pre) (L .ensures) _ _ (c .before .before .before .before .before .bytes2 .given .1) (search needs) (c .before .before .put-too-long .ensures)
 
 pub put-list-spec : {M : Type 1} → statement M
@@ -61,15 +67,17 @@ put-list-spec =
     tie.close
     (tie.spec
     add-end
-    sub-list-overlaps
-    part-list-overlaps-start
-    part-list-overlaps-end
-    list-overlaps-requires
+    sub-list-with
+    part-list-with-start
+    part-list-with-end
+    list-with-requires
     enum-known-bytes
     add-result
     enum-known-bytes-2
     put-too-long-requires
     same-length
-    returns
     same-length-2
+    returns
+    same-length-3
+    same-length-4
     returns-2)

@@ -26,17 +26,20 @@ put-refusal-requires c κs = search needs
 same-length : tie.Need-same-length
 same-length c = search needs
 
-returns : tie.Need-returns
-returns c =
-    let z = c .before .before .before .before .before .before .before .before .args in
-    piece-as mostBytes (z .at) (z .out .now) (text-accepted (ascii "refused right ") (z .right .verdict) _ (c .before .before .before .before .enum-told .given .1)) (c .before .before .put-list .ensures)
-
 same-length-2 : tie.Need-same-length-2
 same-length-2 c = search needs
 
+returns : tie.Need-returns
+returns c =
+    let z = c .before .before .before .before .before .before .before .before .before .before .before .before .args in
+    piece-as mostBytes (z .at) (z .out .now) (text-accepted (ascii "refused right ") (z .right .verdict) _ (c .before .before .before .before .before .before .before .enum-told .given .1)) (c .before .before .before .before .put-list .ensures)
+
+same-length-3 : tie.Need-same-length-3
+same-length-3 c = search needs
+
 returns-2 : tie.Need-returns-2
 returns-2 c =
-    let z = c .before .before .before .before .before .before .before .before .before .before .args in
+    let z = c .before .before .before .before .before .before .before .before .before .before .before .args in
     let v = c .before .before .before .before .before .before .verdict .given in
     piece-as mostBytes (z .at) (z .out .now) (text-refused (ascii "refused right ") (z .right .verdict) _ _ _ (v .1)) (c .before .before .put-refusal .ensures, refusal-short (ascii "refused right ") (v .0 .0) (v .0 .1 .0) (omega arith) (search needs))
 
@@ -50,6 +53,7 @@ put-right-spec =
     slice-aggregate-put-refusal
     put-refusal-requires
     same-length
-    returns
     same-length-2
+    returns
+    same-length-3
     returns-2)

@@ -1,7 +1,6 @@
 -- `pairs::answer` is safe: what was written is in the text's buffer. Assumes nothing.
 use mathlib.Core.Path.{sym}
 use native.Mathlib.Omega.{arith}
-use lib.ListN.{replicate}
 use lib.Seq.{length-take-le}
 use borrow.Author.Needs.{needs}
 use Rattle.pieces.proofs.Pieces.{written-in}
@@ -9,26 +8,23 @@ use Rattle.pair_answers.specs.Pairs.{pairAnswer}
 use Rattle.pairs.proofs.answer.Statement.{statement}
 use Rattle.pairs.proofs.answer.Tie as tie
 
-slice-aggregate-pair-answer : tie.Need-slice-aggregate-pair-answer
-slice-aggregate-pair-answer c = search needs
-
-pair-answer-requires : tie.Need-pair-answer-requires
-pair-answer-requires c κs = search needs
+answer-with-requires : tie.Need-answer-with-requires
+answer-with-requires c κs = search needs
 
 enum-known-n : tie.Need-enum-known-n
 enum-known-n c = search needs
 
-array-share-prefix-text : tie.Need-array-share-prefix-text
-array-share-prefix-text c =
-    let W = c .before .before .before .before .pair-answer in
-    let z = c .before .before .before .before .before .before .before .before .args in
-    omega (arith, written-in (pairAnswer (z .k) (z .line .now)) (replicate 65562 0) (W .ensures .0 .0) (c .before .n .given .1), W .kept .1 .1 .0)
+slice-reshare-prefix-put : tie.Need-slice-reshare-prefix-put
+slice-reshare-prefix-put c =
+    let W = c .before .before .before .before .before .before .before .answer-with in
+    let z = c .before .before .before .before .before .before .before .before .before .before .before .before .before .before .args in
+    omega (arith, written-in (pairAnswer (z .k) (z .line .now)) (z .text .now) (W .ensures .0 .0) (c .before .n .given .1), W .kept)
 
 slice-aggregate-put : tie.Need-slice-aggregate-put
 slice-aggregate-put c =
-    let W = c .before .before .before .before .before .pair-answer in
-    let z = c .before .before .before .before .before .before .before .before .before .args in
-    sym (length-take-le _ _ (omega (arith, written-in (pairAnswer (z .k) (z .line .now)) (replicate 65562 0) (W .ensures .0 .0) (c .before .before .n .given .1), W .kept .1 .1 .0)))
+    let W = c .before .before .before .before .before .before .before .before .answer-with in
+    let z = c .before .before .before .before .before .before .before .before .before .before .before .before .before .before .before .args in
+    sym (length-take-le _ _ (omega (arith, written-in (pairAnswer (z .k) (z .line .now)) (z .text .now) (W .ensures .0 .0) (c .before .before .n .given .1), W .kept)))
 
 put-requires : tie.Need-put-requires
 put-requires c κs = search needs
@@ -39,8 +35,20 @@ enum-told c = search needs
 same-length : tie.Need-same-length
 same-length c = search needs
 
+same-length-2 : tie.Need-same-length-2
+same-length-2 c = search needs
+
+same-length-3 : tie.Need-same-length-3
+same-length-3 c = search needs
+
 returns : tie.Need-returns
 returns c = search needs
+
+same-length-4 : tie.Need-same-length-4
+same-length-4 c = search needs
+
+same-length-5 : tie.Need-same-length-5
+same-length-5 c = search needs
 
 returns-2 : tie.Need-returns-2
 returns-2 c = search needs
@@ -49,13 +57,16 @@ pub answer-spec : {M : Type 1} → statement M
 answer-spec =
     tie.close
     (tie.spec
-    slice-aggregate-pair-answer
-    pair-answer-requires
+    answer-with-requires
     enum-known-n
-    array-share-prefix-text
+    slice-reshare-prefix-put
     slice-aggregate-put
     put-requires
     enum-told
     same-length
+    same-length-2
+    same-length-3
     returns
+    same-length-4
+    same-length-5
     returns-2)

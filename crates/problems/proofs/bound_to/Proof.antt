@@ -3,7 +3,7 @@ use mathlib.Core.List.{List}
 use Rattle.lists.specs.Seqs.{long-mapped}
 use Rattle.fillings.specs.declared.Fillings.{Fillings}
 use Rattle.items.specs.declared.Items.{Items}
-use Rattle.problems.specs.Problems.{putItems}
+use Rattle.problems.specs.Values.{putItems}
 use Rattle.problems.proofs.Loops.{two-mapped}
 -- `problems::bound_to` meets its contract. Assumes nothing.
 use borrow.Author.Needs.{needs}

@@ -1,5 +1,5 @@
 -- `problems::lists_in` meets its contract. The loop's invariant: pushing the list variables from i on pushes them all. Assumes nothing.
-use mathlib.Core.Path.{_≡_, refl, sym, _∙_, ap}
+use mathlib.Core.Path.{_≡_, sym, _∙_, ap}
 use mathlib.Core.List.{foldl}
 use Prim.Native.Nat.{_-_, min}
 use native.Mathlib.Omega.{arith}
@@ -8,7 +8,7 @@ use Rattle.lists.specs.Seqs.{long-mapped}
 use Rattle.items.specs.declared.Items.{Items}
 use Rattle.items.specs.Items.{blankItems, pushed}
 use Rattle.items.proofs.Loops.{Folding, folding-one, folding-all, fold-each}
-use Rattle.problems.specs.Problems.{pushedList, listOf}
+use Rattle.problems.specs.Values.{pushedList, listOf}
 use borrow.Author.Needs.{needs}
 use Rattle.problems.proofs.lists_in.Statement.{statement}
 use Rattle.problems.proofs.lists_in.Tie as tie

@@ -1,5 +1,5 @@
 -- `problems::side_items` meets its contract. The loop's invariant: pushing the terms from i on pushes them all. Assumes nothing.
-use mathlib.Core.Path.{_≡_, refl, sym, _∙_, ap}
+use mathlib.Core.Path.{_≡_, sym, _∙_, ap}
 use mathlib.Core.List.{foldl}
 use Prim.Native.Nat.{_-_, min}
 use native.Mathlib.Omega.{arith}

@@ -1,0 +1,87 @@
+-- `pair_answers::answer_with` meets its contract: the answer is put at the front of the lent bytes, or at the front of bytes of its own, and the front is given. Assumes nothing.
+use mathlib.Core.Path.{_∙_, ap, subst}
+use mathlib.Core.List.{List}
+use Prim.Native.Nat.{ℕ, _≤_}
+use native.Mathlib.Omega.{arith}
+use borrow.Author.Tests.{le-leb}
+use lib.ListN.{length}
+use Rattle.writing.specs.declared.Written.the-variants.{Bytes}
+use Rattle.writing.proofs.Answers.{Answers}
+use Rattle.pieces.proofs.Pieces.{front-is, front-size}
+use Rattle.entry_lines.proofs.Pieces.{front-after}
+use Rattle.pair_answers.specs.Pairs.{pairAnswer}
+use borrow.Author.Needs.{needs}
+use Rattle.pair_answers.proofs.answer_with.Statement.{statement}
+use Rattle.pair_answers.proofs.answer_with.Tie as tie
+
+put-answer-requires : tie.Need-put-answer-requires
+put-answer-requires c κs = search needs
+
+same-length : tie.Need-same-length
+same-length c = search needs
+
+same-length-2 : tie.Need-same-length-2
+same-length-2 c = search needs
+
+returns : tie.Need-returns
+returns c =
+    let z = c .before .before .before .before .before .before .before .before .before .before .before .args in
+    let P = c .before .before .before .before .put-answer in
+    let t = pairAnswer (z .k) (z .line .now) in
+    let h : length t ≤ length (z .out .now) = omega (arith, P .ensures .1, c .before .before .before .before .before .before .before .if1 .taken) in
+    let f = front-after t (z .out .now) h (P .ensures .0) in
+    ((ap Bytes (f .0) ∙ rw (le-leb (length t) (length (z .out .now)) h), f .1), P .ensures .1)
+
+longest-requires : tie.Need-longest-requires
+longest-requires c κs = search needs
+
+slice-aggregate-put-answer : tie.Need-slice-aggregate-put-answer
+slice-aggregate-put-answer c = search needs
+
+put-answer-requires-2 : tie.Need-put-answer-requires-2
+put-answer-requires-2 c κs = omega (arith, c .before .before .longest .ensures)
+
+array-share-prefix-text : tie.Need-array-share-prefix-text
+array-share-prefix-text c = search needs
+
+slice-aggregate-give : tie.Need-slice-aggregate-give
+slice-aggregate-give c =
+    let z = c .before .before .before .before .before .before .before .before .before .before .before .before .args in
+    let l = c .before .before .before .before .before .before .before .longest in
+    let P = c .before .before .before .before .put-answer2 .ensures in
+    front-size (pairAnswer (z .k) (z .line .now)) (l .result) (omega (arith, P .1, l .ensures)) (P .0)
+
+give-requires : tie.Need-give-requires
+give-requires c κs = search needs
+
+same-length-3 : tie.Need-same-length-3
+same-length-3 c = search needs
+
+same-length-4 : tie.Need-same-length-4
+same-length-4 c = search needs
+
+returns-2 : tie.Need-returns-2
+returns-2 c =
+    let z = c .before .before .before .before .before .before .before .before .before .before .before .before .before .before .before .before .args in
+    let l = c .before .before .before .before .before .before .before .before .before .before .before .longest in
+    let P = c .before .before .before .before .before .before .before .before .put-answer2 .ensures in
+    let G = c .before .before .give in
+    (subst (λ (t : List ℕ). Answers t (z .out .now) (G .result) (G .last .1 .0)) (front-is (pairAnswer (z .k) (z .line .now)) (l .result) (omega (arith, P .1, l .ensures)) (P .0)) (G .ensures), P .1)
+
+pub answer-with-spec : {M : Type 1} → statement M
+answer-with-spec =
+    tie.close
+    (tie.spec
+    put-answer-requires
+    same-length
+    same-length-2
+    returns
+    longest-requires
+    slice-aggregate-put-answer
+    put-answer-requires-2
+    array-share-prefix-text
+    slice-aggregate-give
+    give-requires
+    same-length-3
+    same-length-4
+    returns-2)

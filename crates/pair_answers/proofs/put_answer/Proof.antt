@@ -1,0 +1,34 @@
+-- `pair_answers::put_answer` meets its contract: two pieces. Assumes nothing.
+use native.Mathlib.Omega.{arith}
+use Rattle.pieces.proofs.Pieces.{placed-next}
+use Rattle.pair_answers.specs.Pairs.{titleText, lineText, pairAnswer}
+use Rattle.pair_answers.proofs.Lengths.{title-short, answer-short}
+use borrow.Author.Needs.{needs}
+use Rattle.pair_answers.proofs.put_answer.Statement.{statement}
+use Rattle.pair_answers.proofs.put_answer.Tie as tie
+
+put-title-requires : tie.Need-put-title-requires
+put-title-requires c κs = search needs
+
+put-line-requires : tie.Need-put-line-requires
+put-line-requires c κs =
+    let z = c .before .before .before .before .before .before .before .before .before .args in
+    let T = c .before .before .before .before .put-title in
+    omega (arith, title-short (z .k) (search needs), T .ensures .0, c .before .before .before .before .before .before .before .before .before .pre, T .kept .1 .0)
+
+same-length : tie.Need-same-length
+same-length c = search needs
+
+same-length-2 : tie.Need-same-length-2
+same-length-2 c = search needs
+
+returns : tie.Need-returns
+unfolding pairAnswer
+returns c =
+    let z = c .before .before .before .before .before .before .before .before .before .before .before .before .before .before .args in
+    let L = c .before .before .before .before .put-line .ensures in
+    (placed-next (titleText (z .k)) (lineText (z .line .now)) 0 (z .out .now) (c .before .before .before .before .before .before .before .before .before .put-title .ensures) (L .0), answer-short (z .k) (z .line .now) (search needs) (L .1))
+
+pub put-answer-spec : {M : Type 1} → statement M
+put-answer-spec =
+    tie.close (tie.spec put-title-requires put-line-requires same-length same-length-2 returns)

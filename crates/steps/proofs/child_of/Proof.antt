@@ -1,0 +1,40 @@
+-- `steps::child_of` meets its contract. Assumes nothing.
+use Rattle.steps.proofs.Cases.{no-child, one-child}
+use borrow.Author.Needs.{needs}
+use Rattle.steps.proofs.child_of.Statement.{statement}
+use Rattle.steps.proofs.child_of.Tie as tie
+
+fresh-requires : tie.Need-fresh-requires
+fresh-requires c κs = search needs
+
+move-of-requires : tie.Need-move-of-requires
+move-of-requires c κs = search needs
+
+blank-problem-requires : tie.Need-blank-problem-requires
+blank-problem-requires c κs = search needs
+
+returns : tie.Need-returns
+returns c =
+    let d = c .before .before .before in
+    let z = d .before .before .before .before .args in
+    no-child (z .p) (z .rule) (d .before .fresh .result) (d .move-of .result) (d .before .fresh .ensures) (d .move-of .ensures) (c .blank-problem .result) (c .blank-problem .ensures) (c .before .if1 .taken)
+
+applied-requires : tie.Need-applied-requires
+applied-requires c κs = search needs
+
+returns-2 : tie.Need-returns-2
+returns-2 c =
+    let d = c .before .before .before in
+    let z = d .before .before .before .before .args in
+    one-child (z .p) (z .rule) (d .before .fresh .result) (d .move-of .result) (d .before .fresh .ensures) (d .move-of .ensures) (c .applied .result) (c .applied .ensures) (c .before .if1 .left)
+
+pub child-of-spec : {M : Type 1} → statement M
+child-of-spec =
+    tie.close
+    (tie.spec
+    fresh-requires
+    move-of-requires
+    blank-problem-requires
+    returns
+    applied-requires
+    returns-2)

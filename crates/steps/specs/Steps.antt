@@ -1,0 +1,27 @@
+-- A step of the search on records, as code makes it. `fails-holds` and `child-holds` of proofs/Agree say that it is the search's.
+use mathlib.Core.Bool.{Bool, true, false, cond}
+use Prim.Native.Nat.{ℕ}
+use Rattle.names.specs.Sets.{freshValue}
+use Rattle.moves.specs.declared.Move.{Move}
+use Rattle.moves.specs.Moves.{moveValue}
+use Rattle.moves.specs.Fails.{failsValue}
+use Rattle.problems.specs.declared.Problem.{Problem}
+use Rattle.problems.specs.Values.{blankProblem, appliedValue}
+use Rattle.steps.specs.declared.Child.{Child}
+
+-- "Failure rules come first: a problem that meets one gives no child."
+abbrev pub failsOf : Problem → Bool
+failsOf p = failsValue (p .left) (p .right)
+
+abbrev pub noChild : Child
+noChild = record { ok = false; problem = blankProblem }
+
+abbrev pub childBy : Problem → Move → ℕ → Child
+childBy p m f = cond (m .applies) (record { ok = true; problem = appliedValue p m f }) noChild
+
+-- "each rule that applies gives one child": by the rule of a number, with the fresh list variable f
+abbrev pub childWith : Problem → ℕ → ℕ → Child
+childWith p r f = childBy p (moveValue r (p .left) (p .right) f) f
+
+abbrev pub childOf : Problem → ℕ → Child
+childOf p r = childWith p r (freshValue (p .used))

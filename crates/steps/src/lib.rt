@@ -1,0 +1,39 @@
+// A step of the search on records: whether a problem fails, and the child that a rule gives it.
+ghost use mathlib.Core.Path.{_≡_};
+ghost use Rattle.steps.specs.Steps.{failsOf, childOf};
+use problems::Problem;
+
+// The child that a rule gives, or that it gives none, with the blank record.
+pub struct Child {
+    pub ok: bool,
+    pub problem: Problem,
+}
+
+// Whether a failure rule applies to the equation that is left.
+pub fn fails(p: Problem) -> bool
+    ensures { λ r. ⌜ r ≡ failsOf p ⌝ }
+{
+    let left = p.left;
+    let right = p.right;
+    moves::fails(left, right)
+}
+
+// The child by the rule of this number.
+pub fn child_of(p: Problem, rule: usize) -> Child
+    ensures { λ r. ⌜ r ≡ childOf p rule ⌝ }
+{
+    let left = p.left;
+    let right = p.right;
+    let fresh = names::fresh(p.used);
+    let m = moves::move_of(rule, left, right, fresh);
+    if !m.applies {
+        return Child {
+            ok: false,
+            problem: problems::blank_problem(),
+        };
+    }
+    Child {
+        ok: true,
+        problem: problems::applied(p, m, fresh),
+    }
+}
