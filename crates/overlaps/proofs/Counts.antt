@@ -1,12 +1,12 @@
 -- The whole list: how many lines there can be, and what storing them leaves of a buffer that has room for them. Assumes nothing.
 use mathlib.Core.Path.{_≡_, refl, sym, _∙_, ap, ap₂, subst}
 use mathlib.Core.Bool.{Bool, true, false, cond}
-use mathlib.Core.List.{List, [], _∷_, _++_, append-assoc}
-use Prim.Native.Nat.{ℕ, zero, suc, _+_, _-_, _*_, _≤_, _<_, min}
+use mathlib.Core.List.{List, [], _++_}
+use Prim.Native.Nat.{ℕ, zero, suc, _+_, _-_, _*_, _≤_, _<_}
 use native.Mathlib.Nat.{zero-add, mul-le-mul-right}
 use native.Mathlib.Omega.{arith}
-use lib.ListN.{length, take, drop, length-append, length-drop}
-use lib.Seq.{sets, sets-eq, length-sets, drop-drop, take-at, take-length}
+use lib.ListN.{length, take, drop, length-append}
+use lib.Seq.{take-at, take-length}
 use borrow.Author.Tests.{le-leb, lt-leb}
 use Rattle.fillings.specs.declared.Fillings.{Fillings}
 use Rattle.fillings.specs.declared.Joined.{Joined}
@@ -14,13 +14,14 @@ use Rattle.fillings.specs.States.{startValue}
 use Rattle.choices.specs.declared.Choice.{Choice}
 use Rattle.choices.specs.Choices.{noChoice, chosenAt, joinFields}
 use Rattle.writing.specs.Answers.{after}
-use Rattle.writing.proofs.Stores.{sets-append}
+use Rattle.pieces.proofs.Stored.{stored}
 use Rattle.overlaps.specs.declared.Pair.{Pair}
 use Rattle.overlaps.specs.declared.Tally.{Tally}
 use Rattle.overlaps.specs.declared.Candidate.{Candidate}
 use Rattle.overlaps.specs.declared.Listed.the-variants.{Lines, TooSmall}
 use Rattle.overlaps.specs.Answers.{answerOf}
-use Rattle.overlaps.specs.Listing.{leftAt, rightAt, spanAt, candidateOf, afterJoin, candidateLines, choiceLines, linesFrom, allLines, bytesOf, noTally, tallied, storeLine, storeAll, mostEntries, Countable}
+use Rattle.pieces.specs.Stored.{bytesOf, storeAll}
+use Rattle.overlaps.specs.Listing.{leftAt, rightAt, spanAt, candidateOf, afterJoin, candidateLines, choiceLines, linesFrom, allLines, noTally, tallied, mostEntries, Countable}
 use Rattle.overlaps.proofs.Spans.{few-left}
 use Rattle.overlaps.proofs.Laws.{Listed}
 
@@ -68,33 +69,6 @@ most-few (suc (suc (suc (suc (suc m))))) h = absurd (omega arith)
 
 pub countable-all : (p : Pair) → p .left .n ≤ 4 → Countable noTally (allLines p)
 countable-all p h = (omega arith, omega (arith, lines-few (p .left .n) p 0 noChoice startValue, most-few (p .left .n) h))
-
--- ---- the lent bytes, where the lines have room
-
-store-room : (l : List ℕ) (at : ℕ) (old : List ℕ) → at + length l ≤ length old → storeLine l at old ≡ sets old at l
-store-room l at old h =
-    let m : min at (length old) ≡ at = omega arith in
-    ap (λ (k : ℕ). take k old ++ after l (drop k old)) m
-    ∙ ap (λ (b : Bool). take at old ++ cond b (l ++ drop (length l) (drop at old)) (drop at old)) (le-leb (length l) (length (drop at old)) (omega (arith, length-drop at old)))
-    ∙ ap (λ (r : List ℕ). take at old ++ (l ++ r)) (drop-drop (length l) at old)
-    ∙ sym (append-assoc (take at old) l (drop (at + length l) old))
-    ∙ sym (sets-eq l old at h)
-
-stores-room : (ls : List (List ℕ)) (at : ℕ) (old : List ℕ) → at + length (bytesOf ls) ≤ length old → storeAll ls at old ≡ sets old at (bytesOf ls)
-stores-room [] at old h = refl
-stores-room (l ∷ ls) at old h =
-    let e = length-append l (bytesOf ls) in
-    ap (storeAll ls (at + length l)) (store-room l at old (omega (arith, e)))
-    ∙ stores-room ls (at + length l) (sets old at l) (omega (arith, e, length-sets old at l))
-    ∙ sets-append l (bytesOf ls) old at
-
--- the whole list in front of the old bytes
-pub stored : (ls : List (List ℕ)) (old : List ℕ) → length (bytesOf ls) ≤ length old → storeAll ls 0 old ≡ after (bytesOf ls) old
-stored ls old h =
-    stores-room ls 0 old (omega arith)
-    ∙ sets-eq (bytesOf ls) old 0 (omega arith)
-    ∙ ap (λ (k : ℕ). bytesOf ls ++ drop k old) (zero-add (length (bytesOf ls)))
-    ∙ sym (ap (λ (b : Bool). cond b (bytesOf ls ++ drop (length (bytesOf ls)) old) old) (le-leb (length (bytesOf ls)) (length old) h))
 
 -- ---- every choice from the first field on
 

@@ -1,14 +1,11 @@
 -- Laws of the listing on values: lines one behind the other, their counts, and the lent bytes. Assumes nothing.
-use mathlib.Core.Path.{_≡_, refl, sym, _∙_, ap, ap₂}
+use mathlib.Core.Path.{_≡_, sym, _∙_, ap, ap₂}
 use mathlib.Core.Bool.{Bool, true, false, cond, not}
 use mathlib.Core.List.{List, [], _∷_, _++_, append-nil}
-use Prim.Native.Nat.{ℕ, suc, _+_, _-_, _*_, _≤_, _<_, min}
+use Prim.Native.Nat.{ℕ, suc, _+_, _-_, _*_, _≤_, _<_}
 use native.Mathlib.Omega.{arith}
-use lib.Dec.{leb}
-use lib.ListN.{length, take, drop, length-append, length-take, length-drop, drop-of-length-le}
-use lib.Seq.{take-all}
-use borrow.Author.Tests.{not-true, not-false, leb-true}
-use Rattle.theory.proofs.Seqs.{concat-map-append}
+use lib.ListN.{length, length-append}
+use borrow.Author.Tests.{not-true, not-false}
 use Rattle.fillings.specs.declared.Fillings.{Fillings}
 use Rattle.fillings.specs.declared.Joined.{Joined}
 use Rattle.rows.specs.declared.Span.{Span}
@@ -17,22 +14,17 @@ use Rattle.choices.specs.Choices.{chosenAt, joinFields, entryOf}
 use Rattle.entries.specs.declared.Entry.{Entry}
 use Rattle.shown.specs.declared.Shown.{Shown}
 use Rattle.shown.specs.Values.{shownValue}
-use Rattle.writing.specs.Answers.{after}
 use Rattle.entry_lines.specs.Shown.{lineValue}
 use Rattle.entry_lines.specs.Sizes.{lineBound}
+use Rattle.pieces.proofs.Stored.{bytes-length, stores-append, stores-length}
 use Rattle.overlaps.specs.declared.Pair.{Pair}
 use Rattle.overlaps.specs.declared.Tally.{Tally}
 use Rattle.overlaps.specs.declared.Candidate.{Candidate}
 use Rattle.overlaps.specs.Lines.{lineAt}
-use Rattle.overlaps.specs.Listing.{leftAt, rightAt, spanAt, candidateOf, candidateLines, choiceLines, linesFrom, bytesOf, tallied, storeLine, storeAll, Moderate, Countable}
+use Rattle.pieces.specs.Stored.{bytesOf, storeAll}
+use Rattle.overlaps.specs.Listing.{leftAt, rightAt, spanAt, candidateOf, candidateLines, choiceLines, linesFrom, tallied, Moderate, Countable}
 
 -- ---- counts
-
-bytes-append : (a b : List (List ℕ)) → bytesOf (a ++ b) ≡ bytesOf a ++ bytesOf b
-bytes-append a b = concat-map-append (λ l. l) a b
-
-pub bytes-length : (a b : List (List ℕ)) → length (bytesOf (a ++ b)) ≡ length (bytesOf a) + length (bytesOf b)
-bytes-length a b = ap length (bytes-append a b) ∙ length-append (bytesOf a) (bytesOf b)
 
 pub tally-none : (t : Tally) → tallied t [] ≡ t
 tally-none t = ap₂ (λ (e b : ℕ). record { entries = e; bytes = b }) (omega arith) (omega arith)
@@ -60,38 +52,6 @@ module _ (t : Tally) (a b : List (List ℕ)) (h : Countable t (a ++ b)) where
 
   pub countable-next : (u : Tally) → u ≡ tallied t a → Moderate u → Countable u b
   countable-next u e m = (m, omega (arith, h .1, length-append a b, ap (λ (x : Tally). x .entries) e))
-
--- ---- the lent bytes
-
-after-length : (l old : List ℕ) → length (after l old) ≡ length old
-after-length l old = go (leb (length l) (length old)) refl
-  where
-    go : (b : Bool) → leb (length l) (length old) ≡ b → length (cond b (l ++ drop (length l) old) old) ≡ length old
-    go true e = omega (arith, length-append l (drop (length l) old), length-drop (length l) old, leb-true (length l) (length old) e)
-    go false e = refl
-
-store-length : (l : List ℕ) (at : ℕ) (old : List ℕ) → length (storeLine l at old) ≡ length old
-store-length l at old =
-    let m = min at (length old) in
-    omega (arith, length-append (take m old) (after l (drop m old)), length-take m old, after-length l (drop m old), length-drop m old)
-
-pub stores-length : (ls : List (List ℕ)) (at : ℕ) (old : List ℕ) → length (storeAll ls at old) ≡ length old
-stores-length [] at old = refl
-stores-length (l ∷ ls) at old = stores-length ls (at + length l) (storeLine l at old) ∙ store-length l at old
-
-pub stores-append : (a b : List (List ℕ)) (at : ℕ) (old : List ℕ) → storeAll b (at + length (bytesOf a)) (storeAll a at old) ≡ storeAll (a ++ b) at old
-stores-append [] b at old = ap (λ (k : ℕ). storeAll b k old) (omega arith)
-stores-append (l ∷ a) b at old =
-    ap (λ (k : ℕ). storeAll b k (storeAll a (at + length l) (storeLine l at old))) (omega (arith, length-append l (bytesOf a)))
-    ∙ stores-append a b (at + length l) (storeLine l at old)
-
--- a line in the part of the bytes from its place on, which is lent to the line writer
-pub store-part : (l old : List ℕ) (n at : ℕ) {m : List ℕ} → at ≡ min n (length old) → m ≡ after l (take (length old - at) (drop at old))
-    → take at old ++ (m ++ drop (length old - at) (drop at old)) ≡ storeLine l n old
-store-part l old n at {m} a e =
-    ap (λ (r : List ℕ). take at old ++ (m ++ r)) (drop-of-length-le (drop at old) {i = length old - at} (omega (arith, length-drop at old)))
-    ∙ ap (λ (r : List ℕ). take at old ++ r) (append-nil m ∙ e ∙ ap (after l) (take-all (length old - at) (drop at old) (omega (arith, length-drop at old))))
-    ∙ ap (λ (k : ℕ). take k old ++ after l (drop k old)) a
 
 -- ---- what is left to list
 

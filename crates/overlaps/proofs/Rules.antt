@@ -31,7 +31,8 @@ use Rattle.fillings.proofs.Agree.{names}
 use Rattle.writing.specs.Answers.{after}
 use Rattle.overlaps.specs.declared.Listed.{Listed}
 use Rattle.overlaps.specs.declared.Listed.the-variants.{Lines, TooSmall}
-use Rattle.overlaps.specs.Listing.{allLines, bytesOf}
+use Rattle.pieces.specs.Stored.{bytesOf}
+use Rattle.overlaps.specs.Listing.{allLines}
 use Rattle.overlaps.specs.Answers.{counted, listedOf, answerOf}
 use Rattle.overlaps.proofs.Entries.{Raw, rawFrom}
 use Rattle.overlaps.proofs.Lines.{lines-are}

@@ -9,7 +9,7 @@ use lib.ListN.{length}
 use Rattle.listing.specs.Lines.{Line, listText}
 use Rattle.overlaps.specs.declared.Listed.{Listed}
 use Rattle.overlaps.specs.declared.Listed.the-variants.{Lines, TooSmall}
-use Rattle.overlaps.specs.Listing.{bytesOf}
+use Rattle.pieces.specs.Stored.{bytesOf}
 
 -- the two counts, and whether so much room is enough
 abbrev pub counted : ℕ → ℕ → ℕ → Listed

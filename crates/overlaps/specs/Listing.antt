@@ -2,10 +2,9 @@
 -- The theorems of proofs/Agree say that the lines are those of the overlap list.
 use mathlib.Core.Bool.{cond, _&&_}
 use mathlib.Core.List.{List, [], _∷_, _++_}
-use Prim.Native.Nat.{ℕ, zero, suc, _+_, _-_, _*_, _≤_, min}
+use Prim.Native.Nat.{ℕ, zero, suc, _+_, _-_, _*_, _≤_}
 use lib.Dec.{eqb}
-use lib.ListN.{length, getD, take, drop}
-use Rattle.theory.specs.Seqs.{concat-map}
+use lib.ListN.{length, getD}
 use Rattle.terms.specs.declared.Term.{Term}
 use Rattle.terms.specs.Values.{blankField}
 use Rattle.fillings.specs.declared.Fillings.{Fillings}
@@ -15,7 +14,7 @@ use Rattle.rows.specs.declared.Span.{Span}
 use Rattle.rows.specs.Rows.{termsOf, shapeValue, spanValue}
 use Rattle.choices.specs.declared.Choice.{Choice}
 use Rattle.choices.specs.Choices.{chosenAt, joinFields, noChoice}
-use Rattle.writing.specs.Answers.{after}
+use Rattle.pieces.specs.Stored.{bytesOf}
 use Rattle.entry_lines.specs.Sizes.{lineBound}
 use Rattle.overlaps.specs.declared.Pair.{Pair}
 use Rattle.overlaps.specs.declared.Tally.{Tally}
@@ -62,23 +61,11 @@ allLines p = linesFrom (p .left .n) p 0 noChoice startValue
 
 -- ---- counts
 
-abbrev pub bytesOf : List (List ℕ) → List ℕ
-bytesOf ls = concat-map (λ l. l) ls
-
 abbrev pub noTally : Tally
 noTally = record { entries = 0; bytes = 0 }
 
 abbrev pub tallied : Tally → List (List ℕ) → Tally
 tallied t ls = record { entries = t .entries + length ls; bytes = t .bytes + length (bytesOf ls) }
-
--- ---- the lent bytes: each line goes behind the one before it, where it has room there
-
-abbrev pub storeLine : List ℕ → ℕ → List ℕ → List ℕ
-storeLine l at old = take (min at (length old)) old ++ after l (drop (min at (length old)) old)
-
-abbrev pub storeAll : List (List ℕ) → ℕ → List ℕ → List ℕ
-storeAll [] at old = old
-storeAll (l ∷ ls) at old = storeAll ls (at + length l) (storeLine l at old)
 
 -- ---- the counts can be held: no field pair has more than 17 candidates, of any values, and no line more bytes than `lineBound`
 

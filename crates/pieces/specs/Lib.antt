@@ -1,3 +1,4 @@
 pub mod Refusals
 pub mod Sizes
 pub mod Placed
+pub mod Stored

@@ -2,7 +2,8 @@
 use borrow.Author.Needs.{needs}
 use native.Mathlib.Omega.{arith}
 use Rattle.overlaps.specs.Lines.{lineAt}
-use Rattle.overlaps.proofs.Laws.{tally-one, more-bytes, still-moderate, store-part}
+use Rattle.pieces.proofs.Stored.{store-part}
+use Rattle.overlaps.proofs.Laws.{tally-one, more-bytes, still-moderate}
 use Rattle.overlaps.proofs.put_entry.Statement.{statement}
 use Rattle.overlaps.proofs.put_entry.Tie as tie
 use Rattle.overlaps.proofs.at_most.Reads as at-most-reads
