@@ -4,3 +4,6 @@ pub mod Build
 pub mod Verdicts
 pub mod Loops
 pub mod Terms
+pub mod Held
+pub mod Calls
+pub mod Building

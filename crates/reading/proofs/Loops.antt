@@ -10,12 +10,8 @@ use Rattle.text.specs.Walk.{front, walk, walked}
 use Rattle.scanning.specs.declared.Piece.{Piece}
 use Rattle.scanning.specs.Pieces.{pieceOf}
 use Rattle.reading.specs.declared.At.{At}
-use Rattle.reading.specs.Places.{spelled, colonAt, behind, markAt, termAt, marksFrom}
+use Rattle.reading.specs.Places.{first, spelled, colonAt, behind, markAt, termAt, marksFrom}
 use Rattle.reading.proofs.Places.{spelled-is, size-fits, marks-none, marks-step}
-
--- the first term
-abbrev pub first : At
-first = record { place = 0; field = 1; index = 1 }
 
 pub behind-place : (t : List ℕ) (a : At) (e : ℕ) → (behind t a e) .place ≡ e + 1
 behind-place t a e = go (colonAt t e)

@@ -10,7 +10,13 @@ use Rattle.text.specs.Walk.{front, walk}
 use Rattle.scanning.specs.declared.Piece.{Piece}
 use Rattle.scanning.specs.declared.Spelled.{Spelled}
 use Rattle.scanning.specs.declared.Spelled.the-variants.{Int, Str, Var, Empty}
+use denote.Ref.{RefT, now}
 use Rattle.reading.specs.declared.At.{At}
+use Rattle.reading.specs.declared.Reader.{Reader}
+
+-- the first term
+abbrev pub first : At
+first = record { place = 0; field = 1; index = 1 }
 
 -- how many bytes a written term has
 abbrev pub spelledBy : Spelled → ℕ → ℕ
@@ -40,3 +46,11 @@ termAt t a = front (drop (a .place) t)
 -- the terms from there on
 abbrev pub marksFrom : List ℕ → At → List Mark
 marksFrom t a = walk (length t - a .place) (drop (a .place) t) (a .place) (a .field) (a .index)
+
+-- a text at its first term
+abbrev pub started : RefT (List ℕ) → Reader
+started t = record { text = t; at = first }
+
+-- the reader behind the term p, which stands at its place
+abbrev pub passed : Reader → Piece → Reader
+passed r p = record { text = r .text; at = behind (now (r .text)) (r .at) (r .at .place + spelled p) }

@@ -2,6 +2,7 @@
 ghost use mathlib.Core.Path.{_≡_};
 ghost use mathlib.Core.List.{[], foldl};
 ghost use Prim.Native.Nat.{_+_, _≤_, _<_, min};
+ghost use lib.Dec.{ltb};
 ghost use lib.ListN.{length, take, drop};
 ghost use Rattle.order.specs.Values.{kindOf};
 ghost use Rattle.text.specs.Sizes.{longestString};
@@ -9,7 +10,7 @@ ghost use Rattle.text.specs.Read.{accepted, read, readRule, readSlip};
 ghost use Rattle.text.specs.Walk.{front, walked};
 ghost use Rattle.terms.specs.Values.{pad};
 ghost use Rattle.scanning.specs.Pieces.{pieceOf};
-ghost use Rattle.reading.specs.Places.{spelled, colonAt, behind};
+ghost use Rattle.reading.specs.Places.{spelled, colonAt, behind, termAt, started, passed};
 ghost use Rattle.reading.specs.Refusals.{overPiece, isList, linearBy, variableBy, severity, addBy, listsAt, surveyed, surveyMark, nothingYet, outcome};
 ghost use Rattle.reading.specs.Build.{termFrom, emptyBy, pushTerm, addRaw, pushField, pushItem, addItem, pushSlipField, turns, builtRule, builtSlip};
 ghost use Rattle.reading.specs.Answers.{sortOf, numberOf, verdictOf, ruleRead, slipRead};
@@ -57,6 +58,12 @@ struct At {
     place: usize,
     field: usize,
     index: usize,
+}
+
+// A text with the place where it is read. Document 01: "the reading place travels together with the text it reads".
+struct Reader<'a> {
+    text: &'a [u8],
+    at: At,
 }
 
 // The lowest refusal from 3 on that a term has met (6 is the last that is tried, 7 is none),
@@ -109,6 +116,43 @@ fn behind(text: &[u8], a: At, p: Piece) -> At
         field: a.field + 1,
         index: 1,
     }
+}
+
+// A text at its first term.
+fn start<'a>(text: &'a [u8]) -> Reader<'a>
+    ensures { λ r. ⌜ r ≡ started (text .entry) ⌝ }
+{
+    Reader {
+        text,
+        at: At {
+            place: 0,
+            field: 1,
+            index: 1,
+        },
+    }
+}
+
+// Whether a term stands at the reader's place: past the last one there is none.
+fn has_term<'a>(r: Reader<'a>) -> bool
+    ensures { λ b. ⌜ b ≡ ltb (r .entry .at .place) (length (now (r .entry .text))) ⌝ }
+{
+    r.at.place < r.text.len()
+}
+
+// The term at the reader's place.
+fn term<'a>(r: Reader<'a>) -> Piece
+    ensures { λ p. ⌜ p ≡ pieceOf (termAt (now (r .entry .text)) (r .entry .at)) ⌝ }
+{
+    scanning::piece_at(r.text, r.at.place)
+}
+
+// The reader moved behind the term p, which stands at its place.
+fn passed<'a>(r: Reader<'a>, p: Piece) -> Reader<'a>
+    requires { ⌜ (r .at .place ≤ 8192) × (r .at .field ≤ r .at .place + 1) × (r .at .index ≤ r .at .place + 1) × (p .size ≤ 8192) ⌝ }
+    ensures { λ q. ⌜ q ≡ passed (r .entry) p ⌝ }
+{
+    let at = behind(r.text, r.at, p);
+    Reader { text: r.text, at }
 }
 
 // Refusal 5: a value, digit count, variable number or string length over its limit.
@@ -242,25 +286,30 @@ fn note(s: Survey, slip: bool, width: usize, a: At, p: Piece) -> Survey
     }
 }
 
+// The survey before the first term.
+fn nothing_yet() -> Survey
+    ensures { λ r. ⌜ r ≡ nothingYet ⌝ }
+{
+    Survey {
+        reason: 7,
+        place: 0,
+        lists: Lists::none(),
+    }
+}
+
 // All refusals from 3 on, in one pass over the terms.
 fn survey_of(text: &[u8], slip: bool, width: usize) -> Survey
     requires { ⌜ length (now text) ≤ 8192 ⌝ }
     ensures { λ r. ⌜ r ≡ foldl (surveyMark slip width) nothingYet (walked (now (text .entry))) ⌝ }
 {
-    let mut s = Survey {
-        reason: 7,
-        place: 0,
-        lists: Lists::none(),
-    };
-    let mut a = At {
-        place: 0,
-        field: 1,
-        index: 1,
-    };
-    while a.place < text.len() {
-        let p = scanning::piece_at(text, a.place);
-        s = note(s, slip, width, a, p);
-        a = behind(text, a, p);
+    let mut s = nothing_yet();
+    let mut r = start(text);
+    while has_term(r) {
+        let p = term(r);
+        let t = note(s, slip, width, r.at, p);
+        let q = passed(r, p);
+        s = t;
+        r = q;
     }
     s
 }
@@ -419,19 +468,17 @@ fn build_rule(text: &[u8]) -> Rule
 {
     let mut rule = terms::blank_rule();
     let mut field = terms::blank_field();
-    let mut a = At {
-        place: 0,
-        field: 1,
-        index: 1,
-    };
-    while a.place < text.len() {
-        let p = scanning::piece_at(text, a.place);
-        if is_turn(a) {
+    let mut r = start(text);
+    while has_term(r) {
+        let p = term(r);
+        if is_turn(r.at) {
             rule = push_field(rule, field);
-            field = terms::blank_field();
+            let next = terms::blank_field();
+            field = next;
         }
-        field = with_term(field, text, a.place, p);
-        a = behind(text, a, p);
+        field = with_term(field, r.text, r.at.place, p);
+        let q = passed(r, p);
+        r = q;
     }
     push_field(rule, field)
 }
@@ -443,19 +490,17 @@ fn build_slip(text: &[u8]) -> Slip
 {
     let mut slip = terms::blank_slip();
     let mut field = terms::blank_slip_field();
-    let mut a = At {
-        place: 0,
-        field: 1,
-        index: 1,
-    };
-    while a.place < text.len() {
-        let p = scanning::piece_at(text, a.place);
-        if is_turn(a) {
+    let mut r = start(text);
+    while has_term(r) {
+        let p = term(r);
+        if is_turn(r.at) {
             slip = push_slip_field(slip, field);
-            field = terms::blank_slip_field();
+            let next = terms::blank_slip_field();
+            field = next;
         }
-        field = with_item(field, text, a.place, p);
-        a = behind(text, a, p);
+        field = with_item(field, r.text, r.at.place, p);
+        let q = passed(r, p);
+        r = q;
     }
     push_slip_field(slip, field)
 }

@@ -1,0 +1,1 @@
+// No code: proofs/ has what the proofs that walk the code by hand share.
