@@ -1,0 +1,48 @@
+-- What searching answers and leaves, by the machine of crate `queue`.
+use mathlib.Core.Path.{_≡_}
+use mathlib.Core.Bool.{cond}
+use mathlib.Core.List.{List}
+use mathlib.Core.Option.{Option, none, some}
+use Prim.Native.Nat.{ℕ}
+use lib.Dec.{leb}
+use lib.ListN.{length}
+use Rattle.terms.specs.declared.Field.{Field}
+use Rattle.problems.specs.declared.Problem.{Problem}
+use Rattle.queue.specs.declared.State.{State}
+use Rattle.queue.specs.Row.{blanks}
+use Rattle.queue.specs.Machine.{Config, conf, Ends, Reaches, fromRoot, begun, again}
+use Rattle.search.specs.declared.Searched.{Searched}
+use Rattle.search.specs.declared.Searched.the-variants.{Lines, TooSmall, Full}
+
+-- the answer, of the state that counting ended in and the room of the output. Document 01: "9 is tried before 8"
+abbrev pub reported : State → ℕ → Searched
+reported t room = cond (t .refused) Full (cond (leb (t .bytes) room) (Lines (t .lines) (t .bytes)) (TooSmall (t .lines) (t .bytes)))
+
+-- document 01's number of each answer
+abbrev pub refusal : Searched → Option ℕ
+refusal (Lines n b) = none
+refusal (TooSmall n b) = some 8
+refusal Full = some 9
+
+module _ (f g : Field) (row : List Problem) (out : List ℕ) where
+  -- where counting starts, and where writing starts after the count ended in c
+  abbrev pub counting : Config
+  counting = fromRoot (conf (begun f g (length row)) row out)
+
+  abbrev pub writing : Config → Config
+  writing c = fromRoot (conf (again (begun f g (length row)) (c .state) (length out)) (c .row) (c .out))
+
+  -- both searches end
+  pub record Halts : Type 0 where
+    pub count : Ends counting
+    pub write : (c : Config) → Reaches counting c → Ends (writing c)
+
+  -- what is answered, and what is left in the row and in the output
+  pub record Done (r : Searched) (row′ : List Problem) (out′ : List ℕ) : Type 0 where
+    pub counted : Config
+    pub counts : Reaches counting counted
+    pub written : Config
+    pub writes : Reaches (writing counted) written
+    pub answer : r ≡ reported (counted .state) (length out)
+    pub leaves : out′ ≡ written .out
+    pub clears : row′ ≡ blanks (length row)
