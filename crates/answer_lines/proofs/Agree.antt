@@ -1,20 +1,18 @@
 -- THE AGREEMENT: the line of values is the search's line, where the values are those of a solved problem's bindings. Assumes nothing.
 use mathlib.Core.Path.{_≡_, refl, sym, _∙_, ap, ap₂, fun-ext}
 use mathlib.Core.Logic.{inl, inr}
-use mathlib.Core.Bool.{true}
 use mathlib.Core.List.{List, [], _∷_, _++_, map, append-assoc, append-nil, foldl}
 use Prim.Native.Nat.{ℕ, _≤_}
 use native.Mathlib.Omega.{arith}
 use native.Mathlib.Decide.{ℕ-discrete}
-use lib.ListN.{length, getD, take, drop, length-map}
+use lib.ListN.{length, getD, drop, length-map}
 use lib.Seq.{take-all}
 use Rattle.lists.specs.Seqs.{All, Any}
-use Rattle.order.specs.Order.{basic, list, full-eq}
+use Rattle.order.specs.Order.{full-eq}
 use Rattle.order.specs.Types.{Basic, basic-eq, Kind, basics}
 use Rattle.theory.specs.Terms.{con, var}
 use Rattle.theory.specs.Seqs.{concat-map}
 use Rattle.theory.proofs.Seqs.{concat-map-append}
-use Rattle.text.specs.Sizes.{largestNumber}
 use Rattle.text.specs.Ascii.{newline}
 use Rattle.text.specs.Terms.{OurTerm}
 use Rattle.text.specs.Limits.{IsRule}
@@ -23,7 +21,7 @@ use Rattle.unifiers.specs.Shapes.{fixed, free, Side, left, right, side-eq, Vari
 use Rattle.unifiers.specs.Overlaps.{placeOf, firsts, namesOf, Mark, mark-eq, termOf, rename, numbersOf}
 use Rattle.terms.specs.declared.Term.{Term}
 use Rattle.terms.specs.declared.Field.{Field}
-use Rattle.terms.specs.Values.{blankTerm, encodeTerm, encodeField}
+use Rattle.terms.specs.Values.{encodeTerm, encodeField}
 use Rattle.sides.specs.Sides.{OurState, markTerm}
 use Rattle.sides.specs.Values.{rightField}
 use Rattle.sides.proofs.Sides.{left-field, right-field}
@@ -32,7 +30,7 @@ use Rattle.searching.specs.Problems.{atomic, listvar, Tm, Field as Equals, Bind
 use Rattle.listing.specs.Lines.{Binding, leftMark, rightMark, bindingsText}
 use Rattle.listing.specs.Variables as variables
 use Rattle.listing.specs.Overlaps as listing
-use Rattle.solving.specs.Answers.{setting, fieldOn, markOf, valueOf, valuesOn, valuesOf, numberIn, shownOn, answerBindings, answerText}
+use Rattle.solving.specs.Answers.{setting, fieldOn, markOf, valueOf, valuesOn, valuesOf, numberIn, answerBindings, answerText}
 use Rattle.items.specs.declared.Items.{Items}
 use Rattle.items.specs.Items.{blankItems, itemsOf}
 use Rattle.items.specs.Encode.{encodeTm, encodeAll}
@@ -40,16 +38,13 @@ use Rattle.problems.specs.declared.Problem.{Problem}
 use Rattle.entries.specs.declared.Wide.{Wide}
 use Rattle.entries.specs.declared.Entry.{Entry}
 use Rattle.entries.specs.Values.{widest, blankWide, pushed, Marked, encodeWide, entryValue}
-use Rattle.entries.specs.Names.{namesValue}
 use Rattle.entries.specs.Marks.{MarkedIn, Met}
 use Rattle.entries.proofs.Agree.{names-append}
 use Rattle.shown.specs.declared.Shown.{Shown}
-use Rattle.shown.specs.Shown.{blankRun, placeIn}
-use Rattle.entry_lines.specs.Shown.{shownBindings}
 use Rattle.entry_lines.specs.Shows.{runIn, Shows}
 use Rattle.entry_lines.proofs.Lines.{rule-agrees}
-use Rattle.answer_lines.specs.Answers.{knownAtoms, listWide, answerEntry, wholeField, shownSide, bindingsValue, bindingsOf, answerValue}
-use Rattle.answer_lines.proofs.Side.{push-all, listValue, shown, known-is, atom-is, value-atom, atomValues, listTerms, known-atoms, atoms-marked, list-is, run-at, values-are, atom-there}
+use Rattle.answer_lines.specs.Answers.{knownAtoms, listWide, answerEntry, shownSide, bindingsValue, bindingsOf, answerValue}
+use Rattle.answer_lines.proofs.Side.{push-all, listValue, shown, known-is, atom-is, value-atom, atomValues, known-atoms, atoms-marked, list-is, run-at, values-are, atom-there}
 
 -- ---- what is asked of a problem p: it holds the bindings σ of a solved problem, for the fields f and g
 

@@ -2,3 +2,4 @@ pub mod Loops
 pub mod Parts
 pub mod Side
 pub mod Agree
+pub mod Solved

@@ -1,7 +1,7 @@
 -- A loop over the places of the atom variables: what is left to push makes what was to push. Assumes nothing.
-use mathlib.Core.Path.{_≡_, refl, sym, _∙_, ap, ap₂}
+use mathlib.Core.Path.{_≡_, sym, _∙_, ap, ap₂}
 use mathlib.Core.Bool.{Bool, false}
-use mathlib.Core.List.{List, _∷_, foldl}
+use mathlib.Core.List.{_∷_, foldl}
 use Prim.Native.Nat.{ℕ, suc, _+_, _-_, _<_, _≤_}
 use native.Mathlib.Numerals.{add-one}
 use native.Mathlib.Omega.{arith}

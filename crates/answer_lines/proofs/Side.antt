@@ -21,22 +21,21 @@ use Rattle.text.specs.Sizes.{largestNumber}
 use Rattle.text.specs.Terms.{OurTerm}
 use Rattle.text.specs.Limits.{TermIn, IsRule}
 use Rattle.instance.proofs.Linear.{left-linear}
-use Rattle.unifiers.specs.Shapes.{fixed, free, Side, left, right, Variable, of}
-use Rattle.unifiers.specs.Overlaps.{namesOf, termOf, Mark}
+use Rattle.unifiers.specs.Shapes.{fixed, free, Side, Variable, of}
+use Rattle.unifiers.specs.Overlaps.{termOf}
 use Rattle.unifiers.proofs.Seqs.{pigeon}
 use Rattle.terms.specs.declared.Term.{Term}
-use Rattle.terms.specs.declared.Field.{Field}
 use Rattle.terms.specs.Values.{blankTerm, encodeTerm, encodeField}
-use Rattle.sides.specs.Sides.{OurAtom, OurState, AtomIn, sideTerm, markTerm}
+use Rattle.sides.specs.Sides.{OurAtom, OurState, AtomIn, markTerm}
 use Rattle.fillings.specs.declared.Fillings.{Fillings}
 use Rattle.fillings.proofs.Agree.{Holds}
-use Rattle.searching.specs.Problems.{atomic, listvar, Tm, Field as Equals, Bindings, namesIn}
+use Rattle.searching.specs.Problems.{atomic, listvar, Field as Equals, Bindings, namesIn}
 use Rattle.searching.specs.Pairs.{sixteenAbove}
 use Rattle.searching.proofs.Seqs.{all-from}
 use Rattle.listing.specs.Variables as variables
-use Rattle.listing.specs.Variables.{numbersFrom, numbers, ofKind, every, isVariable, inField, occurs, keep}
+use Rattle.listing.specs.Variables.{numbersFrom, numbers, ofKind, every, inField, occurs, keep}
 use Rattle.listing.proofs.Rising.{keep-mem}
-use Rattle.listing.proofs.Variables.{every-mem, occurs-is, in-variables, variables-distinct}
+use Rattle.listing.proofs.Variables.{every-mem, in-variables, variables-distinct}
 use Rattle.solving.specs.Answers.{setting, fieldOn, markOf, valueOf}
 use Rattle.entries.specs.declared.Wide.{Wide}
 use Rattle.entries.specs.Values.{widest, blankWide, pushed, Marked, encodeWide}

@@ -4,7 +4,7 @@ use Prim.Native.Nat.{ℕ, zero, suc, _+_, _-_, _/_, _%_, _^_, _≤_, _<_, max}
 use native.Mathlib.Nat.{pow-succ'}
 use native.Mathlib.Omega.{arith}
 use lib.Bits.{bitOr, or-step, or-zero-r}
-use lib.Count.{ones, ones-step, trailingZeros, under}
+use lib.Count.{ones, ones-step, trailingZeros, under, trailing-le}
 
 -- digit n of w, lowest first
 abbrev pub digit : ℕ → ℕ → ℕ
@@ -69,3 +69,6 @@ lowest-clear (suc k) w (suc n) h g z o =
 
     half : (2 ^ suc k - 1 - w) / 2 ≡ 2 ^ k - 1 - w / 2
     half = omega (arith, pow-succ' 2 k, low)
+
+pub trailing-byte : (n : ℕ) → trailingZeros 64 n < 256
+trailing-byte n = omega (arith, trailing-le 64 n)

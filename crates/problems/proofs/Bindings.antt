@@ -63,7 +63,8 @@ replaced-self x st = ap (λ (l : List Term). record { atoms = l }) (map-swap-sel
 
 module _ (σ : Bindings setting) (kinds : (t : Tm setting) → Fits setting t (σ t)) where
   -- with the binding put in
-  state-at : (x : Tm setting) (s : Field setting) (y : Variable Basic ℕ) → stateOf (compose setting σ x s) y ≡ oneAtom y (put setting x s (atomic (kinds (atomic (free y)) .0)))
+  state-at : (x : Tm setting) (s : Field setting) (y : Variable Basic ℕ)
+      → stateOf (compose setting σ x s) y ≡ oneAtom y (put setting x s (atomic (kinds (atomic (free y)) .0)))
   state-at x s y =
       let h = kinds (atomic (free y)) in
       ap (λ (K : Field setting). oneAtom y (putIn setting x s K)) (h .1) ∙ ap (oneAtom y) (append-nil (put setting x s (atomic (h .0))))
@@ -86,7 +87,8 @@ module _ (σ : Bindings setting) (kinds : (t : Tm setting) → Fits setting t (�
           pick (yes e) = ap (λ (z : Tm setting). z ∷ []) (sym e)
           pick (no n) = refl
 
-  state-atom : (x : Variable Basic ℕ) (w : OurAtom) (y : Variable Basic ℕ) → bind basics consts names x w (stateOf σ) y ≡ stateOf (compose setting σ (atomic (free x)) (atomic w ∷ [])) y
+  state-atom : (x : Variable Basic ℕ) (w : OurAtom) (y : Variable Basic ℕ)
+      → bind basics consts names x w (stateOf σ) y ≡ stateOf (compose setting σ (atomic (free x)) (atomic w ∷ [])) y
   state-atom x w y =
       ap (replace basics consts names x w) (state-old y) ∙ go (kinds (atomic (free y)) .0) ∙ sym (state-at (atomic (free x)) (atomic w ∷ []) y)
     where
@@ -95,7 +97,9 @@ module _ (σ : Bindings setting) (kinds : (t : Tm setting) → Fits setting t (�
       go (free z) = pick (variable-eq side-eq basic-eq ℕ-discrete z x)
         where
           pick : (d : Dec (z ≡ x)) → ite d w (free z) ≡ oneAtom y (put setting (atomic (free x)) (atomic w ∷ []) (atomic (free z)))
-          pick (yes e) = sym (ap (λ (v : Variable Basic ℕ). oneAtom y (put setting (atomic (free x)) (atomic w ∷ []) (atomic (free v)))) e ∙ ap (oneAtom y) (put-self setting (atomic (free x)) (atomic w ∷ [])))
+          pick (yes e) =
+              sym (ap (λ (v : Variable Basic ℕ). oneAtom y (put setting (atomic (free x)) (atomic w ∷ []) (atomic (free v)))) e
+              ∙ ap (oneAtom y) (put-self setting (atomic (free x)) (atomic w ∷ [])))
           pick (no n) = sym (ap (oneAtom y) (put-ne setting (atomic (free x)) (atomic w ∷ []) (atomic (free z)) (λ e. n (free-once (atomic-once e)))))
 
 -- ---- the atoms of the record
@@ -107,23 +111,28 @@ not-list atom = refl
 
 module _ (σ : Bindings setting) (kinds : (t : Tm setting) → Fits setting t (σ t)) (st : Fillings) (h : fillings.Holds st (stateOf σ)) where
   -- bound to itself
-  kept-self : (x : Tm setting) (X : Term) → X ≡ encodeTm x → (s : Field setting) → s ≡ x ∷ [] → fillings.Holds (replaced X (getD (itemsOf (encodeItems s)) 0 blankTerm) st) (stateOf (compose setting σ x s))
+  kept-self : (x : Tm setting) (X : Term) → X ≡ encodeTm x → (s : Field setting) → s ≡ x ∷ []
+      → fillings.Holds (replaced X (getD (itemsOf (encodeItems s)) 0 blankTerm) st) (stateOf (compose setting σ x s))
   kept-self x X e s g =
       subst (λ (s : Field setting). fillings.Holds (replaced X (getD (itemsOf (encodeItems s)) 0 blankTerm) st) (stateOf (compose setting σ x s))) (sym g)
       (subst (λ (f : Fillings). fillings.Holds f (stateOf (compose setting σ x (x ∷ []))))
       (sym (ap (λ (t : Term). replaced X t st) (first-agree x [] (omega arith) ∙ sym e) ∙ replaced-self X st))
       (holds-same st (stateOf σ) (stateOf (compose setting σ x (x ∷ []))) (state-self σ kinds x) h))
 
-  pub atoms-bound : (x : Tm setting) (s : Field setting) → Within x → All Within s → Fits setting x s → fillings.Holds (boundAtoms (encodeTm x) (encodeItems s) st) (stateOf (compose setting σ x s))
+  pub atoms-bound : (x : Tm setting) (s : Field setting) → Within x → All Within s → Fits setting x s
+      → fillings.Holds (boundAtoms (encodeTm x) (encodeItems s) st) (stateOf (compose setting σ x s))
   atoms-bound (listvar n) s i j g = holds-same st (stateOf σ) (stateOf (compose setting σ (listvar n) s)) (state-list σ kinds n s) h
   atoms-bound (atomic (fixed (int c))) s i j g = kept-self (atomic (fixed (int c))) (encodeTm (atomic (fixed (int c)))) refl s g
   atoms-bound (atomic (fixed (str c))) s i j g = kept-self (atomic (fixed (str c))) (encodeTm (atomic (fixed (str c)))) refl s g
   atoms-bound (atomic (free (of d k n))) s i j g =
       subst (λ (f : Fillings). fillings.Holds f (stateOf (compose setting σ x s)))
       (sym (ap (λ (b : Bool). cond b st (replaced (encodeTm x) (getD (itemsOf (encodeItems s)) 0 blankTerm) st)) (not-list k)))
-      (subst (λ (s : Field setting). fillings.Holds (replaced (encodeTm x) (getD (itemsOf (encodeItems s)) 0 blankTerm) st) (stateOf (compose setting σ x s))) (sym (g .1))
-      (subst (λ (t : Term). fillings.Holds (replaced (encodeTm x) t st) (stateOf (compose setting σ x (atomic w ∷ [])))) (sym (first-agree (atomic w) [] (omega arith)))
-      (holds-same (replaced (encodeTm x) (encodeTm (atomic w)) st) (bind basics consts names (of d k n) w (stateOf σ)) (stateOf (compose setting σ x (atomic w ∷ []))) (state-atom σ kinds (of d k n) w)
+      (subst (λ (s : Field setting). fillings.Holds (replaced (encodeTm x) (getD (itemsOf (encodeItems s)) 0 blankTerm) st) (stateOf (compose setting σ x s)))
+      (sym (g .1))
+      (subst (λ (t : Term). fillings.Holds (replaced (encodeTm x) t st) (stateOf (compose setting σ x (atomic w ∷ []))))
+      (sym (first-agree (atomic w) [] (omega arith)))
+      (holds-same (replaced (encodeTm x) (encodeTm (atomic w)) st) (bind basics consts names (of d k n) w (stateOf σ)) (stateOf (compose setting σ x (atomic w ∷ [])))
+      (state-atom σ kinds (of d k n) w)
       (holds-bind (of d k n) w i (subst (All Within) (g .1) j .0) st (stateOf σ) h))))
     where
       x : Tm setting

@@ -44,7 +44,9 @@ listed σ (n ∷ (m ∷ u)) l h = absurd (omega arith)
 
 module _ (A B : Field setting) (q : Equation A B) (p : Problem) (P : search.Problem setting) (h : Holds A B p P) where
   pub atoms-known : (x : Variable Basic ℕ) → bindings setting P (atomic (free x)) ≡ atomic (stateOf (bindings setting P) x) ∷ []
-  atoms-known x = let k = met-fine setting A B (q .linear) P (h .met) .inv .kinds (atomic (free x)) in k .1 ∙ sym (ap (λ (s : Field setting). atomic (oneAtom x s) ∷ []) (k .1))
+  atoms-known x =
+      let k = met-fine setting A B (q .linear) P (h .met) .inv .kinds (atomic (free x)) in
+      k .1 ∙ sym (ap (λ (s : Field setting). atomic (oneAtom x s) ∷ []) (k .1))
 
   pub left-known : Listed (bindings setting P) (namesIn setting A) (getD (p .lists) 0 blankItems)
   left-known =

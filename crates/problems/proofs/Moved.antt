@@ -55,7 +55,9 @@ module _ (A B : Field setting) (q : Equation A B) where
   -- THE FRESH LIST VARIABLE of the record is the search's
   pub fresh-holds : (p : Problem) (P : search.Problem setting) → Holds A B p P → freshValue (p .used) ≡ lowest (search.used setting P)
   fresh-holds p P h =
-      ap freshValue (h .used) ∙ fresh-lowest (search.used setting P) (all-map (λ n. n < 32) (λ n. n < digits) (λ n l. omega arith) (search.used setting P) (used-in P (h .met))) (fresh-in P (h .met))
+      ap freshValue (h .used)
+      ∙ fresh-lowest (search.used setting P)
+      (all-map (λ n. n < 32) (λ n. n < digits) (λ n l. omega arith) (search.used setting P) (used-in P (h .met))) (fresh-in P (h .met))
 
   -- "ones count variables of a problem": those used, each once
   pub variables-holds : (p : Problem) (P : search.Problem setting) → Holds A B p P → listVariables (p .used) ≡ length (firsts ℕ-discrete (search.used setting P))
@@ -71,7 +73,8 @@ module _ (A B : Field setting) (q : Equation A B) where
     -- ---- the values of the two list variables
 
     lists-moved : (x : Tm setting) (s : Field setting) → Within x → length s ≤ 16
-        → map (putItems (encodeTm x) (encodeItems s)) (p .lists) ≡ valueIn (compose setting σ x s) (namesIn setting A) ∷ (valueIn (compose setting σ x s) (namesIn setting B) ∷ [])
+        → map (putItems (encodeTm x) (encodeItems s)) (p .lists)
+        ≡ valueIn (compose setting σ x s) (namesIn setting A) ∷ (valueIn (compose setting σ x s) (namesIn setting B) ∷ [])
     lists-moved x s i l =
         ap (map (putItems (encodeTm x) (encodeItems s))) (h .lists)
         ∙ ap₂ (λ (v w : Items). v ∷ (w ∷ []))
@@ -144,7 +147,9 @@ module _ (A B : Field setting) (q : Equation A B) where
           right = refl;
           atoms = atoms-bound σ (fine .inv .kinds) (p .atoms) (h .atoms) x s (x-in r x s v n e) (all-in r x s v n e .0) (does r x s v n e .fits);
           lists = lists-moved x s (x-in r x s v n e) (sizes r x s v n e .0);
-          used = ap (λ (w : ℕ). cond (bringsIn v) (withName w (lowest u)) w) (h .used) ∙ used-more u v (lowest u) (sizes r x s v n e .1) (does r x s v n e .new) (fresh-in (problem (equation L M) σ u) (h .met));
+          used =
+              ap (λ (w : ℕ). cond (bringsIn v) (withName w (lowest u)) w) (h .used)
+              ∙ used-more u v (lowest u) (sizes r x s v n e .1) (does r x s v n e .new) (fresh-in (problem (equation L M) σ u) (h .met));
           rest-in = all-in r x s v n e .1;
           values-in = values-moved r x s v n e;
         }

@@ -31,8 +31,10 @@ Fits σ n = (length (σ (listvar n)) ≤ mostItems) × All Within (σ (listvar n
 module _ (A B : Field setting) (q : Equation A B) (p : Problem) (P : search.Problem setting) (h : Holds A B p P) where
   pub left-fits : All (Fits (bindings setting P)) (namesIn setting A)
   left-fits =
-      names-stand A (Fits (bindings setting P)) (λ n i. (omega (arith, list-values-short setting A B (q .linear) P (h .met) n .0 i, q .right-short), h .values-in (listvar n) (inl i)))
+      names-stand A (Fits (bindings setting P))
+      (λ n i. (omega (arith, list-values-short setting A B (q .linear) P (h .met) n .0 i, q .right-short), h .values-in (listvar n) (inl i)))
 
   pub right-fits : All (Fits (bindings setting P)) (namesIn setting B)
   right-fits =
-      names-stand B (Fits (bindings setting P)) (λ n i. (omega (arith, list-values-short setting A B (q .linear) P (h .met) n .1 i, q .left-short), h .values-in (listvar n) (inr i)))
+      names-stand B (Fits (bindings setting P))
+      (λ n i. (omega (arith, list-values-short setting A B (q .linear) P (h .met) n .1 i, q .left-short), h .values-in (listvar n) (inr i)))

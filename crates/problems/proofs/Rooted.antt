@@ -53,7 +53,8 @@ isRight right = true
 
 -- ---- the two sides
 
-side-agree : (d : Side) (t : OurTerm) → TermIn t → sideTerm (isRight d) (encodeTerm t) ≡ encodeTm (pairs.sideTerm basics consts ℕ-discrete numbers sixteenAbove d t)
+side-agree : (d : Side) (t : OurTerm) → TermIn t
+    → sideTerm (isRight d) (encodeTerm t) ≡ encodeTm (pairs.sideTerm basics consts ℕ-discrete numbers sixteenAbove d t)
 side-agree d (con (int n)) h = refl
 side-agree d (con (str b)) h = refl
 side-agree left (var (basic k) n) h = refl
@@ -67,7 +68,8 @@ sides-agree d (t ∷ f) h = ap₂ (λ (u : Term) (s : List Term). u ∷ s) (side
 
 items-agree : (d : Side) (f : List OurTerm) → All TermIn f → sideItems (isRight d) (encodeField f) ≡ encodeItems (fieldOn d f)
 items-agree d f h =
-    ap (λ (s : List Term). collect (map (sideTerm (isRight d)) s)) (take-at (map encodeTerm f) (replicate (16 - length (map encodeTerm f)) blankTerm) (length f) (length-map f encodeTerm))
+    ap (λ (s : List Term). collect (map (sideTerm (isRight d)) s))
+    (take-at (map encodeTerm f) (replicate (16 - length (map encodeTerm f)) blankTerm) (length f) (length-map f encodeTerm))
     ∙ ap collect (sides-agree d f h)
 
 within-side : (d : Side) (t : OurTerm) → TermIn t → Within (pairs.sideTerm basics consts ℕ-discrete numbers sixteenAbove d t)
@@ -90,7 +92,8 @@ names-small (var list n ∷ f) h = (omega (arith, h .0), names-small f (h .1))
 pub equation-of : (f g : List OurTerm) → IsRule (f ∷ []) → IsRule (g ∷ []) → Equation (fieldOn left f) (fieldOn right g)
 equation-of f g p q =
     record {
-      linear = fields-linear basics consts ℕ-discrete numbers sixteenAbove f g (left-linear (f ∷ []) (p .1) .1 .0) (left-linear (g ∷ []) (q .1) .1 .0) (sixteen-apart basics consts f g (names-small f (p .0 .3 .0)));
+      linear = fields-linear basics consts ℕ-discrete numbers sixteenAbove f g (left-linear (f ∷ []) (p .1) .1 .0) (left-linear (g ∷ []) (q .1) .1 .0)
+          (sixteen-apart basics consts f g (names-small f (p .0 .3 .0)));
       left-short = omega (arith, p .0 .2 .0, length-map f (pairs.sideTerm basics consts ℕ-discrete numbers sixteenAbove left));
       right-short = omega (arith, q .0 .2 .0, length-map g (pairs.sideTerm basics consts ℕ-discrete numbers sixteenAbove right));
       left-in = within-sides left f (p .0 .3 .0);
@@ -144,7 +147,8 @@ start-holds A B q =
       lists = ap₂ (λ (v w : Items). v ∷ (w ∷ [])) own-A own-B;
       used =
           ap₂ (λ (v w : Items). withList (withList 0 w) v) own-A own-B
-          ∙ ap (λ (n : ℕ). withList n (valueIn (unbound setting) (namesIn setting A))) (with-list (namesIn setting B) [] (names-one B (q .linear .right)) (names-within B (q .right-in)))
+          ∙ ap (λ (n : ℕ). withList n (valueIn (unbound setting) (namesIn setting A)))
+          (with-list (namesIn setting B) [] (names-one B (q .linear .right)) (names-within B (q .right-in)))
           ∙ with-list (namesIn setting A) (namesIn setting B ++ []) (names-one A (q .linear .left)) (names-within A (q .left-in))
           ∙ ap (λ (u : List ℕ). setOf (namesIn setting A ++ u)) (append-nil (namesIn setting B));
       rest-in = (q .left-in, q .right-in);
@@ -162,7 +166,8 @@ start-holds A B q =
     stands t (inr i) = (all-mem Within B (q .right-in) t i, tt)
 
 -- THE ROOT of two of document 01's fields
-pub root-holds : (f g : List OurTerm) → IsRule (f ∷ []) → IsRule (g ∷ []) → Holds (fieldOn left f) (fieldOn right g) (rootValue (encodeField f) (encodeField g)) (root setting (fieldOn left f) (fieldOn right g))
+pub root-holds : (f g : List OurTerm) → IsRule (f ∷ []) → IsRule (g ∷ [])
+    → Holds (fieldOn left f) (fieldOn right g) (rootValue (encodeField f) (encodeField g)) (root setting (fieldOn left f) (fieldOn right g))
 root-holds f g p q =
     subst (λ (r : Problem). Holds (fieldOn left f) (fieldOn right g) r (root setting (fieldOn left f) (fieldOn right g)))
     (sym (ap₂ startOf (items-agree left f (p .0 .3 .0)) (items-agree right g (q .0 .3 .0))))

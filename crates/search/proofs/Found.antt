@@ -14,7 +14,6 @@ use Rattle.terms.specs.declared.Field.{Field}
 use Rattle.problems.specs.declared.Problem.{Problem}
 use Rattle.problems.specs.Values.{blankProblem}
 use Rattle.pieces.specs.Stored.{bytesOf, storeLine, storeAll}
-use Rattle.answer_lines.specs.Answers.{answerValue}
 use Rattle.queue.specs.declared.State.{State}
 use Rattle.queue.specs.Machine.{Config, conf, next, after, after-none, after-next, after-idle, Ends, Reaches, fromRoot}
 use Rattle.searching.specs.Problems as theory
@@ -88,7 +87,7 @@ module _ (E : Setting) (text : Bindings E → List ℕ) where
   Final writing out d unfinished = ⊥
 
 module _ (E : Setting) (f g : Field) (Holds : Problem → theory.Problem E → Type 0) (number : Rule → ℕ) (text : Bindings E → List ℕ) (agrees : Agrees E (records f g) Holds number text)
-    (bound : ℕ) (short : (p : Problem) → length (answerValue f g p) ≤ bound) (low : bound * 2 ^ 34 < 2 ^ 64) where
+    (bound : ℕ) (short : (p : Problem) (σ : Bindings E) (u : List (E .names .Name)) → Holds p (theory.problem theory.solved σ u) → length (text σ) ≤ bound) (low : bound * 2 ^ 34 < 2 ^ 64) where
   module _ (A B : theory.Field E) (linear : Linear E A B) (a : length A ≤ 16) (b : length B ≤ 16) (writing : Bool) (cap : ℕ) (some-room : 1 ≤ cap) (p : Problem) (is-root : Holds p (root E A B))
       (row : List Problem) (size : length row ≡ cap) (out : List ℕ) where
     abbrev begins : Config

@@ -17,7 +17,6 @@ use Rattle.instance.specs.Constants.{consts}
 use Rattle.unifiers.specs.Shapes.{left, right}
 use Rattle.problems.specs.declared.Problem.{Problem}
 use Rattle.problems.specs.Values.{rootValue}
-use Rattle.answer_lines.specs.Answers.{answerValue}
 use Rattle.queue.specs.Machine.{Config, Ends, Reaches}
 use Rattle.searching.specs.Problems as theory
 use Rattle.searching.specs.Problems.{root}
@@ -54,7 +53,7 @@ module _ (f g : List OurTerm) where
 
   module _ (F G : Field) (row : List Problem) (out : List ℕ) (is-f : IsRule (f ∷ [])) (is-g : IsRule (g ∷ [])) (both : (acceptedField F && acceptedField G) ≡ true)
       (Holds : Problem → theory.Problem setting → Type 0) (number : Rule → ℕ) (agrees : Agrees setting (records F G) Holds number (answerText f g))
-      (bound : ℕ) (short : (p : Problem) → length (answerValue F G p) ≤ bound) (low : bound * 2 ^ 34 < 2 ^ 64)
+      (bound : ℕ) (short : (p : Problem) (σ : theory.Bindings setting) (u : List ℕ) → Holds p (theory.problem theory.solved σ u) → length (answerText f g σ) ≤ bound) (low : bound * 2 ^ 34 < 2 ^ 64)
       (is-root : Holds (rootValue F G) (root setting (fieldOn left f) (fieldOn right g))) where
     short-f : length (fieldOn left f) ≤ 16
     short-f = omega (arith, is-f .0 .2 .0, length-map f (sideTerm basics consts ℕ-discrete numbers sixteenAbove left))

@@ -45,12 +45,28 @@ module _ (s : State) (row : List Problem) (out : List ℕ) where
   next-full : trying (s .rule) ≡ true → childOf (s .held) (s .rule) .ok ≡ true → ltb (s .count) (s .cap) ≡ false → next (conf s row out) ≡ conf (full s) row out
   next-full t e l = by-turn (record { problem = there; state = full s }) out (rw (t, e, l) refl) (rw t refl) ∙ back (full s)
 
+  -- the line that is stored where an answer is read, and a turn where no rule is tried, by its tests
+  abbrev stored : List ℕ
+  stored = cond (s .writing) (storeLine (lineOf s there) (s .bytes) out) out
+
+  abbrev takes : Turn
+  takes = record { problem = blankProblem; state = taken s there (length (lineOf s there)) }
+
+  abbrev stops : Turn
+  stops = record { problem = there; state = stopped s }
+
+  head-moved : (b : Bool) → trying (s .rule) ≡ false → eqb (s .count) 0 ≡ b → moved s there ≡ cond b stops takes
+  head-moved b t z = ap (λ (c : Bool). cond c (ruleTurn s there) (cond (eqb (s .count) 0) stops takes)) t ∙ ap (λ (c : Bool). cond c stops takes) z
+
+  head-wrote : (b : Bool) → trying (s .rule) ≡ false → eqb (s .count) 0 ≡ b → wrote s there out ≡ cond (cond b false (not (there .«open»))) stored out
+  head-wrote b t z = ap (λ (c : Bool). cond (cond c false (cond (eqb (s .count) 0) false (not (there .«open»)))) stored out) t ∙ ap (λ (c : Bool). cond (cond c false (not (there .«open»))) stored out) z
+
   next-stopped : trying (s .rule) ≡ false → eqb (s .count) 0 ≡ true → next (conf s row out) ≡ conf (stopped s) row out
-  next-stopped t z = by-turn (record { problem = there; state = stopped s }) out (rw (t, z) refl) (rw (t, z) refl) ∙ back (stopped s)
+  next-stopped t z = by-turn stops out (head-moved true t z) (head-wrote true t z) ∙ back (stopped s)
 
   next-taken : trying (s .rule) ≡ false → eqb (s .count) 0 ≡ false
       → next (conf s row out) ≡ conf (taken s there (length (lineOf s there))) (set row (s .at) blankProblem) (cond (not (there .«open»)) (cond (s .writing) (storeLine (lineOf s there) (s .bytes) out) out) out)
-  next-taken t z = by-turn (record { problem = blankProblem; state = taken s there (length (lineOf s there)) }) (cond (not (there .«open»)) (cond (s .writing) (storeLine (lineOf s there) (s .bytes) out) out) out) (rw (t, z) refl) (rw (t, z) refl)
+  next-taken t z = by-turn takes (cond (not (there .«open»)) stored out) (head-moved false t z) (head-wrote false t z)
 
 -- ---- the machine whose queue is a list, over the same records
 

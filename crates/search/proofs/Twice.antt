@@ -19,7 +19,6 @@ use Rattle.problems.specs.declared.Problem.{Problem}
 use Rattle.problems.specs.Values.{blankProblem, rootValue}
 use Rattle.pieces.specs.Stored.{bytesOf, storeAll}
 use Rattle.pieces.proofs.Stored.{stored}
-use Rattle.answer_lines.specs.Answers.{answerValue}
 use Rattle.queue.specs.declared.State.{State}
 use Rattle.queue.specs.Machine.{Config, conf, next, after, after-none, after-next, after-idle, Ends, Reaches, fromRoot, begun, again}
 use Rattle.searching.specs.Problems as theory
@@ -108,7 +107,7 @@ module _ (f g : Field) (row : List Problem) (out : List ℕ) where
   -- ---- two accepted fields
 
   module _ (E : Setting) (Holds : Problem → theory.Problem E → Type 0) (number : Rule → ℕ) (text : Bindings E → List ℕ) (agrees : Agrees E (records f g) Holds number text)
-      (bound : ℕ) (short : (p : Problem) → length (answerValue f g p) ≤ bound) (low : bound * 2 ^ 34 < 2 ^ 64)
+      (bound : ℕ) (short : (p : Problem) (σ : Bindings E) (u : List (E .names .Name)) → Holds p (theory.problem theory.solved σ u) → length (text σ) ≤ bound) (low : bound * 2 ^ 34 < 2 ^ 64)
       (A B : theory.Field E) (linear : Linear E A B) (a : length A ≤ 16) (b : length B ≤ 16) (is-root : Holds (rootValue f g) (root E A B))
       (both : (acceptedField f && acceptedField g) ≡ true) where
     -- ---- a row with no record: refused at once

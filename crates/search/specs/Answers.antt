@@ -1,4 +1,4 @@
--- What searching answers and leaves, by the machine of crate `queue`.
+-- What searching answers, of the lines of the search; and what it comes to by the machine of crate `queue`.
 use mathlib.Core.Path.{_≡_}
 use mathlib.Core.Bool.{cond}
 use mathlib.Core.List.{List}
@@ -7,12 +7,32 @@ use Prim.Native.Nat.{ℕ}
 use lib.Dec.{leb}
 use lib.ListN.{length}
 use Rattle.terms.specs.declared.Field.{Field}
+use Rattle.accepted.specs.Accepted.{countedField}
+use Rattle.writing.specs.Answers.{after}
+use Rattle.solving.specs.Answers.{Lines as Found, lines, nine, linesFor, bytesOf}
 use Rattle.problems.specs.declared.Problem.{Problem}
 use Rattle.queue.specs.declared.State.{State}
 use Rattle.queue.specs.Row.{blanks}
 use Rattle.queue.specs.Machine.{Config, conf, Ends, Reaches, fromRoot, begun, again}
 use Rattle.search.specs.declared.Searched.{Searched}
 use Rattle.search.specs.declared.Searched.the-variants.{Lines, TooSmall, Full}
+
+-- THE ANSWER, of the lines and the room of the lent buffer. Document 01: "Line and byte counts are returned"; "9: .. both counts are 0. 8: the lines need
+-- more bytes than the output buffer has; the line count and the needed byte count are returned. 9 is tried before 8."
+abbrev pub searchedOf : Found → ℕ → Searched
+searchedOf (lines ls) room = cond (leb (length (bytesOf (lines ls))) room) (Lines (length ls) (length (bytesOf (lines ls)))) (TooSmall (length ls) (length (bytesOf (lines ls))))
+searchedOf nine room = Full
+
+-- the lines of two field values over a row of so many records; one that no reading can return counts as no field
+abbrev pub foundIn : ℕ → Field → Field → Found
+foundIn room f g = linesFor room (countedField f) (countedField g)
+
+-- what a search promises: its answer, the output, and "every record of the row is the blank record .. refused or not"
+abbrev pub Searches : Field → Field → List Problem → List ℕ → Searched → List Problem → List ℕ → Type 0
+Searches f g row out r row′ out′ =
+    (r ≡ searchedOf (foundIn (length row) f g) (length out)) × (out′ ≡ after (bytesOf (foundIn (length row) f g)) out) × (row′ ≡ blanks (length row))
+
+-- ---- by the machine
 
 -- the answer, of the state that counting ended in and the room of the output. Document 01: "9 is tried before 8"
 abbrev pub reported : State → ℕ → Searched

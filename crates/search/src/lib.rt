@@ -1,8 +1,10 @@
 // The search for one field pair, over a row of problem records that the caller lends.
 ghost use mathlib.Core.Path.{_≡_};
 ghost use Prim.Native.Nat.{min};
-ghost use Rattle.queue.specs.Row.{blanks};
-ghost use Rattle.search.specs.Answers.{reported, Halts, Done};
+ghost use lib.ListN.{length};
+ghost use Rattle.writing.specs.Answers.{after};
+ghost use Rattle.solving.specs.Answers.{bytesOf};
+ghost use Rattle.search.specs.Answers.{searchedOf, foundIn, Searches, reported};
 use problems::Problem;
 use queue::State;
 use terms::Field;
@@ -32,8 +34,7 @@ fn report(t: State, room: usize) -> Searched
 
 // THE SEARCH for one field pair: once to count its lines, and once more to write them where the output has room. The row is blank afterwards.
 pub fn search(left: Field, right: Field, row: &mut [Problem], out: &mut [u8]) -> Searched
-    requires { ⌜ Halts left right (now row) (now out) ⌝ }
-    ensures { λ r. ⌜ Done left right (now (row .entry)) (now (out .entry)) r (now (row .exit)) (now (out .exit)) ⌝ }
+    ensures { λ r. ⌜ Searches left right (now (row .entry)) (now (out .entry)) r (now (row .exit)) (now (out .exit)) ⌝ }
 {
     let cap = row.len();
     let room = out.len();
@@ -53,8 +54,7 @@ fn at_most(n: usize, most: usize) -> usize
 
 // The search over a row of its own: the first `room` of 640 records.
 pub fn search_in(left: Field, right: Field, room: usize, out: &mut [u8]) -> Searched
-    requires { ⌜ Halts left right (blanks (min room 640)) (now out) ⌝ }
-    ensures { λ r. ⌜ Done left right (blanks (min room 640)) (now (out .entry)) r (blanks (min room 640)) (now (out .exit)) ⌝ }
+    ensures { λ r. ⌜ (r ≡ searchedOf (foundIn (min room 640) left right) (length (now (out .entry)))) × (now (out .exit) ≡ after (bytesOf (foundIn (min room 640) left right)) (now (out .entry))) ⌝ }
 {
     let b = problems::blank_problem();
     let mut row = [b; 640];

@@ -1,2 +1,4 @@
 pub mod Search
+pub mod Short
+pub mod Shown
 pub mod Starred

@@ -18,7 +18,7 @@ use Rattle.searching.specs.Problems.{Setting, atomic, listvar, Tm, Field, Bindi
 use Rattle.searching.specs.Fresh.{numbers}
 use Rattle.searching.specs.Queue.{Result, answers, refused, unfinished, searching}
 use Rattle.searching.specs.Pairs.{pairSetting, sideField, sixteenAbove}
-use Rattle.listing.specs.Lines.{Binding, leftMark, rightMark, bindingsText}
+use Rattle.listing.specs.Lines.{leftMark, rightMark, bindingsText}
 use Rattle.listing.specs.Variables.{variables}
 use Rattle.listing.specs.Overlaps.{bindingsOf}
 

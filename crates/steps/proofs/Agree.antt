@@ -38,7 +38,8 @@ made p f (keep (equation L M)) = refl
 made p f (bind x s v solved) = refl
 made p f (bind x s v (equation L M)) = refl
 
-module _ (A B : Field setting) (q : Equation A B) (p : Problem) (L M : Field setting) (σ : Bindings setting) (u : List ℕ) (h : Holds A B p (problem (equation L M) σ u)) where
+module _ (A B : Field setting) (q : Equation A B) (p : Problem) (L M : Field setting) (σ : Bindings setting) (u : List ℕ)
+    (h : Holds A B p (problem (equation L M) σ u)) where
   short : (length L ≤ 16) × (length M ≤ 16)
   short = sides-short setting 16 A B (q .left-short) (q .right-short) (problem (equation L M) σ u) (h .met)
 
@@ -58,7 +59,8 @@ module _ (A B : Field setting) (q : Equation A B) (p : Problem) (L M : Field set
       subst (λ (m : Move). ChildIs A B σ u (childBy p m (freshValue (p .used))) (rule setting r L M (lowest u))) (sym (move-holds r))
       (go (rule setting r L M (lowest u)) (applied-holds A B q p L M σ u h nf r))
     where
-      go : (o : Option (rules.Move setting)) → ((m : rules.Move setting) → o ≡ some m → Holds A B (appliedValue p (encodeMove (some m)) (freshValue (p .used))) (apply setting σ u m))
+      go : (o : Option (rules.Move setting))
+          → ((m : rules.Move setting) → o ≡ some m → Holds A B (appliedValue p (encodeMove (some m)) (freshValue (p .used))) (apply setting σ u m))
           → ChildIs A B σ u (childBy p (encodeMove o) (freshValue (p .used))) o
       go none k = refl
       go (some m) k = subst (λ (c : Child). ChildIs A B σ u c (some m)) (sym (made p (freshValue (p .used)) m)) (refl, k m refl)

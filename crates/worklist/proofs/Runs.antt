@@ -57,7 +57,7 @@ module _ (D : Records) (writing : Bool) (cap : ℕ) where
     pub written : writing ≡ true → end .out ≡ machine.storeAll D writing cap ls (v .bytes) (v .out)
 
 module _ (E : Setting) (D : Records) (Holds : D .Rec → Problem E → Type 0) (number : Rule → ℕ) (text : Bindings E → List ℕ) (g : Agrees E D Holds number text)
-    (bound : ℕ) (short : (p : D .Rec) → length (D .line p) ≤ bound) (writing : Bool) (cap : ℕ) where
+    (bound : ℕ) (short : (p : D .Rec) (σ : Bindings E) (u : List (E .names .Name)) → Holds p (problem solved σ u) → length (text σ) ≤ bound) (writing : Bool) (cap : ℕ) where
   open Setting E using (names)
   open Names names using (Name, pick)
   open Records D using (Rec, isOpen, ok, child, line, store)
@@ -192,7 +192,7 @@ module _ (E : Setting) (D : Records) (Holds : D .Rec → Problem E → Type 0) (
         one-more = plus-is a 1 (omega arith)
 
         line-short : length (text σ) ≤ bound
-        line-short = subst (λ (l : List ℕ). length l ≤ bound) (g .line-is p σ u h) (short p)
+        line-short = short p σ u h
 
         longer : plus b (length (text σ)) ≡ b + length (text σ)
         longer = plus-is b (length (text σ)) (omega (arith, line-short, mul-suc bound (length xs)))

@@ -15,7 +15,8 @@ bound-to-requires c κs = search needs
 
 returns-2 : tie.Need-returns-2
 returns-2 c =
-    rw (not-false (c .before .before .before .before .before .before .args .m .binds) (c .before .before .before .if1 .left), c .bound-to .ensures, c .before .before .before .before .before .left-by .ensures)
+    let d = c .before .before .before in
+    rw (not-false (d .before .before .before .args .m .binds) (d .if1 .left), c .bound-to .ensures, c .before .before .before .before .before .left-by .ensures)
 
 pub applied-spec : {M : Type 1} → statement M
 applied-spec = tie.close (tie.spec left-by-requires returns bound-to-requires returns-2)

@@ -50,14 +50,18 @@ loop-again c =
     let z = c .before .before .before .before .before .before .args in
     let L = c .before .before .before .loop in
     let h = c .before .before .loop-test .taken in
-    (L .inv .0, folding-one pushedList (foldl pushedList blankItems (take (z .t1 .n) (z .t1 .terms))) (z .t1 .n) (z .t1 .terms) 17 (L .i) (L .y) (c .push-list .result) _ (L .inv .1) (omega (arith, L .inv .0)) (c .push-list .ensures))
+    let whole = foldl pushedList blankItems (take (z .t1 .n) (z .t1 .terms)) in (
+      L .inv .0,
+      folding-one pushedList whole (z .t1 .n) (z .t1 .terms) 17 (L .i) (L .y) (c .push-list .result) _ (L .inv .1) (omega (arith, L .inv .0)) (c .push-list .ensures),
+    )
 
 returns : tie.Need-returns Inv-loop μ-loop
 returns c =
     let z = c .before .before .before .before .args in
     let L = c .before .loop in
     let h = c .loop-test .left in
-    folding-all pushedList (foldl pushedList blankItems (take (z .t1 .n) (z .t1 .terms))) (z .t1 .n) (z .t1 .terms) 17 (L .i) (L .y) (L .inv .1) (omega (arith, L .inv .0))
+    let whole = foldl pushedList blankItems (take (z .t1 .n) (z .t1 .terms)) in
+    folding-all pushedList whole (z .t1 .n) (z .t1 .terms) 17 (L .i) (L .y) (L .inv .1) (omega (arith, L .inv .0))
     ∙ fold-each pushed listOf (take (z .t1 .n) (z .t1 .terms)) blankItems
 
 pub lists-in-spec : {M : Type 1} → statement M

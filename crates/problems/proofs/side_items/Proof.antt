@@ -28,7 +28,8 @@ blank-items-requires c κs = search needs
 loop-holds : tie.Need-loop-holds Inv-loop μ-loop
 loop-holds c =
     let z = c .before .before .args in
-    (c .before .least .ensures, (search long-mapped, ap (λ (y : Items). foldl (sidePush (z .right)) y (take (z .t2 .n) (z .t2 .terms))) (sym (c .blank-items .ensures))))
+    let f = sidePush (z .right) in
+    (c .before .least .ensures, (search long-mapped, ap (λ (y : Items). foldl f y (take (z .t2 .n) (z .t2 .terms))) (sym (c .blank-items .ensures))))
 
 mul-side-term : tie.Need-mul-side-term Inv-loop μ-loop
 mul-side-term c = let h = c .loop-test .taken in let e = c .before .loop .inv .0 in omega arith
@@ -54,7 +55,9 @@ loop-again c =
     let L = c .before .before .before .before .loop in
     let h = c .before .before .before .loop-test .taken in
     let f = sidePush (z .right) in
-    (L .inv .0, folding-one f (foldl f blankItems (take (z .t2 .n) (z .t2 .terms))) (z .t2 .n) (z .t2 .terms) 16 (L .i) (L .y) (c .push .result) _ (L .inv .1) (omega (arith, L .inv .0)) (c .push .ensures ∙ ap (pushed (L .y)) (c .before .side-term .ensures)))
+    let whole = foldl f blankItems (take (z .t2 .n) (z .t2 .terms)) in
+    let e = c .push .ensures ∙ ap (pushed (L .y)) (c .before .side-term .ensures) in
+    (L .inv .0, folding-one f whole (z .t2 .n) (z .t2 .terms) 16 (L .i) (L .y) (c .push .result) _ (L .inv .1) (omega (arith, L .inv .0)) e)
 
 returns : tie.Need-returns Inv-loop μ-loop
 returns c =

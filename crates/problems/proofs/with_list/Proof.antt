@@ -17,7 +17,9 @@ with-name-requires : tie.Need-with-name-requires
 with-name-requires c κs = search needs
 
 returns-2 : tie.Need-returns-2
-returns-2 c = rw (ne-eqb (c .before .before .before .before .args .w .n) 0 (c .before .before .before .if1 .left), c .with-name .ensures, c .before .number-in .ensures, c .before .before .first .ensures)
+returns-2 c =
+    let few = ne-eqb (c .before .before .before .before .args .w .n) 0 (c .before .before .before .if1 .left) in
+    rw (few, c .with-name .ensures, c .before .number-in .ensures, c .before .before .first .ensures)
 
 pub with-list-spec : {M : Type 1} → statement M
 with-list-spec =

@@ -17,7 +17,8 @@ returns : tie.Need-returns
 returns c =
     let d = c .before .before .before in
     let z = d .before .before .before .before .args in
-    no-child (z .p) (z .rule) (d .before .fresh .result) (d .move-of .result) (d .before .fresh .ensures) (d .move-of .ensures) (c .blank-problem .result) (c .blank-problem .ensures) (c .before .if1 .taken)
+    no-child (z .p) (z .rule) (d .before .fresh .result) (d .move-of .result) (d .before .fresh .ensures) (d .move-of .ensures)
+    (c .blank-problem .result) (c .blank-problem .ensures) (c .before .if1 .taken)
 
 applied-requires : tie.Need-applied-requires
 applied-requires c κs = search needs
@@ -26,7 +27,8 @@ returns-2 : tie.Need-returns-2
 returns-2 c =
     let d = c .before .before .before in
     let z = d .before .before .before .before .args in
-    one-child (z .p) (z .rule) (d .before .fresh .result) (d .move-of .result) (d .before .fresh .ensures) (d .move-of .ensures) (c .applied .result) (c .applied .ensures) (c .before .if1 .left)
+    one-child (z .p) (z .rule) (d .before .fresh .result) (d .move-of .result) (d .before .fresh .ensures) (d .move-of .ensures)
+    (c .applied .result) (c .applied .ensures) (c .before .if1 .left)
 
 pub child-of-spec : {M : Type 1} → statement M
 child-of-spec =

@@ -1,0 +1,130 @@
+-- What `solve` prints for one line, which has two field texts, a row and a room with tabs between them: the lines of the search for the two fields.
+use Prim.Native.String.{String}
+use mathlib.Core.Bool.{Bool, true, false, cond, _&&_}
+use mathlib.Core.List.{List, [], _∷_, _++_}
+use mathlib.Core.Option.{Option, none, some}
+use Prim.Native.Nat.{ℕ, suc}
+use lib.Dec.{eqb, leb, ltb}
+use lib.ListN.{length, take, drop}
+use Rattle.bytes.specs.Bytes.{indexOf}
+use Rattle.text.specs.Ascii.{ascii, newline}
+use Rattle.text.specs.Numbers.{value, digitsOf}
+use Rattle.text.specs.Terms.{OurTerm}
+use Rattle.text.specs.Read.{Outcome, refused, accepted, readRule}
+use Rattle.solving.specs.Answers.{Lines, lines, nine, linesFor, bytesOf}
+
+-- ---- a line
+
+-- two of the longest rules, 2,048 bytes each, three tabs, `640` and `131072`
+abbrev pub longestLine : ℕ
+longestLine = 4108
+
+-- byte 9
+abbrev pub tab : ℕ
+tab = 9
+
+abbrev pub hasTab : List ℕ → Bool
+hasTab t = ltb (indexOf tab t) (length t)
+
+-- what stands before the first tab, and behind it: all and nothing where there is none
+abbrev pub part : List ℕ → List ℕ
+part t = take (indexOf tab t) t
+
+abbrev pub behind : List ℕ → List ℕ
+behind t = drop (suc (indexOf tab t)) t
+
+-- the tabs divide a line into two to four parts; one that is missing is empty
+abbrev pub leftPart : List ℕ → List ℕ
+leftPart t = part t
+
+abbrev pub rightPart : List ℕ → List ℕ
+rightPart t = part (behind t)
+
+abbrev pub rowPart : List ℕ → List ℕ
+rowPart t = part (behind (behind t))
+
+-- all that stands behind the third tab; a line with a fourth there is a bad one
+abbrev pub roomPart : List ℕ → List ℕ
+roomPart t = behind (behind (behind t))
+
+-- ---- a size
+
+-- as many records and bytes as there are
+abbrev pub mostRecords : ℕ
+mostRecords = 640
+
+abbrev pub mostBytes : ℕ
+mostBytes = 131072
+
+abbrev pub isDigit : ℕ → Bool
+isDigit b = leb 48 b && leb b 57
+
+abbrev pub areDigits : List ℕ → Bool
+areDigits [] = true
+areDigits (b ∷ s) = isDigit b && areDigits s
+
+-- decimal digits of a value of at most `most`; zeros may lead
+abbrev pub decimal : ℕ → List ℕ → Option ℕ
+decimal most s = cond (areDigits s && leb (value s) most) (some (value s)) none
+
+-- an empty part and `-`, byte 45
+abbrev pub isLeftOpen : List ℕ → Bool
+isLeftOpen [] = true
+isLeftOpen (b ∷ []) = eqb b 45
+isLeftOpen (b ∷ (c ∷ s)) = false
+
+-- these stand for as many as there are
+abbrev pub sizeOf : ℕ → List ℕ → Option ℕ
+sizeOf most s = cond (isLeftOpen s) (some most) (decimal most s)
+
+-- ---- the answer
+
+-- a text that is no rule of exactly one field stands for a field that "stands on no accepted rule's left side":
+-- then "there are no lines, both counts are 0 and nothing is refused"
+abbrev pub fieldIn : Outcome → List (List OurTerm)
+fieldIn (refused r p) = []
+fieldIn (accepted []) = []
+fieldIn (accepted (f ∷ [])) = f ∷ []
+fieldIn (accepted (f ∷ (g ∷ r))) = []
+
+abbrev pub countText : String → ℕ → List ℕ
+countText words n = ascii words ++ digitsOf n
+
+-- the refusal's number, or 0 for none, and the two counts
+abbrev pub countsText : ℕ → ℕ → ℕ → List ℕ
+countsText refusal count bytes = countText "refusal " refusal ++ countText " lines " count ++ countText " bytes " bytes ++ newline
+
+-- the lines; document 01: "8: the lines need more bytes than the output buffer has; the line count and the needed byte count are returned",
+-- and 9 with "both counts .. 0"
+abbrev pub foundText : ℕ → Lines → List ℕ
+foundText room (lines ls) =
+    let text = bytesOf (lines ls) in cond (leb (length text) room) (countsText 0 (length ls) (length text) ++ text) (countsText 8 (length ls) (length text))
+foundText room nine = countsText 9 0 0
+
+-- of two fields, a row and a room: a bad row is told before a bad room
+abbrev pub searchText : List (List OurTerm) → List (List OurTerm) → Option ℕ → Option ℕ → List ℕ
+searchText left right none room = ascii "bad row" ++ newline
+searchText left right (some row) none = ascii "bad room" ++ newline
+searchText left right (some row) (some room) = foundText room (linesFor row left right)
+
+-- a line over its limit is too long whatever it holds; then more than three tabs are told
+unfoldable pub lineText : List ℕ → List ℕ
+lineText t =
+    cond (ltb longestLine (length t)) (ascii "line too long" ++ newline)
+    (cond (hasTab (roomPart t)) (ascii "bad line" ++ newline)
+    (searchText (fieldIn (readRule (leftPart t))) (fieldIn (readRule (rightPart t))) (sizeOf mostRecords (rowPart t)) (sizeOf mostBytes (roomPart t))))
+
+abbrev pub titleText : ℕ → List ℕ
+titleText k = ascii "search " ++ digitsOf k ++ newline
+
+-- THE ANSWER to line number k
+unfoldable pub solveAnswer : ℕ → List ℕ → List ℕ
+solveAnswer k t = titleText k ++ lineText t
+
+-- the counts' line of at most 64 bytes, and behind it at most `mostBytes`
+abbrev pub longestBody : ℕ
+longestBody = 131136
+
+-- a title of at most 28 bytes, and behind it at most `longestBody`: no answer has more
+abbrev pub longestAnswer : ℕ
+longestAnswer = 131164
