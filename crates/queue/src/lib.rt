@@ -1,14 +1,12 @@
-// The search's queue: a row of problem records that the caller lends, and the machine that takes problems out of it and puts their children in.
+// One turn of the search: the record that is read is decided on, and the state goes on. The row itself is in crate `search`.
 ghost use mathlib.Core.Path.{_≡_};
 ghost use mathlib.Core.Bool.{_&&_, cond, false};
 ghost use Prim.Native.Nat.{_<_, _-_};
 ghost use lib.Dec.{leb};
-ghost use lib.ListN.{length, set, getD};
-ghost use Rattle.problems.specs.Values.{blankProblem};
+ghost use lib.ListN.{length};
 ghost use Rattle.accepted.specs.Accepted.{acceptedField};
 ghost use Rattle.pieces.specs.Stored.{storeLine};
-ghost use Rattle.queue.specs.Row.{blanks};
-ghost use Rattle.queue.specs.Machine.{nextPlace, aim, plus, answers, worked, lineOf, linePlace, stopped, taken, headTurn, passed, joined, full, childTurn, ruleTurn, decided, moved, wrote, conf, next, Ends, Reaches, fromRoot, begun, again};
+ghost use Rattle.queue.specs.Machine.{nextPlace, aim, answers, worked, lineOf, linePlace, stopped, taken, headTurn, passed, joined, full, childTurn, ruleTurn, decided, moved, wrote, next, begun, again};
 use problems::Problem;
 use terms::Field;
 
@@ -34,40 +32,6 @@ pub struct State {
 pub struct Turn {
     pub problem: Problem,
     pub state: State,
-}
-
-// ---- the row
-
-// Puts a problem into a place of the row, where it has that place.
-fn put(row: &mut [Problem], i: usize, p: Problem)
-    ensures { λ _. ⌜ now (row .exit) ≡ set (now (row .entry)) i p ⌝ }
-{
-    if i < row.len() {
-        row[i] = p;
-    }
-}
-
-// The problem in a place of the row; the blank where it has no such place.
-fn take(row: &mut [Problem], i: usize) -> Problem
-    ensures { λ r. ⌜ (r ≡ getD (now (row .entry)) i blankProblem) × (now (row .exit) ≡ now (row .entry)) ⌝ }
-{
-    let mut p = problems::blank_problem();
-    if i < row.len() {
-        p = row[i];
-    }
-    p
-}
-
-// Every record is made blank.
-pub fn blank(row: &mut [Problem])
-    ensures { λ _. ⌜ now (row .exit) ≡ blanks (length (now (row .entry))) ⌝ }
-{
-    let mut i = 0;
-    while i < row.len() {
-        let b = problems::blank_problem();
-        put(row, i, b);
-        i += 1;
-    }
 }
 
 // ---- a turn
@@ -278,7 +242,7 @@ fn note(s: State, p: Problem, out: &mut [u8]) -> usize
 }
 
 // All that a turn decides, and an answer's line.
-fn advance(s: State, p: Problem, out: &mut [u8]) -> Turn
+pub fn advance(s: State, p: Problem, out: &mut [u8]) -> Turn
     ensures { λ r. ⌜ (r ≡ moved s p) × (now (out .exit) ≡ wrote s p (now (out .entry))) ⌝ }
 {
     let n = note(s, p, out);
@@ -349,41 +313,4 @@ pub fn again(s: State, t: State, room: usize) -> State
     u.busy = is_next(s.busy, t.refused, t.bytes, room);
     u.writing = true;
     u
-}
-
-// One turn: a record is read, and written.
-fn step(row: &mut [Problem], out: &mut [u8], s: State) -> State
-    ensures { λ r. ⌜ conf r (now (row .exit)) (now (out .exit)) ≡ next (conf s (now (row .entry)) (now (out .entry))) ⌝ }
-{
-    let at = s.at;
-    let p = take(row, at);
-    let m = advance(s, p, out);
-    let q = m.problem;
-    put(row, at, q);
-    m.state
-}
-
-// Turns until the machine is not busy.
-fn run(row: &mut [Problem], out: &mut [u8], s: State) -> State
-    requires { ⌜ Ends (conf s (now row) (now out)) ⌝ }
-    ensures { λ r. ⌜ Reaches (conf s (now (row .entry)) (now (out .entry))) (conf r (now (row .exit)) (now (out .exit))) ⌝ }
-{
-    let mut t = s;
-    while t.busy {
-        let u = step(row, out, t);
-        t = u;
-    }
-    t
-}
-
-// The search from the problem that the state holds, which stands alone in a row of blanks.
-pub fn from_root(row: &mut [Problem], out: &mut [u8], s: State) -> State
-    requires { ⌜ Ends (fromRoot (conf s (now row) (now out))) ⌝ }
-    ensures { λ r. ⌜ Reaches (fromRoot (conf s (now (row .entry)) (now (out .entry)))) (conf r (now (row .exit)) (now (out .exit))) ⌝ }
-{
-    blank(row);
-    let p = s.held;
-    put(row, 0, p);
-    let t = run(row, out, s);
-    t
 }

@@ -41,8 +41,8 @@ use Rattle.queue.specs.declared.State.{State}
 use Rattle.queue.specs.Machine.{begun, again}
 use Rattle.queue.proofs.State as S
 use Rattle.queue.proofs.State.Laws as S′
-use Rattle.queue.proofs.Lending.{x, Own, LentAgain, lend, unlend}
-use Rattle.queue.proofs.Calls.{mach-state, receives, receives-as}
+use Rattle.search.proofs.Lending.{x, Own, LentAgain, lend, unlend}
+use Rattle.search.proofs.Drives.{mach-state, receives, receives-as}
 use Rattle.queue.proofs.begin as begin
 use Rattle.queue.proofs.begin.Symbol.{name as #queue·begin}
 use Rattle.queue.proofs.again as again′

@@ -1,3 +1,5 @@
+pub mod Lending
+pub mod Drives
 pub mod Calls
 pub mod Local
 pub mod Turns

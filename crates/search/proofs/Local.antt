@@ -26,7 +26,7 @@ use denote.Lend.{Held, lends-slice, slice-back}
 use denote.Index.{row, whole-out, whole-in}
 use borrow.Table.Elements.{at, cut-app, join-app}
 use borrow.Table.OneValue.{part-in, part-out}
-use Rattle.queue.proofs.Lending.{Own}
+use Rattle.search.proofs.Lending.{Own}
 
 abbrev pub Behind : (R : RattleType) → ℕ → ℕ → List (R .Denot) → List (R .Denot) → Fml
 Behind R b o xs ys = cells (mem R) ys b (at o (mem R .size) (length xs))

@@ -72,7 +72,7 @@ module _ (f g : List OurTerm) (is-f : IsRule (f ∷ [])) (is-g : IsRule (g ∷ [
   leaves-read : (r : Searched) (row′ : List Problem) (out′ : List ℕ) → Done (encodeField f) (encodeField g) row out r row′ out′ → Leaves (linesOf (length row) f g) out r out′
   leaves-read r row′ out′ d = leaves (encodeField f) (encodeField g) row out r row′ out′ (linesOf (length row) f g) d
       (twice-lines f g (encodeField f) (encodeField g) row out is-f is-g both (Holds (fieldOn left f) (fieldOn right g)) number (agreed f g is-f is-g) 40832 (line-short f g is-f is-g) (omega arith) (root-holds f g is-f is-g)
-          (d .counted) (d .written) (d .counts) (d .writes))
+      (d .counted) (d .written) (d .counts) (d .writes))
 
 -- ---- any two fields
 

@@ -1,7 +1,10 @@
 // The search for one field pair, over a row of problem records that the caller lends.
 ghost use mathlib.Core.Path.{_≡_};
 ghost use Prim.Native.Nat.{min};
-ghost use lib.ListN.{length};
+ghost use lib.ListN.{length, set, getD};
+ghost use Rattle.problems.specs.Values.{blankProblem};
+ghost use Rattle.queue.specs.Row.{blanks};
+ghost use Rattle.queue.specs.Machine.{conf, next, Ends, Reaches, fromRoot};
 ghost use Rattle.writing.specs.Answers.{after};
 ghost use Rattle.solving.specs.Answers.{bytesOf};
 ghost use Rattle.search.specs.Answers.{searchedOf, foundIn, Searches, reported};
@@ -18,6 +21,79 @@ pub enum Searched {
     // the row has too few records
     Full,
 }
+
+// ---- the row
+
+// Puts a problem into a place of the row, where it has that place.
+fn put(row: &mut [Problem], i: usize, p: Problem)
+    ensures { λ _. ⌜ now (row .exit) ≡ set (now (row .entry)) i p ⌝ }
+{
+    if i < row.len() {
+        row[i] = p;
+    }
+}
+
+// The problem in a place of the row; the blank where it has no such place.
+fn take(row: &mut [Problem], i: usize) -> Problem
+    ensures { λ r. ⌜ (r ≡ getD (now (row .entry)) i blankProblem) × (now (row .exit) ≡ now (row .entry)) ⌝ }
+{
+    let mut p = problems::blank_problem();
+    if i < row.len() {
+        p = row[i];
+    }
+    p
+}
+
+// Every record is made blank.
+fn blank(row: &mut [Problem])
+    ensures { λ _. ⌜ now (row .exit) ≡ blanks (length (now (row .entry))) ⌝ }
+{
+    let mut i = 0;
+    while i < row.len() {
+        let b = problems::blank_problem();
+        put(row, i, b);
+        i += 1;
+    }
+}
+
+// One turn: a record is read, and written.
+fn step(row: &mut [Problem], out: &mut [u8], s: State) -> State
+    ensures { λ r. ⌜ conf r (now (row .exit)) (now (out .exit)) ≡ next (conf s (now (row .entry)) (now (out .entry))) ⌝ }
+{
+    let at = s.at;
+    let p = take(row, at);
+    let m = queue::advance(s, p, out);
+    let q = m.problem;
+    put(row, at, q);
+    m.state
+}
+
+// Turns until the machine is not busy.
+fn run(row: &mut [Problem], out: &mut [u8], s: State) -> State
+    requires { ⌜ Ends (conf s (now row) (now out)) ⌝ }
+    ensures { λ r. ⌜ Reaches (conf s (now (row .entry)) (now (out .entry))) (conf r (now (row .exit)) (now (out .exit))) ⌝ }
+{
+    let mut t = s;
+    while t.busy {
+        let u = step(row, out, t);
+        t = u;
+    }
+    t
+}
+
+// The search from the problem that the state holds, which stands alone in a row of blanks.
+fn from_root(row: &mut [Problem], out: &mut [u8], s: State) -> State
+    requires { ⌜ Ends (fromRoot (conf s (now row) (now out))) ⌝ }
+    ensures { λ r. ⌜ Reaches (fromRoot (conf s (now (row .entry)) (now (out .entry)))) (conf r (now (row .exit)) (now (out .exit))) ⌝ }
+{
+    blank(row);
+    let p = s.held;
+    put(row, 0, p);
+    let t = run(row, out, s);
+    t
+}
+
+// ---- the search
 
 // The answer, of the state that counting ended in and the room of the output.
 fn report(t: State, room: usize) -> Searched
@@ -39,10 +115,10 @@ pub fn search(left: Field, right: Field, row: &mut [Problem], out: &mut [u8]) ->
     let cap = row.len();
     let room = out.len();
     let s = queue::begin(left, right, cap);
-    let t = queue::from_root(row, out, s);
+    let t = from_root(row, out, s);
     let u = queue::again(s, t, room);
-    let v = queue::from_root(row, out, u);
-    queue::blank(row);
+    let v = from_root(row, out, u);
+    blank(row);
     report(t, room)
 }
 

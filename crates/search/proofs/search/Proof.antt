@@ -1,4 +1,4 @@
--- `search::search` meets its contract: a walk of its MIR, by hand. A straight line of calls, by value (`Calls.antt`) and with both slices lent again (`queue`'s `Calls.antt`).
+-- `search::search` meets its contract: a walk of its MIR, by hand. A straight line of calls, by value (`Calls.antt`) and with both slices lent again (`Drives.antt`).
 -- Assumes nothing.
 use mathlib.Core.Path.{_≡_, refl, sym, _∙_, ap, subst}
 use Prim.Native.Nat.{ℕ}
@@ -46,20 +46,20 @@ use Rattle.queue.specs.Machine.{Config, conf, Ends, Reaches, fromRoot, begun, a
 use Rattle.queue.proofs.State as S
 use Rattle.queue.proofs.State.Laws as S′
 use Rattle.walks.proofs.Walk.{holds, envOf, pos, allocs-all, frees-all, var, sets, reborrows}
-use Rattle.queue.proofs.Lending.{x, Own}
-use Rattle.queue.proofs.Calls.{mach-state, Blanks, Searching, calls-blank, calls-drive}
+use Rattle.search.proofs.Lending.{x, Own}
+use Rattle.search.proofs.Drives.{mach-state, Blanks, Searching, calls-blank, calls-drive}
 use Rattle.queue.proofs.begin.Symbol as begin-def
 use Rattle.queue.proofs.begin.Symbol.{name as #queue·begin}
 use Rattle.queue.proofs.begin.Met as begin-thm
 use Rattle.queue.proofs.again.Symbol as again-def
 use Rattle.queue.proofs.again.Symbol.{name as #queue·again}
 use Rattle.queue.proofs.again.Met as again-thm
-use Rattle.queue.proofs.from_root.Symbol as from-root-def
-use Rattle.queue.proofs.from_root.Symbol.{name as #queue·from-root}
-use Rattle.queue.proofs.from_root.Met as from-root-thm
-use Rattle.queue.proofs.blank.Symbol as blank-def
-use Rattle.queue.proofs.blank.Symbol.{name as #queue·blank}
-use Rattle.queue.proofs.blank.Met as blank-thm
+use Rattle.search.proofs.from_root.Symbol as from-root-def
+use Rattle.search.proofs.from_root.Symbol.{name as #search·from-root}
+use Rattle.search.proofs.from_root.Met as from-root-thm
+use Rattle.search.proofs.blank.Symbol as blank-def
+use Rattle.search.proofs.blank.Symbol.{name as #search·blank}
+use Rattle.search.proofs.blank.Met as blank-thm
 use Rattle.search.specs.declared.Searched.{Searched}
 use Rattle.search.specs.Answers.{reported, Halts, Done}
 use Rattle.search.proofs.Searched as N
@@ -111,7 +111,7 @@ module _ {M : Type 1} (𝓤 : URA M) (H : Heap 𝓤) (A : Atoms 𝓤) (W : Given
     L′ n = pos 5 22 n
 
     walk : Halts f g ys os → Room T.the-row (length ys) → Room u8 (length os) → (𝓣 : Tables 𝓤 H) → Triple 𝓤 (𝓣 .C #queue·begin) (Begin 𝓤 H A mem run) → Triple 𝓤 (𝓣 .C #queue·again) (Again 𝓤 H A mem run) → Triple 𝓤 (𝓣 .C #search·report) (Report 𝓤 H A mem run)
-        → Triple 𝓤 (𝓣 .C #queue·blank) (Blanks 𝓤 H A mem run) → Triple 𝓤 (𝓣 .C #queue·from-root) (Searching 𝓤 H A)
+        → Triple 𝓤 (𝓣 .C #search·blank) (Blanks 𝓤 H A mem run) → Triple 𝓤 (𝓣 .C #search·from-root) (Searching 𝓤 H A)
         → ent 𝓤 (onEntry 𝓤 H A search′.signature (κ, (κ′, tt)) (q, (q′, tt)) (bound .0 .3) (bound .0 .4)) (WpFn 𝓤 H (𝓣 .C) (𝓣 .Λ) code.function (mach-field f ∷ mach-field g ∷ r₀ ∷ o₀ ∷ []) Post)
     walk ends fits fits′ 𝓣 ks kt ka kb kf =
         qed W ((‵ (flft κ q) ⊛ (‵ (flft κ′ q′) ⊛ ‵ ftrue)) ∷ ‵ (owns (F.the-row ∷ F.the-row ∷ MutSlice (named 0) κ T.the-row ∷ MutSlice (named 1) κ′ u8 ∷ []) (bound .0 .3) (bound .0 .4)) ∷ []) ∵
@@ -181,5 +181,5 @@ search-spec 𝓤 H 𝓜 𝓖 𝓡 =
     (cited 𝓤 H (Begin 𝓤 H A (𝓜 .mem) (𝓡 .run)) 𝓜 𝓡 code.env #queue·begin begin-def.routine code.calls-queue·begin (begin-thm.met 𝓤 H 𝓜 𝓖 𝓡))
     (cited 𝓤 H (Again 𝓤 H A (𝓜 .mem) (𝓡 .run)) 𝓜 𝓡 code.env #queue·again again-def.routine code.calls-queue·again (again-thm.met 𝓤 H 𝓜 𝓖 𝓡))
     (cited 𝓤 H (Report 𝓤 H A (𝓜 .mem) (𝓡 .run)) 𝓜 𝓡 code.env #search·report report-def.routine code.calls-search·report (report-thm.met 𝓤 H 𝓜 𝓖 𝓡))
-    (cited 𝓤 H (Blanks 𝓤 H A (𝓜 .mem) (𝓡 .run)) 𝓜 𝓡 code.env #queue·blank blank-def.routine code.calls-queue·blank (blank-thm.met 𝓤 H 𝓜 𝓖 𝓡))
-    (cited 𝓤 H (Searching 𝓤 H A) 𝓜 𝓡 code.env #queue·from-root from-root-def.routine code.calls-queue·from-root (from-root-thm.met 𝓤 H 𝓜 𝓖 𝓡))))))
+    (cited 𝓤 H (Blanks 𝓤 H A (𝓜 .mem) (𝓡 .run)) 𝓜 𝓡 code.env #search·blank blank-def.routine code.calls-search·blank (blank-thm.met 𝓤 H 𝓜 𝓖 𝓡))
+    (cited 𝓤 H (Searching 𝓤 H A) 𝓜 𝓡 code.env #search·from-root from-root-def.routine code.calls-search·from-root (from-root-thm.met 𝓤 H 𝓜 𝓖 𝓡))))))

@@ -50,8 +50,8 @@ use Rattle.problems.proofs.blank_problem.Symbol.{name as #problems·blank-probl
 use Rattle.problems.proofs.blank_problem.Met as blank-problem-thm
 use Rattle.queue.specs.Row.{blanks}
 use Rattle.walks.proofs.Walk.{Spots, room, holds, envOf, pos, allocs-all, frees-all, var, sets, reborrows}
-use Rattle.queue.proofs.Lending.{x, Own}
-use Rattle.queue.proofs.Calls.{mach, Blank, calls-blank-problem}
+use Rattle.search.proofs.Lending.{x, Own}
+use Rattle.search.proofs.Drives.{mach, Blank, calls-blank-problem}
 use Rattle.search.specs.declared.Searched.{Searched}
 use Rattle.writing.specs.Answers.{after}
 use Rattle.solving.specs.Answers.{bytesOf}

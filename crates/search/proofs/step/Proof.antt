@@ -1,4 +1,4 @@
--- `queue::step` meets its contract: a walk of its MIR, by hand. A straight line of three calls (`Calls.antt`): the row is lent again to `take` and to `put`, and `out` to `advance`.
+-- `search::step` meets its contract: a walk of its MIR, by hand. A straight line of three calls (`Calls.antt`): the row is lent again to `take` and to `put`, and `out` to `advance`.
 -- Assumes nothing.
 use mathlib.Core.Path.{_≡_, refl}
 use Prim.Native.Nat.{ℕ, _<_, _^_}
@@ -33,30 +33,30 @@ use denote.Triple.Table.{entered, cited}
 use denote.Triple.Walked.{says, Stays, stay-slice, stay-none, walkOf, goes-slice, goes-none, ends-at, walked, walk-meets}
 use denote.Exit.{yes}
 use Rattle.problems.specs.declared.Problem.{Problem}
 use Rattle.queue.specs.declared.Turn.{Turn}
 use Rattle.queue.specs.Machine.{Config, conf, read, moved, next}
 use Rattle.problems.proofs.Problem as T
 use Rattle.problems.proofs.Problem.Laws as T′
 use Rattle.queue.proofs.State as S
 use Rattle.queue.proofs.State.Laws as S′
 use Rattle.queue.proofs.Turn as U
 use Rattle.queue.proofs.Turn.Laws as U′
 use Rattle.walks.proofs.Walk.{holds, envOf, pos, allocs-all, frees-all, var, sets, reborrows}
-use Rattle.queue.proofs.Lending.{x, Own}
-use Rattle.queue.proofs.Calls.{mach, mach-state, mach-turn, Take, Advance, Put, calls-take, calls-advance, calls-put}
-use Rattle.queue.proofs.take.Symbol as take-def
-use Rattle.queue.proofs.take.Symbol.{name as #queue·take}
-use Rattle.queue.proofs.take.Met as take-thm
+use Rattle.search.proofs.Lending.{x, Own}
+use Rattle.search.proofs.Drives.{mach, mach-state, mach-turn, Take, Advance, Put, calls-take, calls-advance, calls-put}
+use Rattle.search.proofs.take.Symbol as take-def
+use Rattle.search.proofs.take.Symbol.{name as #search·take}
+use Rattle.search.proofs.take.Met as take-thm
 use Rattle.queue.proofs.advance.Symbol as advance-def
 use Rattle.queue.proofs.advance.Symbol.{name as #queue·advance}
 use Rattle.queue.proofs.advance.Met as advance-thm
-use Rattle.queue.proofs.put.Symbol as put-def
-use Rattle.queue.proofs.put.Symbol.{name as #queue·put}
-use Rattle.queue.proofs.put.Met as put-thm
-use Rattle.queue.proofs.step.Key.{name as #queue·step}
-use Rattle.queue.proofs.step as step
-use Rattle.queue.proofs.step.Statement as stated
-use Rattle.queue.proofs.step.Code as code
+use Rattle.search.proofs.put.Symbol as put-def
+use Rattle.search.proofs.put.Symbol.{name as #search·put}
+use Rattle.search.proofs.put.Met as put-thm
+use Rattle.search.proofs.step.Key.{name as #search·step}
+use Rattle.search.proofs.step as step
+use Rattle.search.proofs.step.Statement as stated
+use Rattle.search.proofs.step.Code as code
 
 abbrev stayed : Stays (step.ended .signature .params) (step.ended .kept)
 stayed = (stay-slice (0 ∷ []) tt (plain (λ _. T.the-row)), (stay-slice (1 ∷ []) tt (plain (λ _. u8)), (stay-none (λ _. S.the-row) yes, tt)))
@@ -101,7 +101,7 @@ module _ {M : Type 1} (𝓤 : URA M) (H : Heap 𝓤) (A : Atoms 𝓤) (W : Given
     abbrev L : ℕ → ℕ
     L n = pos 4 15 n
 
-    walk : Room T.the-row (length (c .row)) → Room u8 (length (c .out)) → (𝓣 : Tables 𝓤 H) → Triple 𝓤 (𝓣 .C #queue·take) (Take 𝓤 H A mem run) → Triple 𝓤 (𝓣 .C #queue·advance) (Advance 𝓤 H A mem run) → Triple 𝓤 (𝓣 .C #queue·put) (Put 𝓤 H A mem run)
+    walk : Room T.the-row (length (c .row)) → Room u8 (length (c .out)) → (𝓣 : Tables 𝓤 H) → Triple 𝓤 (𝓣 .C #search·take) (Take 𝓤 H A mem run) → Triple 𝓤 (𝓣 .C #queue·advance) (Advance 𝓤 H A mem run) → Triple 𝓤 (𝓣 .C #search·put) (Put 𝓤 H A mem run)
         → ent 𝓤 (onEntry 𝓤 H A step.signature (κ, (κ′, tt)) (q, (q′, tt)) (bound .0 .3) (bound .0 .4)) (WpFn 𝓤 H (𝓣 .C) (𝓣 .Λ) code.function (r₀ ∷ o₀ ∷ s₀ ∷ []) Post)
     walk fits fits′ 𝓣 kt ka kp =
         qed W ((‵ (flft κ q) ⊛ (‵ (flft κ′ q′) ⊛ ‵ ftrue)) ∷ ‵ (owns (MutSlice (named 0) κ T.the-row ∷ MutSlice (named 1) κ′ u8 ∷ S.the-row ∷ []) (bound .0 .3) (bound .0 .4)) ∷ []) ∵
@@ -141,11 +141,11 @@ step-spec 𝓤 H 𝓜 𝓖 𝓡 =
     let 𝓣 = tablesOf 𝓤 H 𝓜 (tables 𝓤 H 𝓜 𝓡 code.env) in
     let clauses = step.clauses 𝓤 H A (𝓜 .mem) (𝓡 .run) in
     let goes = WpFn 𝓤 H (𝓣 .C) (𝓣 .Λ) code.function in
-    entered 𝓤 H (tripleOf 𝓤 H A step.signature (step.spec 𝓤 H A (𝓜 .mem) (𝓡 .run))) (tables 𝓤 H 𝓜 𝓡 code.env .C) (tables 𝓤 H 𝓜 𝓡 code.env .Λ) #queue·step code.function (code.unfolded 𝓤 H 𝓜 𝓡)
+    entered 𝓤 H (tripleOf 𝓤 H A step.signature (step.spec 𝓤 H A (𝓜 .mem) (𝓡 .run))) (tables 𝓤 H 𝓜 𝓡 code.env .C) (tables 𝓤 H 𝓜 𝓡 code.env .Λ) #search·step code.function (code.unfolded 𝓤 H 𝓜 𝓡)
     (walk-meets 𝓤 H A step.ended stayed W (goes-slice 𝓤 H A W 2 0 tt (plain (λ _. T.the-row)), (goes-slice 𝓤 H A W 2 1 tt (plain (λ _. u8)), (goes-none 𝓤 H A W 2 (λ _. S.the-row) yes (λ κs x f. refl), tt))) clauses goes (WpFn-mono 𝓤 H (W .laws) 𝓣 code.function)
     (walked 𝓤 H A step.ended stayed clauses goes (λ κs. (slice-vals, (slice-vals, (LL.vals S.the-type S′.the-laws, tt)))) (λ κs. (mut-slice-tells (named 0) (κs .0) T.the-row, (mut-slice-tells (named 1) (κs .1 .0) u8, (LL.tells S.the-type S′.the-laws, tt))))
     (λ κs qs bounds a g are. via 𝓤 _ (fst∗ 𝓤 _ (emp 𝓤))
     (walk 𝓤 H A W (𝓜 .mem) (𝓡 .run) (κs .0) (κs .1 .0) (qs .0) (qs .1 .0) (a .0 .ptr .0) (a .0 .ptr .1) (a .1 .0 .ptr .0) (a .1 .0 .ptr .1) (a .0 .name) (a .1 .0 .name) (conf (a .1 .1 .0) (a .0 .now) (a .1 .0 .now)) (are .1 .1 .0) (are .0 .0 .1) (are .1 .0 .0 .1) 𝓣
-    (cited 𝓤 H (Take 𝓤 H A (𝓜 .mem) (𝓡 .run)) 𝓜 𝓡 code.env #queue·take take-def.routine code.calls-queue·take (take-thm.met 𝓤 H 𝓜 𝓖 𝓡))
+    (cited 𝓤 H (Take 𝓤 H A (𝓜 .mem) (𝓡 .run)) 𝓜 𝓡 code.env #search·take take-def.routine code.calls-search·take (take-thm.met 𝓤 H 𝓜 𝓖 𝓡))
     (cited 𝓤 H (Advance 𝓤 H A (𝓜 .mem) (𝓡 .run)) 𝓜 𝓡 code.env #queue·advance advance-def.routine code.calls-queue·advance (advance-thm.met 𝓤 H 𝓜 𝓖 𝓡))
-    (cited 𝓤 H (Put 𝓤 H A (𝓜 .mem) (𝓡 .run)) 𝓜 𝓡 code.env #queue·put put-def.routine code.calls-queue·put (put-thm.met 𝓤 H 𝓜 𝓖 𝓡))))))
+    (cited 𝓤 H (Put 𝓤 H A (𝓜 .mem) (𝓡 .run)) 𝓜 𝓡 code.env #search·put put-def.routine code.calls-search·put (put-thm.met 𝓤 H 𝓜 𝓖 𝓡))))))

@@ -1,4 +1,4 @@
--- `queue::take` meets its contract: a walk of its MIR, by hand. Where the row has the place, the borrow is opened, one element is taken out of the row, read and put back, and the borrow is closed at the same list.
+-- `search::take` meets its contract: a walk of its MIR, by hand. Where the row has the place, the borrow is opened, one element is taken out of the row, read and put back, and the borrow is closed at the same list.
 -- Assumes nothing.
 use mathlib.Core.Path.{_≡_, refl, sym}
 use Prim.Native.Nat.{ℕ, _<_, _*_, _^_}
@@ -43,16 +43,16 @@ use Rattle.problems.specs.Values.{blankProblem}
 use Rattle.problems.proofs.Problem as T
 use Rattle.problems.proofs.Problem.Laws as T′
 use Rattle.walks.proofs.Walk.{Spots, envOf, Cell, room, holds, cells, pos, allocs-all, frees-all, var, big-lit, sets}
-use Rattle.queue.proofs.Lending.{x, Own}
-use Rattle.queue.proofs.Calls.{mach, Blank, calls-blank-problem}
+use Rattle.search.proofs.Lending.{x, Own}
+use Rattle.search.proofs.Drives.{mach, Blank, calls-blank-problem}
 use Rattle.problems.proofs.blank_problem.Symbol as blank-problem-def
 use Rattle.problems.proofs.blank_problem.Symbol.{name as #problems·blank-problem}
 use Rattle.problems.proofs.blank_problem.Met as blank-problem-thm
-use Rattle.queue.proofs.take.Key.{name as #queue·take}
-use Rattle.queue.proofs.take as take
-use Rattle.queue.proofs.take.Statement as stated
-use Rattle.queue.proofs.take.Code as code
-use Rattle.queue.proofs.take.Code.Mir as body
+use Rattle.search.proofs.take.Key.{name as #search·take}
+use Rattle.search.proofs.take as take
+use Rattle.search.proofs.take.Statement as stated
+use Rattle.search.proofs.take.Code as code
+use Rattle.search.proofs.take.Code.Mir as body
 
 abbrev stayed : Stays (take.ended .signature .params) (take.ended .kept)
 stayed = (stay-slice (0 ∷ []) tt (plain (λ _. T.the-row)), (stay-none (λ _. usize) yes, tt))
@@ -133,7 +133,7 @@ take-spec 𝓤 H 𝓜 𝓖 𝓡 =
     let 𝓣 = tablesOf 𝓤 H 𝓜 (tables 𝓤 H 𝓜 𝓡 code.env) in
     let clauses = take.clauses 𝓤 H A (𝓜 .mem) (𝓡 .run) in
     let goes = WpFn 𝓤 H (𝓣 .C) (𝓣 .Λ) code.function in
-    entered 𝓤 H (tripleOf 𝓤 H A take.signature (take.spec 𝓤 H A (𝓜 .mem) (𝓡 .run))) (tables 𝓤 H 𝓜 𝓡 code.env .C) (tables 𝓤 H 𝓜 𝓡 code.env .Λ) #queue·take code.function (code.unfolded 𝓤 H 𝓜 𝓡)
+    entered 𝓤 H (tripleOf 𝓤 H A take.signature (take.spec 𝓤 H A (𝓜 .mem) (𝓡 .run))) (tables 𝓤 H 𝓜 𝓡 code.env .C) (tables 𝓤 H 𝓜 𝓡 code.env .Λ) #search·take code.function (code.unfolded 𝓤 H 𝓜 𝓡)
     (walk-meets 𝓤 H A take.ended stayed W (goes-slice 𝓤 H A W 1 0 tt (plain (λ _. T.the-row)), (goes-none 𝓤 H A W 1 (λ _. usize) yes (λ κs x f. refl), tt)) clauses goes (WpFn-mono 𝓤 H (W .laws) 𝓣 code.function)
     (walked 𝓤 H A take.ended stayed clauses goes (λ κs. (slice-vals, (uint-vals w64, tt))) (λ κs. (mut-slice-tells (named 0) (κs .0) T.the-row, (uint-tells w64, tt)))
     (λ κs qs bounds a g are. via 𝓤 _ (fst∗ 𝓤 _ (emp 𝓤)) (walk 𝓤 H A W (𝓜 .mem) (𝓡 .run) (κs .0) (qs .0) (a .0 .ptr .0) (a .0 .ptr .1) (a .0 .name) (a .0 .now) (a .1 .0) (are .0 .0 .1) (are .1 .0 .1) 𝓣

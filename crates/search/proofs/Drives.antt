@@ -36,29 +36,29 @@ use denote.Triple.Statement.{Contract, Triple}
 use denote.Triple.Call.{calls-at}
 use denote.Triple.Clauses.{Clauses, ensured, closing, lasts}
 use Rattle.problems.specs.declared.Problem.{Problem}
 use Rattle.queue.specs.declared.State.{State}
 use Rattle.queue.specs.declared.Turn.{Turn}
 use Rattle.problems.specs.Values.{blankProblem}
 use Rattle.queue.specs.Row.{blanks}
 use Rattle.queue.specs.Machine.{Config, conf, moved, wrote, next, Ends, Reaches, fromRoot}
 use Rattle.problems.proofs.Problem as T
 use Rattle.problems.proofs.Problem.Laws as T′
 use Rattle.queue.proofs.State as S
 use Rattle.queue.proofs.State.Laws as S′
 use Rattle.queue.proofs.Turn as U
 use Rattle.queue.proofs.Turn.Laws as U′
-use Rattle.queue.proofs.Lending.{x, Own, LentAgain, lend, unlend}
+use Rattle.search.proofs.Lending.{x, Own, LentAgain, lend, unlend}
 use Rattle.problems.proofs.blank_problem as blank-problem
 use Rattle.problems.proofs.blank_problem.Symbol.{name as #problems·blank-problem}
-use Rattle.queue.proofs.put as put
-use Rattle.queue.proofs.put.Symbol.{name as #queue·put}
-use Rattle.queue.proofs.take as take
-use Rattle.queue.proofs.take.Symbol.{name as #queue·take}
-use Rattle.queue.proofs.blank as blank
-use Rattle.queue.proofs.blank.Symbol.{name as #queue·blank}
+use Rattle.search.proofs.put as put
+use Rattle.search.proofs.put.Symbol.{name as #search·put}
+use Rattle.search.proofs.take as take
+use Rattle.search.proofs.take.Symbol.{name as #search·take}
+use Rattle.search.proofs.blank as blank
+use Rattle.search.proofs.blank.Symbol.{name as #search·blank}
 use Rattle.queue.proofs.advance as advance
 use Rattle.queue.proofs.advance.Symbol.{name as #queue·advance}
-use Rattle.queue.proofs.step as step
+use Rattle.search.proofs.step as step
 
 -- the machine value of a problem, of a state and of a turn
 abbrev pub mach : Problem → Val
@@ -182,9 +182,9 @@ module _ {M : Type 1} {𝓤 : URA M} {H : Heap 𝓤} {A : Atoms 𝓤} {K : Type 
 
     -- a slice whose token has the share q; n is its count
     module _ {κ : Lft} {q : Share} {γ : GName} {b o n : ℕ} where
-      pub calls-put : Triple 𝓤 (C #queue·put) (Put 𝓤 H A mem run) → (ys : List Problem) (i : ℕ) (p : Problem) → Room T.the-row n → length ys ≡ n → i < 2 ^ 64 → Is T.the-row p (mach p ∷ [])
+      pub calls-put : Triple 𝓤 (C #search·put) (Put 𝓤 H A mem run) → (ys : List Problem) (i : ℕ) (p : Problem) → Room T.the-row n → length ys ≡ n → i < 2 ^ 64 → Is T.the-row p (mach p ∷ [])
           → ((P : SProp 𝓤) (δ : GName) (ν : ℕ) → Opds K W (raw P ∷ ‵ (LentAgain T.the-row κ (ν ∷ []) q γ b o δ ys) ∷ Γ) E xs (sliceVal (b, o) n ∷ vint w64 i ∷ mach p ∷ []))
-          → Seq K W (Own 𝓤 T.the-row κ γ b o n (set ys i p) ∷ ‵ (flft κ q) ∷ Γ) (lands C Λ E d vunit rest Q) → Seq K W (Own 𝓤 T.the-row κ γ b o n ys ∷ ‵ (flft κ q) ∷ Γ) (runs C Λ E (seq (call #queue·put xs d) rest) Q)
+          → Seq K W (Own 𝓤 T.the-row κ γ b o n (set ys i p) ∷ ‵ (flft κ q) ∷ Γ) (lands C Λ E d vunit rest Q) → Seq K W (Own 𝓤 T.the-row κ γ b o n ys ∷ ‵ (flft κ q) ∷ Γ) (runs C Λ E (seq (call #search·put xs d) rest) Q)
       calls-put known ys i p room e fits gp ops k = lend t tt T.the-row ys e (λ ν δ.
           use2 W (raw (Put 𝓤 H A mem run .pre (to-put 𝓤 H A W mem run b o n ν δ ys i p))) (goes-put 𝓤 H A W mem run b o n ν δ ys i p fits gp) $
           calls-at t fm (Put 𝓤 H A mem run) known (to-put 𝓤 H A W mem run b o n ν δ ys i p) (ops _ δ ν) (λ w.
@@ -195,9 +195,9 @@ module _ {M : Type 1} {𝓤 : URA M} {H : Heap 𝓤} {A : Atoms 𝓤} {K : Type 
           move t (1 ∷ []) $ split t $ split t $ move t (1 ∷ []) $ drop t $ move t (1 ∷ []) $ feqL t (λ u. move t (0 ∷ 2 ∷ []) $ unlend t tt T.the-row ys (set ys i p) room e (length-set ys i p) $
           subst (λ (v : Val). Seq K W (Own 𝓤 T.the-row κ γ b o n (set ys i p) ∷ ‵ (flft κ q) ∷ Γ) (lands C Λ E d v rest Q)) (sym (ap only u)) k))))))
 
-      pub calls-blank : Triple 𝓤 (C #queue·blank) (Blanks 𝓤 H A mem run) → (ys : List Problem) → Room T.the-row n → length ys ≡ n
+      pub calls-blank : Triple 𝓤 (C #search·blank) (Blanks 𝓤 H A mem run) → (ys : List Problem) → Room T.the-row n → length ys ≡ n
           → ((P : SProp 𝓤) (δ : GName) (ν : ℕ) → Opds K W (raw P ∷ ‵ (LentAgain T.the-row κ (ν ∷ []) q γ b o δ ys) ∷ Γ) E xs (sliceVal (b, o) n ∷ []))
-          → Seq K W (Own 𝓤 T.the-row κ γ b o n (blanks n) ∷ ‵ (flft κ q) ∷ Γ) (lands C Λ E d vunit rest Q) → Seq K W (Own 𝓤 T.the-row κ γ b o n ys ∷ ‵ (flft κ q) ∷ Γ) (runs C Λ E (seq (call #queue·blank xs d) rest) Q)
+          → Seq K W (Own 𝓤 T.the-row κ γ b o n (blanks n) ∷ ‵ (flft κ q) ∷ Γ) (lands C Λ E d vunit rest Q) → Seq K W (Own 𝓤 T.the-row κ γ b o n ys ∷ ‵ (flft κ q) ∷ Γ) (runs C Λ E (seq (call #search·blank xs d) rest) Q)
       calls-blank known ys room e ops k = lend t tt T.the-row ys e (λ ν δ.
           use2 W (raw (Blanks 𝓤 H A mem run .pre (to-blanks 𝓤 H A W mem run b o n ν δ ys))) (goes-blanks 𝓤 H A W mem run b o n ν δ ys) $
           calls-at t fm (Blanks 𝓤 H A mem run) known (to-blanks 𝓤 H A W mem run b o n ν δ ys) (ops _ δ ν) (λ w.
@@ -207,10 +207,10 @@ module _ {M : Type 1} {𝓤 : URA M} {H : Heap 𝓤} {A : Atoms 𝓤} {K : Type 
           move t (1 ∷ []) $ split t $ split t $ move t (1 ∷ []) $ drop t $ move t (1 ∷ []) $ feqL t (λ u. move t (0 ∷ 2 ∷ []) $ unlend t tt T.the-row ys (blanks n) room e (length-replicate n blankProblem ∙ sym e) $
           subst (λ (v : Val). Seq K W (Own 𝓤 T.the-row κ γ b o n (blanks n) ∷ ‵ (flft κ q) ∷ Γ) (lands C Λ E d v rest Q)) (sym (ap only u)) k))))))
 
-      pub calls-take : Triple 𝓤 (C #queue·take) (Take 𝓤 H A mem run) → (ys : List Problem) (i : ℕ) → Room T.the-row n → length ys ≡ n → i < 2 ^ 64
+      pub calls-take : Triple 𝓤 (C #search·take) (Take 𝓤 H A mem run) → (ys : List Problem) (i : ℕ) → Room T.the-row n → length ys ≡ n → i < 2 ^ 64
           → ((P : SProp 𝓤) (δ : GName) (ν : ℕ) → Opds K W (raw P ∷ ‵ (LentAgain T.the-row κ (ν ∷ []) q γ b o δ ys) ∷ Γ) E xs (sliceVal (b, o) n ∷ vint w64 i ∷ []))
           → (Is T.the-row (getD ys i blankProblem) (mach (getD ys i blankProblem) ∷ []) → Seq K W (Own 𝓤 T.the-row κ γ b o n ys ∷ ‵ (flft κ q) ∷ Γ) (lands C Λ E d (mach (getD ys i blankProblem)) rest Q))
-          → Seq K W (Own 𝓤 T.the-row κ γ b o n ys ∷ ‵ (flft κ q) ∷ Γ) (runs C Λ E (seq (call #queue·take xs d) rest) Q)
+          → Seq K W (Own 𝓤 T.the-row κ γ b o n ys ∷ ‵ (flft κ q) ∷ Γ) (runs C Λ E (seq (call #search·take xs d) rest) Q)
       calls-take known ys i room e fits ops k = lend t tt T.the-row ys e (λ ν δ.
           use2 W (raw (Take 𝓤 H A mem run .pre (to-take 𝓤 H A W mem run b o n ν δ ys i))) (goes-take 𝓤 H A W mem run b o n ν δ ys i fits) $
           calls-at t fm (Take 𝓤 H A mem run) known (to-take 𝓤 H A W mem run b o n ν δ ys i) (ops _ δ ν) (λ w.

@@ -1,4 +1,4 @@
--- `queue::from_root` meets its contract: a walk of its MIR, by hand, with calls of two other drivers, `blank` and `run` (`Calls.antt`).
+-- `search::from_root` meets its contract: a walk of its MIR, by hand, with calls of two other drivers, `blank` and `run` (`Calls.antt`).
 -- Assumes nothing.
 use mathlib.Core.Path.{_≡_, refl, _∙_}
 use Prim.Native.Nat.{ℕ}
@@ -35,28 +35,28 @@ use denote.Triple.Walked.{says, needs, Stays, stay-slice, stay-none, walkOf, goe
 use denote.Exit.{yes}
 use Rattle.problems.specs.declared.Problem.{Problem}
 use Rattle.problems.specs.Values.{blankProblem}
 use Rattle.queue.specs.Row.{blanks}
 use Rattle.queue.specs.Machine.{Config, conf, Ends, Reaches, fromRoot}
 use Rattle.problems.proofs.Problem as T
 use Rattle.problems.proofs.Problem.Laws as T′
 use Rattle.queue.proofs.State as S
 use Rattle.queue.proofs.State.Laws as S′
 use Rattle.walks.proofs.Walk.{holds, envOf, pos, allocs-all, frees-all, var, sets, reborrows}
-use Rattle.queue.proofs.Lending.{x, Own}
-use Rattle.queue.proofs.Calls.{mach, mach-state, Blanks, Put, Running, calls-blank, calls-put, calls-drive}
-use Rattle.queue.proofs.put.Symbol as put-def
-use Rattle.queue.proofs.put.Symbol.{name as #queue·put}
-use Rattle.queue.proofs.put.Met as put-thm
-use Rattle.queue.proofs.blank.Symbol as blank-def
-use Rattle.queue.proofs.blank.Symbol.{name as #queue·blank}
-use Rattle.queue.proofs.blank.Met as blank-thm
-use Rattle.queue.proofs.run.Symbol as run-def
-use Rattle.queue.proofs.run.Symbol.{name as #queue·run}
-use Rattle.queue.proofs.run.Met as run-thm
-use Rattle.queue.proofs.from_root.Key.{name as #queue·from-root}
-use Rattle.queue.proofs.from_root as from-root
-use Rattle.queue.proofs.from_root.Statement as stated
-use Rattle.queue.proofs.from_root.Code as code
+use Rattle.search.proofs.Lending.{x, Own}
+use Rattle.search.proofs.Drives.{mach, mach-state, Blanks, Put, Running, calls-blank, calls-put, calls-drive}
+use Rattle.search.proofs.put.Symbol as put-def
+use Rattle.search.proofs.put.Symbol.{name as #search·put}
+use Rattle.search.proofs.put.Met as put-thm
+use Rattle.search.proofs.blank.Symbol as blank-def
+use Rattle.search.proofs.blank.Symbol.{name as #search·blank}
+use Rattle.search.proofs.blank.Met as blank-thm
+use Rattle.search.proofs.run.Symbol as run-def
+use Rattle.search.proofs.run.Symbol.{name as #search·run}
+use Rattle.search.proofs.run.Met as run-thm
+use Rattle.search.proofs.from_root.Key.{name as #search·from-root}
+use Rattle.search.proofs.from_root as from-root
+use Rattle.search.proofs.from_root.Statement as stated
+use Rattle.search.proofs.from_root.Code as code
 
 abbrev stayed : Stays (from-root.ended .signature .params) (from-root.ended .kept)
 stayed = (stay-slice (0 ∷ []) tt (plain (λ _. T.the-row)), (stay-slice (1 ∷ []) tt (plain (λ _. u8)), (stay-none (λ _. S.the-row) yes, tt)))
@@ -102,7 +102,7 @@ module _ {M : Type 1} (𝓤 : URA M) (H : Heap 𝓤) (A : Atoms 𝓤) (W : Given
     abbrev L : ℕ → ℕ
     L n = pos 4 15 n
 
-    walk : Ends (fromRoot c) → Room T.the-row (length (c .row)) → Room u8 (length (c .out)) → (𝓣 : Tables 𝓤 H) → Triple 𝓤 (𝓣 .C #queue·blank) (Blanks 𝓤 H A mem run) → Triple 𝓤 (𝓣 .C #queue·put) (Put 𝓤 H A mem run) → Triple 𝓤 (𝓣 .C #queue·run) (Running 𝓤 H A)
+    walk : Ends (fromRoot c) → Room T.the-row (length (c .row)) → Room u8 (length (c .out)) → (𝓣 : Tables 𝓤 H) → Triple 𝓤 (𝓣 .C #search·blank) (Blanks 𝓤 H A mem run) → Triple 𝓤 (𝓣 .C #search·put) (Put 𝓤 H A mem run) → Triple 𝓤 (𝓣 .C #search·run) (Running 𝓤 H A)
         → ent 𝓤 (onEntry 𝓤 H A from-root.signature (κ, (κ′, tt)) (q, (q′, tt)) (bound .0 .3) (bound .0 .4)) (WpFn 𝓤 H (𝓣 .C) (𝓣 .Λ) code.function (r₀ ∷ o₀ ∷ s₀ ∷ []) Post)
     walk ends fits fits′ 𝓣 kb kp kr =
         qed W ((‵ (flft κ q) ⊛ (‵ (flft κ′ q′) ⊛ ‵ ftrue)) ∷ ‵ (owns (MutSlice (named 0) κ T.the-row ∷ MutSlice (named 1) κ′ u8 ∷ S.the-row ∷ []) (bound .0 .3) (bound .0 .4)) ∷ []) ∵
@@ -139,11 +139,11 @@ from-root-spec 𝓤 H 𝓜 𝓖 𝓡 =
     let 𝓣 = tablesOf 𝓤 H 𝓜 (tables 𝓤 H 𝓜 𝓡 code.env) in
     let clauses = from-root.clauses 𝓤 H A (𝓜 .mem) (𝓡 .run) in
     let goes = WpFn 𝓤 H (𝓣 .C) (𝓣 .Λ) code.function in
-    entered 𝓤 H (tripleOf 𝓤 H A from-root.signature (from-root.spec 𝓤 H A (𝓜 .mem) (𝓡 .run))) (tables 𝓤 H 𝓜 𝓡 code.env .C) (tables 𝓤 H 𝓜 𝓡 code.env .Λ) #queue·from-root code.function (code.unfolded 𝓤 H 𝓜 𝓡)
+    entered 𝓤 H (tripleOf 𝓤 H A from-root.signature (from-root.spec 𝓤 H A (𝓜 .mem) (𝓡 .run))) (tables 𝓤 H 𝓜 𝓡 code.env .C) (tables 𝓤 H 𝓜 𝓡 code.env .Λ) #search·from-root code.function (code.unfolded 𝓤 H 𝓜 𝓡)
     (walk-meets 𝓤 H A from-root.ended stayed W (goes-slice 𝓤 H A W 2 0 tt (plain (λ _. T.the-row)), (goes-slice 𝓤 H A W 2 1 tt (plain (λ _. u8)), (goes-none 𝓤 H A W 2 (λ _. S.the-row) yes (λ κs x f. refl), tt))) clauses goes (WpFn-mono 𝓤 H (W .laws) 𝓣 code.function)
     (walked 𝓤 H A from-root.ended stayed clauses goes (λ κs. (slice-vals, (slice-vals, (LL.vals S.the-type S′.the-laws, tt)))) (λ κs. (mut-slice-tells (named 0) (κs .0) T.the-row, (mut-slice-tells (named 1) (κs .1 .0) u8, (LL.tells S.the-type S′.the-laws, tt))))
     (λ κs qs bounds a g are. needs 𝓤 (Ends (fromRoot (conf (a .1 .1 .0) (a .0 .now) (a .1 .0 .now)))) _ (λ ends.
     walk 𝓤 H A W (𝓜 .mem) (𝓡 .run) (κs .0) (κs .1 .0) (qs .0) (qs .1 .0) (a .0 .ptr .0) (a .0 .ptr .1) (a .1 .0 .ptr .0) (a .1 .0 .ptr .1) (a .0 .name) (a .1 .0 .name) (conf (a .1 .1 .0) (a .0 .now) (a .1 .0 .now)) (are .1 .1 .0) ends (are .0 .0 .1) (are .1 .0 .0 .1) 𝓣
-    (cited 𝓤 H (Blanks 𝓤 H A (𝓜 .mem) (𝓡 .run)) 𝓜 𝓡 code.env #queue·blank blank-def.routine code.calls-queue·blank (blank-thm.met 𝓤 H 𝓜 𝓖 𝓡))
-    (cited 𝓤 H (Put 𝓤 H A (𝓜 .mem) (𝓡 .run)) 𝓜 𝓡 code.env #queue·put put-def.routine code.calls-queue·put (put-thm.met 𝓤 H 𝓜 𝓖 𝓡))
-    (cited 𝓤 H (Running 𝓤 H A) 𝓜 𝓡 code.env #queue·run run-def.routine code.calls-queue·run (run-thm.met 𝓤 H 𝓜 𝓖 𝓡))))))
+    (cited 𝓤 H (Blanks 𝓤 H A (𝓜 .mem) (𝓡 .run)) 𝓜 𝓡 code.env #search·blank blank-def.routine code.calls-search·blank (blank-thm.met 𝓤 H 𝓜 𝓖 𝓡))
+    (cited 𝓤 H (Put 𝓤 H A (𝓜 .mem) (𝓡 .run)) 𝓜 𝓡 code.env #search·put put-def.routine code.calls-search·put (put-thm.met 𝓤 H 𝓜 𝓖 𝓡))
+    (cited 𝓤 H (Running 𝓤 H A) 𝓜 𝓡 code.env #search·run run-def.routine code.calls-search·run (run-thm.met 𝓤 H 𝓜 𝓖 𝓡))))))

@@ -1,4 +1,4 @@
--- `queue::run` meets its contract: a walk of its MIR, by hand, with a loop (`Types/Run.antt`'s `loops`) and one call in each turn (`Calls.antt`). The measure is the number of turns that are left: what the caller owes says that some number is enough.
+-- `search::run` meets its contract: a walk of its MIR, by hand, with a loop (`Types/Run.antt`'s `loops`) and one call in each turn (`Calls.antt`). The measure is the number of turns that are left: what the caller owes says that some number is enough.
 -- Assumes nothing.
 use mathlib.Core.Path.{_≡_, refl, sym, _∙_, ap}
 use mathlib.Core.Bool.{Bool, true, false}
@@ -37,21 +37,21 @@ use denote.Triple.Table.{entered, cited}
 use denote.Triple.Walked.{says, needs, Stays, stay-slice, stay-none, walkOf, goes-slice, goes-none, ends-at, walked, walk-meets}
 use denote.Exit.{yes}
 use Rattle.problems.specs.declared.Problem.{Problem}
 use Rattle.queue.specs.Machine.{Config, conf, next, after, Ends, Reaches, turn-on, turn-off}
 use Rattle.problems.proofs.Problem as T
 use Rattle.queue.proofs.State as S
 use Rattle.queue.proofs.State.Laws as S′
 use Rattle.walks.proofs.Walk.{Spots, room, holds, envOf, cells, pos, allocs-all, frees-all, var, sets, reborrows}
-use Rattle.queue.proofs.Lending.{x, Own}
-use Rattle.queue.proofs.Calls.{mach-state, Stepping, calls-drive}
-use Rattle.queue.proofs.step.Symbol as step-def
-use Rattle.queue.proofs.step.Symbol.{name as #queue·step}
-use Rattle.queue.proofs.step.Met as step-thm
-use Rattle.queue.proofs.run.Key.{name as #queue·run}
-use Rattle.queue.proofs.run as run′
-use Rattle.queue.proofs.run.Statement as stated
-use Rattle.queue.proofs.run.Code as code
-use Rattle.queue.proofs.run.Code.Mir as body
+use Rattle.search.proofs.Lending.{x, Own}
+use Rattle.search.proofs.Drives.{mach-state, Stepping, calls-drive}
+use Rattle.search.proofs.step.Symbol as step-def
+use Rattle.search.proofs.step.Symbol.{name as #search·step}
+use Rattle.search.proofs.step.Met as step-thm
+use Rattle.search.proofs.run.Key.{name as #search·run}
+use Rattle.search.proofs.run as run′
+use Rattle.search.proofs.run.Statement as stated
+use Rattle.search.proofs.run.Code as code
+use Rattle.search.proofs.run.Code.Mir as body
 
 abbrev stayed : Stays (run′.ended .signature .params) (run′.ended .kept)
 stayed = (stay-slice (0 ∷ []) tt (plain (λ _. T.the-row)), (stay-slice (1 ∷ []) tt (plain (λ _. u8)), (stay-none (λ _. S.the-row) yes, tt)))
@@ -103,7 +103,7 @@ module _ {M : Type 1} (𝓤 : URA M) (H : Heap 𝓤) (A : Atoms 𝓤) (W : Given
     Nearer-wf : WellFounded Nearer
     Nearer-wf = InvImage·wf (λ (j : Round). j .0) (Nat·lt-wfRel .wf)
 
-    module _ (fits : Room T.the-row (length (c .row))) (fits′ : Room u8 (length (c .out))) (𝓣 : Tables 𝓤 H) (known : Triple 𝓤 (𝓣 .C #queue·step) (Stepping 𝓤 H A)) where
+    module _ (fits : Room T.the-row (length (c .row))) (fits′ : Room u8 (length (c .out))) (𝓣 : Tables 𝓤 H) (known : Triple 𝓤 (𝓣 .C #search·step) (Stepping 𝓤 H A)) where
       abbrev C : Calls 𝓤 H
       C = 𝓣 .C
 
@@ -158,9 +158,9 @@ run-spec 𝓤 H 𝓜 𝓖 𝓡 =
     let 𝓣 = tablesOf 𝓤 H 𝓜 (tables 𝓤 H 𝓜 𝓡 code.env) in
     let clauses = run′.clauses 𝓤 H A (𝓜 .mem) (𝓡 .run) in
     let goes = WpFn 𝓤 H (𝓣 .C) (𝓣 .Λ) code.function in
-    entered 𝓤 H (tripleOf 𝓤 H A run′.signature (run′.spec 𝓤 H A (𝓜 .mem) (𝓡 .run))) (tables 𝓤 H 𝓜 𝓡 code.env .C) (tables 𝓤 H 𝓜 𝓡 code.env .Λ) #queue·run code.function (code.unfolded 𝓤 H 𝓜 𝓡)
+    entered 𝓤 H (tripleOf 𝓤 H A run′.signature (run′.spec 𝓤 H A (𝓜 .mem) (𝓡 .run))) (tables 𝓤 H 𝓜 𝓡 code.env .C) (tables 𝓤 H 𝓜 𝓡 code.env .Λ) #search·run code.function (code.unfolded 𝓤 H 𝓜 𝓡)
     (walk-meets 𝓤 H A run′.ended stayed W (goes-slice 𝓤 H A W 2 0 tt (plain (λ _. T.the-row)), (goes-slice 𝓤 H A W 2 1 tt (plain (λ _. u8)), (goes-none 𝓤 H A W 2 (λ _. S.the-row) yes (λ κs x f. refl), tt))) clauses goes (WpFn-mono 𝓤 H (W .laws) 𝓣 code.function)
     (walked 𝓤 H A run′.ended stayed clauses goes (λ κs. (slice-vals, (slice-vals, (LL.vals S.the-type S′.the-laws, tt)))) (λ κs. (mut-slice-tells (named 0) (κs .0) T.the-row, (mut-slice-tells (named 1) (κs .1 .0) u8, (LL.tells S.the-type S′.the-laws, tt))))
     (λ κs qs bounds a g are. needs 𝓤 (Ends (conf (a .1 .1 .0) (a .0 .now) (a .1 .0 .now))) _ (λ ends.
     walk 𝓤 H A W (𝓜 .mem) (𝓡 .run) (κs .0) (κs .1 .0) (qs .0) (qs .1 .0) (a .0 .ptr .0) (a .0 .ptr .1) (a .1 .0 .ptr .0) (a .1 .0 .ptr .1) (a .0 .name) (a .1 .0 .name) (conf (a .1 .1 .0) (a .0 .now) (a .1 .0 .now)) (ends .0) (ends .1) (are .1 .1 .0) (are .0 .0 .1) (are .1 .0 .0 .1) 𝓣
-    (cited 𝓤 H (Stepping 𝓤 H A) 𝓜 𝓡 code.env #queue·step step-def.routine code.calls-queue·step (step-thm.met 𝓤 H 𝓜 𝓖 𝓡))))))
+    (cited 𝓤 H (Stepping 𝓤 H A) 𝓜 𝓡 code.env #search·step step-def.routine code.calls-search·step (step-thm.met 𝓤 H 𝓜 𝓖 𝓡))))))

@@ -1,4 +1,4 @@
--- `queue::put` meets its contract: a walk of its MIR, by hand. Where the row has the place, the place of `row[i]` is computed, the borrow is opened, one element is taken out of the row and stored to, and the borrow is closed at the list with the problem in it.
+-- `search::put` meets its contract: a walk of its MIR, by hand. Where the row has the place, the place of `row[i]` is computed, the borrow is opened, one element is taken out of the row and stored to, and the borrow is closed at the list with the problem in it.
 -- Assumes nothing.
 use mathlib.Core.Path.{_≡_, refl, sym, ap, subst}
 use Prim.Native.Nat.{ℕ, _<_, _*_, _^_}
@@ -42,12 +42,12 @@ use Rattle.problems.specs.declared.Problem.{Problem}
 use Rattle.problems.proofs.Problem as T
 use Rattle.problems.proofs.Problem.Laws as T′
 use Rattle.walks.proofs.Walk.{Spots, envOf, room, holds, cells, pos, allocs-all, frees-all, var, big-lit, sets}
-use Rattle.queue.proofs.Lending.{x, Own}
-use Rattle.queue.proofs.put.Key.{name as #queue·put}
-use Rattle.queue.proofs.put as put
-use Rattle.queue.proofs.put.Statement as stated
-use Rattle.queue.proofs.put.Code as code
-use Rattle.queue.proofs.put.Code.Mir as body
+use Rattle.search.proofs.Lending.{x, Own}
+use Rattle.search.proofs.put.Key.{name as #search·put}
+use Rattle.search.proofs.put as put
+use Rattle.search.proofs.put.Statement as stated
+use Rattle.search.proofs.put.Code as code
+use Rattle.search.proofs.put.Code.Mir as body
 
 abbrev stayed : Stays (put.ended .signature .params) (put.ended .kept)
 stayed = (stay-slice (0 ∷ []) tt (plain (λ _. T.the-row)), (stay-none (λ _. usize) yes, (stay-none (λ _. T.the-row) yes, tt)))
@@ -130,7 +130,7 @@ put-spec 𝓤 H 𝓜 𝓖 𝓡 =
     let 𝓣 = tablesOf 𝓤 H 𝓜 (tables 𝓤 H 𝓜 𝓡 code.env) in
     let clauses = put.clauses 𝓤 H A (𝓜 .mem) (𝓡 .run) in
     let goes = WpFn 𝓤 H (𝓣 .C) (𝓣 .Λ) code.function in
-    entered 𝓤 H (tripleOf 𝓤 H A put.signature (put.spec 𝓤 H A (𝓜 .mem) (𝓡 .run))) (tables 𝓤 H 𝓜 𝓡 code.env .C) (tables 𝓤 H 𝓜 𝓡 code.env .Λ) #queue·put code.function (code.unfolded 𝓤 H 𝓜 𝓡)
+    entered 𝓤 H (tripleOf 𝓤 H A put.signature (put.spec 𝓤 H A (𝓜 .mem) (𝓡 .run))) (tables 𝓤 H 𝓜 𝓡 code.env .C) (tables 𝓤 H 𝓜 𝓡 code.env .Λ) #search·put code.function (code.unfolded 𝓤 H 𝓜 𝓡)
     (walk-meets 𝓤 H A put.ended stayed W (goes-slice 𝓤 H A W 1 0 tt (plain (λ _. T.the-row)), (goes-none 𝓤 H A W 1 (λ _. usize) yes (λ κs x f. refl), (goes-none 𝓤 H A W 1 (λ _. T.the-row) yes (λ κs x f. refl), tt))) clauses goes (WpFn-mono 𝓤 H (W .laws) 𝓣 code.function)
     (walked 𝓤 H A put.ended stayed clauses goes (λ κs. (slice-vals, (uint-vals w64, (LL.vals T.the-type T′.the-laws, tt)))) (λ κs. (mut-slice-tells (named 0) (κs .0) T.the-row, (uint-tells w64, (LL.tells T.the-type T′.the-laws, tt))))
     (λ κs qs bounds a g are. via 𝓤 _ (fst∗ 𝓤 _ (emp 𝓤)) (walk 𝓤 H A W (𝓜 .mem) (𝓡 .run) (κs .0) (qs .0) (a .0 .ptr .0) (a .0 .ptr .1) (a .0 .name) (a .0 .now) (a .1 .0) (a .1 .1 .0) (are .0 .0 .1) (are .1 .0 .1) (are .1 .1 .0) (𝓣 .C) (𝓣 .Λ)))))

@@ -1,4 +1,4 @@
--- `queue::blank` meets its contract: a walk of its MIR, by hand, with a loop (`Types/Run.antt`'s `loops`) and two calls in each turn (`Calls.antt`). The measure is the number of places that are left.
+-- `search::blank` meets its contract: a walk of its MIR, by hand, with a loop (`Types/Run.antt`'s `loops`) and two calls in each turn (`Calls.antt`). The measure is the number of places that are left.
 -- Assumes nothing.
 use mathlib.Core.Path.{_≡_, refl, sym, _∙_, subst}
 use mathlib.Core.Bool.{Bool, true, false, not}
@@ -38,23 +38,23 @@ use denote.Triple.Table.{entered, cited}
 use denote.Triple.Walked.{says, Stays, stay-slice, walkOf, goes-slice, ends-at, walked, walk-meets}
 use Rattle.problems.specs.declared.Problem.{Problem}
 use Rattle.problems.specs.Values.{blankProblem}
 use Rattle.queue.specs.Row.{blanks, Upto, one-more, upto-all}
 use Rattle.problems.proofs.Problem as T
 use Rattle.problems.proofs.Problem.Laws as T′
 use Rattle.walks.proofs.Walk.{Spots, room, holds, envOf, cells, pos, allocs-all, frees-all, var, sets, reborrows}
-use Rattle.queue.proofs.Lending.{x, Own}
-use Rattle.queue.proofs.Calls.{Blank, Put, calls-blank-problem, calls-put}
+use Rattle.search.proofs.Lending.{x, Own}
+use Rattle.search.proofs.Drives.{Blank, Put, calls-blank-problem, calls-put}
 use Rattle.problems.proofs.blank_problem.Symbol as blank-problem-def
 use Rattle.problems.proofs.blank_problem.Symbol.{name as #problems·blank-problem}
 use Rattle.problems.proofs.blank_problem.Met as blank-problem-thm
-use Rattle.queue.proofs.put.Symbol as put-def
-use Rattle.queue.proofs.put.Symbol.{name as #queue·put}
-use Rattle.queue.proofs.put.Met as put-thm
-use Rattle.queue.proofs.blank.Key.{name as #queue·blank}
-use Rattle.queue.proofs.blank as blank
-use Rattle.queue.proofs.blank.Statement as stated
-use Rattle.queue.proofs.blank.Code as code
-use Rattle.queue.proofs.blank.Code.Mir as body
+use Rattle.search.proofs.put.Symbol as put-def
+use Rattle.search.proofs.put.Symbol.{name as #search·put}
+use Rattle.search.proofs.put.Met as put-thm
+use Rattle.search.proofs.blank.Key.{name as #search·blank}
+use Rattle.search.proofs.blank as blank
+use Rattle.search.proofs.blank.Statement as stated
+use Rattle.search.proofs.blank.Code as code
+use Rattle.search.proofs.blank.Code.Mir as body
 
 abbrev stayed : Stays (blank.ended .signature .params) (blank.ended .kept)
 stayed = (stay-slice (0 ∷ []) tt (plain (λ _. T.the-row)), tt)
@@ -92,7 +92,7 @@ module _ {M : Type 1} (𝓤 : URA M) (H : Heap 𝓤) (A : Atoms 𝓤) (W : Given
   Nearer-wf : WellFounded Nearer
   Nearer-wf = InvImage·wf (λ (j : Round). length ys - j .0) (Nat·lt-wfRel .wf)
 
-  module _ (fits : Room T.the-row (length ys)) (𝓣 : Tables 𝓤 H) (kb : Triple 𝓤 (𝓣 .C #problems·blank-problem) (Blank 𝓤 H A mem run)) (kp : Triple 𝓤 (𝓣 .C #queue·put) (Put 𝓤 H A mem run)) where
+  module _ (fits : Room T.the-row (length ys)) (𝓣 : Tables 𝓤 H) (kb : Triple 𝓤 (𝓣 .C #problems·blank-problem) (Blank 𝓤 H A mem run)) (kp : Triple 𝓤 (𝓣 .C #search·put) (Put 𝓤 H A mem run)) where
     abbrev C : Calls 𝓤 H
     C = 𝓣 .C
 
@@ -160,9 +160,9 @@ blank-spec 𝓤 H 𝓜 𝓖 𝓡 =
     let 𝓣 = tablesOf 𝓤 H 𝓜 (tables 𝓤 H 𝓜 𝓡 code.env) in
     let clauses = blank.clauses 𝓤 H A (𝓜 .mem) (𝓡 .run) in
     let goes = WpFn 𝓤 H (𝓣 .C) (𝓣 .Λ) code.function in
-    entered 𝓤 H (tripleOf 𝓤 H A blank.signature (blank.spec 𝓤 H A (𝓜 .mem) (𝓡 .run))) (tables 𝓤 H 𝓜 𝓡 code.env .C) (tables 𝓤 H 𝓜 𝓡 code.env .Λ) #queue·blank code.function (code.unfolded 𝓤 H 𝓜 𝓡)
+    entered 𝓤 H (tripleOf 𝓤 H A blank.signature (blank.spec 𝓤 H A (𝓜 .mem) (𝓡 .run))) (tables 𝓤 H 𝓜 𝓡 code.env .C) (tables 𝓤 H 𝓜 𝓡 code.env .Λ) #search·blank code.function (code.unfolded 𝓤 H 𝓜 𝓡)
     (walk-meets 𝓤 H A blank.ended stayed W (goes-slice 𝓤 H A W 1 0 tt (plain (λ _. T.the-row)), tt) clauses goes (WpFn-mono 𝓤 H (W .laws) 𝓣 code.function)
     (walked 𝓤 H A blank.ended stayed clauses goes (λ κs. (slice-vals, tt)) (λ κs. (mut-slice-tells (named 0) (κs .0) T.the-row, tt))
     (λ κs qs bounds a g are. via 𝓤 _ (fst∗ 𝓤 _ (emp 𝓤)) (walk 𝓤 H A W (𝓜 .mem) (𝓡 .run) (κs .0) (qs .0) (a .0 .ptr .0) (a .0 .ptr .1) (a .0 .name) (a .0 .now) (are .0 .0 .1) 𝓣
     (cited 𝓤 H (Blank 𝓤 H A (𝓜 .mem) (𝓡 .run)) 𝓜 𝓡 code.env #problems·blank-problem blank-problem-def.routine code.calls-problems·blank-problem (blank-problem-thm.met 𝓤 H 𝓜 𝓖 𝓡))
-    (cited 𝓤 H (Put 𝓤 H A (𝓜 .mem) (𝓡 .run)) 𝓜 𝓡 code.env #queue·put put-def.routine code.calls-queue·put (put-thm.met 𝓤 H 𝓜 𝓖 𝓡))))))
+    (cited 𝓤 H (Put 𝓤 H A (𝓜 .mem) (𝓡 .run)) 𝓜 𝓡 code.env #search·put put-def.routine code.calls-search·put (put-thm.met 𝓤 H 𝓜 𝓖 𝓡))))))
