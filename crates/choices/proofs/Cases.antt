@@ -21,21 +21,6 @@ use Rattle.choices.specs.declared.Choice.{Choice}
 use Rattle.choices.specs.Choices.{joinCells, chosenAt, atomsAt, pushAtoms, listVariable, wideValue}
 use Rattle.choices.proofs.Loops.{from-zero}
 
--- ---- two cells
-
-module _ (a b : Cell) (st : Fillings) where
-  by-cells : (x y : Bool) → a .some ≡ x → b .some ≡ y → cond (x && y) (joinTerms (a .atom) (b .atom) st) (record { ok = true; next = st }) ≡ joinCells a b st
-  by-cells x y e f = ap₂ (λ (v w : Bool). cond (v && w) (joinTerms (a .atom) (b .atom) st) (record { ok = true; next = st })) (sym e) (sym f)
-
-  pub cells-both : (r : Joined) → a .some ≡ true → b .some ≡ true → r ≡ joinTerms (a .atom) (b .atom) st → r ≡ joinCells a b st
-  cells-both r e f q = q ∙ by-cells true true e f
-
-  pub cells-left : a .some ≡ true → b .some ≡ false → record { ok = true; next = st } ≡ joinCells a b st
-  cells-left e f = by-cells true false e f
-
-  pub cells-none : a .some ≡ false → record { ok = true; next = st } ≡ joinCells a b st
-  cells-none e = by-cells false (b .some) e refl
-
 -- ---- a field that no choice has
 
 pub chosen-out : (c : Choice) (j n : ℕ) (long : Bool) → mostFields ≤ j → length (c .sizes) ≡ mostFields → length (c .longs) ≡ mostFields → c ≡ chosenAt c j n long

@@ -1,11 +1,11 @@
 -- The loops, each from a position on up to the last: what is left to do makes what was to do.
-use mathlib.Core.Path.{_≡_, sym, _∙_, ap, ap₂}
-use mathlib.Core.Bool.{Bool, true, false, cond, not}
+use mathlib.Core.Path.{_≡_, refl, sym, _∙_, ap, ap₂}
+use mathlib.Core.Bool.{Bool, true, false, cond, not, _&&_, false≢true}
 use mathlib.Core.List.{List, []}
 use Prim.Native.Nat.{ℕ, suc, _+_, _-_, _<_, _≤_, min}
 use native.Mathlib.Omega.{arith}
-use borrow.Author.Tests.{not-true, not-false}
-use lib.ListN.{length, getD}
+use borrow.Author.Tests.{not-true, not-false, lt-leb, le-leb}
+use lib.ListN.{length, getD, set, length-map}
 use Rattle.text.specs.Sizes.{mostFields}
 use Rattle.terms.specs.declared.Term.{Term}
 use Rattle.terms.specs.declared.Field.{Field}
@@ -13,16 +13,18 @@ use Rattle.terms.specs.declared.Rule.{Rule}
 use Rattle.terms.specs.Values.{blankField}
 use Rattle.rows.specs.declared.Shape.{Shape}
 use Rattle.rows.specs.declared.Cell.{Cell}
-use Rattle.rows.specs.Rows.{termsOf, shapeValue, cellValue, mergedValue}
+use Rattle.rows.specs.Rows.{termsOf, shapeValue, cellValue, mergedCell, mergedValue, placeValue, cellBy}
+use Rattle.rows.proofs.Places.{cell-read}
 use Rattle.fillings.specs.declared.Fillings.{Fillings}
 use Rattle.fillings.specs.declared.Joined.{Joined}
-use Rattle.fillings.specs.States.{look}
+use Rattle.fillings.specs.States.{sameAtom, takes, places, placeOf, heldBy, look, swap, joinedBy, joinTerms}
+use Rattle.fillings.proofs.Places.{held-looks}
 use Rattle.fillings.proofs.Arrays.{entry-any}
 use Rattle.entries.specs.declared.Wide.{Wide}
 use Rattle.entries.specs.declared.Entry.{Entry}
-use Rattle.entries.specs.Values.{blankEntry, pushed}
+use Rattle.entries.specs.Values.{widest, blankEntry, pushed}
 use Rattle.choices.specs.declared.Choice.{Choice}
-use Rattle.choices.specs.Choices.{walk, goOn, joinCells, joinFrom, joinFields, atomsAt, pushAtoms, wideValue, pushedField, wideAt, entryFrom, entryOf}
+use Rattle.choices.specs.Choices.{walk, goOn, differ, joinCells, joinFrom, joinFields, atomsAt, pushAtoms, wideValue, pushedField, wideAt, entryFrom, entryOf}
 
 -- ---- k = n - p are left of n at p
 
@@ -78,6 +80,67 @@ module _ (f g : List Term) (n : ℕ) (st : Fillings) where
     pub joining-all : n ≤ p → record { ok = true; next = now } ≡ joinFields f g n st
     joining-all h = sym (v .2 ∙ no-more (λ (k : ℕ). joinFrom (cellsOf f) (cellsOf g) k p now) n p h)
 
+-- ---- the cells that are read
+
+pub cell-from : (f : Field) (s : Shape) (n p i : ℕ) (d : Term) (a : Cell) → length (f .terms) ≡ 16 → i ≡ placeValue s n p → a ≡ cellBy (f .n) s n p (getD (f .terms) i d) → a ≡ cellValue (termsOf f) s n p
+cell-from f s n p i d a l is-i is-a = is-a ∙ ap (λ (k : ℕ). cellBy (f .n) s n p (getD (f .terms) k d)) is-i ∙ cell-read (f .n) (f .terms) d l s n p
+
+-- ---- a join keeps the places
+
+pub join-long : (a b : Term) (st : Fillings) (j : Joined) → j ≡ joinTerms a b st → length (j .next .atoms) ≡ length (st .atoms)
+join-long a b st j is-j =
+    let x = look st a in
+    let y = look st b in
+    ap (λ (i : Joined). length (i .next .atoms)) is-j ∙ go x y (sameAtom x y) (takes x y) (takes y x)
+  where
+    go : (x y : Term) (p q r : Bool) → length ((joinedBy p q r x y st) .next .atoms) ≡ length (st .atoms)
+    go x y true q r = refl
+    go x y false true r = length-map (st .atoms) (swap x y)
+    go x y false false true = length-map (st .atoms) (swap y x)
+    go x y false false false = refl
+
+-- ---- joins of atoms that are one already, and of others; u and v are the places to read for the atoms
+
+module _ (a b : Cell) (st : Fillings) (l : length (st .atoms) ≡ places) (d : Term) (u v : ℕ) (is-u : u ≡ placeOf (a .atom)) (is-v : v ≡ placeOf (b .atom)) where
+  abbrev read : ℕ → Term
+  read i = getD (st .atoms) i d
+
+  same : Bool
+  same = sameAtom (look st (a .atom)) (look st (b .atom))
+
+  differ-is : differ a b (read u) (read v) ≡ (a .some && (b .some && not same))
+  unfolding same
+  differ-is =
+      ap₂ (λ (i j : ℕ). differ a b (read i) (read j)) is-u is-v
+      ∙ ap₂ (λ (x y : Term). a .some && (b .some && not (sameAtom x y))) (held-looks st (a .atom) d l) (held-looks st (b .atom) d l)
+
+  abbrev stays : Joined
+  stays = record { ok = true; next = st }
+
+  same-stays : same ≡ true → joinTerms (a .atom) (b .atom) st ≡ stays
+  unfolding same
+  same-stays e =
+      let x = look st (a .atom) in
+      let y = look st (b .atom) in
+      ap (λ (p : Bool). joinedBy p (takes x y) (takes y x) x y st) e
+
+  pub joins-not : (r : Bool) → r ≡ differ a b (read u) (read v) → r ≡ false → stays ≡ joinCells a b st
+  joins-not r is-r e = sym (go (a .some) (b .some) same refl (sym (is-r ∙ differ-is) ∙ e))
+    where
+      go : (p q t : Bool) → same ≡ t → (p && (q && not t)) ≡ false → cond (p && q) (joinTerms (a .atom) (b .atom) st) stays ≡ stays
+      go true true true k h = same-stays k
+      go true true false k h = absurd (false≢true (sym h))
+      go true false t k h = refl
+      go false q t k h = refl
+
+  pub joins-so : (r : Bool) (j : Joined) → r ≡ differ a b (read u) (read v) → r ≡ true → j ≡ joinTerms (a .atom) (b .atom) st → j ≡ joinCells a b st
+  joins-so r j is-r e is-j = is-j ∙ sym (go (a .some) (b .some) same (sym (is-r ∙ differ-is) ∙ e))
+    where
+      go : (p q t : Bool) → (p && (q && not t)) ≡ true → cond (p && q) (joinTerms (a .atom) (b .atom) st) stays ≡ joinTerms (a .atom) (b .atom) st
+      go true true t h = refl
+      go true false t h = absurd (false≢true h)
+      go false q t h = absurd (false≢true h)
+
 -- ---- the atoms of an entry's field
 
 module _ (f g : List Term) (n from to : ℕ) (st : Fillings) (w : Wide) where
@@ -95,6 +158,18 @@ module _ (f g : List Term) (n from to : ℕ) (st : Fillings) (w : Wide) where
     pushing-one a b y h is-a is-b is-y =
         let here : b ≡ atomsAt f g n st p = is-b ∙ ap (look st) (is-a ∙ ap₂ (λ (q r : Shape). mergedValue f q g r n p) (v .0) (v .1)) in
         (v .0, v .1, walk-one step to wanted p x (v .2) y h (is-y ∙ ap (pushed x) here))
+
+    -- the atom that is read
+    pub atom-read : (a b : Cell) (t′ : Term) (u : ℕ) (d r : Term) → length (st .atoms) ≡ places → a ≡ cellValue f s n p → b ≡ cellValue g t n p → t′ ≡ mergedCell a b → u ≡ placeOf t′ → r ≡ heldBy (t′ .form) t′ (getD (st .atoms) u d)
+        → (t′ ≡ mergedValue f s g t n p) × (r ≡ look st t′)
+    atom-read a b t′ u d r l is-a is-b is-t is-u is-r = (is-t ∙ ap₂ mergedCell is-a is-b, is-r ∙ ap (λ (i : ℕ). heldBy (t′ .form) t′ (getD (st .atoms) i d)) is-u ∙ held-looks st t′ d l)
+
+    -- the term is put behind the others, or the field is full
+    pub pushing-room : (a b : Term) (y : Wide) → p < to → a ≡ mergedValue f s g t n p → b ≡ look st a → x .n < widest → y ≡ record { n = x .n + 1; terms = set (x .terms) (x .n) b } → Pushing s t (p + 1) y
+    pushing-room a b y h is-a is-b k is-y = pushing-one a b y h is-a is-b (is-y ∙ ap (λ (c : Bool). cond c x (record { n = x .n + 1; terms = set (x .terms) (x .n) b })) (sym (lt-leb widest (x .n) k)))
+
+    pub pushing-full : (a b : Term) (y : Wide) → p < to → a ≡ mergedValue f s g t n p → b ≡ look st a → widest ≤ x .n → y ≡ x → Pushing s t (p + 1) y
+    pushing-full a b y h is-a is-b k is-y = pushing-one a b y h is-a is-b (is-y ∙ ap (λ (c : Bool). cond c x (record { n = x .n + 1; terms = set (x .terms) (x .n) b })) (sym (le-leb widest (x .n) k)))
 
     pub pushing-all : to ≤ p → x ≡ wanted
     pushing-all h = walk-all step to wanted p x (v .2) h

@@ -1,6 +1,6 @@
 -- A choice on values, as code works with it: the joins of a candidate, and the entry of a whole choice.
 -- The theorems of proofs/Agree say that they are the joins and the fields that the overlap list has.
-use mathlib.Core.Bool.{Bool, true, false, cond, _&&_}
+use mathlib.Core.Bool.{Bool, true, false, cond, not, _&&_}
 use mathlib.Core.List.{List}
 use Prim.Native.Nat.{ℕ, zero, suc, _+_, _-_, max, min}
 use lib.Dec.{leb}
@@ -15,7 +15,7 @@ use Rattle.rows.specs.declared.Cell.{Cell}
 use Rattle.rows.specs.Rows.{termsOf, shapeValue, cellValue, mergedValue}
 use Rattle.fillings.specs.declared.Fillings.{Fillings}
 use Rattle.fillings.specs.declared.Joined.{Joined}
-use Rattle.fillings.specs.States.{look, joinTerms}
+use Rattle.fillings.specs.States.{sameAtom, heldBy, look, joinTerms}
 use Rattle.entries.specs.declared.Wide.{Wide}
 use Rattle.entries.specs.declared.Entry.{Entry}
 use Rattle.entries.specs.Values.{blankWide, blankEntry, pushed}
@@ -37,6 +37,10 @@ goOn j k = cond (j .ok) (k (j .next)) j
 -- "Atoms that share a position are joined."
 abbrev pub joinCells : Cell → Cell → Fillings → Joined
 joinCells a b st = cond (a .some && b .some) (joinTerms (a .atom) (b .atom) st) (record { ok = true; next = st })
+
+-- whether the join changes the state or clashes; x and y are what the places to read for the two atoms have (`joins-not` and `joins-so` of proofs/Loops)
+abbrev pub differ : Cell → Cell → Term → Term → Bool
+differ a b x y = a .some && (b .some && not (sameAtom (heldBy (a .atom .form) (a .atom) x) (heldBy (b .atom .form) (b .atom) y)))
 
 -- the positions from p on, k of them
 abbrev pub joinFrom : (ℕ → Cell) → (ℕ → Cell) → ℕ → ℕ → Fillings → Joined

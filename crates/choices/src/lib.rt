@@ -2,7 +2,7 @@
 ghost use mathlib.Core.Path.{_≡_};
 ghost use Prim.Native.Nat.{_-_, max, min};
 ghost use Rattle.rows.specs.Rows.{termsOf};
-ghost use Rattle.choices.specs.Choices.{noChoice, chosenAt, joinCells, joinFields, pushAtoms, atomsAt, listVariable, wideValue, pushedField, entryOf};
+ghost use Rattle.choices.specs.Choices.{noChoice, chosenAt, differ, joinFields, pushAtoms, atomsAt, listVariable, wideValue, pushedField, entryOf};
 use entries::Entry;
 use entries::Wide;
 use fillings::Fillings;
@@ -20,19 +20,21 @@ pub struct Choice {
     pub longs: [bool; 4],
 }
 
-// Atoms that share a position are joined.
-fn join_cells(a: Cell, b: Cell, st: Fillings) -> Joined
-    ensures { λ r. ⌜ r ≡ joinCells a b st ⌝ }
+// Whether two cells have atoms that are to be joined and are not one yet; x and y are what the places to read for their atoms have.
+fn differ(a: Cell, b: Cell, x: Term, y: Term) -> bool
+    ensures { λ r. ⌜ r ≡ differ a b x y ⌝ }
 {
-    if a.some {
-        if b.some {
-            return st.join(a.atom, b.atom);
-        }
+    if !a.some {
+        return false;
     }
-    Joined { ok: true, next: st }
+    if !b.some {
+        return false;
+    }
+    !fillings::same_atom(fillings::held(a.atom, x), fillings::held(b.atom, y))
 }
 
-// The state after the joins of two fields that have n items, or a clash.
+// The state after the joins of two fields that have n items, or a clash. Atoms that share a position are joined;
+// where they are one already the state stays where it is.
 pub fn join_fields(f: Field, g: Field, n: usize, st: Fillings) -> Joined
     ensures { λ r. ⌜ r ≡ joinFields (termsOf f) (termsOf g) n st ⌝ }
 {
@@ -41,11 +43,19 @@ pub fn join_fields(f: Field, g: Field, n: usize, st: Fillings) -> Joined
     let mut now = st;
     let mut p: usize = 0;
     while p < n {
-        let j = join_cells(rows::cell_at(f, s, n, p), rows::cell_at(g, t, n, p), now);
-        if !j.ok {
-            return j;
+        let i = rows::place_at(s, n, p);
+        let j = rows::place_at(t, n, p);
+        let a = rows::cell_with(f.n, s, n, p, f.terms[i]);
+        let b = rows::cell_with(g.n, t, n, p, g.terms[j]);
+        let u = fillings::place_of(a.atom);
+        let v = fillings::place_of(b.atom);
+        if differ(a, b, now.atoms[u], now.atoms[v]) {
+            let k = now.join(a.atom, b.atom);
+            if !k.ok {
+                return k;
+            }
+            now = k.next;
         }
-        now = j.next;
         p += 1;
     }
     Joined {
@@ -94,7 +104,17 @@ fn push_atoms(w: Wide, f: Field, g: Field, n: usize, from: usize, to: usize, st:
     let mut x = w;
     let mut p = from;
     while p < to {
-        x = entries::push(x, st.atom(rows::merged_at(f, s, g, t, n, p)));
+        let i = rows::place_at(s, n, p);
+        let j = rows::place_at(t, n, p);
+        let a = rows::cell_with(f.n, s, n, p, f.terms[i]);
+        let b = rows::cell_with(g.n, t, n, p, g.terms[j]);
+        let atom = rows::merged(a, b);
+        let u = fillings::place_of(atom);
+        let m = x.n;
+        if m < 31 {
+            x.terms[m] = fillings::held(atom, st.atoms[u]);
+            x.n = m + 1;
+        }
         p += 1;
     }
     x

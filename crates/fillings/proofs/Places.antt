@@ -1,17 +1,25 @@
 -- The places of the variables: one for each kind below list and each number of the two sides.
 use mathlib.Core.Path.{_≡_, refl, sym, _∙_, ap, ap₂}
 use mathlib.Core.Logic.{_≢_}
-use mathlib.Core.Bool.{Bool, true, false, false≢true}
+use mathlib.Core.Bool.{Bool, true, false, cond, not, false≢true}
 use Prim.Native.Nat.{ℕ, zero, suc, _/_, _%_, _<_, _≤_}
 use native.Mathlib.Omega.{arith}
-use borrow.Author.Tests.{ne-eqb, ltb-true}
+use borrow.Author.Tests.{ne-eqb, ltb-true, not-true, not-false}
 use lib.Dec.{ltb}
+use lib.ListN.{length, getD}
 use Rattle.order.specs.Order.{basic, list}
 use Rattle.order.specs.Types.{Basic, integer, string, atom, Kind, rank, same}
+use Rattle.order.specs.Values.{kindOf}
+use Rattle.terms.specs.declared.Form.{Form}
+use Rattle.terms.specs.declared.Form.the-variants.{Int, Str, Var}
+use Rattle.terms.specs.declared.Term.{Term}
+use Rattle.terms.specs.Values.{blankTerm}
 use Rattle.text.specs.Sizes.{largestNumber}
 use Rattle.unifiers.specs.Shapes.{Side, left, right, free, of}
 use Rattle.sides.specs.Sides.{sided, encodeAtom}
-use Rattle.fillings.specs.States.{numbersOfPair, places, slot, hasPlace, kindAt, variableOf, variableAt}
+use Rattle.fillings.specs.declared.Fillings.{Fillings}
+use Rattle.fillings.specs.States.{numbersOfPair, places, slot, hasPlace, placeBy, placeOf, heldBy, lookBy, look, kindAt, variableOf, variableAt}
+use Rattle.fillings.proofs.Arrays.{entry-any}
 
 -- ---- kinds and their ranks
 
@@ -63,3 +71,42 @@ variable-there d k n h =
     ap₂ variableOf
     (ap kindAt (let e : slot (basic k) (sided d n) / numbersOfPair ≡ rank (basic k) = omega arith in e) ∙ kind-at-rank k)
     (let e : slot (basic k) (sided d n) % numbersOfPair ≡ sided d n = omega arith in e)
+
+-- ---- reading the place beforehand
+
+module _ (k : Kind) (n : ℕ) (b : Bool) (is-b : b ≡ hasPlace k n) where
+  pub place-none : not b ≡ true → 0 ≡ cond (hasPlace k n) (slot k n) 0
+  place-none e = ap (λ (x : Bool). cond x (slot k n) 0) (sym (not-true b e) ∙ is-b)
+
+  pub place-some : not b ≡ false → (slot k n ≡ cond (hasPlace k n) (slot k n) 0) × (slot k n < places)
+  place-some e = (ap (λ (x : Bool). cond x (slot k n) 0) (sym (not-false b e) ∙ is-b), place-small k n (sym is-b ∙ not-false b e))
+
+  pub held-itself : (t there : Term) → not b ≡ true → t ≡ cond (hasPlace k n) there t
+  held-itself t there e = ap (λ (x : Bool). cond x there t) (sym (not-true b e) ∙ is-b)
+
+  pub held-there : (t there : Term) → not b ≡ false → there ≡ cond (hasPlace k n) there t
+  held-there t there e = ap (λ (x : Bool). cond x there t) (sym (not-false b e) ∙ is-b)
+
+pub place-in : (t : Term) → placeOf t < places
+place-in t = go (t .form)
+  where
+    by : (k : Kind) (n : ℕ) (b : Bool) → hasPlace k n ≡ b → cond b (slot k n) 0 < places
+    by k n true e = place-small k n e
+    by k n false e = omega arith
+
+    go : (x : Form) → placeBy x < places
+    go (Int n) = omega arith
+    go (Str l) = omega arith
+    go (Var k n) = by (kindOf k) n (hasPlace (kindOf k) n) refl
+
+pub held-looks : (st : Fillings) (t d : Term) → length (st .atoms) ≡ places → heldBy (t .form) t (getD (st .atoms) (placeOf t) d) ≡ look st t
+held-looks st t d l = ap (heldBy (t .form) t) (entry-any (st .atoms) (placeOf t) d blankTerm (omega (arith, place-in t, l))) ∙ go (t .form)
+  where
+    by : (k : Kind) (n : ℕ) (b : Bool) → cond b (getD (st .atoms) (cond b (slot k n) 0) blankTerm) t ≡ cond b (getD (st .atoms) (slot k n) blankTerm) t
+    by k n true = refl
+    by k n false = refl
+
+    go : (x : Form) → heldBy x t (getD (st .atoms) (placeBy x) blankTerm) ≡ lookBy x t st
+    go (Int n) = refl
+    go (Str l) = refl
+    go (Var k n) = by (kindOf k) n (hasPlace (kindOf k) n)

@@ -84,6 +84,21 @@ lookBy (Var k n) t st = cond (hasPlace (kindOf k) n) (getD (st .atoms) (slot (ki
 abbrev pub look : Fillings → Term → Term
 look st t = lookBy (t .form) t st
 
+-- the same with the place read beforehand, which for an atom without one is any other; `held-looks` of proofs/Places says that it is the same
+
+abbrev pub placeBy : Form → ℕ
+placeBy (Int n) = 0
+placeBy (Str l) = 0
+placeBy (Var k n) = cond (hasPlace (kindOf k) n) (slot (kindOf k) n) 0
+
+abbrev pub placeOf : Term → ℕ
+placeOf t = placeBy (t .form)
+
+abbrev pub heldBy : Form → Term → Term → Term
+heldBy (Int n) t there = t
+heldBy (Str l) t there = t
+heldBy (Var k n) t there = cond (hasPlace (kindOf k) n) there t
+
 -- ---- the first state
 
 -- the kind below list of a rank

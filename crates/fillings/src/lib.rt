@@ -1,7 +1,8 @@
 // The state of the fillings of a pair of rules: what each atom variable stands for, and the join of two atoms.
 ghost use mathlib.Core.Path.{_≡_};
+ghost use Prim.Native.Nat.{_<_};
 ghost use Rattle.order.specs.Values.{kindOf, kindFrom};
-ghost use Rattle.fillings.specs.States.{sameBytes, sameForm, sameAtom, isVariable, kindOfAtom, takes, slot, hasPlace, look, replaced, joinTerms, kindAt, variableAt, startValue};
+ghost use Rattle.fillings.specs.States.{sameBytes, sameForm, sameAtom, isVariable, kindOfAtom, takes, slot, hasPlace, places, placeOf, heldBy, look, replaced, joinTerms, kindAt, startValue};
 use order::Kind;
 use terms::Form;
 use terms::Term;
@@ -124,6 +125,41 @@ fn has_place(k: Kind, n: u8) -> bool
     n < 32
 }
 
+// The place to read for an atom: that of an atom variable, and any other for an atom that has none.
+pub fn place_of(t: Term) -> usize
+    ensures { λ r. ⌜ r ≡ placeOf t ⌝ }
+    ensures { λ r. ⌜ r < places ⌝ }
+{
+    let form = t.form;
+    match form {
+        Form::Int(_) => 0,
+        Form::Str(_) => 0,
+        Form::Var(k, n) => {
+            if !has_place(k, n) {
+                return 0;
+            }
+            slot(k, n)
+        }
+    }
+}
+
+// What an atom stands for, given what the place to read has: so a caller that has a state need not hand it on.
+pub fn held(t: Term, there: Term) -> Term
+    ensures { λ r. ⌜ r ≡ heldBy (t .form) t there ⌝ }
+{
+    let form = t.form;
+    match form {
+        Form::Int(_) => t,
+        Form::Str(_) => t,
+        Form::Var(k, n) => {
+            if !has_place(k, n) {
+                return t;
+            }
+            there
+        }
+    }
+}
+
 // The type below list of this rank.
 fn kind_at(i: usize) -> Kind
     ensures { λ r. ⌜ r ≡ kindFrom (kindAt i) ⌝ }
@@ -137,20 +173,9 @@ fn kind_at(i: usize) -> Kind
     Kind::Atom
 }
 
-// The variable whose place is i.
-fn variable_at(i: usize) -> Term
-    ensures { λ r. ⌜ r ≡ variableAt i ⌝ }
-{
-    let n = i % 32;
-    Term {
-        form: Form::Var(kind_at(i / 32), n as u8),
-        text: [0; 15],
-    }
-}
-
 // ---- states
 
-// Each variable stands for itself.
+// Each variable stands for itself: at place i the variable of number i % 32 of its type.
 pub fn start() -> Fillings
     ensures { λ r. ⌜ r ≡ startValue ⌝ }
 {
@@ -158,7 +183,11 @@ pub fn start() -> Fillings
     let mut st = Fillings { atoms: [t; 96] };
     let mut i: usize = 0;
     while i < 96 {
-        st.atoms[i] = variable_at(i);
+        let n = i % 32;
+        st.atoms[i] = Term {
+            form: Form::Var(kind_at(i / 32), n as u8),
+            text: [0; 15],
+        };
         i += 1;
     }
     st

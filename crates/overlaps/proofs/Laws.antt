@@ -1,5 +1,5 @@
 -- Laws of the listing on values: lines one behind the other, their counts, and the lent bytes. Assumes nothing.
-use mathlib.Core.Path.{_≡_, sym, _∙_, ap, ap₂}
+use mathlib.Core.Path.{_≡_, refl, sym, _∙_, ap, ap₂, subst}
 use mathlib.Core.Bool.{Bool, true, false, cond, not}
 use mathlib.Core.List.{List, [], _∷_, _++_, append-nil}
 use Prim.Native.Nat.{ℕ, suc, _+_, _-_, _*_, _≤_, _<_}
@@ -14,6 +14,7 @@ use Rattle.choices.specs.Choices.{chosenAt, joinFields, entryOf}
 use Rattle.entries.specs.declared.Entry.{Entry}
 use Rattle.shown.specs.declared.Shown.{Shown}
 use Rattle.shown.specs.Values.{shownValue}
+use Rattle.writing.specs.Answers.{after}
 use Rattle.entry_lines.specs.Shown.{lineValue}
 use Rattle.entry_lines.specs.Sizes.{lineBound}
 use Rattle.pieces.proofs.Stored.{bytes-length, stores-append, stores-length}
@@ -95,23 +96,8 @@ abbrev pub Listed : List (List ℕ) → Tally → List ℕ → Tally → List �
 Listed ls t old u new = (u ≡ tallied t ls) × (new ≡ storeAll ls (t .bytes) old)
 
 module _ (t : Tally) (old : List ℕ) where
-  pub listed-none : (ls : List (List ℕ)) → ls ≡ [] → Listed ls t old t old
-  listed-none ls e = (sym (ap (tallied t) e ∙ tally-none t), sym (ap (λ (l : List (List ℕ)). storeAll l (t .bytes) old) e))
-
-  -- the same lines
   pub listed-as : (ls ms : List (List ℕ)) {u : Tally} {new : List ℕ} → ls ≡ ms → Listed ms t old u new → Listed ls t old u new
   listed-as ls ms e h = (h .0 ∙ ap (tallied t) (sym e), h .1 ∙ ap (λ (l : List (List ℕ)). storeAll l (t .bytes) old) (sym e))
-
-  -- lines a, and then lines b behind them
-  pub listed-both : (a b ls : List (List ℕ)) {u v : Tally} {new more : List ℕ} → ls ≡ a ++ b → Listed a t old u new → Listed b u new v more → Listed ls t old v more
-  listed-both a b ls {u} {v} {new} {more} e h k = (
-    k .0 ∙ ap (λ (x : Tally). tallied x b) (h .0) ∙ tally-append t a b ∙ ap (tallied t) (sym e),
-    k .1
-        ∙ ap (λ (x : Tally). storeAll b (x .bytes) new) (h .0)
-        ∙ ap (storeAll b (t .bytes + length (bytesOf a))) (h .1)
-        ∙ stores-append a b (t .bytes) old
-        ∙ ap (λ (l : List (List ℕ)). storeAll l (t .bytes) old) (sym e),
-  )
 
   -- the bytes stay as many
   pub listed-length : (ls : List (List ℕ)) {u : Tally} {new : List ℕ} → Listed ls t old u new → length new ≡ length old
@@ -125,3 +111,86 @@ unfolding lineAt
 line-is p ch st e l r a b c =
     ap₂ (λ (x y : Shown). lineValue e x y) b c
     ∙ ap (λ (x : Entry). lineValue x (shownValue (p .left) (p .left) x st) (shownValue (p .right) (p .sided) x st)) a
+
+-- ---- the candidates of field j one after the other, from a tally t and the bytes old: k are left, and what is left makes what was to list
+
+module _ (p : Pair) (j : ℕ) (ch : Choice) (st : Fillings) (t : Tally) (old : List ℕ) where
+  abbrev next : Choice → Fillings → List (List ℕ)
+  next = linesFrom (p .left .n - (j + 1)) p (j + 1)
+
+  abbrev rest : ℕ → List (List ℕ)
+  rest k = choiceLines next p j k ch st
+
+  abbrev all : List (List ℕ)
+  all = rest (spanAt p j .count)
+
+  pub record Choosing (s : Span) (k : ℕ) (u : Tally) (out : List ℕ) : Type 0 where
+    pub span-is : s ≡ spanAt p j
+    pub within : k ≤ spanAt p j .count
+    pub counts : tallied u (rest k) ≡ tallied t all
+    pub stores : storeAll (rest k) (u .bytes) out ≡ storeAll all (t .bytes) old
+    pub can : Countable u (rest k)
+    pub long : length out ≡ length old
+
+  pub choosing-start : (s : Span) → s ≡ spanAt p j → Countable t all → Choosing s (s .count) t old
+  choosing-start s e h =
+      let k : s .count ≡ spanAt p j .count = ap (λ (x : Span). x .count) e in
+      record {
+        span-is = e;
+        within = omega arith;
+        counts = ap (λ (n : ℕ). tallied t (rest n)) k;
+        stores = ap (λ (n : ℕ). storeAll (rest n) (t .bytes) old) k;
+        can = subst (λ (n : ℕ). Countable t (rest n)) (sym k) h;
+        long = refl;
+      }
+
+  pub choosing-as : (s : Span) (k : ℕ) (u v : Tally) (out new : List ℕ) → new ≡ out → v ≡ u → Choosing s k u out → Choosing s k v new
+  choosing-as s k u v out new e f C = subst (λ (x : Tally). Choosing s k x new) (sym f) (subst (λ (l : List ℕ). Choosing s k u l) (sym e) C)
+
+  module _ (s : Span) (k : ℕ) (u : Tally) (out : List ℕ) (C : Choosing s k u out) where
+    module _ (h : 1 ≤ k) (c : Candidate) (r : Joined) (is-c : c ≡ candidateOf s k) (is-r : r ≡ joinFields (leftAt p j) (rightAt p j) (c .items) st) where
+      pub choosing-clash : r .ok ≡ false → Choosing s (k - 1) u out
+      choosing-clash q =
+          let e = choice-clash next p j k ch st s c r h (C .span-is) is-c is-r (ap not q) in
+          record {
+            span-is = C .span-is;
+            within = omega (arith, C .within);
+            counts = ap (tallied u) (sym e) ∙ C .counts;
+            stores = ap (λ (l : List (List ℕ)). storeAll l (u .bytes) out) (sym e) ∙ C .stores;
+            can = subst (Countable u) e (C .can);
+            long = C .long;
+          }
+
+      module _ (d : Choice) (ok : r .ok ≡ true) (is-d : d ≡ chosenAt ch j (c .items) (c .long)) where
+        abbrev here : List (List ℕ)
+        here = next d (r .next)
+
+        splits : rest k ≡ here ++ rest (k - 1)
+        splits = choice-alive next p j k ch st s c r h (C .span-is) is-c is-r d (ap not ok) is-d
+
+        can-both : Countable u (here ++ rest (k - 1))
+        can-both = subst (Countable u) splits (C .can)
+
+        pub choosing-first : Countable u here
+        choosing-first = countable-first u here (rest (k - 1)) can-both
+
+        pub choosing-alive : (v : Tally) (m : List ℕ) → Listed here u out v m → Moderate v → Choosing s (k - 1) v m
+        choosing-alive v m l o =
+            record {
+              span-is = C .span-is;
+              within = omega (arith, C .within);
+              counts = ap (λ (x : Tally). tallied x (rest (k - 1))) (l .0) ∙ tally-append u here (rest (k - 1)) ∙ ap (tallied u) (sym splits) ∙ C .counts;
+              stores =
+                  ap (λ (x : Tally). storeAll (rest (k - 1)) (x .bytes) m) (l .0)
+                  ∙ ap (storeAll (rest (k - 1)) (u .bytes + length (bytesOf here))) (l .1)
+                  ∙ stores-append here (rest (k - 1)) (u .bytes) out
+                  ∙ ap (λ (x : List (List ℕ)). storeAll x (u .bytes) out) (sym splits)
+                  ∙ C .stores;
+              can = countable-next u here (rest (k - 1)) can-both v (l .0) o;
+              long = listed-length u out here l ∙ C .long;
+            }
+
+    pub choosing-end : k ≤ 0 → Listed all t old u out × Moderate u
+    choosing-end h =
+        let e = choice-none next p j k ch st (omega arith) in
+        ((sym (tally-none u) ∙ ap (tallied u) (sym e) ∙ C .counts, ap (λ (l : List (List ℕ)). storeAll l (u .bytes) out) (sym e) ∙ C .stores), C .can .0)

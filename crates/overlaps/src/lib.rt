@@ -8,13 +8,11 @@ ghost use Rattle.accepted.specs.Accepted.{countedRule};
 ghost use Rattle.listing.specs.Overlaps.{linesOf, overlapText};
 ghost use Rattle.entry_lines.specs.Sizes.{lineBound};
 ghost use Rattle.overlaps.specs.Lines.{lineAt};
-ghost use Rattle.choices.specs.Choices.{joinFields};
 ghost use Rattle.pieces.specs.Stored.{bytesOf, storeAll};
-ghost use Rattle.overlaps.specs.Listing.{leftAt, rightAt, spanAt, candidateOf, choiceLines, linesFrom, allLines, noTally, tallied, Moderate, Countable};
+ghost use Rattle.overlaps.specs.Listing.{spanAt, candidateOf, choiceLines, linesFrom, allLines, noTally, tallied, Moderate, Countable};
 ghost use Rattle.overlaps.specs.Answers.{answerOf, listedOf};
 use choices::Choice;
 use fillings::Fillings;
-use fillings::Joined;
 use rows::Span;
 use terms::Rule;
 
@@ -79,16 +77,6 @@ fn put_entry(p: Pair, ch: Choice, st: Fillings, out: &mut [u8], t: Tally) -> Tal
     }
 }
 
-// The candidates of field j.
-fn span_at(p: Pair, j: usize) -> Span
-    requires { ⌜ j < 4 ⌝ }
-    ensures { λ r. ⌜ r ≡ spanAt p j ⌝ }
-{
-    let l = p.left;
-    let r = p.sided;
-    rows::span_of(rows::shape_of(l.fields[j]), rows::shape_of(r.fields[j]))
-}
-
 // The candidate that comes next where k are left.
 fn candidate_of(s: Span, k: usize) -> Candidate
     requires { ⌜ (1 ≤ k) × (k ≤ s .count) × (s .least + s .count ≤ 128) ⌝ }
@@ -107,16 +95,6 @@ fn candidate_of(s: Span, k: usize) -> Candidate
     }
 }
 
-// The state after the joins of a candidate of field j, or a clash.
-fn join_at(p: Pair, j: usize, n: usize, st: Fillings) -> Joined
-    requires { ⌜ j < 4 ⌝ }
-    ensures { λ r. ⌜ r ≡ joinFields (leftAt p j) (rightAt p j) n st ⌝ }
-{
-    let l = p.left;
-    let r = p.sided;
-    choices::join_fields(l.fields[j], r.fields[j], n, st)
-}
-
 // All fields from j on: each choice of the next field, or the line where every field is chosen.
 fn next_field(p: Pair, j: usize, ch: Choice, st: Fillings, out: &mut [u8], t: Tally) -> Tally
     requires { ⌜ (p .left .n ≤ 4) × (j ≤ p .left .n) × Countable t (linesFrom (p .left .n - j) p j ch st) ⌝ }
@@ -127,27 +105,32 @@ fn next_field(p: Pair, j: usize, ch: Choice, st: Fillings, out: &mut [u8], t: Ta
     if l.n <= j {
         return put_entry(p, ch, st, out, t);
     }
-    let s = span_at(p, j);
-    choose(p, j, s.count, ch, st, out, t)
+    choose(p, j, ch, st, out, t)
 }
 
-// The candidates of field j that are left, k of them: each leads to the next field's choices.
-fn choose(p: Pair, j: usize, k: usize, ch: Choice, st: Fillings, out: &mut [u8], t: Tally) -> Tally
-    requires { ⌜ (p .left .n ≤ 4) × (j < p .left .n) × (k ≤ spanAt p j .count) × Countable t (choiceLines (linesFrom (p .left .n - (j + 1)) p (j + 1)) p j k ch st) ⌝ }
-    ensures { λ r. ⌜ (r ≡ tallied t (choiceLines (linesFrom (p .left .n - (j + 1)) p (j + 1)) p j k ch st)) × (now (out .exit) ≡ storeAll (choiceLines (linesFrom (p .left .n - (j + 1)) p (j + 1)) p j k ch st) (t .bytes) (now (out .entry))) ⌝ }
+// The candidates of field j: each leads to the next field's choices.
+fn choose(p: Pair, j: usize, ch: Choice, st: Fillings, out: &mut [u8], t: Tally) -> Tally
+    requires { ⌜ (p .left .n ≤ 4) × (j < p .left .n) × Countable t (choiceLines (linesFrom (p .left .n - (j + 1)) p (j + 1)) p j (spanAt p j .count) ch st) ⌝ }
+    ensures { λ r. ⌜ (r ≡ tallied t (choiceLines (linesFrom (p .left .n - (j + 1)) p (j + 1)) p j (spanAt p j .count) ch st)) × (now (out .exit) ≡ storeAll (choiceLines (linesFrom (p .left .n - (j + 1)) p (j + 1)) p j (spanAt p j .count) ch st) (t .bytes) (now (out .entry))) ⌝ }
     ensures { λ r. ⌜ Moderate r ⌝ }
 {
-    if k == 0 {
-        return t;
+    let l = p.left;
+    let r = p.sided;
+    let f = l.fields[j];
+    let g = r.fields[j];
+    let s = rows::span_of(rows::shape_of(f), rows::shape_of(g));
+    let mut u = t;
+    let mut k = s.count;
+    while 0 < k {
+        let c = candidate_of(s, k);
+        let joined = choices::join_fields(f, g, c.items, st);
+        if joined.ok {
+            let chosen = choices::choose_at(ch, j, c.items, c.long);
+            u = next_field(p, j + 1, chosen, joined.next, out, u);
+        }
+        k -= 1;
     }
-    let c = candidate_of(span_at(p, j), k);
-    let joined = join_at(p, j, c.items, st);
-    if !joined.ok {
-        return choose(p, j, k - 1, ch, st, out, t);
-    }
-    let chosen = choices::choose_at(ch, j, c.items, c.long);
-    let u = next_field(p, j + 1, chosen, joined.next, out, t);
-    choose(p, j, k - 1, ch, st, out, u)
+    u
 }
 
 // ---- the whole list

@@ -127,3 +127,22 @@ mergedCell a b = cond (a .some) (a .atom) (b .atom)
 -- the left atom, else the right one, else the blank one
 abbrev pub mergedValue : List Term → Shape → List Term → Shape → ℕ → ℕ → Term
 mergedValue ts s us t n p = mergedCell (cellValue ts s n p) (cellValue us t n p)
+
+-- ---- the same with the term read beforehand; `cell-read` of proofs/Places says that the cell is the same
+
+-- the number of the term to read: that of the atom at position p of n items, and any other where there is none
+abbrev pub placeOfShape : Shape → ℕ → ℕ → ℕ
+placeOfShape s n p = cond (ltb p (s .head)) p (cond (inTail s n p) (min (tailPlace s n p) 15) 0)
+
+abbrev pub placeValue : Shape → ℕ → ℕ → ℕ
+placeValue s n p = placeOfShape (capped s) n p
+
+-- the term t, if a field of m terms has a term of number i
+abbrev pub termBy : ℕ → ℕ → Term → Term
+termBy m i t = cond (ltb i (min m 16)) t blankTerm
+
+abbrev pub cellByShape : ℕ → Shape → ℕ → ℕ → Term → Cell
+cellByShape m s n p t = cond (ltb p (s .head)) (someCell (termBy m p t)) (cond (inTail s n p) (someCell (termBy m (tailPlace s n p) t)) noCell)
+
+abbrev pub cellBy : ℕ → Shape → ℕ → ℕ → Term → Cell
+cellBy m s n p t = cellByShape m (capped s) n p t

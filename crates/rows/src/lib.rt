@@ -1,11 +1,11 @@
 // Two fields laid over each other: their shapes, the candidates of the pair, and the atoms at each position.
 ghost use mathlib.Core.Path.{_≡_};
 ghost use mathlib.Core.Bool.{true};
-ghost use Prim.Native.Nat.{max, min};
+ghost use Prim.Native.Nat.{_<_, max, min};
 ghost use lib.ListN.{getD};
 ghost use Rattle.order.specs.Values.{kindOf};
 ghost use Rattle.terms.specs.Values.{blankTerm};
-ghost use Rattle.rows.specs.Rows.{termsOf, isList, isListTerm, numberOf, Small, shapeWith, shapeValue, listNumber, capped, canHold, onlyLength, openSpan, spanValue, someCell, noCell, inTail, tailPlace, cellValue, mergedValue};
+ghost use Rattle.rows.specs.Rows.{termsOf, isList, isListTerm, numberOf, Small, shapeWith, shapeValue, listNumber, capped, canHold, onlyLength, openSpan, spanValue, someCell, noCell, inTail, tailPlace, cellValue, mergedCell, mergedValue, placeValue, termBy, cellBy};
 use order::Kind;
 use terms::Field;
 use terms::Form;
@@ -285,5 +285,56 @@ pub fn merged_at(f: Field, s: Shape, g: Field, t: Shape, n: usize, p: usize) -> 
         return a.atom;
     }
     let b = cell_at(g, t, n, p);
+    b.atom
+}
+
+// ---- the same with the term read beforehand, so that no field is handed on
+
+// The number of the term to read for position p of n items: that of the atom there, and any other where there is none.
+pub fn place_at(s: Shape, n: usize, p: usize) -> usize
+    ensures { λ r. ⌜ r ≡ placeValue s n p ⌝ }
+    ensures { λ r. ⌜ r < 16 ⌝ }
+{
+    let c = capped(s);
+    if p < c.head {
+        return p;
+    }
+    if !in_tail(c, n, p) {
+        return 0;
+    }
+    at_most(tail_place(c, n, p), 15)
+}
+
+// The term t, if a field of m terms has a term of number i.
+fn term_with(m: usize, i: usize, t: Term) -> Term
+    ensures { λ r. ⌜ r ≡ termBy m i t ⌝ }
+{
+    if i < at_most(m, 16) {
+        return t;
+    }
+    terms::blank_term()
+}
+
+// The atom that a field of m terms and this shape has at position p of n items; t is the term at the place to read.
+pub fn cell_with(m: usize, s: Shape, n: usize, p: usize, t: Term) -> Cell
+    ensures { λ r. ⌜ r ≡ cellBy m s n p t ⌝ }
+{
+    let c = capped(s);
+    if p < c.head {
+        return some_cell(term_with(m, p, t));
+    }
+    if !in_tail(c, n, p) {
+        return no_cell();
+    }
+    some_cell(term_with(m, tail_place(c, n, p), t))
+}
+
+// The left atom, else the right one, else the blank one.
+pub fn merged(a: Cell, b: Cell) -> Term
+    ensures { λ r. ⌜ r ≡ mergedCell a b ⌝ }
+{
+    if a.some {
+        return a.atom;
+    }
     b.atom
 }

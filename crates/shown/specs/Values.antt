@@ -49,6 +49,15 @@ showForm run s (Var k n) value = withVariable s (kindOf k) n run value
 abbrev pub showTerm : Run → Shown → Term → Term → Shown
 showTerm run s t value = showForm run s (t .form) value
 
+-- the place of the variable, 64 of a term that has none; `form-atom`, `form-run` and `form-none` of proofs/Places say what goes there
+abbrev pub placeBy : Form → ℕ
+placeBy (Int m) = 64
+placeBy (Str m) = 64
+placeBy (Var k n) = cond (leb numbersOfSide n) 64 (placeIn (kindOf k) n)
+
+abbrev pub placeOf : Term → ℕ
+placeOf t = placeBy (t .form)
+
 -- ---- a field's terms ts from the left; us are the same terms as they stand in the pair
 
 abbrev pub showTerms : Run → Fillings → Shown → List Term → List Term → Shown

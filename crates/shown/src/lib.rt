@@ -1,15 +1,11 @@
 // The values of one rule's variables on an entry of the overlap list, as the line writer takes them.
 ghost use mathlib.Core.Path.{_≡_};
-ghost use mathlib.Core.Bool.{false};
-ghost use Prim.Native.Nat.{_+_, _-_, _<_, min};
-ghost use Rattle.order.specs.Values.{kindOf};
-ghost use Rattle.rows.specs.Rows.{isList};
+ghost use Prim.Native.Nat.{_+_, _-_, min};
 ghost use Rattle.shown.specs.Shown.{blankShown};
-ghost use Rattle.shown.specs.Values.{runAt, withAtom, withRun, withVariable, showTerm, showField, shownValue};
+ghost use Rattle.shown.specs.Values.{runAt, placeOf, showField, shownValue};
 use entries::Entry;
 use entries::Wide;
 use fillings::Fillings;
-use order::Kind;
 use terms::Field;
 use terms::Form;
 use terms::Rule;
@@ -52,17 +48,6 @@ fn at_most(n: usize, places: usize) -> usize
     if n < places { n } else { places }
 }
 
-fn is_list(k: Kind) -> bool
-    ensures { λ r. ⌜ r ≡ isList (kindOf k) ⌝ }
-{
-    match k {
-        Kind::Integer => false,
-        Kind::String => false,
-        Kind::Atom => false,
-        Kind::List => true,
-    }
-}
-
 // How many are left of n behind the first a and before the last b.
 fn between(n: usize, a: usize, b: usize) -> usize
     ensures { λ r. ⌜ r ≡ n - (a + b) ⌝ }
@@ -89,51 +74,21 @@ fn run_at(j: usize, f: Field, w: Wide) -> Run
     }
 }
 
-// The atom variable of type k and number n has this value.
-fn with_atom(s: Shown, k: Kind, n: usize, value: Term) -> Shown
-    requires { ⌜ (n < 16) × (isList (kindOf k) ≡ false) ⌝ }
-    ensures { λ r. ⌜ r ≡ withAtom s (kindOf k) n value ⌝ }
-{
-    let i = 16 * order::rank(k) + n;
-    let mut x = s;
-    x.known[i] = true;
-    x.atoms[i] = value;
-    x
-}
-
-// The list variable of number n has this run.
-fn with_run(s: Shown, n: usize, run: Run) -> Shown
-    requires { ⌜ n < 16 ⌝ }
-    ensures { λ r. ⌜ r ≡ withRun s n run ⌝ }
-{
-    let mut x = s;
-    x.known[48 + n] = true;
-    x.runs[n] = run;
-    x
-}
-
-// A number over 15, which no reading returns, has no place.
-fn with_variable(s: Shown, k: Kind, n: u8, run: Run, value: Term) -> Shown
-    ensures { λ r. ⌜ r ≡ withVariable s (kindOf k) n run value ⌝ }
-{
-    if 16 <= n {
-        return s;
-    }
-    if is_list(k) {
-        return with_run(s, n as usize, run);
-    }
-    with_atom(s, k, n as usize, value)
-}
-
-// The term t of the rule: a list variable has this run, an atom variable this value.
-fn show_term(s: Shown, t: Term, run: Run, value: Term) -> Shown
-    ensures { λ r. ⌜ r ≡ showTerm run s t value ⌝ }
+// The place of a term's variable: below 48 an atom variable's, below 64 a list variable's, else it has none.
+// (A number over 15, which no reading returns, has no place.)
+fn place_of(t: Term) -> usize
+    ensures { λ r. ⌜ r ≡ placeOf t ⌝ }
 {
     let form = t.form;
     match form {
-        Form::Int(_) => s,
-        Form::Str(_) => s,
-        Form::Var(k, n) => with_variable(s, k, n, run, value),
+        Form::Int(_) => 64,
+        Form::Str(_) => 64,
+        Form::Var(k, n) => {
+            if 16 <= n {
+                return 64;
+            }
+            16 * order::rank(k) + n as usize
+        }
     }
 }
 
@@ -145,7 +100,16 @@ pub fn show_field(s: Shown, f: Field, g: Field, run: Run, st: Fillings) -> Shown
     let mut x = s;
     let mut i: usize = 0;
     while i < n {
-        x = show_term(x, f.terms[i], run, st.atom(g.terms[i]));
+        let place = place_of(f.terms[i]);
+        if place < 48 {
+            x.known[place] = true;
+            x.atoms[place] = st.atom(g.terms[i]);
+        } else {
+            if place < 64 {
+                x.known[place] = true;
+                x.runs[place - 48] = run;
+            }
+        }
         i += 1;
     }
     x
