@@ -1,4 +1,5 @@
 pub mod Texts
 pub mod Matching
+pub mod Searching
 pub mod Overlaps
 pub mod Library
