@@ -124,15 +124,8 @@ fn generated_lines_have_every_answer() {
     ];
     for seed in [0, 1] {
         let mut draw = Draw::new(seed);
-        let mut counts: HashMap<String, usize> = HashMap::new();
-        for _ in 0..20_000 {
-            let line = match_line(&mut draw);
-            assert!(!line.contains(&b'\n'));
-            *counts.entry(answer_kind(&line)).or_default() += 1;
-        }
-        for kind in expected {
-            assert!(counts.get(kind) >= Some(&50), "{kind}: {counts:?}");
-        }
+        let counts =
+            assert_every_kind(&expected, 50, 20_000, || match_line(&mut draw), answer_kind);
         assert!((8_000..12_000).contains(&counts["yes"]), "{counts:?}");
     }
 }

@@ -283,13 +283,5 @@ fn generated_lines_have_every_answer() {
         "right 6",
     ];
     let mut draw = Draw::new(0);
-    let mut counts: HashMap<String, usize> = HashMap::new();
-    for _ in 0..6_000 {
-        let line = pair_line(&mut draw);
-        assert!(!line.contains(&b'\n'));
-        *counts.entry(answer_kind(&line)).or_default() += 1;
-    }
-    for kind in expected {
-        assert!(counts.get(kind) >= Some(&5), "{kind}: {counts:?}");
-    }
+    assert_every_kind(&expected, 5, 6_000, || pair_line(&mut draw), answer_kind);
 }

@@ -209,13 +209,5 @@ fn generated_lines_have_every_answer() {
         "line too long",
     ];
     let mut draw = Draw::new(0);
-    let mut counts: HashMap<String, usize> = HashMap::new();
-    for _ in 0..3_000 {
-        let line = search_line(&mut draw);
-        assert!(!line.contains(&b'\n'));
-        *counts.entry(answer_kind(&line)).or_default() += 1;
-    }
-    for kind in expected {
-        assert!(counts.get(kind) >= Some(&20), "{kind}: {counts:?}");
-    }
+    assert_every_kind(&expected, 20, 3_000, || search_line(&mut draw), answer_kind);
 }

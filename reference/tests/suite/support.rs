@@ -1,6 +1,6 @@
 //! What the tests share: short names for terms, texts of a given size.
 
-use std::collections::BTreeSet;
+use std::collections::{BTreeSet, HashMap};
 
 pub use reference::draw::Draw;
 use reference::reading::{read_rule, read_slip, Refusal};
@@ -77,4 +77,25 @@ pub fn put_in(fields: &[Field], filling: &Filling) -> Vec<Field> {
     };
     let field = |terms: &Field| terms.iter().flat_map(value).collect();
     fields.iter().map(field).collect()
+}
+
+/// Each of the expected kinds of answer comes up often enough among so many
+/// generated lines, none of which has a newline.
+pub fn assert_every_kind(
+    expected: &[&str],
+    least: usize,
+    lines: usize,
+    mut line: impl FnMut() -> Vec<u8>,
+    kind: impl Fn(&[u8]) -> String,
+) -> HashMap<String, usize> {
+    let mut counts: HashMap<String, usize> = HashMap::new();
+    for _ in 0..lines {
+        let line = line();
+        assert!(!line.contains(&b'\n'));
+        *counts.entry(kind(&line)).or_default() += 1;
+    }
+    for &kind in expected {
+        assert!(counts.get(kind) >= Some(&least), "{kind}: {counts:?}");
+    }
+    counts
 }
