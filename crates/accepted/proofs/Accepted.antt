@@ -1,6 +1,6 @@
--- The accepted values are exactly those that some text is read as, one for each rule and slip.
+-- The accepted rules and fields are exactly those that some text is read as, one for each rule.
 -- `view-encode-..`: a value stands for what it was made of. `accepted-..`: an accepted value is the one of what it stands for, within the limits.
--- `rule-value-iff`, `slip-value-iff`, `field-value-iff`: the theorems.
+-- `rule-value-iff`, `field-value-iff`: the theorems.
 use mathlib.Core.Path.{_≡_, refl, sym, _∙_, ap}
 use mathlib.Core.Logic.{_↔_}
 use mathlib.Core.Bool.{Bool, true, _&&_}
@@ -13,54 +13,37 @@ use lib.ListN.{length, getD}
 use Rattle.lists.specs.Seqs.{All, IsCons, all-map}
 use Rattle.text.specs.Sizes.{mostFields}
 use Rattle.text.specs.Terms.{OurTerm}
-use Rattle.text.specs.Read.{rule, slip, Outcome, accepted, readRule, readSlip}
-use Rattle.text.specs.Limits.{TermIn, Within, Linear, IsCon, IsRule, IsSlip}
-use Rattle.text.proofs.Accepted.{rule-iff, slip-iff}
+use Rattle.text.specs.Read.{rule, Outcome, accepted, readRule}
+use Rattle.text.specs.Limits.{TermIn, Within, Linear, IsRule}
+use Rattle.text.proofs.Accepted.{rule-iff}
 use Rattle.terms.specs.declared.Term.{Term}
 use Rattle.terms.specs.declared.Field.{Field}
 use Rattle.terms.specs.declared.Rule.{Rule}
-use Rattle.terms.specs.declared.SlipField.{SlipField}
-use Rattle.terms.specs.declared.Slip.{Slip}
-use Rattle.accepted.specs.Filled.{filledTo}
+use Rattle.canonical.specs.Filled.{filledTo}
 use Rattle.linearity.specs.Lists.{linear}
-use Rattle.terms.specs.Values.{viewTerm, viewField, viewRule, viewSlipField, viewSlip, blankField, blankRule, blankSlipField, blankSlip, encodeTerm, encodeField, encodeRule, encodeSlipField, encodeSlip, oneField}
-use Rattle.accepted.specs.Accepted.{fieldOk, fieldBlank, acceptedRule, acceptedField, slipFieldOk, slipFieldBlank, acceptedSlip}
+use Rattle.terms.specs.Values.{viewTerm, viewField, viewRule, blankField, blankRule, encodeTerm, encodeField, encodeRule, oneField}
+use Rattle.accepted.specs.Accepted.{fieldOk, fieldBlank, acceptedRule, acceptedField}
 use Rattle.lists.specs.Truths.{both-is}
 use Rattle.linearity.proofs.Linear.{linear-is, linear-field}
-use Rattle.accepted.proofs.Arrays.{Stands, encode-one, Counted, counted}
-use Rattle.accepted.proofs.Terms.{term-stands, item-stands, ItemIn}
+use Rattle.canonical.proofs.Arrays.{Stands, encode-one, Counted, counted}
+use Rattle.canonical.proofs.Terms.{term-stands}
 
--- ---- fields, rules, slips: a count and an array
+-- ---- fields and rules: a count and an array
 abbrev field-parts : Counted Term Field
 field-parts = record { count = λ f. f .n; places = λ f. f .terms; make = λ n ts. record { n = n; terms = ts }; make-parts = λ f. refl; count-make = λ n ts. refl; places-make = λ n ts. refl }
 
 abbrev rule-parts : Counted Field Rule
 rule-parts = record { count = λ r. r .n; places = λ r. r .fields; make = λ n fs. record { n = n; fields = fs }; make-parts = λ r. refl; count-make = λ n fs. refl; places-make = λ n fs. refl }
 
-abbrev slip-field-parts : Counted Term SlipField
-slip-field-parts = record { count = λ f. f .n; places = λ f. f .terms; make = λ n ts. record { n = n; terms = ts }; make-parts = λ f. refl; count-make = λ n ts. refl; places-make = λ n ts. refl }
-
-abbrev slip-parts : Counted SlipField Slip
-slip-parts = record { count = λ s. s .n; places = λ s. s .fields; make = λ n fs. record { n = n; fields = fs }; make-parts = λ s. refl; count-make = λ n fs. refl; places-make = λ n fs. refl }
-
--- a field's terms, a rule's fields, and the same of a slip: not too many, each within its limits
+-- a field's terms, a rule's fields: not too many, each within its limits
 abbrev pub FieldIn : List OurTerm → Type 0
 FieldIn f = (length f ≤ rule .width) × All TermIn f
 
 abbrev pub RuleIn : List (List OurTerm) → Type 0
 RuleIn r = (length r ≤ mostFields) × All FieldIn r
 
-abbrev pub SlipFieldIn : List OurTerm → Type 0
-SlipFieldIn f = (length f ≤ slip .width) × All ItemIn f
-
-abbrev pub SlipIn : List (List OurTerm) → Type 0
-SlipIn r = (length r ≤ mostFields) × All SlipFieldIn r
-
 abbrev pub ruleOk : Rule → Bool
 ruleOk r = filledTo mostFields fieldOk fieldBlank (r .n) (r .fields)
-
-abbrev pub slipOk : Slip → Bool
-slipOk s = filledTo mostFields slipFieldOk slipFieldBlank (s .n) (s .fields)
 
 pub field-stands : Stands viewField encodeField fieldOk fieldBlank blankField FieldIn
 field-stands = counted field-parts (rule .width) term-stands
@@ -68,21 +51,15 @@ field-stands = counted field-parts (rule .width) term-stands
 pub rule-stands : Stands viewRule encodeRule ruleOk (λ r. eqb (r .n) 0 && ruleOk r) blankRule RuleIn
 rule-stands = counted rule-parts mostFields field-stands
 
-pub slip-field-stands : Stands viewSlipField encodeSlipField slipFieldOk slipFieldBlank blankSlipField SlipFieldIn
-slip-field-stands = counted slip-field-parts (slip .width) item-stands
-
-pub slip-stands : Stands viewSlip encodeSlip slipOk (λ s. eqb (s .n) 0 && slipOk s) blankSlip SlipIn
-slip-stands = counted slip-parts mostFields slip-field-stands
-
 -- ---- the limits of document 01
 module _ {A : Type 0} where
-  all-both : (P Q : A → Type 0) (xs : List A) → All (λ x. P x × Q x) xs ↔ (All P xs × All Q xs)
+  pub all-both : (P Q : A → Type 0) (xs : List A) → All (λ x. P x × Q x) xs ↔ (All P xs × All Q xs)
   all-both P Q [] = (λ h. (tt, tt), λ h. tt)
   all-both P Q (x ∷ xs) =
       let r = all-both P Q xs in
       (λ h. ((h .0 .0, r .0 (h .1) .0), (h .0 .1, r .0 (h .1) .1)), λ h. ((h .0 .0, h .1 .0), r .1 (h .0 .1, h .1 .1)))
 
-  cons-is : (xs : List A) → (0 < length xs) ↔ IsCons xs
+  pub cons-is : (xs : List A) → (0 < length xs) ↔ IsCons xs
   cons-is [] = (λ h. omega arith, λ h. absurd h)
   cons-is (x ∷ xs) = (λ h. tt, λ h. omega arith)
 
@@ -90,31 +67,13 @@ module _ {A : Type 0} where
   all-mem P (x ∷ xs) y h (List·Memᴰ·head e) = rw e (h .0)
   all-mem P (x ∷ xs) y h (List·Memᴰ·tail m) = all-mem P xs y (h .1) m
 
-within-is : (w : ℕ) (r : List (List OurTerm)) → Within w r ↔ (IsCons r × (length r ≤ mostFields) × All (λ f. (length f ≤ w) × All TermIn f) r)
+pub within-is : (w : ℕ) (r : List (List OurTerm)) → Within w r ↔ (IsCons r × (length r ≤ mostFields) × All (λ f. (length f ≤ w) × All TermIn f) r)
 within-is w r =
     let b = all-both (λ f. length f ≤ w) (All TermIn) r in
     (λ h. (h .0, h .1, b .1 (h .2, h .3)), λ h. (h .0, h .1, b .0 (h .2) .0, b .0 (h .2) .1))
 
 pub rule-is : (r : List (List OurTerm)) → IsRule r ↔ (IsCons r × RuleIn r × Linear r)
 rule-is r = let i = within-is (rule .width) r in (λ h. let j = i .0 (h .0) in (j .0, (j .1, j .2), h .1), λ h. (i .1 (h .0, h .1 .0, h .1 .1), h .2))
-
-slip-fields-are : (r : List (List OurTerm)) → (All (λ f. (length f ≤ slip .width) × All TermIn f) r × All (All IsCon) r) ↔ All SlipFieldIn r
-slip-fields-are r =
-    let b = all-both Plain (All IsCon) r in (
-      λ h. all-map (λ f. Plain f × All IsCon f) SlipFieldIn (λ f k. (k .0 .0, all-both TermIn IsCon f .1 (k .0 .1, k .1))) r (b .1 h),
-      λ h. b .0 (all-map SlipFieldIn (λ f. Plain f × All IsCon f) (λ f k. let i = all-both TermIn IsCon f .0 (k .1) in ((k .0, i .0), i .1)) r h),
-    )
-  where
-    Plain : List OurTerm → Type 0
-    Plain f = (length f ≤ slip .width) × All TermIn f
-
-pub slip-is : (r : List (List OurTerm)) → IsSlip r ↔ (IsCons r × SlipIn r)
-slip-is r =
-    let i = within-is (slip .width) r in
-    let s = slip-fields-are r in (
-      λ h. let j = i .0 (h .0) in (j .0, (j .1, s .0 (j .2, h .1))),
-      λ h. let j = s .1 (h .1 .1) in (i .1 (h .0, h .1 .0, j .0), j .1),
-    )
 
 -- ---- there and back
 pub view-encode-term : (t : OurTerm) → TermIn t → viewTerm (encodeTerm t) ≡ t
@@ -123,25 +82,16 @@ view-encode-term t h = term-stands .view-encode t h
 pub view-encode-field : (ts : List OurTerm) → length ts ≤ rule .width → All TermIn ts → viewField (encodeField ts) ≡ ts
 view-encode-field ts k h = field-stands .view-encode ts (k, h)
 
-pub view-encode-slip-field : (ts : List OurTerm) → length ts ≤ slip .width → All TermIn ts → All IsCon ts → viewSlipField (encodeSlipField ts) ≡ ts
-view-encode-slip-field ts k h c = slip-field-stands .view-encode ts (k, all-both TermIn IsCon ts .1 (h, c))
-
 pub view-encode-rule : (r : List (List OurTerm)) → IsRule r → viewRule (encodeRule r) ≡ r
 view-encode-rule r h = rule-stands .view-encode r (rule-is r .0 h .1)
 
-pub view-encode-slip : (r : List (List OurTerm)) → IsSlip r → viewSlip (encodeSlip r) ≡ r
-view-encode-slip r h = slip-stands .view-encode r (slip-is r .0 h .1)
-
--- THERE IS ONE VALUE for one rule, and for one slip
+-- THERE IS ONE VALUE for one rule
 pub encode-rule-one : (r s : List (List OurTerm)) → IsRule r → IsRule s → encodeRule r ≡ encodeRule s → r ≡ s
 encode-rule-one r s h k e = encode-one rule-stands r s (rule-is r .0 h .1) (rule-is s .0 k .1) e
 
-pub encode-slip-one : (r s : List (List OurTerm)) → IsSlip r → IsSlip s → encodeSlip r ≡ encodeSlip s → r ≡ s
-encode-slip-one r s h k e = encode-one slip-stands r s (slip-is r .0 h .1) (slip-is s .0 k .1) e
-
 -- ---- accepted
 -- a count over zero
-count-is : (n : ℕ) (r : List (List OurTerm)) → length r ≡ n → (ltb 0 n ≡ true) ↔ IsCons r
+pub count-is : (n : ℕ) (r : List (List OurTerm)) → length r ≡ n → (ltb 0 n ≡ true) ↔ IsCons r
 count-is n r e = (λ h. cons-is r .0 (omega (arith, ltb-true 0 n h)), λ h. lt-ltb 0 n (omega (arith, cons-is r .1 h)))
 
 pub encode-accepted-rule : (r : List (List OurTerm)) → IsRule r → acceptedRule (encodeRule r) ≡ true
@@ -153,11 +103,6 @@ encode-accepted-rule r h =
       both-is (ruleOk (encodeRule r)) (linear (viewRule (encodeRule r))) .1 (rule-stands .encode-good r (i .1), l),
     )
 
-pub encode-accepted-slip : (r : List (List OurTerm)) → IsSlip r → acceptedSlip (encodeSlip r) ≡ true
-encode-accepted-slip r h =
-    let i = slip-is r .0 h in
-    both-is (ltb 0 (length r)) (slipOk (encodeSlip r)) .1 (count-is (length r) r refl .1 (i .0), slip-stands .encode-good r (i .1))
-
 pub accepted-rule : (v : Rule) → acceptedRule v ≡ true → IsRule (viewRule v) × (encodeRule (viewRule v) ≡ v)
 accepted-rule v h =
     let p = both-is (ltb 0 (v .n)) (ruleOk v && linear (viewRule v)) .0 h in
@@ -168,18 +113,11 @@ accepted-rule v h =
     let l = linear-is (viewRule v) (all-map FieldIn (All TermIn) (λ f k. k .1) (viewRule v) (i .1)) .0 (q .1) in
     (rule-is (viewRule v) .1 (c, i, l), e)
 
-pub accepted-slip : (v : Slip) → acceptedSlip v ≡ true → IsSlip (viewSlip v) × (encodeSlip (viewSlip v) ≡ v)
-accepted-slip v h =
-    let p = both-is (ltb 0 (v .n)) (slipOk v) .0 h in
-    let e = slip-stands .encode-view v (p .1) in
-    let c = count-is (v .n) (viewSlip v) (ap (λ (s : Slip). s .n) e) .0 (p .0) in
-    (slip-is (viewSlip v) .1 (c, slip-stands .view-in v (p .1)), e)
-
 -- ---- THE ACCEPTED VALUES are those that some text is read as
-abbrev ReadAs : {W : Type 0} → (List ℕ → Outcome) → (List (List OurTerm) → W) → W → Type 0
+abbrev pub ReadAs : {W : Type 0} → (List ℕ → Outcome) → (List (List OurTerm) → W) → W → Type 0
 ReadAs read encode v = (t : List ℕ) × (r : List (List OurTerm)) × (read t ≡ accepted r) × (v ≡ encode r)
 
-value-iff : {W : Type 0} (good : W → Bool) (view : W → List (List OurTerm)) (encode : List (List OurTerm) → W) (read : List ℕ → Outcome) (Is : List (List OurTerm) → Type 0)
+pub value-iff : {W : Type 0} (good : W → Bool) (view : W → List (List OurTerm)) (encode : List (List OurTerm) → W) (read : List ℕ → Outcome) (Is : List (List OurTerm) → Type 0)
     → ((r : List (List OurTerm)) → ((t : List ℕ) × (read t ≡ accepted r)) ↔ Is r)
     → ((v : W) → good v ≡ true → Is (view v) × (encode (view v) ≡ v))
     → ((r : List (List OurTerm)) → Is r → good (encode r) ≡ true)
@@ -194,9 +132,6 @@ value-iff {W} good view encode read Is read-is from to v = (there, λ h. ap good
 
 pub rule-value-iff : (v : Rule) → (acceptedRule v ≡ true) ↔ ((t : List ℕ) × (r : List (List OurTerm)) × (readRule t ≡ accepted r) × (v ≡ encodeRule r))
 rule-value-iff = value-iff acceptedRule viewRule encodeRule readRule IsRule rule-iff accepted-rule encode-accepted-rule
-
-pub slip-value-iff : (v : Slip) → (acceptedSlip v ≡ true) ↔ ((t : List ℕ) × (r : List (List OurTerm)) × (readSlip t ≡ accepted r) × (v ≡ encodeSlip r))
-slip-value-iff = value-iff acceptedSlip viewSlip encodeSlip readSlip IsSlip slip-iff accepted-slip encode-accepted-slip
 
 -- ---- THE ACCEPTED FIELDS are those that stand on some accepted rule's left side
 pub encode-accepted-field : (ts : List OurTerm) → IsRule (ts ∷ []) → acceptedField (encodeField ts) ≡ true

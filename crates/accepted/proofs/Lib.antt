@@ -1,5 +1,2 @@
-pub mod Filled
-pub mod Folds
-pub mod Arrays
-pub mod Terms
 pub mod Accepted
+pub mod Folds

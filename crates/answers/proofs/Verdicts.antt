@@ -11,13 +11,14 @@ use Rattle.text.proofs.Accepted.{rule-read}
 use Rattle.terms.specs.Values.{encodeRule}
 use Rattle.accepted.specs.Accepted.{countedRule}
 use Rattle.accepted.proofs.Accepted.{view-encode-rule, encode-accepted-rule}
-use Rattle.reading.specs.declared.Reason.{Reason}
-use Rattle.reading.specs.declared.Verdict.{Verdict}
-use Rattle.reading.specs.declared.Verdict.the-variants.{Accepted, Refused}
+use Rattle.verdicts.specs.declared.Reason.{Reason}
+use Rattle.verdicts.specs.declared.Verdict.{Verdict}
+use Rattle.verdicts.specs.declared.Verdict.the-variants.{Accepted, Refused}
 use Rattle.reading.specs.declared.RuleRead.{RuleRead}
 use Rattle.reading.specs.declared.SlipRead.{SlipRead}
-use Rattle.reading.specs.Answers.{reasonFrom, ruleRead, slipRead}
-use Rattle.reading.proofs.Verdicts.{number-is}
+use Rattle.verdicts.specs.Verdicts.{reasonFrom}
+use Rattle.reading.specs.Answers.{ruleRead, slipRead}
+use Rattle.verdicts.proofs.Verdicts.{number-is}
 use Rattle.text.specs.Ascii.{ascii, newline}
 use Rattle.answers.specs.Texts.{refusalText, ruleText, slipText, ruleAnswer, slipAnswer}
 use Rattle.answers.specs.Verdicts.{refusedText, verdictText, ruleSaid}

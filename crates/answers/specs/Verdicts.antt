@@ -3,11 +3,11 @@ use mathlib.Core.List.{List, _++_}
 use Prim.Native.Nat.{ℕ}
 use Rattle.text.specs.Plain.{plain}
 use Rattle.accepted.specs.Accepted.{countedRule}
-use Rattle.reading.specs.declared.Verdict.{Verdict}
-use Rattle.reading.specs.declared.Verdict.the-variants.{Accepted, Refused}
-use Rattle.reading.specs.declared.Reason.{Reason}
+use Rattle.verdicts.specs.declared.Verdict.{Verdict}
+use Rattle.verdicts.specs.declared.Verdict.the-variants.{Accepted, Refused}
+use Rattle.verdicts.specs.declared.Reason.{Reason}
 use Rattle.reading.specs.declared.RuleRead.{RuleRead}
-use Rattle.reading.specs.Answers.{numberOf}
+use Rattle.verdicts.specs.Verdicts.{numberOf}
 use Rattle.text.specs.Ascii.{ascii}
 use Rattle.pieces.specs.Refusals.{numberAt}
 

@@ -8,11 +8,10 @@ ghost use Rattle.writing.specs.Answers.{writtenOf, after};
 ghost use Rattle.text.specs.Ascii.{ascii, newline};
 ghost use Rattle.pieces.specs.Placed.{Placed};
 ghost use Rattle.answers.specs.Texts.{ruleAnswer, slipAnswer, textsAnswer};
-ghost use Rattle.answers.specs.Verdicts.{refusedText, verdictText, ruleSaid};
-use reading::Reason;
+ghost use Rattle.answers.specs.Verdicts.{verdictText, ruleSaid};
 use reading::RuleRead;
-use reading::Verdict;
 use terms::Rule;
+use verdicts::Verdict;
 use writing::Written;
 
 // ---- pieces: each is put at a place of the room, and returns the place behind it
@@ -28,16 +27,8 @@ fn put_rule(r: Rule, out: &mut [u8], at: usize) -> usize
     ensures { λ p. ⌜ Placed (plain (countedRule r)) at (now (out .entry)) p (now (out .exit)) ⌝ }
 {
     let mut text = [0u8; 1151];
-    let size = pieces::size_of(writing::write_rule(r, &mut text));
+    let size = pieces::size_of(plain_text::write_rule(r, &mut text));
     pieces::put_bytes(&text[..size], out, at)
-}
-
-fn put_refusal(reason: Reason, place: usize, out: &mut [u8], at: usize) -> usize
-    ensures { λ r. ⌜ Placed (refusedText reason place) at (now (out .entry)) r (now (out .exit)) ⌝ }
-{
-    let n = reading::number(reason);
-    let a = pieces::put_bytes(b"refused ", out, at);
-    pieces::put_number_at(n as u64, place as u64, out, a)
 }
 
 // ---- `texts`
@@ -49,7 +40,13 @@ fn put_rule_read(read: RuleRead, out: &mut [u8], at: usize) -> usize
     let rule = read.rule;
     match verdict {
         Verdict::Accepted => put_rule(rule, out, at),
-        Verdict::Refused(reason, place) => put_refusal(reason, place, out, at),
+        Verdict::Refused(reason, place) => line_pieces::put_refusal(
+            b"refused ",
+            reason,
+            place,
+            out,
+            at,
+        ),
     }
 }
 
@@ -59,7 +56,13 @@ fn put_slip_verdict(verdict: Verdict, out: &mut [u8], at: usize) -> usize
 {
     match verdict {
         Verdict::Accepted => pieces::put_bytes(b"read", out, at),
-        Verdict::Refused(reason, place) => put_refusal(reason, place, out, at),
+        Verdict::Refused(reason, place) => line_pieces::put_refusal(
+            b"refused ",
+            reason,
+            place,
+            out,
+            at,
+        ),
     }
 }
 

@@ -32,12 +32,16 @@ use Rattle.fillings.specs.declared.Fillings.{Fillings}
 use Rattle.fillings.specs.declared.Joined.{Joined}
 use Rattle.fillings.specs.States.{look, joinTerms}
 use Rattle.fillings.proofs.Agree.{names, Holds, Agrees, look-agree, join-agree}
-use Rattle.rows.specs.declared.Shape.{Shape}
-use Rattle.rows.specs.declared.Span.{Span}
+use Rattle.shapes.specs.declared.Shape.{Shape}
+use Rattle.candidates.specs.declared.Span.{Span}
 use Rattle.rows.specs.declared.Cell.{Cell}
-use Rattle.rows.specs.Rows.{termsOf, cellValue, mergedValue}
-use Rattle.rows.specs.Views.{termsIn, encodeShape, candAt, encodePair, bothFrom}
-use Rattle.rows.proofs.Agree.{shape-agree, equations-agree, merged-agree}
+use Rattle.shapes.specs.Shapes.{termsOf}
+use Rattle.rows.specs.Rows.{cellValue, mergedValue}
+use Rattle.shapes.specs.Views.{termsIn, encodeShape}
+use Rattle.candidates.specs.Views.{candAt}
+use Rattle.rows.specs.Views.{encodePair, bothFrom}
+use Rattle.shapes.proofs.Agree.{shape-agree}
+use Rattle.rows.proofs.Agree.{equations-agree, merged-agree}
 use Rattle.entries.specs.declared.Wide.{Wide}
 use Rattle.entries.specs.Values.{widest, blankWide, blankEntry, pushed, encodeWide, encodeEntry, entryValue}
 use Rattle.entries.proofs.Pushes.{push-agrees, entry-more}

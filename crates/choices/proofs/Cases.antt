@@ -9,9 +9,9 @@ use lib.ListN.{length}
 use lib.Seq.{set-out}
 use Rattle.text.specs.Sizes.{mostFields}
 use Rattle.terms.specs.declared.Term.{Term}
-use Rattle.rows.specs.declared.Shape.{Shape}
+use Rattle.shapes.specs.declared.Shape.{Shape}
 use Rattle.rows.specs.declared.Cell.{Cell}
-use Rattle.rows.specs.Rows.{shapeValue}
+use Rattle.shapes.specs.Shapes.{shapeValue}
 use Rattle.fillings.specs.declared.Fillings.{Fillings}
 use Rattle.fillings.specs.declared.Joined.{Joined}
 use Rattle.fillings.specs.States.{joinTerms}

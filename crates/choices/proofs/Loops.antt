@@ -11,9 +11,10 @@ use Rattle.terms.specs.declared.Term.{Term}
 use Rattle.terms.specs.declared.Field.{Field}
 use Rattle.terms.specs.declared.Rule.{Rule}
 use Rattle.terms.specs.Values.{blankField}
-use Rattle.rows.specs.declared.Shape.{Shape}
+use Rattle.shapes.specs.declared.Shape.{Shape}
 use Rattle.rows.specs.declared.Cell.{Cell}
-use Rattle.rows.specs.Rows.{termsOf, shapeValue, cellValue, mergedCell, mergedValue, placeValue, cellBy}
+use Rattle.shapes.specs.Shapes.{termsOf, shapeValue}
+use Rattle.rows.specs.Rows.{cellValue, mergedCell, mergedValue, placeValue, cellBy}
 use Rattle.rows.proofs.Places.{cell-read}
 use Rattle.fillings.specs.declared.Fillings.{Fillings}
 use Rattle.fillings.specs.declared.Joined.{Joined}
@@ -186,21 +187,31 @@ module _ (l r : Rule) (c : Choice) (st : Fillings) where
 
   abbrev pub Entering : ℕ → ℕ → Entry → Type 0
   Entering n j e =
-      (n ≡ min (l .n) mostFields) × (length (l .fields) ≡ mostFields) × (length (r .fields) ≡ mostFields) × (entryOf l r c st ≡ entryFrom (wideAt l r c st) (n - j) j e)
+      (n ≡ min (l .n) mostFields) × (length (l .fields) ≡ mostFields) × (length (r .fields) ≡ mostFields) × (e .n ≡ j)
+      × (entryOf l r c st ≡ entryFrom (wideAt l r c st) (n - j) j e)
 
   pub entering-start : (n : ℕ) (e : Entry) → n ≡ min (l .n) mostFields → length (l .fields) ≡ mostFields → length (r .fields) ≡ mostFields → e ≡ blankEntry → Entering n 0 e
-  entering-start n e p q s b =
-      (p, q, s, ap₂ (λ (k : ℕ) (x : Entry). entryFrom (wideAt l r c st) k 0 x) (sym p) (sym b) ∙ from-zero (λ (k : ℕ). entryFrom (wideAt l r c st) k 0 e) n)
+  entering-start n e p q s b = (
+    p,
+    q,
+    s,
+    ap (λ (x : Entry). x .n) b,
+    ap₂ (λ (k : ℕ) (x : Entry). entryFrom (wideAt l r c st) k 0 x) (sym p) (sym b) ∙ from-zero (λ (k : ℕ). entryFrom (wideAt l r c st) k 0 e) n,
+  )
 
   module _ (n j : ℕ) (e : Entry) (v : Entering n j e) where
     pub entering-one : (w : Wide) (y : Entry) → j < n
         → w ≡ wideValue (termsOf (getD (l .fields) j no-field)) (termsOf (getD (r .fields) j no-field)) (getD (c .sizes) j 0) (getD (c .longs) j false) j st
-        → y ≡ pushedField e w → Entering n (j + 1) y
+        → y ≡ record { n = j + 1; fields = set (e .fields) j w } → Entering n (j + 1) y
     entering-one w y h is-w is-y =
         let in-l : getD (l .fields) j no-field ≡ getD (l .fields) j blankField = entry-any (l .fields) j no-field blankField (omega (arith, v .0, v .1)) in
         let in-r : getD (r .fields) j no-field ≡ getD (r .fields) j blankField = entry-any (r .fields) j no-field blankField (omega (arith, v .0, v .2)) in
         let here : w ≡ wideAt l r c st j = is-w ∙ ap₂ (λ (a b : Field). wideValue (termsOf a) (termsOf b) (getD (c .sizes) j 0) (getD (c .longs) j false) j st) in-l in-r in
-        (v .0, v .1, v .2, walk-one add n (entryOf l r c st) j e (v .3) y h (is-y ∙ ap (pushedField e) here))
+        let put : y ≡ pushedField e w =
+        is-y ∙ ap (λ (i : ℕ). record { n = i + 1; fields = set (e .fields) i w }) (sym (v .3))
+        ∙ ap (λ (b : Bool). cond b e (record { n = e .n + 1; fields = set (e .fields) (e .n) w }))
+        (sym (lt-leb mostFields (e .n) (omega (arith, v .0, v .3)))) in
+        (v .0, v .1, v .2, ap (λ (x : Entry). x .n) is-y, walk-one add n (entryOf l r c st) j e (v .4) y h (put ∙ ap (pushedField e) here))
 
     pub entering-all : n ≤ j → e ≡ entryOf l r c st
-    entering-all h = walk-all add n (entryOf l r c st) j e (v .3) h
+    entering-all h = walk-all add n (entryOf l r c st) j e (v .4) h

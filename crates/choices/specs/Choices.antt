@@ -12,7 +12,8 @@ use Rattle.terms.specs.declared.Term.{Term}
 use Rattle.terms.specs.declared.Rule.{Rule}
 use Rattle.terms.specs.Values.{blankField, encodeTerm}
 use Rattle.rows.specs.declared.Cell.{Cell}
-use Rattle.rows.specs.Rows.{termsOf, shapeValue, cellValue, mergedValue}
+use Rattle.shapes.specs.Shapes.{termsOf, shapeValue}
+use Rattle.rows.specs.Rows.{cellValue, mergedValue}
 use Rattle.fillings.specs.declared.Fillings.{Fillings}
 use Rattle.fillings.specs.declared.Joined.{Joined}
 use Rattle.fillings.specs.States.{sameAtom, heldBy, look, joinTerms}

@@ -1,8 +1,8 @@
 // A choice, one candidate a field: what a candidate joins, and the entry that a whole choice gives.
 ghost use mathlib.Core.Path.{_≡_};
 ghost use Prim.Native.Nat.{_-_, max, min};
-ghost use Rattle.rows.specs.Rows.{termsOf};
-ghost use Rattle.choices.specs.Choices.{noChoice, chosenAt, differ, joinFields, pushAtoms, atomsAt, listVariable, wideValue, pushedField, entryOf};
+ghost use Rattle.choices.specs.Choices.{noChoice, chosenAt, differ, joinFields, pushAtoms, atomsAt, listVariable, wideValue, entryOf};
+ghost use Rattle.shapes.specs.Shapes.{termsOf};
 use entries::Entry;
 use entries::Wide;
 use fillings::Fillings;
@@ -38,8 +38,8 @@ fn differ(a: Cell, b: Cell, x: Term, y: Term) -> bool
 pub fn join_fields(f: Field, g: Field, n: usize, st: Fillings) -> Joined
     ensures { λ r. ⌜ r ≡ joinFields (termsOf f) (termsOf g) n st ⌝ }
 {
-    let s = rows::shape_of(f);
-    let t = rows::shape_of(g);
+    let s = shapes::shape_of(f);
+    let t = shapes::shape_of(g);
     let mut now = st;
     let mut p: usize = 0;
     while p < n {
@@ -99,8 +99,8 @@ fn larger(m: usize, n: usize) -> usize
 fn push_atoms(w: Wide, f: Field, g: Field, n: usize, from: usize, to: usize, st: Fillings) -> Wide
     ensures { λ r. ⌜ r ≡ pushAtoms (atomsAt (termsOf f) (termsOf g) n st) (to - from) from w ⌝ }
 {
-    let s = rows::shape_of(f);
-    let t = rows::shape_of(g);
+    let s = shapes::shape_of(f);
+    let t = shapes::shape_of(g);
     let mut x = w;
     let mut p = from;
     while p < to {
@@ -138,25 +138,11 @@ pub fn wide_of(f: Field, g: Field, n: usize, long: bool, place: u8, st: Fillings
     if !long {
         return push_atoms(b, f, g, n, 0, n, st);
     }
-    let s = rows::shape_of(f);
-    let t = rows::shape_of(g);
+    let s = shapes::shape_of(f);
+    let t = shapes::shape_of(g);
     let h = larger(s.head, t.head);
     let w = entries::push(push_atoms(b, f, g, n, 0, h, st), list_variable(place));
     push_atoms(w, f, g, n, h, n, st)
-}
-
-// A field more. (An entry has at most four.)
-fn push_field(e: Entry, w: Wide) -> Entry
-    ensures { λ r. ⌜ r ≡ pushedField e w ⌝ }
-{
-    let n = e.n;
-    if 4 <= n {
-        return e;
-    }
-    let mut x = e;
-    x.n = n + 1;
-    x.fields[n] = w;
-    x
 }
 
 fn at_most(n: usize, places: usize) -> usize
@@ -181,7 +167,8 @@ pub fn entry_of(left: Rule, right: Rule, c: Choice, st: Fillings) -> Entry
             j as u8,
             st,
         );
-        e = push_field(e, w);
+        e.fields[j] = w;
+        e.n = j + 1;
         j += 1;
     }
     e

@@ -22,7 +22,8 @@ use Rattle.writing.specs.Answers.{after}
 use Rattle.listing.specs.Overlaps.{linesOf, overlapText}
 use Rattle.overlaps.proofs.Rules.{no-right, none-listed}
 use Rattle.yopobrush.specs.declared.Reading.{Reading}
-use Rattle.yopobrush.specs.Answers.{readingOf, ruleOf, listingOf}
+use Rattle.overlaps.specs.Answers.{ruleOf}
+use Rattle.yopobrush.specs.Answers.{readingOf, listingOf}
 use Rattle.demands.specs.Overlaps.{Demand3, demand-3}
 
 -- ---- reading

@@ -27,9 +27,11 @@ use Rattle.instance.proofs.Written.{written-matches}
 use Rattle.instance.proofs.Matching.{match-iff, match-is, match-yes, match-blank}
 use Rattle.terms.specs.declared.Rule.{Rule}
 use Rattle.terms.specs.declared.Slip.{Slip}
-use Rattle.accepted.specs.Accepted.{acceptedRule, countedRule, acceptedSlip, countedSlip}
-use Rattle.accepted.proofs.Accepted.{rule-is, slip-is}
-use Rattle.matching.specs.declared.Filling.{Filling as FillingValue}
+use Rattle.accepted.specs.Accepted.{acceptedRule, countedRule}
+use Rattle.accepted_slips.specs.Slips.{acceptedSlip, countedSlip}
+use Rattle.accepted.proofs.Accepted.{rule-is}
+use Rattle.accepted_slips.proofs.Slips.{slip-is}
+use Rattle.bindings.specs.declared.Filling.{Filling as FillingValue}
 use Rattle.matching.specs.Answers.{encodeValues, runsOf, noMatch, found, matchOf}
 use Rattle.matching.proofs.Accept.{with-fields, not-rule, not-slip}
 

@@ -1,7 +1,7 @@
 -- What is promised of reading and writing rules and slips, over the definitions that the contracts cite:
---     reading::read_rule    answers `ruleRead (readRule t)`
---     reading::read_slip    answers `slipRead (readSlip t)`
---     writing::write_rule   writes `plain (countedRule v)`, in front of the old bytes, or refuses by 8 and leaves all of them
+--     reading::read_rule       answers `ruleRead (readRule t)`
+--     reading::read_slip       answers `slipRead (readSlip t)`
+--     plain_text::write_rule   writes `plain (countedRule v)`, in front of the old bytes, or refuses by 8 and leaves all of them
 use mathlib.Core.Path.{_≡_, refl, sym, _∙_, ap}
 use mathlib.Core.Logic.{_≢_, _↔_, Iff·trans}
 use mathlib.Core.Bool.{Bool, true, false, cond}
@@ -18,10 +18,11 @@ use Rattle.terms.specs.declared.Rule.{Rule}
 use Rattle.terms.specs.Values.{viewRule, encodeRule}
 use Rattle.accepted.specs.Accepted.{acceptedRule, countedRule}
 use Rattle.accepted.proofs.Accepted.{accepted-rule, encode-accepted-rule, view-encode-rule}
-use Rattle.reading.specs.declared.Reason.{Reason}
-use Rattle.reading.specs.declared.Reason.the-variants.{Long, Grammar, Fields, Terms, Limits, Linear, Variable}
-use Rattle.reading.specs.declared.Verdict.the-variants.{Accepted, Refused}
-use Rattle.reading.specs.Answers.{reasonFrom, numberOf, verdictOf, ruleRead}
+use Rattle.verdicts.specs.declared.Reason.{Reason}
+use Rattle.verdicts.specs.declared.Reason.the-variants.{Long, Grammar, Fields, Terms, Limits, Linear, Variable}
+use Rattle.verdicts.specs.declared.Verdict.the-variants.{Accepted, Refused}
+use Rattle.verdicts.specs.Verdicts.{reasonFrom, numberOf, verdictOf}
+use Rattle.reading.specs.Answers.{ruleRead}
 
 -- ---- refusals
 

@@ -64,11 +64,8 @@ whole-run w = sym (take-take (w .n) (w .n) (w .terms) (omega arith))
 -- ---- the member at p of the first n of an array s of w places
 
 module _ {A : Type 0} (d : A) (n : ℕ) (s : List A) (p w : ℕ) where
-  pub member-none : length s ≡ w → n ≤ p → getD (take n s) p d ≡ d
+  pub member-none : length s ≡ w → min n w ≤ p → getD (take n s) p d ≡ d
   member-none e h = List·getD-eq-default (take n s) d {n = p} (omega (arith, length-take n s))
-
-  pub member-past : length s ≡ w → w ≤ p → getD (take n s) p d ≡ d
-  member-past e h = List·getD-eq-default (take n s) d {n = p} (omega (arith, length-take n s))
 
   pub member-is : (c : A) → length s ≡ w → p < n → p < w → getD s p c ≡ getD (take n s) p d
   member-is c e h k = any-default s p c d (omega arith) ∙ sym (getD-take n s p d h)

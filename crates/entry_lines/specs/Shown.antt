@@ -1,23 +1,25 @@
 -- The line of an entry from its value and the values of the two rules' variables, as code puts it together.
 -- `line-agrees` of proofs/Lines says that it is the overlap list's line.
-use mathlib.Core.Bool.{Bool, true, false, cond}
-use mathlib.Core.List.{List, map}
-use Prim.Native.Nat.{ℕ}
+use mathlib.Core.Bool.{cond}
+use mathlib.Core.List.{List, [], _∷_, _++_, map}
+use Prim.Native.Nat.{ℕ, min}
 use lib.Dec.{ltb}
 use Rattle.order.specs.Order.{basic, list}
 use Rattle.order.specs.Types.{integer, string, atom, Kind}
+use Rattle.text.specs.Sizes.{mostFields}
 use Rattle.text.specs.Terms.{OurTerm}
 use Rattle.terms.specs.declared.Term.{Term}
 use Rattle.terms.specs.Values.{viewTerm}
 use Rattle.listing.specs.Variables.{Variable, every, keep}
-use Rattle.listing.specs.Lines.{Binding, Line, lineText}
+use Rattle.listing.specs.Lines.{Binding, Line, nameText, lineText}
 use Rattle.entries.specs.declared.Wide.{Wide}
 use Rattle.entries.specs.declared.Entry.{Entry}
 use Rattle.entries.specs.declared.Names.{Names}
 use Rattle.entries.specs.Values.{wideTerms, entryFields}
 use Rattle.entries.specs.Names.{namesValue, renamedTerm}
+use Rattle.shown.specs.declared.Run.{Run}
 use Rattle.shown.specs.declared.Shown.{Shown}
-use Rattle.shown.specs.Shown.{isKnown, valueTerms}
+use Rattle.shown.specs.Shown.{blankRun, isKnown, valueTerms}
 
 -- ---- the fields
 
@@ -33,14 +35,22 @@ fieldsOf x e = map (fieldOf x) (entryFields e)
 
 -- ---- the values of a rule's variables
 
-abbrev pub isList : Kind → Bool
-isList (basic k) = false
-isList list = true
+-- the run where an entry of n fields has its field, else the one with no terms
+abbrev pub runWithin : ℕ → Run → Run
+runWithin n r = cond (ltb (r .field) (min n mostFields)) r blankRun
+
+-- what stands before a value: the blank, the mark, the name and the `=`
+abbrev pub frontText : ℕ → Kind → ℕ → List ℕ
+frontText mark k n = 32 ∷ mark ∷ (nameText k n ++ 61 ∷ [])
+
+-- the variable's binding to these terms of the entry
+abbrev pub bindingTo : Names → Kind → ℕ → List Term → Binding
+bindingTo x k n ts = record { kind = k; number = n; value = renamedTerms x ts }
 
 -- ---- the line
 
 abbrev pub bindingOf : Names → Entry → Shown → Variable → Binding
-bindingOf x e s v = record { kind = v .0; number = v .1; value = renamedTerms x (valueTerms e s (v .0) (v .1)) }
+bindingOf x e s v = bindingTo x (v .0) (v .1) (valueTerms e s (v .0) (v .1))
 
 abbrev pub bindingsFor : Names → Entry → Shown → List Variable → List Binding
 bindingsFor x e s vs = map (bindingOf x e s) (keep (isKnown s) vs)

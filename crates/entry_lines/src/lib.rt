@@ -3,19 +3,19 @@
 ghost use mathlib.Core.Path.{_≡_};
 ghost use mathlib.Core.List.{[], _∷_};
 ghost use Prim.Native.Nat.{_-_, _≤_, _<_, min};
-ghost use lib.ListN.{length, getD};
+ghost use lib.ListN.{length};
+ghost use Rattle.order.specs.Order.{list};
 ghost use Rattle.order.specs.Values.{kindOf, kindFrom};
 ghost use Rattle.text.specs.Plain.{termText, fieldText, plain};
 ghost use Rattle.theory.specs.Terms.{var};
 ghost use Rattle.terms.specs.Values.{viewTerm};
 ghost use Rattle.listing.specs.Lines.{bindingText, bindingsText};
-ghost use Rattle.entries.specs.Values.{blankWide, entryFields};
 ghost use Rattle.entries.specs.Names.{renamedTerm};
 ghost use Rattle.writing.specs.Answers.{after};
 ghost use Rattle.pieces.specs.Placed.{Placed};
-ghost use Rattle.shown.specs.Shown.{wideRun, runTerms, valueTerms};
-ghost use Rattle.entry_lines.specs.Shown.{isList, renamedTerms, fieldOf, fieldsOf, bindingOf, kindAt, shownBindings, lineValue};
-ghost use Rattle.entry_lines.specs.Sizes.{valueBound, bindingBound, lineBound};
+ghost use Rattle.shown.specs.Shown.{wideRun};
+ghost use Rattle.entry_lines.specs.Shown.{renamedTerms, fieldOf, fieldsOf, runWithin, frontText, bindingTo, kindAt, shownBindings, lineValue};
+ghost use Rattle.entry_lines.specs.Sizes.{lineBound};
 use entries::Entry;
 use entries::Names;
 use entries::Wide;
@@ -136,56 +136,20 @@ fn put_fields(names: Names, e: Entry, out: &mut [u8], at: usize) -> usize
 
 // ---- the bindings
 
-fn is_list(k: Kind) -> bool
-    ensures { λ r. ⌜ r ≡ isList (kindOf k) ⌝ }
+// The run, or the one with no terms where an entry of n fields has no such field.
+fn run_within(r: Run, n: usize) -> Run
+    ensures { λ q. ⌜ q ≡ runWithin n r ⌝ }
+    ensures { λ q. ⌜ q .field < 4 ⌝ }
 {
-    match k {
-        Kind::Integer => false,
-        Kind::String => false,
-        Kind::Atom => false,
-        Kind::List => true,
+    let m = at_most(n, 4);
+    if r.field < m {
+        return r;
     }
-}
-
-// The field of number j, or the field with no terms behind the last.
-fn field_at(e: Entry, j: usize) -> Wide
-    ensures { λ r. ⌜ r ≡ getD (entryFields e) j blankWide ⌝ }
-{
-    if e.n <= j {
-        return entries::blank_wide();
+    Run {
+        field: 0,
+        start: 0,
+        count: 0,
     }
-    if 4 <= j {
-        return entries::blank_wide();
-    }
-    e.fields[j]
-}
-
-fn put_list(names: Names, e: Entry, r: Run, out: &mut [u8], at: usize) -> usize
-    ensures { λ p. ⌜ Placed (fieldText (renamedTerms names (runTerms e r))) at (now (out .entry)) p (now (out .exit)) ⌝ }
-    ensures { λ _. ⌜ length (fieldText (renamedTerms names (runTerms e r))) ≤ 558 ⌝ }
-{
-    let w = field_at(e, r.field);
-    put_run(names, w, r.start, r.count, out, at)
-}
-
-// Document 01: "A value is a field's text".
-fn put_value(
-    names: Names,
-    e: Entry,
-    s: Shown,
-    k: Kind,
-    n: usize,
-    out: &mut [u8],
-    at: usize,
-) -> usize
-    requires { ⌜ n < 16 ⌝ }
-    ensures { λ r. ⌜ Placed (fieldText (renamedTerms names (valueTerms e s (kindOf k) n))) at (now (out .entry)) r (now (out .exit)) ⌝ }
-    ensures { λ _. ⌜ length (fieldText (renamedTerms names (valueTerms e s (kindOf k) n))) ≤ valueBound (kindOf k) ⌝ }
-{
-    if is_list(k) {
-        return put_list(names, e, s.runs[n], out, at);
-    }
-    put_renamed(names, s.atoms[16 * order::rank(k) + n], out, at)
 }
 
 // A variable's name is its own text.
@@ -200,26 +164,36 @@ fn put_name(k: Kind, n: u8, out: &mut [u8], at: usize) -> usize
     put_term(t, out, at)
 }
 
-// Document 01: "a blank, `<`, name, `=`, value"; the mark is `<` or `>`.
-fn put_binding(
-    names: Names,
-    e: Entry,
-    s: Shown,
-    mark: u8,
-    k: Kind,
-    n: usize,
-    out: &mut [u8],
-    at: usize,
-) -> usize
+// Document 01: "a blank, `<`, name, `=`, value"; the mark is `<` or `>`. This is what stands before the value.
+fn put_front(mark: u8, k: Kind, n: usize, out: &mut [u8], at: usize) -> usize
     requires { ⌜ n < 16 ⌝ }
-    ensures { λ r. ⌜ Placed (bindingText mark (bindingOf names e s (kindOf k, n))) at (now (out .entry)) r (now (out .exit)) ⌝ }
-    ensures { λ _. ⌜ length (bindingText mark (bindingOf names e s (kindOf k, n))) ≤ bindingBound (kindOf k) ⌝ }
+    ensures { λ r. ⌜ Placed (frontText mark (kindOf k) n) at (now (out .entry)) r (now (out .exit)) ⌝ }
+    ensures { λ _. ⌜ length (frontText mark (kindOf k) n) ≤ 20 ⌝ }
 {
     let a = put_byte(b' ', out, at);
     let b = put_byte(mark, out, a);
     let c = put_name(k, n as u8, out, b);
-    let d = put_byte(b'=', out, c);
-    put_value(names, e, s, k, n, out, d)
+    put_byte(b'=', out, c)
+}
+
+// An atom variable's binding. Document 01: "A value is a field's text".
+fn put_atom(names: Names, t: Term, mark: u8, k: Kind, n: usize, out: &mut [u8], at: usize) -> usize
+    requires { ⌜ n < 16 ⌝ }
+    ensures { λ r. ⌜ Placed (bindingText mark (bindingTo names (kindOf k) n (t ∷ []))) at (now (out .entry)) r (now (out .exit)) ⌝ }
+    ensures { λ _. ⌜ length (bindingText mark (bindingTo names (kindOf k) n (t ∷ []))) ≤ 37 ⌝ }
+{
+    let p = put_front(mark, k, n, out, at);
+    put_renamed(names, t, out, p)
+}
+
+// A list variable's binding: its value is the run r of the field w.
+fn put_list(names: Names, w: Wide, r: Run, mark: u8, n: usize, out: &mut [u8], at: usize) -> usize
+    requires { ⌜ n < 16 ⌝ }
+    ensures { λ p. ⌜ Placed (bindingText mark (bindingTo names list n (wideRun w (r .start) (r .count)))) at (now (out .entry)) p (now (out .exit)) ⌝ }
+    ensures { λ _. ⌜ length (bindingText mark (bindingTo names list n (wideRun w (r .start) (r .count)))) ≤ 578 ⌝ }
+{
+    let p = put_front(mark, Kind::List, n, out, at);
+    put_run(names, w, r.start, r.count, out, p)
 }
 
 // The type of the variable whose place is i: 16 places each for integer, string, atom and list variables.
@@ -238,7 +212,7 @@ fn kind_at(i: usize) -> Kind
     Kind::List
 }
 
-// Document 01: "Variables go in the order i, s, a, l, then by number." Nothing is handed on for a variable that the rule lacks.
+// Document 01: "Variables go in the order i, s, a, l, then by number." Of the entry and the values only the piece that a binding needs is handed on.
 pub fn put_bindings(names: Names, e: Entry, s: Shown, mark: u8, out: &mut [u8], at: usize) -> usize
     ensures { λ r. ⌜ Placed (bindingsText mark (shownBindings names e s)) at (now (out .entry)) r (now (out .exit)) ⌝ }
     ensures { λ _. ⌜ length (bindingsText mark (shownBindings names e s)) ≤ 11024 ⌝ }
@@ -247,7 +221,14 @@ pub fn put_bindings(names: Names, e: Entry, s: Shown, mark: u8, out: &mut [u8], 
     let mut i: usize = 0;
     while i < 64 {
         if s.known[i] {
-            p = put_binding(names, e, s, mark, kind_at(i), i % 16, out, p);
+            let n = i % 16;
+            if i < 48 {
+                p = put_atom(names, s.atoms[i], mark, kind_at(i), n, out, p);
+            } else {
+                let r = run_within(s.runs[n], e.n);
+                let j = r.field;
+                p = put_list(names, e.fields[j], r, mark, n, out, p);
+            }
         }
         i += 1;
     }

@@ -4,9 +4,8 @@ ghost use mathlib.Core.Path.{_≡_};
 ghost use mathlib.Core.List.{[], _∷_, foldl};
 ghost use Prim.Native.Nat.{min};
 ghost use lib.ListN.{getD, drop};
-ghost use Rattle.theory.specs.Seqs.{concat-map};
 ghost use Rattle.terms.specs.Values.{blankTerm};
-ghost use Rattle.items.specs.Items.{blankItems, itemsOf, pushed, collect, putTerm, sameTerms, occursIn};
+ghost use Rattle.items.specs.Items.{blankItems, itemsOf, pushed, collect};
 use terms::Term;
 
 // Up to 17 terms. Unused places are blank.
@@ -41,7 +40,7 @@ pub fn push(w: Items, t: Term) -> Items
 }
 
 // How many terms there are. A count beyond the array counts for the whole array.
-fn used(w: Items) -> usize
+pub fn used(w: Items) -> usize
     ensures { λ r. ⌜ r ≡ min (w .n) 17 ⌝ }
 {
     let n = w.n;
@@ -60,7 +59,7 @@ pub fn first(w: Items) -> Term
 }
 
 // The terms of w from place k on, behind those of x.
-fn push_from(x: Items, w: Items, k: usize) -> Items
+pub fn push_from(x: Items, w: Items, k: usize) -> Items
     ensures { λ r. ⌜ r ≡ foldl pushed x (drop k (itemsOf w)) ⌝ }
 {
     let n = used(w);
@@ -83,7 +82,10 @@ pub fn rest(w: Items) -> Items
 pub fn one(t: Term) -> Items
     ensures { λ r. ⌜ r ≡ collect (t ∷ []) ⌝ }
 {
-    push(blank_items(), t)
+    let mut y = blank_items();
+    y.n = 1;
+    y.terms[0] = t;
+    y
 }
 
 pub fn two(a: Term, b: Term) -> Items
@@ -96,61 +98,4 @@ pub fn before(t: Term, w: Items) -> Items
     ensures { λ r. ⌜ r ≡ collect (t ∷ itemsOf w) ⌝ }
 {
     push_from(one(t), w, 0)
-}
-
-// The terms of y, then what t becomes where x is replaced by the terms of s.
-fn put_term(y: Items, x: Term, s: Items, t: Term) -> Items
-    ensures { λ r. ⌜ r ≡ foldl pushed y (putTerm x (itemsOf s) t) ⌝ }
-{
-    if fillings::same_atom(t, x) {
-        return push_from(y, s, 0);
-    }
-    push(y, t)
-}
-
-// The terms of w where x is replaced by the terms of s.
-pub fn put_in(x: Term, s: Items, w: Items) -> Items
-    ensures { λ r. ⌜ r ≡ collect (concat-map (putTerm x (itemsOf s)) (itemsOf w)) ⌝ }
-{
-    let n = used(w);
-    let mut y = blank_items();
-    let mut i: usize = 0;
-    while i < n {
-        y = put_term(y, x, s, w.terms[i]);
-        i += 1;
-    }
-    y
-}
-
-// Whether the terms are the same.
-pub fn same(w: Items, v: Items) -> bool
-    ensures { λ r. ⌜ r ≡ sameTerms (itemsOf w) (itemsOf v) ⌝ }
-{
-    let n = used(w);
-    if n != used(v) {
-        return false;
-    }
-    let mut i: usize = 0;
-    while i < n {
-        if !fillings::same_atom(w.terms[i], v.terms[i]) {
-            return false;
-        }
-        i += 1;
-    }
-    true
-}
-
-// Whether x is one of the terms.
-pub fn occurs(x: Term, w: Items) -> bool
-    ensures { λ r. ⌜ r ≡ occursIn x (itemsOf w) ⌝ }
-{
-    let n = used(w);
-    let mut i: usize = 0;
-    while i < n {
-        if fillings::same_atom(w.terms[i], x) {
-            return true;
-        }
-        i += 1;
-    }
-    false
 }

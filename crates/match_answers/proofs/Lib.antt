@@ -1,4 +1,3 @@
-pub mod Loops
 pub mod Values
 pub mod Said
 pub mod Lengths

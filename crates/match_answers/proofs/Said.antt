@@ -27,24 +27,28 @@ use Rattle.instance.specs.Matching.{constants, matcher}
 use Rattle.instance.proofs.Matching.{constants-are}
 use Rattle.terms.specs.declared.Term.{Term}
 use Rattle.terms.specs.Values.{blankTerm, blankSlipField, viewTerm, encodeTerm, encodeSlipField, encodeRule, encodeSlip}
-use Rattle.accepted.specs.Accepted.{countedRule, countedSlip}
-use Rattle.accepted.proofs.Accepted.{view-encode-term, view-encode-rule, view-encode-slip, encode-accepted-rule, encode-accepted-slip}
-use Rattle.matching.specs.declared.Filling.{Filling as FillingValue}
-use Rattle.matching.specs.declared.Run.{Run}
-use Rattle.matching.specs.Tests.{itemsOf}
-use Rattle.matching.specs.Answers.{valueTerm, encodeValues, runsOf, found, matchOf, atomOf, runOf}
+use Rattle.accepted.specs.Accepted.{countedRule}
+use Rattle.accepted_slips.specs.Slips.{countedSlip}
+use Rattle.accepted.proofs.Accepted.{view-encode-term, view-encode-rule, encode-accepted-rule}
+use Rattle.accepted_slips.proofs.Slips.{view-encode-slip, encode-accepted-slip}
+use Rattle.bindings.specs.declared.Filling.{Filling as FillingValue}
+use Rattle.matching.specs.Answers.{valueTerm, encodeValues, runsOf, found, matchOf}
+use Rattle.bindings.specs.Values.{atomOf, runOf}
+use Rattle.bindings.specs.declared.Run.{Run}
+use Rattle.field_match.specs.Fields.{itemsOf}
 use Rattle.matching.proofs.Agree.{enc, unpadded}
 use Rattle.matching.proofs.Accept.{with-fields}
 use Rattle.matching.proofs.Runs.{itemsAt, run-items, atom-at, atom-value, value-all}
 use Rattle.reading.specs.declared.RuleRead.{RuleRead}
 use Rattle.reading.specs.declared.SlipRead.{SlipRead}
 use Rattle.reading.specs.Answers.{ruleRead, slipRead}
-use Rattle.reading.proofs.Verdicts.{number-is}
+use Rattle.verdicts.proofs.Verdicts.{number-is}
 use Rattle.listing.specs.Variables.{Variable, kinds, numbersFrom, numbers, ofKind, every, occurs, keep, variables}
 use Rattle.listing.proofs.Variables.{occurs-is}
 use Rattle.pieces.specs.Refusals.{numberAt}
 use Rattle.match_answers.specs.Matches.{longestLine, rulePart, slipPart, valueText, foundText, readText, lineText}
-use Rattle.match_answers.specs.Values.{runText, saidValue, nameText, saidVariable, saidKind, saidValues, saidMatch, saidReads}
+use Rattle.match_text.specs.Values.{runText, saidValue, nameText, saidVariable, saidKind, saidValues, saidMatch}
+use Rattle.match_answers.specs.Values.{saidReads}
 
 -- ---- lists
 
@@ -118,7 +122,7 @@ module _ (x y : List (List OurTerm)) (is-rule : IsRule x) (is-slip : IsSlip y) (
   pub value-in : (k : Kind) (n : ℕ) → Any (Occurs k n) x → All ConIn (φ k n)
   value-in = value-all x (is-rule .1) ws φ yes-φ ConIn (slip-in y (is-slip .0 .3))
 
-  atom-said : (k : Basic) (n : ℕ) → n ≤ 15 → Any (Occurs (basic k) n) x → termText (viewTerm (atomOf filling (basic k) n)) ≡ fieldText (map con (φ (basic k) n))
+  atom-said : (k : Basic) (n : ℕ) → n ≤ 15 → Any (Occurs (basic k) n) x → termText (viewTerm (atomOf (filling .values) (basic k) n)) ≡ fieldText (map con (φ (basic k) n))
   atom-said k n h o =
       let v = atom-value x (is-rule .1) ws φ yes-φ k n o in
       let i = subst (All ConIn) (v .1) (value-in (basic k) n o) in

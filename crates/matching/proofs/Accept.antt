@@ -19,9 +19,11 @@ use Rattle.terms.specs.declared.SlipField.{SlipField}
 use Rattle.terms.specs.declared.Rule.{Rule}
 use Rattle.terms.specs.declared.Slip.{Slip}
 use Rattle.terms.specs.Values.{blankField, blankSlipField, encodeField, encodeSlipField, encodeRule, encodeSlip, viewRule, viewSlip}
-use Rattle.accepted.specs.Accepted.{acceptedRule, acceptedSlip, countedRule, countedSlip}
-use Rattle.accepted.proofs.Accepted.{FieldIn, rule-is, slip-is, accepted-rule, accepted-slip}
-use Rattle.matching.specs.declared.Tested.{Tested}
+use Rattle.accepted.specs.Accepted.{acceptedRule, countedRule}
+use Rattle.accepted_slips.specs.Slips.{acceptedSlip, countedSlip}
+use Rattle.accepted.proofs.Accepted.{FieldIn, rule-is, accepted-rule}
+use Rattle.accepted_slips.proofs.Slips.{slip-is, accepted-slip}
+use Rattle.item_match.specs.declared.Tested.{Tested}
 use Rattle.matching.specs.Tests.{noValues, fieldsTested, runsAll}
 use Rattle.matching.specs.Answers.{noMatch, found, matchOf, fillingOf}
 use Rattle.matching.proofs.Agree.{unpadded, encodeItems}

@@ -28,10 +28,13 @@ use Rattle.instance.specs.Constants.{con-eq, kind-of, consts}
 use Rattle.terms.specs.declared.SlipField.{SlipField}
 use Rattle.terms.specs.Values.{pad, blankTerm, encodeTerm, encodeField, encodeSlipField}
 use Rattle.terms.specs.declared.Term.{Term as TermValue}
-use Rattle.matching.specs.declared.Values.{Values}
-use Rattle.matching.specs.declared.Tested.{Tested}
-use Rattle.matching.specs.declared.Shape.{Shape}
-use Rattle.matching.specs.Tests.{sameBytes, sameTerm, itemKind, slot, bound, noValues, met, testVar, tested, pick, goOn, widthOf, walked, shapeWith, noShape, shapeOf, fitsLength, fieldTested, termsOf, itemsOf, fieldsTested}
+use Rattle.bindings.specs.declared.Values.{Values}
+use Rattle.bindings.specs.Values.{slot}
+use Rattle.item_match.specs.declared.Tested.{Tested}
+use Rattle.item_match.specs.Tests.{sameBytes, sameTerm, itemKind, bound, met, testVar, tested}
+use Rattle.field_match.specs.Fields.{pick, goOn, widthOf, walked, shapeOf, fieldTested, termsOf, itemsOf}
+use Rattle.field_match.proofs.Shapes.{fits-room, gap-is}
+use Rattle.matching.specs.Tests.{noValues, fieldsTested}
 
 -- the value of a constant
 abbrev pub enc : Con → TermValue
@@ -230,31 +233,11 @@ walk-agrees gap w (u ∷ f) p v φ i h l =
 
 -- ---- a field
 
-shape-from : (f : List OurTerm) (x : Shape) → foldl shapeWith x (map encodeTerm f) ≡ record { atoms = x .atoms + atoms f; lists = x .lists + length (lists f) }
-shape-from [] x = ap₂ (λ (a b : ℕ). record { atoms = a; lists = b }) (omega arith) (omega arith)
-shape-from (con (int n) ∷ f) x = shape-from f (record { atoms = x .atoms + 1; lists = x .lists }) ∙ ap (λ (a : ℕ). record { atoms = a; lists = x .lists + length (lists f) }) (omega arith)
-shape-from (con (str s) ∷ f) x = shape-from f (record { atoms = x .atoms + 1; lists = x .lists }) ∙ ap (λ (a : ℕ). record { atoms = a; lists = x .lists + length (lists f) }) (omega arith)
-shape-from (var (basic integer) n ∷ f) x = shape-from f (record { atoms = x .atoms + 1; lists = x .lists }) ∙ ap (λ (a : ℕ). record { atoms = a; lists = x .lists + length (lists f) }) (omega arith)
-shape-from (var (basic string) n ∷ f) x = shape-from f (record { atoms = x .atoms + 1; lists = x .lists }) ∙ ap (λ (a : ℕ). record { atoms = a; lists = x .lists + length (lists f) }) (omega arith)
-shape-from (var (basic atom) n ∷ f) x = shape-from f (record { atoms = x .atoms + 1; lists = x .lists }) ∙ ap (λ (a : ℕ). record { atoms = a; lists = x .lists + length (lists f) }) (omega arith)
-shape-from (var list n ∷ f) x = shape-from f (record { atoms = x .atoms; lists = x .lists + 1 }) ∙ ap (λ (a : ℕ). record { atoms = x .atoms + atoms f; lists = a }) (omega arith)
-
-fits-room : (f : List OurTerm) (n : ℕ) → fitsLength (shapeOf (map encodeTerm f)) n ≡ hasRoom f n
-fits-room f n = ap (λ (x : Shape). fitsLength x n) (shape-from f noShape) ∙ go (lists f)
-  where
-    go : (l : List ℕ) → fitsLength (record { atoms = 0 + atoms f; lists = 0 + length l }) n ≡ room l (atoms f) n
-    go [] = ap (λ (a : ℕ). eqb a n) (let z : 0 + atoms f ≡ atoms f = omega arith in z)
-    go (a ∷ l) = ap₂ (λ (b : Bool) (m : ℕ). cond b (eqb m n) (leb m n)) (ne-eqb (0 + suc (length l)) 0 (λ e. omega arith)) (let z : 0 + atoms f ≡ atoms f = omega arith in z)
-
--- how many items a field leaves to its list variable
-pub gap-is : (f : List OurTerm) (w : List Con) → length (map enc w) - (shapeOf (map encodeTerm f)) .atoms ≡ length w - atoms f
-gap-is f w = ap₂ (λ (a b : ℕ). a - b) (length-map w enc) (ap (λ (x : Shape). x .atoms) (shape-from f noShape) ∙ (let z : 0 + atoms f ≡ atoms f = omega arith in z))
-
 field-agrees : (f : List OurTerm) (w : List Con) (v : Values) (φ : Filling Con Kind ℕ) → All TermIn f → OneList f → Holds v φ
     → Agrees (fieldTested (map encodeTerm f) (map enc w) v) (matchField basics consts ℕ-discrete f w φ)
 field-agrees f w v φ i o h =
     subst (λ (b : Bool). Agrees (cond b (walked (length (map enc w) - (shapeOf (map encodeTerm f)) .atoms) (map enc w) (map encodeTerm f) 0 v) (record { ok = false; values = v })) (matchField basics consts ℕ-discrete f w φ)) (sym (fits-room f (length (map enc w)) ∙ ap (hasRoom f) long))
-    (subst (λ (gap : ℕ). Agrees (cond (hasRoom f (length w)) (walked gap (map enc w) (map encodeTerm f) 0 v) (record { ok = false; values = v })) (matchField basics consts ℕ-discrete f w φ)) (sym (gap-is f w))
+    (subst (λ (gap : ℕ). Agrees (cond (hasRoom f (length w)) (walked gap (map enc w) (map encodeTerm f) 0 v) (record { ok = false; values = v })) (matchField basics consts ℕ-discrete f w φ)) (sym (gap-is f (length (map enc w)) ∙ ap (λ (n : ℕ). n - atoms f) long))
     (go (hasRoom f (length w)) refl))
   where
     long : length (map enc w) ≡ length w

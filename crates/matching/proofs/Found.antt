@@ -4,30 +4,31 @@ use mathlib.Core.Logic.{_≢_}
 use mathlib.Core.Bool.{Bool, true, false, cond, false≢true}
 use borrow.Author.Tests.{eq-eqb, ne-eqb}
 use mathlib.Core.Option.{Option, none, some}
-use mathlib.Core.List.{List, [], _∷_, map}
+use mathlib.Core.List.{List, [], _∷_, map, cons≢nil}
 use Prim.Native.Nat.{ℕ, zero, suc, _+_, _-_, _*_, _/_, _%_, _<_, _≤_}
 use native.Mathlib.Omega.{arith}
 use native.Mathlib.Decide.{ℕ-discrete}
-use lib.ListN.{length, getD, set}
+use lib.ListN.{length, getD, set, length-map}
 use Rattle.lists.specs.Seqs.{All, tabulated}
 use Rattle.order.specs.Order.{basic, list}
 use Rattle.order.specs.Types.{integer, string, atom, Kind, basics}
 use Rattle.theory.specs.Terms.{con, var}
 use Rattle.theory.specs.Fillings.{Filling}
 use Rattle.theory.specs.Matcher.{atoms, blank, matchFields}
-use Rattle.theory.specs.Linear.{OneList}
+use Rattle.theory.specs.Linear.{lists, OneList}
 use Rattle.text.specs.Terms.{Con, int, str, OurTerm}
 use Rattle.text.specs.Limits.{TermIn}
 use Rattle.instance.specs.Constants.{consts}
 use Rattle.instance.specs.Matching.{matcher}
 use Rattle.terms.specs.declared.Term.{Term as TermValue}
 use Rattle.terms.specs.Values.{blankTerm, encodeTerm, encodeField}
-use Rattle.matching.specs.declared.Values.{Values}
-use Rattle.matching.specs.declared.Filling.{Filling as FillingValue}
-use Rattle.matching.specs.declared.Tested.{Tested}
-use Rattle.matching.specs.Tests.{noValues, shapeOf, fieldsTested, runsOver, runsIn, runsAll}
+use Rattle.bindings.specs.declared.Values.{Values}
+use Rattle.bindings.specs.declared.Run.{Run}
+use Rattle.bindings.specs.declared.Filling.{Filling as FillingValue}
+use Rattle.item_match.specs.declared.Tested.{Tested}
+use Rattle.matching.specs.Tests.{noValues, fieldsTested, runsOver, runsIn, runsAll}
 use Rattle.matching.specs.Answers.{kindAt, isKnown, valueTerm, encodeValues, runsField, runsFrom, runsOf, noMatch, found, fillingOf}
-use Rattle.matching.proofs.Agree.{Held, Holds, holds-none, Agrees, gap-is, terms-of, encodeItems, items-of, fields-agree}
+use Rattle.matching.proofs.Agree.{Held, Holds, holds-none, Agrees, enc, terms-of, encodeItems, items-of, fields-agree}
 
 -- ---- the values of the atom variables
 
@@ -63,6 +64,13 @@ module _ (v : Values) (φ : Filling Con Kind ℕ) (h : Holds v φ) where
 
 -- ---- the runs of the list variables
 
+-- a field without list variables sets no run
+pub none-set : (j gap i : ℕ) (f : List OurTerm) (rs : List Run) → lists f ≡ [] → runsField j gap i f rs ≡ rs
+none-set j gap i [] rs e = refl
+none-set j gap i (con c ∷ f) rs e = none-set j gap (i + 1) f rs e
+none-set j gap i (var (basic k) m ∷ f) rs e = none-set j gap (i + 1) f rs e
+none-set j gap i (var list m ∷ f) rs e = absurd (cons≢nil e)
+
 runs-over : (j gap i : ℕ) (f : List OurTerm) (x : FillingValue) → runsOver j gap i (map encodeTerm f) x ≡ record { values = x .values; runs = runsField j gap i f (x .runs) }
 runs-over j gap i [] x = refl
 runs-over j gap i (con (int n) ∷ f) x = runs-over j gap (i + 1) f x
@@ -72,20 +80,38 @@ runs-over j gap i (var (basic string) n ∷ f) x = runs-over j gap (i + 1) f x
 runs-over j gap i (var (basic atom) n ∷ f) x = runs-over j gap (i + 1) f x
 runs-over j gap i (var list n ∷ f) x = runs-over j gap (i + 1) f (record { values = x .values; runs = set (x .runs) n (record { field = j; start = i; count = gap }) })
 
-runs-in : (j : ℕ) (f : List OurTerm) (w : List Con) (x : FillingValue)
-    → runsIn j (encodeField f) (encodeItems w) x ≡ record { values = x .values; runs = runsField j (length w - atoms f) 0 f (x .runs) }
-runs-in j f w x =
-    ap₂ (λ (a b : List TermValue). runsOver j (length b - (shapeOf a) .atoms) 0 a x) (terms-of f) (items-of w)
-    ∙ ap (λ (g : ℕ). runsOver j g 0 (map encodeTerm f) x) (gap-is f w)
-    ∙ runs-over j (length w - atoms f) 0 f x
+-- the terms of a field are its atoms and its list variables
+atoms-lists : (f : List OurTerm) → length f ≡ atoms f + length (lists f)
+atoms-lists [] = refl
+atoms-lists (con c ∷ f) = omega (arith, atoms-lists f)
+atoms-lists (var (basic k) n ∷ f) = omega (arith, atoms-lists f)
+atoms-lists (var list n ∷ f) = omega (arith, atoms-lists f)
 
-runs-all : (j : ℕ) (fs : List (List OurTerm)) (ws : List (List Con)) (x : FillingValue)
+-- so the other terms of a field with a list variable are its atoms, and a field without one has no run
+one-gap : (j : ℕ) (f : List OurTerm) (n : ℕ) (rs : List Run) → OneList f → runsField j (n + 1 - length f) 0 f rs ≡ runsField j (n - atoms f) 0 f rs
+one-gap j f n rs o = go (lists f) refl o
+  where
+    go : (l : List ℕ) → lists f ≡ l → length l ≤ 1 → runsField j (n + 1 - length f) 0 f rs ≡ runsField j (n - atoms f) 0 f rs
+    go [] e h = none-set j (n + 1 - length f) 0 f rs e ∙ sym (none-set j (n - atoms f) 0 f rs e)
+    go (a ∷ l) e h =
+        let c = atoms-lists f ∙ ap (λ (l : List ℕ). atoms f + length l) e in
+        ap (λ (g : ℕ). runsField j g 0 f rs) (let z : n + 1 - length f ≡ n - atoms f = omega arith in z)
+
+runs-in : (j : ℕ) (f : List OurTerm) (w : List Con) (x : FillingValue) → OneList f
+    → runsIn j (encodeField f) (encodeItems w) x ≡ record { values = x .values; runs = runsField j (length w - atoms f) 0 f (x .runs) }
+runs-in j f w x o =
+    ap₂ (λ (a b : List TermValue). runsOver j (length b + 1 - length a) 0 a x) (terms-of f) (items-of w)
+    ∙ ap₂ (λ (m n : ℕ). runsOver j (m + 1 - n) 0 (map encodeTerm f) x) (length-map w enc) (length-map f encodeTerm)
+    ∙ runs-over j (length w + 1 - length f) 0 f x
+    ∙ ap (λ (rs : List Run). record { values = x .values; runs = rs }) (one-gap j f (length w) (x .runs) o)
+
+runs-all : (j : ℕ) (fs : List (List OurTerm)) (ws : List (List Con)) (x : FillingValue) → All OneList fs
     → runsAll j (map encodeField fs) (map encodeItems ws) x ≡ record { values = x .values; runs = runsFrom j fs ws (x .runs) }
-runs-all j [] ws x = refl
-runs-all j (f ∷ fs) [] x = refl
-runs-all j (f ∷ fs) (w ∷ ws) x =
-    ap (runsAll (j + 1) (map encodeField fs) (map encodeItems ws)) (runs-in j f w x)
-    ∙ runs-all (j + 1) fs ws (record { values = x .values; runs = runsField j (length w - atoms f) 0 f (x .runs) })
+runs-all j [] ws x o = refl
+runs-all j (f ∷ fs) [] x o = refl
+runs-all j (f ∷ fs) (w ∷ ws) x o =
+    ap (runsAll (j + 1) (map encodeField fs) (map encodeItems ws)) (runs-in j f w x (o .0))
+    ∙ runs-all (j + 1) fs ws (record { values = x .values; runs = runsField j (length w - atoms f) 0 f (x .runs) }) (o .1)
 
 -- ---- the answer
 
@@ -104,7 +130,7 @@ module _ (fs : List (List OurTerm)) (ws : List (List Con)) (same : length fs ≡
       go (some φ) a = absurd (false≢true (sym e ∙ a .0))
 
   pub answer-yes : t .ok ≡ true → record { yes = true; filling = runsAll 0 (map encodeField fs) (map encodeItems ws) (fillingOf (t .values)) } ≡ found fs ws (matcher fs ws)
-  answer-yes e = ap (λ (x : FillingValue). record { yes = true; filling = x }) (runs-all 0 fs ws (fillingOf (t .values))) ∙ go (matcher fs ws) agrees
+  answer-yes e = ap (λ (x : FillingValue). record { yes = true; filling = x }) (runs-all 0 fs ws (fillingOf (t .values)) o) ∙ go (matcher fs ws) agrees
     where
       go : (m : Option (Filling Con Kind ℕ)) → Agrees t m → record { yes = true; filling = record { values = t .values; runs = runsOf fs ws } } ≡ found fs ws m
       go none a = absurd (false≢true (sym a ∙ e))

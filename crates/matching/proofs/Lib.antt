@@ -1,5 +1,3 @@
-pub mod Bytes
-pub mod Tests
 pub mod Walks
 pub mod Agree
 pub mod Found

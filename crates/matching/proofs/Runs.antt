@@ -24,21 +24,15 @@ use Rattle.instance.proofs.Linear.{left-linear}
 use Rattle.instance.proofs.Matching.{match-yes, match-is}
 use Rattle.terms.specs.declared.Term.{Term as TermValue}
 use Rattle.terms.specs.Values.{blankTerm}
-use Rattle.matching.specs.declared.Run.{Run}
-use Rattle.matching.specs.Tests.{slot}
-use Rattle.matching.specs.Answers.{kindAt, valueTerm, encodeValues, blankRun, runsField, runsFrom, runsOf}
+use Rattle.bindings.specs.declared.Run.{Run}
+use Rattle.bindings.specs.Values.{slot, blankRun}
+use Rattle.matching.specs.Answers.{kindAt, valueTerm, encodeValues, runsField, runsFrom, runsOf}
+use Rattle.matching.proofs.Found.{none-set}
 
 -- ---- runs of a field
 
 list≢basic : (k : Basic) → list ≡ basic k → ⊥
 list≢basic k e = let o : _≡_ {A = ℕ} 0 1 = cc in omega arith
-
--- a field without list variables sets no run
-none-set : (j gap i : ℕ) (f : List OurTerm) (rs : List Run) → lists f ≡ [] → runsField j gap i f rs ≡ rs
-none-set j gap i [] rs e = refl
-none-set j gap i (con c ∷ f) rs e = none-set j gap (i + 1) f rs e
-none-set j gap i (var (basic k) m ∷ f) rs e = none-set j gap (i + 1) f rs e
-none-set j gap i (var list m ∷ f) rs e = absurd (cons≢nil e)
 
 none-occurs : (n : ℕ) (f : List OurTerm) → lists f ≡ [] → Occurs list n f → ⊥
 none-occurs n [] e o = o

@@ -4,7 +4,7 @@ use mathlib.Core.Bool.{Bool, true, false}
 use mathlib.Core.Option.{Option, none, some}
 use mathlib.Core.List.{List, [], _∷_, map}
 use Prim.Native.Nat.{ℕ, zero, suc, _+_, _-_, _/_, _%_}
-use lib.ListN.{length, getD, set, replicate}
+use lib.ListN.{length, set, replicate}
 use Rattle.lists.specs.Seqs.{tabulate}
 use Rattle.order.specs.Order.{basic, list}
 use Rattle.order.specs.Types.{integer, string, atom, Kind}
@@ -15,11 +15,12 @@ use Rattle.text.specs.Terms.{Con, OurTerm}
 use Rattle.instance.specs.Matching.{constants, matcher}
 use Rattle.terms.specs.declared.Term.{Term}
 use Rattle.terms.specs.Values.{blankTerm, encodeTerm}
-use Rattle.matching.specs.declared.Values.{Values}
-use Rattle.matching.specs.declared.Run.{Run}
-use Rattle.matching.specs.declared.Filling.{Filling as FillingValue}
+use Rattle.bindings.specs.declared.Values.{Values}
+use Rattle.bindings.specs.declared.Run.{Run}
+use Rattle.bindings.specs.declared.Filling.{Filling as FillingValue}
+use Rattle.bindings.specs.Values.{blankRun}
 use Rattle.matching.specs.declared.Match.{Match}
-use Rattle.matching.specs.Tests.{noValues, slot}
+use Rattle.matching.specs.Tests.{noValues}
 
 -- ---- the atom variables
 
@@ -41,9 +42,6 @@ abbrev pub encodeValues : Filling Con Kind ℕ → Values
 encodeValues φ = record { known = tabulate 48 (λ i. isKnown (φ (kindAt (i / 16)) (i % 16))); terms = tabulate 48 (λ i. valueTerm (φ (kindAt (i / 16)) (i % 16))) }
 
 -- ---- the list variables: the slip's field, the first item there, how many items
-
-abbrev pub blankRun : Run
-blankRun = record { field = 0; start = 0; count = 0 }
 
 abbrev pub runsField : ℕ → ℕ → ℕ → List OurTerm → List Run → List Run
 runsField j gap i [] rs = rs
@@ -76,11 +74,3 @@ matchOf (f ∷ fs) (w ∷ ws) = found (f ∷ fs) (map constants (w ∷ ws)) (mat
 
 abbrev pub fillingOf : Values → FillingValue
 fillingOf v = record { values = v; runs = replicate 16 blankRun }
-
--- ---- the values that a filling has, blank where it has none
-
-abbrev pub atomOf : FillingValue → Kind → ℕ → Term
-atomOf x k n = getD (x .values .terms) (slot k n) blankTerm
-
-abbrev pub runOf : FillingValue → ℕ → Run
-runOf x n = getD (x .runs) n blankRun

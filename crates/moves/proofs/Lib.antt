@@ -1,4 +1,2 @@
-pub mod Sides
-pub mod Heads
+pub mod Numbers
 pub mod Agree
-pub mod Limits

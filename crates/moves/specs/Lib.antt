@@ -1,4 +1,3 @@
-pub mod Heads
+pub mod Tests
 pub mod Moves
-pub mod Fails
 pub mod Encode

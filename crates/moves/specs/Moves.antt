@@ -11,10 +11,12 @@ use Rattle.terms.specs.declared.Term.{Term}
 use Rattle.terms.specs.Values.{blankTerm}
 use Rattle.fillings.specs.States.{sameAtom}
 use Rattle.items.specs.declared.Items.{Items}
-use Rattle.items.specs.Items.{blankItems, itemsOf, collect, putTerm, sameTerms, occursIn}
-use Rattle.moves.specs.declared.Head.{Head}
+use Rattle.items.specs.Items.{blankItems, itemsOf, collect}
+use Rattle.substitution.specs.Substitution.{putTerm, sameTerms, occursIn}
+use Rattle.heads.specs.declared.Head.{Head}
+use Rattle.heads.specs.Heads.{headOf}
 use Rattle.moves.specs.declared.Move.{Move}
-use Rattle.moves.specs.Heads.{headOf, replaces, strictly, freshTerm}
+use Rattle.moves.specs.Tests.{replaces, strictly, freshTerm}
 
 -- ---- what a rule leaves
 

@@ -1,16 +1,14 @@
-// What the search's rules make of an equation, and which equations fail. Each rule is a test of the two sides' heads and what it leaves.
+// What the search's rules make of an equation. Each rule is a test of the two sides' heads and what it leaves.
 ghost use mathlib.Core.Path.{_≡_};
-ghost use mathlib.Core.Bool.{cond};
 ghost use mathlib.Core.List.{[], _∷_};
 ghost use lib.ListN.{drop};
 ghost use Rattle.theory.specs.Seqs.{concat-map};
-ghost use Rattle.order.specs.declared.Kind.the-variants.{List};
-ghost use Rattle.items.specs.Items.{itemsOf, collect, putTerm};
-ghost use Rattle.moves.specs.Heads.{noHead, headOf, freshTerm, replaces, strictly};
-ghost use Rattle.moves.specs.Moves.{noMove, solvedMove, solvedBy, kept, bound, moveValue};
-ghost use Rattle.moves.specs.Moves.{remove, decomp1, decomp1′, decomp2, decomp2′, decomp3, decomp4};
-ghost use Rattle.moves.specs.Moves.{subst1, subst2, subst3, orient1, orient2, orient3, orient4};
-ghost use Rattle.moves.specs.Fails.{occur, clash1, clash2, clash3, clash4, failsValue};
+ghost use Rattle.items.specs.Items.{itemsOf, collect};
+ghost use Rattle.substitution.specs.Substitution.{putTerm};
+ghost use Rattle.heads.specs.Heads.{headOf};
+ghost use Rattle.moves.specs.Tests.{replaces, strictly, freshTerm};
+ghost use Rattle.moves.specs.Moves.{noMove, solvedMove, solvedBy, kept, bound, moveValue, remove, decomp1, decomp1′, decomp2, decomp2′, decomp3, decomp4, subst1, subst2, subst3, orient1, orient2, orient3, orient4};
+use heads::Head;
 use items::Items;
 use order::Kind;
 use terms::Form;
@@ -32,72 +30,13 @@ pub struct Move {
     pub right: Items,
 }
 
-// What the rules ask of a side.
-//   some      it has a first term
-//   longer    it has a second
-//   variable  the first is a variable
-//   list      the first is a list variable
-//   kind      the first one's type; list where there is none
-//   whole     the side's type: of one term that term's, else list
-pub struct Head {
-    pub some: bool,
-    pub longer: bool,
-    pub variable: bool,
-    pub list: bool,
-    pub kind: Kind,
-    pub whole: Kind,
-    pub first: Term,
-}
-
-// ---- heads
-
-fn no_head() -> Head
-    ensures { λ r. ⌜ r ≡ noHead ⌝ }
-{
-    let t = terms::blank_term();
-    Head {
-        some: false,
-        longer: false,
-        variable: false,
-        list: false,
-        kind: Kind::List,
-        whole: Kind::List,
-        first: t,
-    }
-}
-
-fn whole_of(longer: bool, k: Kind) -> Kind
-    ensures { λ r. ⌜ r ≡ cond longer List k ⌝ }
-{
-    if longer { Kind::List } else { k }
-}
-
-fn head_of(w: Items) -> Head
-    ensures { λ r. ⌜ r ≡ headOf (itemsOf w) ⌝ }
-{
-    let n = w.n;
-    if n == 0 {
-        return no_head();
-    }
-    let t = w.terms[0];
-    let longer = 2 <= n;
-    let k = fillings::kind_of(t);
-    Head {
-        some: true,
-        longer: longer,
-        variable: fillings::is_variable(t),
-        list: order::same_kind(k, Kind::List),
-        kind: k,
-        whole: whole_of(longer, k),
-        first: t,
-    }
-}
+// ---- what the rules ask
 
 // The head of w without its first term.
 fn head_of_rest(w: Items) -> Head
     ensures { λ r. ⌜ r ≡ headOf (drop 1 (itemsOf w)) ⌝ }
 {
-    head_of(items::rest(w))
+    heads::head_of(items::rest(w))
 }
 
 // Whether b's first term is an atom that can replace a's, a variable x of type atom or below.
@@ -136,7 +75,7 @@ fn fresh_term(f: u8) -> Term
 fn put_rest(x: Term, s: Items, w: Items) -> Items
     ensures { λ r. ⌜ r ≡ collect (concat-map (putTerm x (itemsOf s)) (drop 1 (itemsOf w))) ⌝ }
 {
-    items::put_in(x, s, items::rest(w))
+    substitution::put_in(x, s, items::rest(w))
 }
 
 // All but the first term of w, behind t.
@@ -239,7 +178,7 @@ fn bound(fresh: bool, x: Term, s: Items, l: Items, r: Items) -> Move
 fn remove(l: Items, r: Items) -> Move
     ensures { λ m. ⌜ m ≡ remove (itemsOf l) (itemsOf r) ⌝ }
 {
-    if items::same(l, r) {
+    if substitution::same(l, r) {
         return solved();
     }
     no_move()
@@ -327,7 +266,7 @@ fn subst1(r: Items, a: Head, b: Head) -> Move
     let x = a.first;
     let j = b.whole;
     let k = a.kind;
-    if a.variable & !a.longer & order::below(j, k) & !items::occurs(x, r) {
+    if a.variable & !a.longer & order::below(j, k) & !substitution::occurs(x, r) {
         return solved_by(x, r);
     }
     no_move()
@@ -399,8 +338,8 @@ fn orient4(l: Items, r: Items, a: Head, b: Head) -> Move
 pub fn move_of(rule: usize, left: Items, right: Items, fresh: u8) -> Move
     ensures { λ m. ⌜ m ≡ moveValue rule left right fresh ⌝ }
 {
-    let a = head_of(left);
-    let b = head_of(right);
+    let a = heads::head_of(left);
+    let b = heads::head_of(right);
     match rule {
         0 => remove(left, right),
         1 => decomp1(left, right, a, b),
@@ -418,53 +357,4 @@ pub fn move_of(rule: usize, left: Items, right: Items, fresh: u8) -> Move
         13 => orient4(left, right, a, b),
         _ => no_move(),
     }
-}
-
-// ---- the failure rules
-
-fn occur(l: Items, r: Items, a: Head) -> bool
-    ensures { λ f. ⌜ f ≡ occur a (itemsOf l) (itemsOf r) ⌝ }
-{
-    let x = a.first;
-    if a.list & !a.longer {
-        return items::occurs(x, r) & !items::same(r, l);
-    }
-    false
-}
-
-fn clash1(a: Head, b: Head) -> bool
-    ensures { λ f. ⌜ f ≡ clash1 a b ⌝ }
-{
-    let s = a.first;
-    let t = b.first;
-    a.some & !a.variable & b.some & !b.variable & !fillings::same_atom(s, t)
-}
-
-fn clash2(a: Head, b: Head) -> bool
-    ensures { λ f. ⌜ f ≡ clash2 a b ⌝ }
-{
-    a.some & !a.list & !b.some
-}
-
-fn clash3(a: Head, b: Head) -> bool
-    ensures { λ f. ⌜ f ≡ clash3 a b ⌝ }
-{
-    !a.some & b.some & !b.list
-}
-
-fn clash4(a: Head, b: Head) -> bool
-    ensures { λ f. ⌜ f ≡ clash4 a b ⌝ }
-{
-    let j = a.kind;
-    let k = b.whole;
-    a.variable & !a.longer & !order::below(j, k) & !order::below(k, j)
-}
-
-// Whether a failure rule applies to left = right.
-pub fn fails(left: Items, right: Items) -> bool
-    ensures { λ f. ⌜ f ≡ failsValue left right ⌝ }
-{
-    let a = head_of(left);
-    let b = head_of(right);
-    occur(left, right, a) | (clash1(a, b) | (clash2(a, b) | (clash3(a, b) | clash4(a, b))))
 }

@@ -23,10 +23,13 @@ use Rattle.fillings.specs.declared.Fillings.{Fillings}
 use Rattle.fillings.specs.declared.Joined.{Joined}
 use Rattle.fillings.specs.States.{startValue}
 use Rattle.fillings.proofs.Agree.{names, Holds, Agrees, holds-start}
-use Rattle.rows.specs.declared.Span.{Span}
-use Rattle.rows.specs.Rows.{termsOf, shapeValue, spanValue}
-use Rattle.rows.specs.Views.{termsIn, encodeShape, candAt}
-use Rattle.rows.proofs.Agree.{shape-agree, span-agree, span-at, cand-in}
+use Rattle.candidates.specs.declared.Span.{Span}
+use Rattle.shapes.specs.Shapes.{termsOf, shapeValue}
+use Rattle.candidates.specs.Candidates.{spanValue}
+use Rattle.shapes.specs.Views.{termsIn, encodeShape}
+use Rattle.candidates.specs.Views.{candAt}
+use Rattle.shapes.proofs.Agree.{shape-agree}
+use Rattle.candidates.proofs.Agree.{span-agree, span-at, cand-in}
 use Rattle.choices.specs.declared.Choice.{Choice}
 use Rattle.choices.specs.Choices.{noChoice, chosenAt, joinFields}
 use Rattle.choices.specs.Views.{ShapeIn, isLong, ChoiceHolds}

@@ -8,7 +8,7 @@ use lib.ListN.{length, length-append}
 use borrow.Author.Tests.{not-true, not-false}
 use Rattle.fillings.specs.declared.Fillings.{Fillings}
 use Rattle.fillings.specs.declared.Joined.{Joined}
-use Rattle.rows.specs.declared.Span.{Span}
+use Rattle.candidates.specs.declared.Span.{Span}
 use Rattle.choices.specs.declared.Choice.{Choice}
 use Rattle.choices.specs.Choices.{chosenAt, joinFields, entryOf}
 use Rattle.entries.specs.declared.Entry.{Entry}

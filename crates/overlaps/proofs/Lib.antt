@@ -4,3 +4,4 @@ pub mod Counts
 pub mod Entries
 pub mod Lines
 pub mod Rules
+pub mod Texts

@@ -32,7 +32,7 @@ use Rattle.writing.specs.Answers.{after}
 use Rattle.overlaps.specs.declared.Listed.{Listed}
 use Rattle.overlaps.specs.declared.Listed.the-variants.{Lines, TooSmall}
 use Rattle.pieces.specs.Stored.{bytesOf}
-use Rattle.overlaps.specs.Listing.{allLines}
+use Rattle.overlaps.specs.Listing.{allLines, AsRead}
 use Rattle.overlaps.specs.Answers.{counted, listedOf, answerOf}
 use Rattle.overlaps.proofs.Entries.{Raw, rawFrom}
 use Rattle.overlaps.proofs.Lines.{lines-are}
@@ -107,8 +107,23 @@ texts-are : (ls : List Line) → bytesOf (map lineText ls) ≡ listText ls
 texts-are [] = refl
 texts-are (l ∷ ls) = ap (λ (t : List ℕ). lineText l ++ t) (texts-are ls)
 
+no-terms : (r : List (List OurTerm)) → length r ≡ 0 → r ≡ []
+no-terms [] e = refl
+no-terms (f ∷ r) e = absurd (omega (arith, e))
+
+-- what has no fields counts as that
+no-fields : (v : Rule) → v .n ≡ 0 → countedRule v ≡ []
+no-fields v e = go (acceptedRule v) refl
+  where
+    go : (b : Bool) → acceptedRule v ≡ b → countedRule v ≡ []
+    go true q = no-terms (countedRule v) (sym (count-is v q) ∙ e)
+    go false q = ap (λ (b : Bool). cond b (viewRule v) []) q
+
+pub nothing-left : (v w : Rule) → v .n ≡ 0 → linesOf (countedRule v) (countedRule w) ≡ []
+nothing-left v w e = ap (λ (r : List (List OurTerm)). linesOf r (countedRule w)) (no-fields v e)
+
 module _ (v w : Rule) (a : acceptedRule v ≡ true) (b : acceptedRule w ≡ true) where
-  pub other-count : v .n ≢ w .n → linesOf (countedRule v) (countedRule w) ≡ []
+  other-count : v .n ≢ w .n → linesOf (countedRule v) (countedRule w) ≡ []
   other-count n = lines-none (countedRule v) (countedRule w) (λ e. n (count-is v a ∙ e ∙ sym (count-is w b)))
 
   module _ (same : v .n ≡ w .n) (x : Rule) (is-x : x ≡ rightRule w) where
@@ -130,3 +145,15 @@ module _ (v w : Rule) (a : acceptedRule v ≡ true) (b : acceptedRule w ≡ true
       h .0 ∙ ap₂ (λ (n m : ℕ). counted n m (length old)) entries (ap length bytes),
       h .1 ∙ ap (λ (t : List ℕ). after t old) bytes,
     )
+
+-- ---- values as reading returns them
+
+pub counts-differ : (v w : Rule) → AsRead v × AsRead w → v .n ≢ 0 → v .n ≢ w .n → linesOf (countedRule v) (countedRule w) ≡ []
+counts-differ v w h k n = go (ℕ-discrete (w .n) 0)
+  where
+    go : Dec (w .n ≡ 0) → linesOf (countedRule v) (countedRule w) ≡ []
+    go (yes e) = ap (linesOf (countedRule v)) (no-fields w e) ∙ no-right (countedRule v)
+    go (no m) = other-count v w (h .0 k) (h .1 m) n
+
+pub same-accepted : (v w : Rule) → AsRead v × AsRead w → v .n ≢ 0 → v .n ≡ w .n → (acceptedRule v ≡ true) × (acceptedRule w ≡ true)
+same-accepted v w h k e = (h .0 k, h .1 (λ z. k (e ∙ z)))

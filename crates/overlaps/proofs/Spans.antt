@@ -7,10 +7,11 @@ use Prim.Native.Nat.{ℕ, _+_, _-_, _≤_, _<_}
 use native.Mathlib.Omega.{arith}
 use lib.ListN.{length, getD}
 use borrow.Author.Tests.{eq-eqb, ne-eqb}
-use Rattle.rows.specs.declared.Shape.{Shape}
-use Rattle.rows.specs.declared.Span.{Span}
-use Rattle.rows.specs.Rows.{termsOf, shapeValue, spanValue}
-use Rattle.rows.proofs.Tests.{span-bounds}
+use Rattle.shapes.specs.declared.Shape.{Shape}
+use Rattle.candidates.specs.declared.Span.{Span}
+use Rattle.shapes.specs.Shapes.{termsOf, shapeValue}
+use Rattle.candidates.specs.Candidates.{spanValue}
+use Rattle.candidates.proofs.Tests.{span-bounds}
 use Rattle.terms.specs.declared.Term.{Term}
 use Rattle.terms.specs.Values.{blankField}
 use Rattle.fillings.specs.declared.Fillings.{Fillings}

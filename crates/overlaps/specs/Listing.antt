@@ -1,17 +1,22 @@
 -- Listing overlaps on values, as code does it: "Choosing a length for one field leads to the next field's choices; the first field varies slowest."
 -- The theorems of proofs/Agree say that the lines are those of the overlap list.
-use mathlib.Core.Bool.{cond, _&&_}
+use mathlib.Core.Path.{_≡_}
+use mathlib.Core.Logic.{_≢_}
+use mathlib.Core.Bool.{true, cond, _&&_}
 use mathlib.Core.List.{List, [], _∷_, _++_}
 use Prim.Native.Nat.{ℕ, zero, suc, _+_, _-_, _*_, _≤_}
 use lib.Dec.{eqb}
 use lib.ListN.{length, getD}
 use Rattle.terms.specs.declared.Term.{Term}
+use Rattle.terms.specs.declared.Rule.{Rule}
 use Rattle.terms.specs.Values.{blankField}
+use Rattle.accepted.specs.Accepted.{acceptedRule}
 use Rattle.fillings.specs.declared.Fillings.{Fillings}
 use Rattle.fillings.specs.declared.Joined.{Joined}
 use Rattle.fillings.specs.States.{startValue}
-use Rattle.rows.specs.declared.Span.{Span}
-use Rattle.rows.specs.Rows.{termsOf, shapeValue, spanValue}
+use Rattle.candidates.specs.declared.Span.{Span}
+use Rattle.shapes.specs.Shapes.{termsOf, shapeValue}
+use Rattle.candidates.specs.Candidates.{spanValue}
 use Rattle.choices.specs.declared.Choice.{Choice}
 use Rattle.choices.specs.Choices.{chosenAt, joinFields, noChoice}
 use Rattle.pieces.specs.Stored.{bytesOf}
@@ -77,3 +82,8 @@ Moderate t = t .bytes ≤ lineBound * t .entries
 
 abbrev pub Countable : Tally → List (List ℕ) → Type 0
 Countable t ls = Moderate t × (t .entries + length ls ≤ mostEntries)
+
+-- ---- the rules that are listed: a value with fields is one that reading returns
+
+abbrev pub AsRead : Rule → Type 0
+AsRead v = v .n ≢ 0 → acceptedRule v ≡ true

@@ -4,17 +4,19 @@ ghost use mathlib.Core.List.{[], _∷_};
 ghost use Prim.Native.Nat.{_-_, _+_, _≤_, _<_, min};
 ghost use lib.ListN.{length};
 ghost use Rattle.writing.specs.Answers.{after};
+ghost use Rattle.text.specs.Read.{readRule};
 ghost use Rattle.accepted.specs.Accepted.{countedRule};
 ghost use Rattle.listing.specs.Overlaps.{linesOf, overlapText};
 ghost use Rattle.entry_lines.specs.Sizes.{lineBound};
 ghost use Rattle.overlaps.specs.Lines.{lineAt};
 ghost use Rattle.pieces.specs.Stored.{bytesOf, storeAll};
-ghost use Rattle.overlaps.specs.Listing.{spanAt, candidateOf, choiceLines, linesFrom, allLines, noTally, tallied, Moderate, Countable};
-ghost use Rattle.overlaps.specs.Answers.{answerOf, listedOf};
+ghost use Rattle.overlaps.specs.Listing.{spanAt, candidateOf, choiceLines, linesFrom, allLines, noTally, tallied, Moderate, Countable, AsRead};
+ghost use Rattle.overlaps.specs.Answers.{answerOf, listedOf, ruleOf, textsListed};
+use candidates::Span;
 use choices::Choice;
 use fillings::Fillings;
-use rows::Span;
 use terms::Rule;
+use verdicts::Verdict;
 
 // The two rules, and the right one with its variables kept apart from the left one's.
 pub struct Pair {
@@ -35,6 +37,13 @@ pub enum Listed {
     Lines(usize, usize),
     // they would need so many bytes, and none was written
     TooSmall(usize, usize),
+}
+
+// How two texts are read, and the answer of listing what they say.
+pub struct TextsListed {
+    pub left: Verdict,
+    pub right: Verdict,
+    pub listed: Listed,
 }
 
 // How many items a field has, and whether a list variable stands among them.
@@ -118,7 +127,7 @@ fn choose(p: Pair, j: usize, ch: Choice, st: Fillings, out: &mut [u8], t: Tally)
     let r = p.sided;
     let f = l.fields[j];
     let g = r.fields[j];
-    let s = rows::span_of(rows::shape_of(f), rows::shape_of(g));
+    let s = candidates::span_of(shapes::shape_of(f), shapes::shape_of(g));
     let mut u = t;
     let mut k = s.count;
     while 0 < k {
@@ -177,16 +186,12 @@ fn list_pair(p: Pair, room: &mut [u8], out: &mut [u8]) -> Listed
     Listed::Lines(t.entries, n)
 }
 
-// THE OVERLAP LIST of two rules: every choice of one candidate a field that nothing kills, a line for each, the first field slowest.
-// What no reading returns has no fields, and rules with different field counts have no entries.
-// The room is for the work, and what it holds afterwards is not said: one that has as many bytes as `out` saves making the list twice.
-pub fn list_with(left: Rule, right: Rule, room: &mut [u8], out: &mut [u8]) -> Listed
+// The list of two rules that are known to be as reading returns them: nothing is tested again.
+fn list_accepted(left: Rule, right: Rule, room: &mut [u8], out: &mut [u8]) -> Listed
+    requires { ⌜ AsRead left × AsRead right ⌝ }
     ensures { λ r. ⌜ (r ≡ listedOf (linesOf (countedRule left) (countedRule right)) (length (now (out .entry)))) × (now (out .exit) ≡ after (overlapText (countedRule left) (countedRule right)) (now (out .entry))) ⌝ }
 {
-    if !accepted::is_rule(left) {
-        return Listed::Lines(0, 0);
-    }
-    if !accepted::is_rule(right) {
+    if left.n == 0 {
         return Listed::Lines(0, 0);
     }
     if left.n != right.n {
@@ -200,10 +205,42 @@ pub fn list_with(left: Rule, right: Rule, room: &mut [u8], out: &mut [u8]) -> Li
     list_pair(p, room, out)
 }
 
+// THE OVERLAP LIST of two rules: every choice of one candidate a field that nothing kills, a line for each, the first field slowest.
+// What no reading returns has no fields, and rules with different field counts have no entries.
+// The room is for the work, and what it holds afterwards is not said: one that has as many bytes as `out` saves making the list twice.
+pub fn list_with(left: Rule, right: Rule, room: &mut [u8], out: &mut [u8]) -> Listed
+    ensures { λ r. ⌜ (r ≡ listedOf (linesOf (countedRule left) (countedRule right)) (length (now (out .entry)))) × (now (out .exit) ≡ after (overlapText (countedRule left) (countedRule right)) (now (out .entry))) ⌝ }
+{
+    if !accepted::is_rule(left) {
+        return Listed::Lines(0, 0);
+    }
+    if !accepted::is_rule(right) {
+        return Listed::Lines(0, 0);
+    }
+    list_accepted(left, right, room, out)
+}
+
 // The same with no room but the lent bytes.
 pub fn list_overlaps(left: Rule, right: Rule, out: &mut [u8]) -> Listed
     ensures { λ r. ⌜ (r ≡ listedOf (linesOf (countedRule left) (countedRule right)) (length (now (out .entry)))) × (now (out .exit) ≡ after (overlapText (countedRule left) (countedRule right)) (now (out .entry))) ⌝ }
 {
     let mut room = [0u8; 1];
     list_with(left, right, &mut room, out)
+}
+
+// The list of the rules that two texts say, and how each is read. A text that is refused says the rule with no fields, which has no overlaps.
+pub fn list_texts(left: &[u8], right: &[u8], room: &mut [u8], out: &mut [u8]) -> TextsListed
+    ensures { λ r. ⌜ r ≡ textsListed (readRule (now (left .entry))) (readRule (now (right .entry))) (length (now (out .entry))) ⌝ }
+    ensures { λ _. ⌜ now (out .exit) ≡ after (overlapText (ruleOf (readRule (now (left .entry)))) (ruleOf (readRule (now (right .entry))))) (now (out .entry)) ⌝ }
+{
+    let l = reading::read_rule(left);
+    let r = reading::read_rule(right);
+    let listed = list_accepted(l.rule, r.rule, room, out);
+    let left_verdict = l.verdict;
+    let right_verdict = r.verdict;
+    TextsListed {
+        left: left_verdict,
+        right: right_verdict,
+        listed: listed,
+    }
 }

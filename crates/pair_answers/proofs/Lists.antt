@@ -1,7 +1,7 @@
 -- What the lister leaves in the part of the room that is lent to it, by its answer. Assumes nothing.
 use mathlib.Core.Path.{_≡_, refl, sym, ap, _∙_, subst}
 use mathlib.Core.Bool.{Bool, true, false, cond}
-use mathlib.Core.List.{List, _++_, append-assoc}
+use mathlib.Core.List.{List, [], _++_, append-assoc}
 use Prim.Native.Nat.{ℕ, _+_, _≤_, _<_}
 use native.Mathlib.Omega.{arith}
 use lib.Dec.{leb}
@@ -16,6 +16,7 @@ use Rattle.listing.specs.Lines.{Line, listText}
 use Rattle.overlaps.specs.declared.Listed.{Listed}
 use Rattle.overlaps.specs.declared.Listed.the-variants.{Lines, TooSmall}
 use Rattle.overlaps.specs.Answers.{listedOf}
+use Rattle.overlaps.proofs.Rules.{none-listed}
 use Rattle.pieces.specs.Placed.{Placed}
 use Rattle.pieces.proofs.Pieces.{placed-as}
 use Rattle.entry_lines.proofs.Pieces.{Piece, piece-as}
@@ -56,6 +57,13 @@ module _ (ls : List Line) (old : List ℕ) (at n : ℕ) (is-n : n ≡ mostBytes)
   -- the whole room, with m in the place of what was lent
   abbrev pub roomWith : List ℕ → List ℕ
   roomWith m = take at old ++ (m ++ drop n (drop at old))
+
+  -- where there are no lines the bytes are as they were
+  pub none-put : {m : List ℕ} → m ≡ after text part → ls ≡ [] → roomWith m ≡ old
+  none-put is h =
+      ap roomWith (is ∙ ap (λ (l : List Line). after (listText l) part) h ∙ sym (none-listed [] part refl .1))
+      ∙ ap (λ (l : List ℕ). take at old ++ l) (take-append-drop n (drop at old))
+      ∙ take-append-drop at old
 
   module _ {r : Listed} {m : List ℕ} (is : (r ≡ listedOf ls (length part)) × (m ≡ after text part)) (e b : ℕ) where
     lines-fit : r ≡ Lines e b → (b ≡ length text) × (length text ≤ mostBytes)

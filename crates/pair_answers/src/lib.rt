@@ -7,17 +7,15 @@ ghost use Prim.Native.Nat.{_+_, _≤_, min};
 ghost use lib.ListN.{length};
 ghost use Rattle.text.specs.Ascii.{ascii, newline};
 ghost use Rattle.text.specs.Numbers.{digitsOf};
-ghost use Rattle.reading.specs.Answers.{numberOf};
+ghost use Rattle.text.specs.Read.{readRule};
+ghost use Rattle.verdicts.specs.Verdicts.{numberOf};
 ghost use Rattle.writing.specs.Answers.{writtenOf, after};
 ghost use Rattle.pieces.specs.Refusals.{numberAt};
 ghost use Rattle.pieces.specs.Placed.{Placed};
-ghost use Rattle.pair_answers.specs.Pairs.{mostBytes, lineText, titleText, longestAnswer, pairAnswer};
-ghost use Rattle.pair_answers.specs.Values.{saidList, saidRight, saidReads};
+ghost use Rattle.pair_answers.specs.Pairs.{mostBytes, readText, lineText, titleText, longestAnswer, pairAnswer};
 use overlaps::Listed;
-use reading::Reason;
-use reading::RuleRead;
-use reading::Verdict;
-use terms::Rule;
+use verdicts::Reason;
+use verdicts::Verdict;
 use writing::Written;
 
 // ---- pieces: each is put at a place of the room, and returns the place behind it
@@ -30,53 +28,36 @@ fn put_too_long(bytes: usize, out: &mut [u8], at: usize) -> usize
     pieces::put_bytes(b"\n", out, b)
 }
 
-// The list is lent no more than the 65,536 bytes that it may have, so that the lister itself tells a list that is too long.
-fn put_list(left: Rule, right: Rule, room: &mut [u8], out: &mut [u8], at: usize) -> usize
-    requires { ⌜ at + mostBytes ≤ length (now out) ⌝ }
-    ensures { λ p. ⌜ Placed (saidList left right) at (now (out .entry)) p (now (out .exit)) ⌝ }
-    ensures { λ _. ⌜ length (saidList left right) ≤ mostBytes ⌝ }
-{
-    let end = at + 65536;
-    match overlaps::list_with(left, right, room, &mut out[at..end]) {
-        Listed::Lines(_, bytes) => at + bytes,
-        Listed::TooSmall(_, bytes) => put_too_long(bytes, out, at),
-    }
-}
-
 fn put_refusal(words: &[u8], reason: Reason, place: usize, out: &mut [u8], at: usize) -> usize
     ensures { λ r. ⌜ Placed (now (words .entry) ++ numberAt (numberOf reason) place ++ newline) at (now (out .entry)) r (now (out .exit)) ⌝ }
 {
-    let n = reading::number(reason);
+    let n = verdicts::number(reason);
     let a = pieces::put_bytes(words, out, at);
     let b = pieces::put_number_at(n as u64, place as u64, out, a);
     pieces::put_bytes(b"\n", out, b)
 }
 
-// What is said of a right rule that was read, or of its refusal.
-fn put_right(left: Rule, right: RuleRead, room: &mut [u8], out: &mut [u8], at: usize) -> usize
+// What is said of two texts, the left one's refusal before the right one's.
+// The list is lent no more than the 65,536 bytes that it may have, so that the lister itself tells a list that is too long.
+fn put_texts(left: &[u8], right: &[u8], room: &mut [u8], out: &mut [u8], at: usize) -> usize
     requires { ⌜ at + mostBytes ≤ length (now out) ⌝ }
-    ensures { λ p. ⌜ Placed (saidRight left right) at (now (out .entry)) p (now (out .exit)) ⌝ }
-    ensures { λ _. ⌜ length (saidRight left right) ≤ mostBytes ⌝ }
+    ensures { λ p. ⌜ Placed (readText (readRule (now (left .entry))) (readRule (now (right .entry)))) at (now (out .entry)) p (now (out .exit)) ⌝ }
+    ensures { λ _. ⌜ length (readText (readRule (now (left .entry))) (readRule (now (right .entry)))) ≤ mostBytes ⌝ }
 {
-    let verdict = right.verdict;
-    let r = right.rule;
-    match verdict {
-        Verdict::Accepted => put_list(left, r, room, out, at),
-        Verdict::Refused(reason, place) => put_refusal(b"refused right ", reason, place, out, at),
+    let end = at + 65536;
+    let said = overlaps::list_texts(left, right, room, &mut out[at..end]);
+    let l = said.left;
+    let r = said.right;
+    let listed = said.listed;
+    if let Verdict::Refused(reason, place) = l {
+        return put_refusal(b"refused left ", reason, place, out, at);
     }
-}
-
-// The left rule's refusal goes before the right one's.
-fn put_reads(left: RuleRead, right: RuleRead, room: &mut [u8], out: &mut [u8], at: usize) -> usize
-    requires { ⌜ at + mostBytes ≤ length (now out) ⌝ }
-    ensures { λ p. ⌜ Placed (saidReads left right) at (now (out .entry)) p (now (out .exit)) ⌝ }
-    ensures { λ _. ⌜ length (saidReads left right) ≤ mostBytes ⌝ }
-{
-    let verdict = left.verdict;
-    let l = left.rule;
-    match verdict {
-        Verdict::Accepted => put_right(l, right, room, out, at),
-        Verdict::Refused(reason, place) => put_refusal(b"refused left ", reason, place, out, at),
+    if let Verdict::Refused(reason, place) = r {
+        return put_refusal(b"refused right ", reason, place, out, at);
+    }
+    match listed {
+        Listed::Lines(_, bytes) => at + bytes,
+        Listed::TooSmall(_, bytes) => put_too_long(bytes, out, at),
     }
 }
 
@@ -99,9 +80,7 @@ fn put_line(line: &[u8], room: &mut [u8], out: &mut [u8], at: usize) -> usize
     }
     let tab = pieces::tab_place(line);
     let rest = behind(tab, n);
-    let left = reading::read_rule(&line[..tab]);
-    let right = reading::read_rule(&line[rest..]);
-    put_reads(left, right, room, out, at)
+    put_texts(&line[..tab], &line[rest..], room, out, at)
 }
 
 fn put_title(k: u64, out: &mut [u8], at: usize) -> usize

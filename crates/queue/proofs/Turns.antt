@@ -1,5 +1,6 @@
 -- Laws of a turn. Assumes nothing.
 --     place-fits, line-part    an answer's line in the part of the output that is lent to the line writer
+--     noted, not-noted         what an answer leaves in the output, and what is none
 --     turn-is                  a turn where a line's size counts only for an answer
 use mathlib.Core.Path.{_≡_, refl, sym, _∙_, ap}
 use mathlib.Core.Bool.{Bool, true, false, not, cond}
@@ -9,12 +10,14 @@ use native.Mathlib.Omega.{arith}
 use lib.Dec.{eqb}
 use lib.ListN.{length, take, drop}
 use Rattle.problems.specs.declared.Problem.{Problem}
+use Rattle.problems.specs.Values.{blankProblem}
 use Rattle.writing.specs.Answers.{after}
 use Rattle.pieces.specs.Stored.{storeLine}
 use Rattle.pieces.proofs.Stored.{store-part, store-end}
-use Rattle.queue.specs.declared.State.{State}
-use Rattle.queue.specs.declared.Turn.{Turn}
-use Rattle.queue.specs.Machine.{trying, answers, linePlace, lineOf, headTurn, ruleTurn, decided, moved}
+use Rattle.turns.specs.declared.State.{State}
+use Rattle.turns.specs.declared.Turn.{Turn}
+use Rattle.turns.specs.Turns.{rules, trying, nextPlace, plus, worked, stopped, ruleTurn, decided}
+use Rattle.queue.specs.Machine.{answers, linePlace, lineOf, wrote}
 
 -- ---- where an answer's line goes
 
@@ -34,14 +37,54 @@ pub line-part : (s : State) (l old : List ℕ) (at : ℕ) {m : List ℕ} → at 
     → take at old ++ (m ++ drop (length old - at) (drop at old)) ≡ cond (s .writing) (storeLine l (s .bytes) old) old
 line-part s l old at a e = part-by l old (s .bytes) at e (s .writing) a
 
+-- ---- an answer's line, where there is an answer
+
+module _ (s : State) (p : Problem) (old : List ℕ) where
+  pub noted : {n : ℕ} {l : List ℕ} → answers s p ≡ true → n ≡ length (lineOf s p) → l ≡ cond (s .writing) (storeLine (lineOf s p) (s .bytes) old) old
+      → (n ≡ cond (answers s p) (length (lineOf s p)) 0) × (l ≡ wrote s p old)
+  noted on e w = (
+    e ∙ sym (ap (λ (b : Bool). cond b (length (lineOf s p)) 0) on),
+    w ∙ sym (ap (λ (b : Bool). cond b (cond (s .writing) (storeLine (lineOf s p) (s .bytes) old) old) old) on),
+  )
+
+  pub not-noted : answers s p ≡ false → (0 ≡ cond (answers s p) (length (lineOf s p)) 0) × (old ≡ wrote s p old)
+  not-noted off = (
+    sym (ap (λ (b : Bool). cond b (length (lineOf s p)) 0) off),
+    sym (ap (λ (b : Bool). cond b (cond (s .writing) (storeLine (lineOf s p) (s .bytes) old) old) old) off),
+  )
+
 -- ---- what is not an answer has no line to count
 
+-- t, z, o: a rule is tried, nothing waits, the record is open
+turn-by : (r e : Turn) (f : ℕ → Turn) (a n : ℕ) (t z o : Bool)
+    → cond t r (cond z e (f (cond o a (plus a (cond (cond t false (cond z false (not o))) n 0))))) ≡ cond t r (cond z e (f (cond o a (plus a n))))
+turn-by r e f a n true z o = refl
+turn-by r e f a n false true o = refl
+turn-by r e f a n false false true = refl
+turn-by r e f a n false false false = refl
+
 module _ (s : State) (p : Problem) (n : ℕ) where
-  turn-by : (t z o : Bool) → trying (s .rule) ≡ t → eqb (s .count) 0 ≡ z → p .«open» ≡ o → decided s p (cond (answers s p) n 0) ≡ decided s p n
-  turn-by true z o et ez eo = rw et refl
-  turn-by false true o et ez eo = rw et (rw ez refl)
-  turn-by false false true et ez eo = rw et (rw ez (rw eo refl))
-  turn-by false false false et ez eo = rw et (rw ez (rw eo refl))
+  -- the record leaves the row, and b bytes are counted
+  abbrev counted : ℕ → Turn
+  counted b = record {
+    problem = blankProblem;
+    state = record {
+      busy = true;
+      writing = s .writing;
+      refused = s .refused;
+      rule = cond (worked p) 0 rules;
+      at = cond (worked p) (s .tail) (nextPlace (s .head) (s .cap));
+      head = nextPlace (s .head) (s .cap);
+      tail = s .tail;
+      count = s .count - 1;
+      cap = s .cap;
+      lines = cond (p .«open») (s .lines) (plus (s .lines) 1);
+      bytes = b;
+      held = p;
+      left = s .left;
+      right = s .right;
+    };
+  }
 
   pub turn-is : decided s p (cond (answers s p) n 0) ≡ decided s p n
-  turn-is = turn-by (trying (s .rule)) (eqb (s .count) 0) (p .«open») refl refl refl
+  turn-is = turn-by (ruleTurn s p) (record { problem = p; state = stopped s }) counted (s .bytes) n (trying (s .rule)) (eqb (s .count) 0) (p .«open»)

@@ -38,14 +38,14 @@ use Rattle.scanning.specs.Pieces.{pieceOf}
 use Rattle.scanning.proofs.Piece.Laws as O′
 use Rattle.walks.proofs.Walk.{Spots, room, holds, envOf, cells, pos, allocs-all, frees-all, var, sets}
 use Rattle.walks.proofs.Returns.{Spelt, Good, Returns, Met, returns-plain, calls-plain, calls-shared}
-use Rattle.reading.specs.declared.At.{At}
+use Rattle.refusals.specs.declared.At.{At}
 use Rattle.reading.specs.Places.{first, spelled, termAt, markAt}
 use Rattle.reading.specs.Build.{turns, turned, put, whole as whole-of}
-use Rattle.reading.proofs.At as P
-use Rattle.reading.proofs.At.Laws as P′
+use Rattle.refusals.proofs.At as P
+use Rattle.refusals.proofs.At.Laws as P′
 use Rattle.reading.proofs.Reader.Laws as R′
 use Rattle.reading.proofs.Build.{turned-yes, turned-no, put-is}
-use Rattle.reading.proofs.Loops.{behind-place, piece-small, Walked, walked-none, walked-one, walked-all}
+use Rattle.reading.proofs.Loops.{within, within-fits, fewer-left, piece-small, Walked, walked-none, walked-one, walked-all}
 use Rattle.reading.proofs.Held.{reader, mach-text, mach-at, mach, mach-piece, Text, Token, Text-is, At-is, Piece-is, text-typed, at-typed, piece-typed, reader-typedᵉ, at-of-is, reader-is, text-twice}
 use Rattle.reading.proofs.Calls.{next-at, Start, HasTerm, Term, Passed, Kept, calls-start, calls-has-term, calls-term, calls-passed}
 use Rattle.reading.proofs.start.Symbol.{name as #reading·start}
@@ -178,7 +178,7 @@ module _ {M : Type 1} (𝓤 : URA M) (H : Heap 𝓤) (A : Atoms 𝓤) (W : Given
           calls-shared ! (fmOf 𝓤 H (W .laws) 𝓣) (Y .row) (Y .val) (Y .tells) (f′ (j .0) (c .1)) (‵ (Text κ s)) (Token 𝓤 κ q) (text-twice 𝓤 H A W κ s) (k-with (c .1) (j .0) gf place-fits gp less)
           (λ Q. and-then ! (var ! (L 3) refl) (and-then ! (var ! (L 13) refl) (and-then ! (var ! (L 14) refl) (and-then ! (var ! (L 5) refl) (no-more !))))) (λ gf′. land ! (from ! (stop !)) (store ! (L 3) refl (Y .typed (f′ (j .0) (c .1)) gf′)) $
           sets ! (of-opd ! (var ! (L 4) refl)) (init ! (L 15) refl (at-reader (j .0) (j .3))) $
-          calls-passed ! mem run (fmOf 𝓤 H (W .laws) 𝓣) κ q s (j .0) (j .3) k-passed (piece (j .0)) gp (omega (arith, less), j .2 .0 .0, j .2 .0 .1, piece-small (now s) 8192 (j .0 .place) (piece (j .0)) refl short)
+          calls-passed ! mem run (fmOf 𝓤 H (W .laws) 𝓣) κ q s (j .0) (j .3) k-passed (piece (j .0)) gp (within (length (now s)) (j .0 .place) less short, j .2 .0 .0, j .2 .0 .1, piece-small (now s) 8192 (j .0 .place) (piece (j .0)) refl short)
           (λ Q. and-then ! (var ! (L 15) refl) (and-then ! (var ! (L 5) refl) (no-more !))) (λ gr. land ! (from ! (stop !)) (init ! (L 7) refl (reader-typedᵉ 𝓤 H A W κ (reader s (a′ (j .0))) gr)) $
           assigns-last ! (of-opd ! (var ! (L 7) refl)) (from ! (stop !)) (store ! (L 4) refl (reader-typedᵉ 𝓤 H A W κ (reader s (a′ (j .0))) gr)) $
           forget ! (L 5) refl $ forget ! (L 7) refl $ forget ! (L 13) refl $ forget ! (L 14) refl $ forget ! (L 15) refl $
@@ -192,10 +192,10 @@ module _ {M : Type 1} (𝓤 : URA M) (H : Heap 𝓤) (A : Atoms 𝓤) (W : Given
           ) nearer))
         where
           place-fits : j .0 .place < 2 ^ 64
-          place-fits = omega (arith, less, short)
+          place-fits = within-fits (length (now s)) (j .0 .place) less short
 
           nearer : length (now s) - a′ (j .0) .place < length (now s) - j .0 .place
-          nearer = let b = behind-place (now s) (j .0) (j .0 .place + spelled (piece (j .0))) in omega (arith, less)
+          nearer = fewer-left (now s) (j .0) (piece (j .0)) less
 
       -- a turn, by how its test comes out
       turn-by : (j : Turn) (t : Bool) → ltb (j .0 .place) (length (now s)) ≡ t → Sq W (In j) (runs C Λ En (turn #blank-whole #blank-field #push #with) (anyQ (Turned j)))

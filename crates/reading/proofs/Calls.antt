@@ -30,7 +30,7 @@ use Rattle.scanning.specs.Pieces.{pieceOf}
 use Rattle.scanning.proofs.Piece as O
 use Rattle.scanning.proofs.Piece.Laws as O′
 use Rattle.walks.proofs.Returns.{Met, returns-of, calls-shared}
-use Rattle.reading.specs.declared.At.{At}
+use Rattle.refusals.specs.declared.At.{At}
 use Rattle.reading.specs.Places.{first, spelled, behind, termAt}
 use Rattle.reading.proofs.Held.{B, D, F, reader, mach-text, mach, mach-piece, Text, Token, At-is, Piece-is, Reader-is, text-twice, held}
 use Rattle.reading.proofs.start as start

@@ -29,10 +29,10 @@ use denote.Struct.Values.{Values}
 use Rattle.scanning.specs.declared.Piece.{Piece}
 use Rattle.scanning.proofs.Piece as O
 use Rattle.scanning.proofs.Piece.Laws as O′
-use Rattle.reading.specs.declared.At.{At}
+use Rattle.refusals.specs.declared.At.{At}
 use Rattle.reading.specs.declared.Reader.{Reader}
-use Rattle.reading.proofs.At as P
-use Rattle.reading.proofs.At.Laws as P′
+use Rattle.refusals.proofs.At as P
+use Rattle.refusals.proofs.At.Laws as P′
 use Rattle.reading.proofs.Reader as R
 use Rattle.reading.proofs.Reader.Laws as R′
 

@@ -1,5 +1,4 @@
 pub mod Places
-pub mod Refusals
 pub mod Build
 pub mod Verdicts
 pub mod Loops

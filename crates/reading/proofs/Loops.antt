@@ -2,14 +2,14 @@
 use mathlib.Core.Path.{_≡_, refl, sym, _∙_, ap, ap₂, subst}
 use mathlib.Core.Bool.{Bool, true, false, cond}
 use mathlib.Core.List.{List, foldl}
-use Prim.Native.Nat.{ℕ, _+_, _-_, _<_, _≤_}
+use Prim.Native.Nat.{ℕ, _+_, _-_, _<_, _≤_, _^_}
 use native.Mathlib.Omega.{arith}
 use lib.ListN.{length, drop, length-drop}
 use Rattle.text.specs.Marks.{Mark}
 use Rattle.text.specs.Walk.{front, walk, walked}
 use Rattle.scanning.specs.declared.Piece.{Piece}
 use Rattle.scanning.specs.Pieces.{pieceOf}
-use Rattle.reading.specs.declared.At.{At}
+use Rattle.refusals.specs.declared.At.{At}
 use Rattle.reading.specs.Places.{first, spelled, colonAt, behind, markAt, termAt, marksFrom}
 use Rattle.reading.proofs.Places.{spelled-is, size-fits, marks-none, marks-step}
 
@@ -34,6 +34,17 @@ behind-low t a e h l = go (colonAt t e)
 -- the size of a piece that stands in a text of at most n bytes
 pub piece-small : (t : List ℕ) (n k : ℕ) (p : Piece) → p ≡ pieceOf (front (drop k t)) → length t ≤ n → p .size ≤ n
 piece-small t n k p e h = let s = size-fits (drop k t) in let d = length-drop k t in let q = ap (λ (x : Piece). x .size) e in omega arith
+
+-- a place within a text of at most 8192 bytes
+pub within : (n a : ℕ) → a < n → n ≤ 8192 → a ≤ 8192
+within n a h k = omega arith
+
+pub within-fits : (n a : ℕ) → a < n → n ≤ 8192 → a < 2 ^ 64
+within-fits n a h k = omega arith
+
+-- behind a term fewer bytes are left
+pub fewer-left : (t : List ℕ) (a : At) (p : Piece) → a .place < length t → length t - (behind t a (a .place + spelled p)) .place < length t - a .place
+fewer-left t a p h = let b = behind-place t a (a .place + spelled p) in omega arith
 
 module _ {S : Type 0} (f : S → Mark → S) (t : List ℕ) (x₀ : S) where
   -- what is left to fold from the state x at the place a is what was to fold from x₀

@@ -21,7 +21,7 @@ use Rattle.scanning.specs.declared.Piece.{Piece}
 use Rattle.scanning.specs.declared.Spelled.{Spelled}
 use Rattle.scanning.specs.declared.Spelled.the-variants.{Int, Str, Var, Empty}
 use Rattle.scanning.specs.Pieces.{pieceOf}
-use Rattle.reading.specs.declared.At.{At}
+use Rattle.refusals.specs.declared.At.{At}
 use Rattle.reading.specs.Places.{spelledBy, spelled, colonAt, behind, markAt, termAt, marksFrom}
 
 -- the length of a written term, from its piece

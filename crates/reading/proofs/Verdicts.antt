@@ -14,7 +14,7 @@ use Rattle.text.specs.Machine.{place2}
 use Rattle.text.specs.Marks.{Mark, marks, FifthField, TooMany, MarkOver, Over}
 use Rattle.text.specs.Terms.{OurTerm, fieldsOf}
 use Rattle.text.specs.Walk.{walked}
-use Rattle.text.specs.Read.{Reason, long, grammar, fields, terms, limits, linear, variable, number, Sort, rule, slip, Refuses, said, placeOf, NoReason, Outcome, refused, accepted, tell, chain, read, readRule, readSlip}
+use Rattle.text.specs.Read.{Reason, long, grammar, fields, terms, limits, Sort, rule, slip, Refuses, said, placeOf, NoReason, Outcome, refused, accepted, tell, chain, read, readRule, readSlip}
 use Rattle.text.proofs.Place.{place2-none}
 use Rattle.text.proofs.Walk.{walk-says}
 use Rattle.text.proofs.Leftmost.{none-all}
@@ -27,14 +27,15 @@ use Rattle.terms.specs.Values.{blankRule, blankSlip}
 use Rattle.scanning.specs.declared.Found.{Found}
 use Rattle.scanning.specs.declared.Found.the-variants as found
 use Rattle.scanning.specs.Places.{foundOf}
-use Rattle.reading.specs.declared.Verdict.{Verdict}
-use Rattle.reading.specs.declared.Verdict.the-variants.{Accepted, Refused}
-use Rattle.reading.specs.declared.Survey.{Survey}
+use Rattle.verdicts.specs.declared.Verdict.{Verdict}
+use Rattle.verdicts.specs.declared.Verdict.the-variants.{Accepted, Refused}
+use Rattle.refusals.specs.declared.Survey.{Survey}
 use Rattle.reading.specs.Build.{builtRule, builtSlip}
-use Rattle.reading.specs.Refusals.{surveyMark, nothingYet, lastReason, reasons, refusedAt, outcome}
-use Rattle.reading.specs.Answers.{sortOf, reasonFrom, numberOf, verdictOf, ruleRead, slipRead}
+use Rattle.verdicts.specs.Verdicts.{sortOf, reasonFrom, verdictOf, reasons, refusedAt}
+use Rattle.refusals.specs.Refusals.{surveyMark, nothingYet, told}
+use Rattle.refusals.proofs.Refusals.{tellAll, survey-is}
+use Rattle.reading.specs.Answers.{ruleRead, slipRead}
 use Rattle.reading.proofs.Build.{Fits, rule-built, slip-built}
-use Rattle.reading.proofs.Refusals.{tellAll, survey-is}
 
 -- ---- the verdict, refusal by refusal
 
@@ -63,7 +64,7 @@ module _ (s : Bool) (t : List ℕ) where
   read-grammar p h e = short h ∙ ap (λ (q : Option ℕ). tell grammar q rest) e
 
   -- in one pass, where the text is of the grammar
-  read-survey : length t ≤ S .bytes → place2 t ≡ none → read S t ≡ outcome s (foldl (surveyMark s (S .width)) nothingYet (walked t)) (accepted (fieldsOf (said t)))
+  read-survey : length t ≤ S .bytes → place2 t ≡ none → read S t ≡ told s (foldl (surveyMark s (S .width)) nothingYet (walked t)) (accepted (fieldsOf (said t)))
   read-survey h e =
       let g = place2-none t .1 e in
       let x = g .0 in
@@ -72,7 +73,7 @@ module _ (s : Bool) (t : List ℕ) where
       ∙ chained s
       ∙ ap (λ (y : List (List Raw)). tellAll (S .width) [] (marks y) (reasons s) (accepted (fieldsOf (said t)))) (said-is t x (g .1))
       ∙ sym (survey-is s (S .width) x (accepted (fieldsOf (said t))) (g .1 .0 .1))
-      ∙ ap (λ (ms : List Mark). outcome s (foldl (surveyMark s (S .width)) nothingYet ms) (accepted (fieldsOf (said t)))) (sym (walk-says t x (g .1)))
+      ∙ ap (λ (ms : List Mark). told s (foldl (surveyMark s (S .width)) nothingYet ms) (accepted (fieldsOf (said t)))) (sym (walk-says t x (g .1)))
     where
       chained : (s : Bool) → chain (placeOf (sortOf s) t) (reasons s) (fieldsOf (said t)) ≡ tellAll ((sortOf s) .width) [] (marks (said t)) (reasons s) (accepted (fieldsOf (said t)))
       chained true = refl
@@ -134,30 +135,6 @@ slip-accepted t e =
     let a = accepts true t e in
     ap (λ (r : _). record { verdict = Accepted; slip = r }) (ap builtSlip (a .4) ∙ slip-built (a .0) (a .1 .0) (a .2)) ∙ ap slipRead (sym (a .3))
 
--- ---- what a survey says, by its number
-
-module _ (s : Bool) (k p : ℕ) where
-  abbrev Says-so : Verdict → Type 0
-  Says-so v = v ≡ verdictOf (refusedAt (reasons s) (k - 3) p (accepted []))
-
-  at-number : (j : ℕ) → k - 3 ≡ j → (v : Verdict) → v ≡ verdictOf (refusedAt (reasons s) j p (accepted [])) → Says-so v
-  at-number j e v h = h ∙ ap (λ (i : ℕ). verdictOf (refusedAt (reasons s) i p (accepted []))) (sym e)
-
-  pub says-none : 6 < k → Says-so Accepted
-  says-none h = at-number (suc (suc (suc (suc (k - 7))))) (omega arith) Accepted refl
-
-  pub says-last : k ≡ 6 → Says-so (Refused (reasonFrom (lastReason s)) p)
-  says-last h = at-number 3 (omega arith) (Refused (reasonFrom (lastReason s)) p) refl
-
-  pub says-limits : k ≡ 5 → Says-so (Refused (reasonFrom limits) p)
-  says-limits h = at-number 2 (omega arith) (Refused (reasonFrom limits) p) refl
-
-  pub says-terms : k ≡ 4 → Says-so (Refused (reasonFrom terms) p)
-  says-terms h = at-number 1 (omega arith) (Refused (reasonFrom terms) p) refl
-
-  pub says-fields : k ≤ 3 → Says-so (Refused (reasonFrom fields) p)
-  says-fields h = at-number 0 (omega arith) (Refused (reasonFrom fields) p) refl
-
 -- ---- the steps of the code
 
 found-at : (o : Option ℕ) (f : Found) (p : ℕ) → f ≡ foundOf o → f ≡ found.At p → o ≡ some p
@@ -179,12 +156,12 @@ module _ (s : Bool) (t : List ℕ) (b : ℕ) (is-b : b ≡ (sortOf s) .bytes) wh
   pub judged-grammar : (f : Found) (p : ℕ) → length t ≤ b → f ≡ foundOf (place2 t) → f ≡ found.At p → Refused (reasonFrom grammar) p ≡ verdictOf (read (sortOf s) t)
   judged-grammar f p h e q = ap verdictOf (sym (read-grammar s t p (omega arith) (found-at (place2 t) f p e q)))
 
-  pub judged-survey : (f : Found) (w : ℕ) (y : Survey) (v : Verdict) → length t ≤ b → f ≡ foundOf (place2 t) → f ≡ found.Nothing → w ≡ (sortOf s) .width
-      → y ≡ foldl (surveyMark s w) nothingYet (walked t) → v ≡ verdictOf (outcome s y (accepted [])) → v ≡ verdictOf (read (sortOf s) t)
-  judged-survey f w y v h e q is-w is-y is-v =
+  pub judged-survey : (f : Found) (y : Survey) (v : Verdict) → length t ≤ b → f ≡ foundOf (place2 t) → f ≡ found.Nothing
+      → y ≡ foldl (surveyMark s ((sortOf s) .width)) nothingYet (walked t) → v ≡ verdictOf (told s y (accepted [])) → v ≡ verdictOf (read (sortOf s) t)
+  judged-survey f y v h e q is-y is-v =
       is-v
-      ∙ ap (λ (x : Survey). verdictOf (outcome s x (accepted []))) (is-y ∙ ap (λ (n : ℕ). foldl (surveyMark s n) nothingYet (walked t)) is-w)
-      ∙ verdict-same (reasons s) ((foldl (surveyMark s ((sortOf s) .width)) nothingYet (walked t)) .reason - 3) ((foldl (surveyMark s ((sortOf s) .width)) nothingYet (walked t)) .place) [] (fieldsOf (said t))
+      ∙ verdict-same (reasons s) (y .reason - 3) (y .place) [] (fieldsOf (said t))
+      ∙ ap (λ (x : Survey). verdictOf (told s x (accepted (fieldsOf (said t))))) is-y
       ∙ ap verdictOf (sym (read-survey s t (omega arith) (found-none (place2 t) f e q)))
 
 pub accepted-short : (s : Bool) (t : List ℕ) (v : Verdict) → v ≡ verdictOf (read (sortOf s) t) → v ≡ Accepted → length t ≤ 8192
@@ -206,14 +183,3 @@ slip-yes t v r e q b = ap₂ (λ (x : Verdict) (y : Slip). record { verdict = x;
 
 pub slip-no : (t : List ℕ) (v : Verdict) (r : Slip) (k : _) (p : ℕ) → v ≡ verdictOf (readSlip t) → v ≡ Refused k p → r ≡ blankSlip → record { verdict = v; slip = r } ≡ slipRead (readSlip t)
 slip-no t v r k p e q b = ap (λ (y : Slip). record { verdict = v; slip = y }) b ∙ sym (slip-refused (readSlip t) v k p e q)
-
--- ---- the value of a reason has the same number
-
-pub number-is : (r : Reason) → numberOf (reasonFrom r) ≡ number r
-number-is long = refl
-number-is grammar = refl
-number-is fields = refl
-number-is terms = refl
-number-is limits = refl
-number-is linear = refl
-number-is variable = refl

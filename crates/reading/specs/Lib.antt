@@ -1,4 +1,3 @@
 pub mod Places
-pub mod Refusals
 pub mod Build
 pub mod Answers

@@ -1,21 +1,22 @@
 // Reading a rule and a slip: the grammar first, then one pass that meets every other refusal, then the value.
 ghost use mathlib.Core.Path.{_≡_};
-ghost use mathlib.Core.List.{[], foldl};
+ghost use mathlib.Core.List.{foldl};
 ghost use Prim.Native.Nat.{_+_, _≤_, _<_, min};
 ghost use lib.Dec.{ltb};
 ghost use lib.ListN.{length, take, drop};
-ghost use Rattle.order.specs.Values.{kindOf};
 ghost use Rattle.text.specs.Sizes.{longestString};
-ghost use Rattle.text.specs.Read.{accepted, read, readRule, readSlip};
+ghost use Rattle.text.specs.Read.{read, readRule, readSlip};
 ghost use Rattle.text.specs.Walk.{front, walked};
 ghost use Rattle.terms.specs.Values.{pad};
 ghost use Rattle.scanning.specs.Pieces.{pieceOf};
+ghost use Rattle.verdicts.specs.Verdicts.{sortOf, verdictOf};
+ghost use Rattle.refusals.specs.Refusals.{surveyMark, nothingYet};
 ghost use Rattle.reading.specs.Places.{spelled, colonAt, behind, termAt, started, passed};
-ghost use Rattle.reading.specs.Refusals.{overPiece, isList, linearBy, variableBy, severity, addBy, listsAt, surveyed, surveyMark, nothingYet, outcome};
 ghost use Rattle.reading.specs.Build.{termFrom, emptyBy, pushTerm, addRaw, pushField, pushItem, addItem, pushSlipField, turns, builtRule, builtSlip};
-ghost use Rattle.reading.specs.Answers.{sortOf, numberOf, verdictOf, ruleRead, slipRead};
+ghost use Rattle.reading.specs.Answers.{ruleRead, slipRead};
 use linearity::Lists;
-use order::Kind;
+use refusals::At;
+use refusals::Survey;
 use scanning::Found;
 use scanning::Piece;
 use scanning::Spelled;
@@ -25,23 +26,8 @@ use terms::Rule;
 use terms::Slip;
 use terms::SlipField;
 use terms::Term;
-
-// Why a text is refused: document 01's refusals 1 to 7, in their order.
-pub enum Reason {
-    Long,
-    Grammar,
-    Fields,
-    Terms,
-    Limits,
-    Linear,
-    Variable,
-}
-
-// Accepted, or refused for a reason at a place.
-pub enum Verdict {
-    Accepted,
-    Refused(Reason, usize),
-}
+use verdicts::Reason;
+use verdicts::Verdict;
 
 pub struct RuleRead {
     pub verdict: Verdict,
@@ -53,25 +39,10 @@ pub struct SlipRead {
     pub slip: Slip,
 }
 
-// Where a term stands: its first byte, the number of its field and its number there, both from 1.
-struct At {
-    place: usize,
-    field: usize,
-    index: usize,
-}
-
 // A text with the place where it is read. Document 01: "the reading place travels together with the text it reads".
 struct Reader<'a> {
     text: &'a [u8],
     at: At,
-}
-
-// The lowest refusal from 3 on that a term has met (6 is the last that is tried, 7 is none),
-// the place of the first that met it, and the list variables so far.
-struct Survey {
-    reason: u8,
-    place: usize,
-    lists: Lists,
 }
 
 // The number of bytes of a written term.
@@ -155,137 +126,6 @@ fn passed<'a>(r: Reader<'a>, p: Piece) -> Reader<'a>
     Reader { text: r.text, at }
 }
 
-// Refusal 5: a value, digit count, variable number or string length over its limit.
-fn is_over(p: Piece) -> bool
-    ensures { λ r. ⌜ r ≡ overPiece p ⌝ }
-{
-    let what = p.what;
-    let n = p.size;
-    let v = p.value;
-    match what {
-        Spelled::Int => {
-            if 10 < n {
-                return true;
-            }
-            2147483647 < v
-        }
-        Spelled::Str => 15 < n,
-        Spelled::Var(_) => 15 < v,
-        Spelled::Empty => false,
-    }
-}
-
-fn is_list(k: Kind) -> bool
-    ensures { λ r. ⌜ r ≡ isList (kindOf k) ⌝ }
-{
-    match k {
-        Kind::Integer => false,
-        Kind::String => false,
-        Kind::Atom => false,
-        Kind::List => true,
-    }
-}
-
-// Refusal 6: a list variable that loses left-linearity.
-fn linear_refusal(p: Piece, l: Lists) -> u8
-    ensures { λ r. ⌜ r ≡ linearBy (p .what) (p .value) l ⌝ }
-{
-    let what = p.what;
-    let v = p.value;
-    match what {
-        Spelled::Int => 7,
-        Spelled::Str => 7,
-        Spelled::Var(k) => {
-            if !is_list(k) {
-                return 7;
-            }
-            if l.add(v as usize).ok { 7 } else { 6 }
-        }
-        Spelled::Empty => 7,
-    }
-}
-
-// Refusal 7: a variable in a slip.
-fn variable_refusal(p: Piece) -> u8
-    ensures { λ r. ⌜ r ≡ variableBy (p .what) ⌝ }
-{
-    let what = p.what;
-    match what {
-        Spelled::Int => 7,
-        Spelled::Str => 7,
-        Spelled::Var(_) => 6,
-        Spelled::Empty => 7,
-    }
-}
-
-// The lowest refusal from 3 on that a term meets.
-fn severity(slip: bool, width: usize, a: At, p: Piece, l: Lists) -> u8
-    ensures { λ r. ⌜ r ≡ severity slip width a p l ⌝ }
-{
-    if 4 < a.field {
-        return 3;
-    }
-    if width < a.index {
-        return 4;
-    }
-    if is_over(p) {
-        return 5;
-    }
-    if slip {
-        return variable_refusal(p);
-    }
-    linear_refusal(p, l)
-}
-
-fn add_piece(l: Lists, p: Piece) -> Lists
-    ensures { λ r. ⌜ r ≡ addBy (p .what) (p .value) l ⌝ }
-{
-    let what = p.what;
-    let v = p.value;
-    match what {
-        Spelled::Int => l,
-        Spelled::Str => l,
-        Spelled::Var(k) => {
-            if is_list(k) {
-                return l.add(v as usize);
-            }
-            l
-        }
-        Spelled::Empty => l,
-    }
-}
-
-fn lists_at(a: At, l: Lists) -> Lists
-    ensures { λ r. ⌜ r ≡ listsAt a l ⌝ }
-{
-    if a.index == 1 {
-        return l.next_field();
-    }
-    l
-}
-
-// The survey with the term p, which stands at a.
-fn note(s: Survey, slip: bool, width: usize, a: At, p: Piece) -> Survey
-    ensures { λ r. ⌜ r ≡ surveyed slip width s a p ⌝ }
-{
-    let before = s.lists;
-    let lists = lists_at(a, before);
-    let reason = severity(slip, width, a, p, lists);
-    let after = add_piece(lists, p);
-    if reason < s.reason {
-        return Survey {
-            reason: reason,
-            place: a.place,
-            lists: after,
-        };
-    }
-    Survey {
-        reason: s.reason,
-        place: s.place,
-        lists: after,
-    }
-}
-
 // The survey before the first term.
 fn nothing_yet() -> Survey
     ensures { λ r. ⌜ r ≡ nothingYet ⌝ }
@@ -298,15 +138,15 @@ fn nothing_yet() -> Survey
 }
 
 // All refusals from 3 on, in one pass over the terms.
-fn survey_of(text: &[u8], slip: bool, width: usize) -> Survey
+fn survey_of(text: &[u8], slip: bool) -> Survey
     requires { ⌜ length (now text) ≤ 8192 ⌝ }
-    ensures { λ r. ⌜ r ≡ foldl (surveyMark slip width) nothingYet (walked (now (text .entry))) ⌝ }
+    ensures { λ r. ⌜ r ≡ foldl (surveyMark slip ((sortOf slip) .width)) nothingYet (walked (now (text .entry))) ⌝ }
 {
     let mut s = nothing_yet();
     let mut r = start(text);
     while has_term(r) {
         let p = term(r);
-        let t = note(s, slip, width, r.at, p);
+        let t = refusals::note(s, slip, r.at, p);
         let q = passed(r, p);
         s = t;
         r = q;
@@ -511,35 +351,6 @@ fn bytes_of(slip: bool) -> usize
     if slip { 8192 } else { 2048 }
 }
 
-fn width_of(slip: bool) -> usize
-    ensures { λ r. ⌜ r ≡ (sortOf slip) .width ⌝ }
-{
-    if slip { 64 } else { 16 }
-}
-
-// What a survey says, with the refusal that is tried last by its own name.
-fn verdict_of(slip: bool, s: Survey) -> Verdict
-    ensures { λ r. ⌜ r ≡ verdictOf (outcome slip s (accepted [])) ⌝ }
-{
-    let reason = s.reason;
-    if 6 < reason {
-        return Verdict::Accepted;
-    }
-    if reason == 6 {
-        if slip {
-            return Verdict::Refused(Reason::Variable, s.place);
-        }
-        return Verdict::Refused(Reason::Linear, s.place);
-    }
-    if reason == 5 {
-        return Verdict::Refused(Reason::Limits, s.place);
-    }
-    if reason == 4 {
-        return Verdict::Refused(Reason::Terms, s.place);
-    }
-    Verdict::Refused(Reason::Fields, s.place)
-}
-
 // Document 01's refusals of a rule or a slip, in their order.
 fn judge(text: &[u8], slip: bool) -> Verdict
     ensures { λ r. ⌜ r ≡ verdictOf (read (sortOf slip) (now (text .entry))) ⌝ }
@@ -551,8 +362,8 @@ fn judge(text: &[u8], slip: bool) -> Verdict
     match scanning::grammar_place(text) {
         Found::At(p) => Verdict::Refused(Reason::Grammar, p),
         Found::Nothing => {
-            let s = survey_of(text, slip, width_of(slip));
-            verdict_of(slip, s)
+            let s = survey_of(text, slip);
+            verdicts::verdict_of(slip, s.reason, s.place)
         }
     }
 }
@@ -588,20 +399,5 @@ pub fn read_slip(text: &[u8]) -> SlipRead
             verdict: verdict,
             slip: terms::blank_slip(),
         },
-    }
-}
-
-// Document 01's number of a refusal.
-pub fn number(r: Reason) -> u8
-    ensures { λ n. ⌜ n ≡ numberOf r ⌝ }
-{
-    match r {
-        Reason::Long => 1,
-        Reason::Grammar => 2,
-        Reason::Fields => 3,
-        Reason::Terms => 4,
-        Reason::Limits => 5,
-        Reason::Linear => 6,
-        Reason::Variable => 7,
     }
 }

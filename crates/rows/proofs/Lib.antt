@@ -1,4 +1,3 @@
-pub mod Terms
 pub mod Tests
-pub mod Agree
 pub mod Places
+pub mod Agree

@@ -1,20 +1,38 @@
 -- A cell from the term that is read beforehand is the field's. Assumes nothing.
 use mathlib.Core.Path.{_≡_, refl, sym, _∙_, ap, ap₂}
 use mathlib.Core.Bool.{Bool, true, false, cond, not}
-use mathlib.Core.List.{List}
-use Prim.Native.Nat.{ℕ, _<_, _≤_, min}
+use mathlib.Core.List.{List, [], _∷_}
+use Prim.Native.Nat.{ℕ, zero, suc, _<_, _≤_, min}
 use native.Mathlib.Omega.{arith}
 use native.Mathlib.Decide.{decLt}
 use borrow.Author.Tests.{not-true, not-false, ltb-true, lt-ltb, le-ltb}
 use lib.Dec.{ltb}
-use lib.ListN.{length, getD, take}
+use lib.ListN.{length, getD, take, length-take, List·getD-eq-default}
+use lib.Seq.{getD-take}
 use Rattle.terms.specs.declared.Term.{Term}
 use Rattle.terms.specs.Values.{blankTerm}
-use Rattle.rows.specs.declared.Shape.{Shape}
+use Rattle.shapes.specs.declared.Shape.{Shape}
+use Rattle.shapes.specs.Shapes.{capped}
+use Rattle.shapes.proofs.Small.{capped-small}
 use Rattle.rows.specs.declared.Cell.{Cell}
-use Rattle.rows.specs.Rows.{capped, someCell, noCell, inTail, tailPlace, cellValue, placeOfShape, placeValue, termBy, cellByShape, cellBy}
-use Rattle.rows.proofs.Terms.{term-none, term-past, term-is}
-use Rattle.rows.proofs.Tests.{capped-small}
+use Rattle.rows.specs.Rows.{someCell, noCell, inTail, tailPlace, cellValue, placeOfShape, placeValue, termBy, cellByShape, cellBy}
+
+-- within a list, what stands for its absent members plays no part
+entry-any : {A : Type 0} (l : List A) (i : ℕ) (d e : A) → i < length l → getD l i d ≡ getD l i e
+entry-any [] i d e h = absurd (omega arith)
+entry-any (x ∷ l) zero d e h = refl
+entry-any (x ∷ l) (suc i) d e h = entry-any l i d e (omega arith)
+
+module _ (n : ℕ) (s : List Term) where
+  -- the term at i of the first n of s
+  term-none : (i : ℕ) → n ≤ i → getD (take n s) i blankTerm ≡ blankTerm
+  term-none i h = List·getD-eq-default (take n s) blankTerm {n = i} (omega (arith, length-take n s))
+
+  term-past : (i : ℕ) → length s ≤ i → getD (take n s) i blankTerm ≡ blankTerm
+  term-past i h = List·getD-eq-default (take n s) blankTerm {n = i} (omega (arith, length-take n s))
+
+  term-is : (i : ℕ) (d : Term) → i < n → i < length s → getD s i d ≡ getD (take n s) i blankTerm
+  term-is i d h k = entry-any s i d blankTerm k ∙ sym (getD-take n s i blankTerm h)
 
 module _ (m : ℕ) (ts : List Term) (d : Term) (long : length ts ≡ 16) where
   term-read : (i j : ℕ) → j ≡ min i 15 → termBy m i (getD ts j d) ≡ getD (take m ts) i blankTerm

@@ -1,48 +1,12 @@
--- The values of this crate for the shapes, candidates and rows of the mathematics.
-use mathlib.Core.Bool.{Bool, true, false, cond, _&&_}
+-- The values of this crate for the rows of the mathematics.
+use mathlib.Core.Bool.{cond, _&&_}
 use mathlib.Core.Option.{Option, none, some}
 use mathlib.Core.List.{List, [], _∷_}
 use Prim.Native.Nat.{ℕ, zero, suc, _+_}
-use lib.Dec.{eqb}
-use Rattle.lists.specs.Seqs.{tabulate}
 use Rattle.terms.specs.declared.Term.{Term}
-use Rattle.terms.specs.Values.{encodeField}
-use Rattle.unifiers.specs.Shapes.{closed, gapped}
-use Rattle.unifiers.specs.Candidates.{Cand, exact, long, before, behind}
-use Rattle.sides.specs.Sides.{OurAtom, OurShape, shapeTerms, encodeAtom}
-use Rattle.rows.specs.declared.Shape.{Shape}
-use Rattle.rows.specs.declared.Span.{Span}
+use Rattle.sides.specs.Sides.{OurAtom, encodeAtom}
 use Rattle.rows.specs.declared.Cell.{Cell}
-use Rattle.rows.specs.Rows.{termsOf, someCell, noCell}
-
--- ---- a shape
-
--- the terms of its field's value
-abbrev pub termsIn : OurShape → List Term
-termsIn S = termsOf (encodeField (shapeTerms S))
-
-abbrev pub isOpen : OurShape → Bool
-isOpen (closed xs) = false
-isOpen (gapped f l t) = true
-
-abbrev pub encodeShape : OurShape → Shape
-encodeShape S = record { head = before S; tail = behind S; «open» = isOpen S }
-
--- the number of its list variable, 0 without one
-abbrev pub listIn : OurShape → ℕ
-listIn (closed xs) = 0
-listIn (gapped f l t) = l
-
--- ---- the candidates
-
--- candidate number c, from 0 on
-abbrev pub candAt : Span → ℕ → Cand
-candAt s c = cond (s .long && eqb (suc c) (s .count)) long (exact (s .least + c))
-
-abbrev pub candidates : Span → List Cand
-candidates s = tabulate (s .count) (candAt s)
-
--- ---- the atoms at the positions
+use Rattle.rows.specs.Rows.{someCell, noCell}
 
 abbrev pub cellOf : Option OurAtom → Cell
 cellOf none = noCell

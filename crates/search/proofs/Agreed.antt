@@ -25,7 +25,7 @@ use Rattle.solving.proofs.Short.{Ours, answer-short}
 use Rattle.moves.specs.Encode.{number}
 use Rattle.problems.specs.declared.Problem.{Problem}
 use Rattle.problems.proofs.Holds.{Within, Equation, isOpen, Holds}
-use Rattle.problems.proofs.Rooted.{equation-of}
+use Rattle.roots.proofs.Rooted.{equation-of}
 use Rattle.steps.specs.declared.Child.{Child}
 use Rattle.steps.specs.Steps.{childOf}
 use Rattle.steps.proofs.Agree as steps

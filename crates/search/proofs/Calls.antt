@@ -1,6 +1,5 @@
--- The calls that the walks of `search` and `search_in` make, each as one step of `Types/Kit.antt`'s calculus, in any context. Each leaves the result to be landed.
---     calls-begin, calls-again, calls-report, calls-at-most        by value
---     calls-search     with a row at a lifetime that the caller made, and `out` lent again
+-- The calls by value that the walk of `search` makes, each as one step of `Types/Kit.antt`'s calculus, in any context. Each leaves the result to be landed.
+--     calls-begin, calls-again, calls-report
 -- Assumes `Given`, and that the callee meets its contract.
 use mathlib.Core.Path.{_≡_, refl, _∙_}
 use Prim.Native.Nat.{ℕ, _<_, _^_, min}
@@ -37,26 +36,22 @@ use Rattle.terms.proofs.Field as F
 use Rattle.terms.proofs.Field.Laws as F′
 use Rattle.problems.specs.declared.Problem.{Problem}
 use Rattle.problems.proofs.Problem as T
-use Rattle.queue.specs.declared.State.{State}
-use Rattle.queue.specs.Machine.{begun, again}
-use Rattle.queue.proofs.State as S
-use Rattle.queue.proofs.State.Laws as S′
+use Rattle.turns.specs.declared.State.{State}
+use Rattle.starts.specs.Starts.{begun, again}
+use Rattle.turns.proofs.State as S
+use Rattle.turns.proofs.State.Laws as S′
 use Rattle.search.proofs.Lending.{x, Own, LentAgain, lend, unlend}
 use Rattle.search.proofs.Drives.{mach-state, receives, receives-as}
-use Rattle.queue.proofs.begin as begin
-use Rattle.queue.proofs.begin.Symbol.{name as #queue·begin}
-use Rattle.queue.proofs.again as again′
-use Rattle.queue.proofs.again.Symbol.{name as #queue·again}
+use Rattle.starts.proofs.begin as begin
+use Rattle.starts.proofs.begin.Symbol.{name as #starts·begin}
+use Rattle.starts.proofs.again as again′
+use Rattle.starts.proofs.again.Symbol.{name as #starts·again}
 use Rattle.search.specs.declared.Searched.{Searched}
 use Rattle.search.specs.Answers.{Searches, reported}
 use Rattle.search.proofs.Searched as N
 use Rattle.search.proofs.Searched.Laws as N′
 use Rattle.search.proofs.report as report
 use Rattle.search.proofs.report.Symbol.{name as #search·report}
-use Rattle.search.proofs.at_most as at-most
-use Rattle.search.proofs.at_most.Symbol.{name as #search·at-most}
-use Rattle.search.proofs.search as search′
-use Rattle.search.proofs.search.Symbol.{name as #search·search}
 
 -- the machine value of a field and of an answer
 abbrev pub mach-field : Field → Val
@@ -75,12 +70,6 @@ module _ {M : Type 1} (𝓤 : URA M) (H : Heap 𝓤) (A : Atoms 𝓤) (mem : Mem
 
   abbrev pub Report : Contract 𝓤
   Report = tripleOf 𝓤 H A report.signature (report.spec 𝓤 H A mem run)
-
-  abbrev pub AtMost : Contract 𝓤
-  AtMost = tripleOf 𝓤 H A at-most.signature (at-most.spec 𝓤 H A mem run)
-
-  abbrev pub Search : Contract 𝓤
-  Search = tripleOf 𝓤 H A search′.signature (search′.spec 𝓤 H A mem run)
 
 -- ---- what a call owes: nothing, of what is plain
 module _ {M : Type 1} (𝓤 : URA M) (H : Heap 𝓤) (A : Atoms 𝓤) (W : Given 𝓤 H A) (mem : Memory → SProp 𝓤) (run : Routine → Fun 𝓤) where
@@ -108,41 +97,19 @@ module _ {M : Type 1} (𝓤 : URA M) (H : Heap 𝓤) (A : Atoms 𝓤) (W : Given
       qed W [] ∵ nothing ! $ owned ! usize (Is usize) (uint-makes 𝓤 H A W w64) k _ (refl, fits) $ fjoin ! $ owned ! S.the-row (Is S.the-row) (LL.makes S.the-type S′.the-plain 𝓤 H A) t _ gt $ fjoin ! $
       nothing ! $ join ! $ nothing ! $ move ! (1 ∷ 0 ∷ []) $ done !
 
-  abbrev to-at-most : ℕ → ℕ → AtMost 𝓤 H A mem run .Ghost
-  to-at-most m k = ((tt, tt, tt, (m, (k, tt)), (vint w64 m ∷ [], (vint w64 k ∷ [], tt))), tt)
-
-  goes-at-most : (m k : ℕ) → m < 2 ^ 64 → k < 2 ^ 64 → ent 𝓤 (emp 𝓤) (AtMost 𝓤 H A mem run .pre (to-at-most m k))
-  goes-at-most m k fits fits′ =
-      qed W [] ∵ nothing ! $ owned ! usize (Is usize) (uint-makes 𝓤 H A W w64) k _ (refl, fits′) $ fjoin ! $ owned ! usize (Is usize) (uint-makes 𝓤 H A W w64) m _ (refl, fits) $ fjoin ! $
-      nothing ! $ join ! $ nothing ! $ move ! (1 ∷ 0 ∷ []) $ done !
-
-  -- the row and `out`, each with the token of its lifetime
-  abbrev Slices : ℕ → ℕ → ℕ → ℕ → GName → List Problem → ℕ → ℕ → ℕ → ℕ → GName → List ℕ → List (Item 𝓤)
-  Slices b o n ν γ ys b′ o′ n′ ν′ δ os = ‵ (flft (ν ∷ []) fullShare) ∷ Own 𝓤 T.the-row (ν ∷ []) γ b o n ys ∷ ‵ (flft (ν′ ∷ []) fullShare) ∷ Own 𝓤 u8 (ν′ ∷ []) δ b′ o′ n′ os ∷ []
-
-  abbrev to-search : Field → Field → ℕ → ℕ → ℕ → ℕ → GName → List Problem → ℕ → ℕ → ℕ → ℕ → GName → List ℕ → Search 𝓤 H A mem run .Ghost
-  to-search f g b o n ν γ ys b′ o′ n′ ν′ δ os = (((ν ∷ [], (ν′ ∷ [], tt)), (fullShare, (fullShare, tt)), tt, (f, (g, (x b o γ ys, (x b′ o′ δ os, tt)))), (mach-field f ∷ [], (mach-field g ∷ [], (sliceVal (b, o) n ∷ [], (sliceVal (b′, o′) n′ ∷ [], tt))))), tt)
-
-  goes-search : (f g : Field) (b o n ν : ℕ) (γ : GName) (ys : List Problem) (b′ o′ n′ ν′ : ℕ) (δ : GName) (os : List ℕ) → Is F.the-row f (mach-field f ∷ []) → Is F.the-row g (mach-field g ∷ [])
-      → ent 𝓤 (⋆ 𝓤 H A (Slices b o n ν γ ys b′ o′ n′ ν′ δ os)) (Search 𝓤 H A mem run .pre (to-search f g b o n ν γ ys b′ o′ n′ ν′ δ os))
-  goes-search f g b o n ν γ ys b′ o′ n′ ν′ δ os gf gg =
-      qed W (Slices b o n ν γ ys b′ o′ n′ ν′ δ os) ∵ nothing ! $ move ! (3 ∷ 0 ∷ []) $ join ! $ move ! (1 ∷ 0 ∷ []) $ join ! $
-      nothing ! $ move ! (3 ∷ 0 ∷ []) $ fjoin ! $ move ! (2 ∷ 0 ∷ []) $ fjoin ! $ owned ! F.the-row (Is F.the-row) (LL.makes F.the-type F′.the-plain 𝓤 H A) g _ gg $ fjoin ! $ owned ! F.the-row (Is F.the-row) (LL.makes F.the-type F′.the-plain 𝓤 H A) f _ gf $ fjoin ! $
-      move ! (1 ∷ 0 ∷ []) $ join ! $ nothing ! $ move ! (1 ∷ 0 ∷ []) $ done !
-
 -- ---- the calls
 module _ {M : Type 1} {𝓤 : URA M} {H : Heap 𝓤} {A : Atoms 𝓤} {K : Type 0} {W : Given 𝓤 H A} {Γ : List (Item 𝓤)} {E : Env 𝓤 H} {C : Calls 𝓤 H} {Λ : Loops 𝓤 H} {Q : Post 𝓤 H} {d : Place} {rest : Body} where
   module _ (t : K) (mem : Memory → SProp 𝓤) (run : Routine → Fun 𝓤) (fm : FmC 𝓤 H (W .laws) C) {xs : List Operand} where
-    pub calls-begin : Triple 𝓤 (C #queue·begin) (Begin 𝓤 H A mem run) → (f g : Field) (cap : ℕ) → Is F.the-row f (mach-field f ∷ []) → Is F.the-row g (mach-field g ∷ []) → cap < 2 ^ 64 → ((P : SProp 𝓤) → Opds K W (raw P ∷ Γ) E xs (mach-field f ∷ mach-field g ∷ vint w64 cap ∷ []))
-        → ((s : State) → s ≡ begun f g cap → Is S.the-row s (mach-state s ∷ []) → Seq K W Γ (lands C Λ E d (mach-state s) rest Q)) → Seq K W Γ (runs C Λ E (seq (call #queue·begin xs d) rest) Q)
+    pub calls-begin : Triple 𝓤 (C #starts·begin) (Begin 𝓤 H A mem run) → (f g : Field) (cap : ℕ) → Is F.the-row f (mach-field f ∷ []) → Is F.the-row g (mach-field g ∷ []) → cap < 2 ^ 64 → ((P : SProp 𝓤) → Opds K W (raw P ∷ Γ) E xs (mach-field f ∷ mach-field g ∷ vint w64 cap ∷ []))
+        → ((s : State) → s ≡ begun f g cap → Is S.the-row s (mach-state s ∷ []) → Seq K W Γ (lands C Λ E d (mach-state s) rest Q)) → Seq K W Γ (runs C Λ E (seq (call #starts·begin xs d) rest) Q)
     calls-begin known f g cap gf gg fits ops k =
         use0 W (raw (Begin 𝓤 H A mem run .pre (to-begin 𝓤 H A W mem run f g cap))) (goes-begin 𝓤 H A W mem run f g cap gf gg fits) $
         calls-at t fm (Begin 𝓤 H A mem run) known (to-begin 𝓤 H A W mem run f g cap) (ops _) (λ w.
         use1 W (later (some (λ (r : State). (‵ ftrue ⊛ ‵ (S.the-row .own r (w ∷ []))) ⊛ raw (ensured 𝓤 H A begin.ended (begin.clauses 𝓤 H A mem run) tt (f, (g, (cap, tt))) tt r)))) (id⊢ 𝓤 _) $ await t tt $ pick t (λ r. split t $ move t (1 ∷ []) $
         use1 W (some (λ (ws : Unit {0} × (Unit {0} × (Unit {0} × Unit {0}))). ‵ (lasts begin.ended tt (f, (g, (cap, tt))) ws) ⊛ raw (fact 𝓤 (r ≡ begun f g cap)))) (id⊢ 𝓤 _) $ pick t (λ ws. split t $ drop t $ heard t (r ≡ begun f g cap) (λ e. split t $ drop t $ receives t S.the-type S′.the-laws r refl (k r e)))))
 
-    pub calls-again : Triple 𝓤 (C #queue·again) (Again 𝓤 H A mem run) → (s u : State) (n : ℕ) → Is S.the-row s (mach-state s ∷ []) → Is S.the-row u (mach-state u ∷ []) → n < 2 ^ 64 → ((P : SProp 𝓤) → Opds K W (raw P ∷ Γ) E xs (mach-state s ∷ mach-state u ∷ vint w64 n ∷ []))
-        → ((v : State) → v ≡ again s u n → Is S.the-row v (mach-state v ∷ []) → Seq K W Γ (lands C Λ E d (mach-state v) rest Q)) → Seq K W Γ (runs C Λ E (seq (call #queue·again xs d) rest) Q)
+    pub calls-again : Triple 𝓤 (C #starts·again) (Again 𝓤 H A mem run) → (s u : State) (n : ℕ) → Is S.the-row s (mach-state s ∷ []) → Is S.the-row u (mach-state u ∷ []) → n < 2 ^ 64 → ((P : SProp 𝓤) → Opds K W (raw P ∷ Γ) E xs (mach-state s ∷ mach-state u ∷ vint w64 n ∷ []))
+        → ((v : State) → v ≡ again s u n → Is S.the-row v (mach-state v ∷ []) → Seq K W Γ (lands C Λ E d (mach-state v) rest Q)) → Seq K W Γ (runs C Λ E (seq (call #starts·again xs d) rest) Q)
     calls-again known s u n gs gu fits ops k =
         use0 W (raw (Again 𝓤 H A mem run .pre (to-again 𝓤 H A W mem run s u n))) (goes-again 𝓤 H A W mem run s u n gs gu fits) $
         calls-at t fm (Again 𝓤 H A mem run) known (to-again 𝓤 H A W mem run s u n) (ops _) (λ w.
@@ -156,29 +123,3 @@ module _ {M : Type 1} {𝓤 : URA M} {H : Heap 𝓤} {A : Atoms 𝓤} {K : Type 
         calls-at t fm (Report 𝓤 H A mem run) known (to-report 𝓤 H A W mem run u n) (ops _) (λ w.
         use1 W (later (some (λ (r : Searched). (‵ ftrue ⊛ ‵ (N.the-row .own r (w ∷ []))) ⊛ raw (ensured 𝓤 H A report.ended (report.clauses 𝓤 H A mem run) tt (u, (n, tt)) tt r)))) (id⊢ 𝓤 _) $ await t tt $ pick t (λ r. split t $ move t (1 ∷ []) $
         use1 W (some (λ (ws : Unit {0} × (Unit {0} × Unit {0})). ‵ (lasts report.ended tt (u, (n, tt)) ws) ⊛ raw (fact 𝓤 (r ≡ reported u n)))) (id⊢ 𝓤 _) $ pick t (λ ws. split t $ drop t $ heard t (r ≡ reported u n) (λ e. split t $ drop t $ receives-as t N.the-row mach-answer (EL.tells N.the-type N′.the-laws) r refl (k r e)))))
-
-    pub calls-at-most : Triple 𝓤 (C #search·at-most) (AtMost 𝓤 H A mem run) → (m n : ℕ) → m < 2 ^ 64 → n < 2 ^ 64 → ((P : SProp 𝓤) → Opds K W (raw P ∷ Γ) E xs (vint w64 m ∷ vint w64 n ∷ []))
-        → Seq K W Γ (lands C Λ E d (vint w64 (min m n)) rest Q) → Seq K W Γ (runs C Λ E (seq (call #search·at-most xs d) rest) Q)
-    calls-at-most known m n fits fits′ ops k =
-        use0 W (raw (AtMost 𝓤 H A mem run .pre (to-at-most 𝓤 H A W mem run m n))) (goes-at-most 𝓤 H A W mem run m n fits fits′) $
-        calls-at t fm (AtMost 𝓤 H A mem run) known (to-at-most 𝓤 H A W mem run m n) (ops _) (λ w.
-        use1 W (later (some (λ (r : ℕ). (‵ ftrue ⊛ ‵ (usize .own r (w ∷ []))) ⊛ raw (ensured 𝓤 H A at-most.ended (at-most.clauses 𝓤 H A mem run) tt (m, (n, tt)) tt r)))) (id⊢ 𝓤 _) $ await t tt $ pick t (λ r. split t $ move t (1 ∷ []) $
-        use1 W (some (λ (ws : Unit {0} × (Unit {0} × Unit {0})). ‵ (lasts at-most.ended tt (m, (n, tt)) ws) ⊛ raw (fact 𝓤 (r ≡ min m n)))) (id⊢ 𝓤 _) $ pick t (λ ws. split t $ drop t $ heard t (r ≡ min m n) (λ e. split t $ drop t $ receives-as t usize (λ (y : ℕ). vint w64 y) (uint-tells w64) (min m n) e (λ _. k)))))
-
-    -- the row at the lifetime ν, whose token is had whole; `out` lent again
-    pub calls-search : Triple 𝓤 (C #search·search) (Search 𝓤 H A mem run) → {κ : Lft} {q : Share} {γ′ : GName} {b o n b′ o′ n′ ν : ℕ} {γ : GName} (f g : Field) (ys : List Problem) (os : List ℕ) → Is F.the-row f (mach-field f ∷ []) → Is F.the-row g (mach-field g ∷ [])
-        → Room u8 n′ → length os ≡ n′ → ((P : SProp 𝓤) (δ : GName) (ν′ : ℕ) → Opds K W (raw P ∷ ‵ (LentAgain u8 κ (ν′ ∷ []) q γ′ b′ o′ δ os) ∷ Γ) E xs (mach-field f ∷ mach-field g ∷ sliceVal (b, o) n ∷ sliceVal (b′, o′) n′ ∷ []))
-        → ((r : Searched) (zs : List Problem) (us : List ℕ) → Searches f g ys os r zs us → length us ≡ n′ → Is N.the-row r (mach-answer r ∷ [])
-        → Seq K W (‵ (flft (ν ∷ []) fullShare) ∷ ‵ (finally T.the-row γ zs) ∷ Own 𝓤 u8 κ γ′ b′ o′ n′ us ∷ ‵ (flft κ q) ∷ Γ) (lands C Λ E d (mach-answer r) rest Q))
-        → Seq K W (‵ (flft (ν ∷ []) fullShare) ∷ Own 𝓤 T.the-row (ν ∷ []) γ b o n ys ∷ Own 𝓤 u8 κ γ′ b′ o′ n′ os ∷ ‵ (flft κ q) ∷ Γ) (runs C Λ E (seq (call #search·search xs d) rest) Q)
-    calls-search known {b = b} {o = o} {n = n} {b′ = b′} {o′ = o′} {n′ = n′} {ν = ν} {γ = γ} f g ys os gf gg room e ops k = move t (2 ∷ 3 ∷ []) $ lend t tt u8 os e (λ ν′ δ. move t (3 ∷ 4 ∷ 0 ∷ 1 ∷ []) $
-        cut (Slices 𝓤 H A W mem run b o n ν γ ys b′ o′ n′ ν′ δ os) (raw (Search 𝓤 H A mem run .pre (to-search 𝓤 H A W mem run f g b o n ν γ ys b′ o′ n′ ν′ δ os)) ∷ []) _ (goes-search 𝓤 H A W mem run f g b o n ν γ ys b′ o′ n′ ν′ δ os gf gg) $
-        calls-at t fm (Search 𝓤 H A mem run) known (to-search 𝓤 H A W mem run f g b o n ν γ ys b′ o′ n′ ν′ δ os) (ops _ δ ν′) (λ w.
-        use1 W (later (some (λ (r : Searched). ((‵ (flft (ν ∷ []) fullShare) ⊛ (‵ (flft (ν′ ∷ []) fullShare) ⊛ ‵ ftrue)) ⊛ ‵ (N.the-row .own r (w ∷ []))) ⊛ raw (ensured 𝓤 H A search′.ended (search′.clauses 𝓤 H A mem run) (ν ∷ [], (ν′ ∷ [], tt)) (f, (g, (x b o γ ys, (x b′ o′ δ os, tt)))) tt r)))) (id⊢ 𝓤 _) $ await t tt $ pick t (λ r. split t $ move t (1 ∷ []) $
-        use1 W (some (λ (zs : Unit {0} × (Unit {0} × (List Problem × (List ℕ × Unit {0})))). ‵ (lasts search′.ended (ν ∷ [], (ν′ ∷ [], tt)) (f, (g, (x b o γ ys, (x b′ o′ δ os, tt)))) zs) ⊛ raw (fact 𝓤 (Searches f g ys os r (zs .1 .1 .0) (zs .1 .1 .1 .0))))) (id⊢ 𝓤 _) $ pick t (λ zs. split t $ move t (1 ∷ []) $ heard t (Searches f g ys os r (zs .1 .1 .0) (zs .1 .1 .1 .0)) (λ is.
-        -- [what is said of the two lists; the tokens, and the result; `out`, lent again; Γ]
-        fsplit t $ drop t $ fsplit t $ drop t $ fsplit t $ fsplit t $ move t (1 ∷ []) $ feqL t (λ l. move t (1 ∷ []) $ fsplit t $ fsplit t $ move t (1 ∷ []) $ feqL t (λ l′. move t (1 ∷ []) $ drop t $
-        move t (2 ∷ []) $ split t $ split t $ move t (1 ∷ []) $ split t $ move t (1 ∷ []) $ drop t $
-        -- [the token of `out`; the row's; the result; the last `out`; the last row; `out`, lent again; Γ]
-        move t (0 ∷ 5 ∷ 3 ∷ []) $ unlend t tt u8 os (zs .1 .1 .1 .0) room e l′ $ move t (3 ∷ 2 ∷ 4 ∷ 0 ∷ 1 ∷ []) $
-        receives-as t N.the-row mach-answer (EL.tells N.the-type N′.the-laws) r refl (k r (zs .1 .1 .0) (zs .1 .1 .1 .0) is (l′ ∙ e)))))))))

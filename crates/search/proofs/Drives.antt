@@ -36,17 +36,17 @@ use denote.Triple.Statement.{Contract, Triple}
 use denote.Triple.Call.{calls-at}
 use denote.Triple.Clauses.{Clauses, ensured, closing, lasts}
 use Rattle.problems.specs.declared.Problem.{Problem}
-use Rattle.queue.specs.declared.State.{State}
-use Rattle.queue.specs.declared.Turn.{Turn}
+use Rattle.turns.specs.declared.State.{State}
+use Rattle.turns.specs.declared.Turn.{Turn}
 use Rattle.problems.specs.Values.{blankProblem}
 use Rattle.queue.specs.Row.{blanks}
 use Rattle.queue.specs.Machine.{Config, conf, moved, wrote, next, Ends, Reaches, fromRoot}
 use Rattle.problems.proofs.Problem as T
 use Rattle.problems.proofs.Problem.Laws as T′
-use Rattle.queue.proofs.State as S
-use Rattle.queue.proofs.State.Laws as S′
-use Rattle.queue.proofs.Turn as U
-use Rattle.queue.proofs.Turn.Laws as U′
+use Rattle.turns.proofs.State as S
+use Rattle.turns.proofs.State.Laws as S′
+use Rattle.turns.proofs.Turn as U
+use Rattle.turns.proofs.Turn.Laws as U′
 use Rattle.search.proofs.Lending.{x, Own, LentAgain, lend, unlend}
 use Rattle.problems.proofs.blank_problem as blank-problem
 use Rattle.problems.proofs.blank_problem.Symbol.{name as #problems·blank-problem}

@@ -14,7 +14,7 @@ use Rattle.terms.specs.declared.Field.{Field}
 use Rattle.problems.specs.declared.Problem.{Problem}
 use Rattle.problems.specs.Values.{blankProblem}
 use Rattle.pieces.specs.Stored.{bytesOf, storeLine, storeAll}
-use Rattle.queue.specs.declared.State.{State}
+use Rattle.turns.specs.declared.State.{State}
 use Rattle.queue.specs.Machine.{Config, conf, next, after, after-none, after-next, after-idle, Ends, Reaches, fromRoot}
 use Rattle.searching.specs.Problems as theory
 use Rattle.searching.specs.Problems.{Setting, Bindings, root}

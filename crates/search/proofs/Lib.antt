@@ -1,7 +1,6 @@
 pub mod Lending
 pub mod Drives
 pub mod Calls
-pub mod Local
 pub mod Turns
 pub mod Found
 pub mod Twice

@@ -16,7 +16,7 @@ use Rattle.accepted.specs.Accepted.{acceptedField}
 use Rattle.instance.specs.Constants.{consts}
 use Rattle.unifiers.specs.Shapes.{left, right}
 use Rattle.problems.specs.declared.Problem.{Problem}
-use Rattle.problems.specs.Values.{rootValue}
+use Rattle.roots.specs.Roots.{rootValue}
 use Rattle.queue.specs.Machine.{Config, Ends, Reaches}
 use Rattle.searching.specs.Problems as theory
 use Rattle.searching.specs.Problems.{root}

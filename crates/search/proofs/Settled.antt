@@ -16,11 +16,11 @@ use Rattle.writing.specs.Answers.{after}
 use Rattle.unifiers.specs.Shapes.{left, right}
 use Rattle.problems.specs.declared.Problem.{Problem}
 use Rattle.problems.proofs.Holds.{Holds}
-use Rattle.problems.proofs.Rooted.{root-holds}
+use Rattle.roots.proofs.Rooted.{root-holds}
 use Rattle.moves.specs.Encode.{number}
 use Rattle.pieces.specs.Stored as stored
 use Rattle.solving.specs.Answers.{fieldOn, Lines as Found, lines, nine, linesOf, linesFor, bytesOf}
-use Rattle.queue.specs.declared.State.{State}
+use Rattle.turns.specs.declared.State.{State}
 use Rattle.queue.specs.Row.{blanks}
 use Rattle.search.specs.declared.Searched.{Searched}
 use Rattle.search.specs.declared.Searched.the-variants.{Lines, TooSmall, Full}

@@ -16,9 +16,10 @@ use Rattle.problems.specs.Values.{blankProblem}
 use Rattle.steps.specs.Steps.{failsOf, childOf}
 use Rattle.answer_lines.specs.Answers.{answerValue}
 use Rattle.pieces.specs.Stored.{storeLine}
-use Rattle.queue.specs.declared.State.{State}
-use Rattle.queue.specs.declared.Turn.{Turn}
-use Rattle.queue.specs.Machine.{trying, aim, worked, lineOf, stopped, taken, headTurn, passed, joined, full, ruleTurn, moved, wrote, Config, conf, next, after, after-next, after-none}
+use Rattle.turns.specs.declared.State.{State}
+use Rattle.turns.specs.declared.Turn.{Turn}
+use Rattle.turns.specs.Turns.{trying, aim, worked, stopped, taken, headTurn, passed, joined, full, ruleTurn}
+use Rattle.queue.specs.Machine.{lineOf, moved, wrote, Config, conf, next, after, after-next, after-none}
 use Rattle.worklist.specs.Machine as list
 use Rattle.worklist.specs.Machine.{Records, Work, Leads, here, onward}
 use Rattle.worklist.proofs.Ring.{nextPlace, place, place-next, place-after, Ring, ring-put, ring-head, ring-take}

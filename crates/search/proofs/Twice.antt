@@ -16,11 +16,13 @@ use Rattle.terms.specs.declared.Field.{Field}
 use Rattle.accepted.specs.Accepted.{acceptedField}
 use Rattle.writing.specs.Answers as lent
 use Rattle.problems.specs.declared.Problem.{Problem}
-use Rattle.problems.specs.Values.{blankProblem, rootValue}
+use Rattle.problems.specs.Values.{blankProblem}
+use Rattle.roots.specs.Roots.{rootValue}
 use Rattle.pieces.specs.Stored.{bytesOf, storeAll}
 use Rattle.pieces.proofs.Stored.{stored}
-use Rattle.queue.specs.declared.State.{State}
-use Rattle.queue.specs.Machine.{Config, conf, next, after, after-none, after-next, after-idle, Ends, Reaches, fromRoot, begun, again}
+use Rattle.turns.specs.declared.State.{State}
+use Rattle.starts.specs.Starts.{begun, again}
+use Rattle.queue.specs.Machine.{Config, conf, next, after, after-none, after-next, after-idle, Ends, Reaches, fromRoot}
 use Rattle.searching.specs.Problems as theory
 use Rattle.searching.specs.Problems.{Setting, Bindings, root}
 use Rattle.searching.specs.Rules.{Rule}

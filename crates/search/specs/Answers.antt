@@ -11,9 +11,10 @@ use Rattle.accepted.specs.Accepted.{countedField}
 use Rattle.writing.specs.Answers.{after}
 use Rattle.solving.specs.Answers.{Lines as Found, lines, nine, linesFor, bytesOf}
 use Rattle.problems.specs.declared.Problem.{Problem}
-use Rattle.queue.specs.declared.State.{State}
+use Rattle.turns.specs.declared.State.{State}
 use Rattle.queue.specs.Row.{blanks}
-use Rattle.queue.specs.Machine.{Config, conf, Ends, Reaches, fromRoot, begun, again}
+use Rattle.starts.specs.Starts.{begun, again}
+use Rattle.queue.specs.Machine.{Config, conf, Ends, Reaches, fromRoot}
 use Rattle.search.specs.declared.Searched.{Searched}
 use Rattle.search.specs.declared.Searched.the-variants.{Lines, TooSmall, Full}
 

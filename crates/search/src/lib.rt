@@ -1,16 +1,13 @@
 // The search for one field pair, over a row of problem records that the caller lends.
 ghost use mathlib.Core.Path.{_≡_};
-ghost use Prim.Native.Nat.{min};
 ghost use lib.ListN.{length, set, getD};
 ghost use Rattle.problems.specs.Values.{blankProblem};
 ghost use Rattle.queue.specs.Row.{blanks};
 ghost use Rattle.queue.specs.Machine.{conf, next, Ends, Reaches, fromRoot};
-ghost use Rattle.writing.specs.Answers.{after};
-ghost use Rattle.solving.specs.Answers.{bytesOf};
-ghost use Rattle.search.specs.Answers.{searchedOf, foundIn, Searches, reported};
+ghost use Rattle.search.specs.Answers.{Searches, reported};
 use problems::Problem;
-use queue::State;
 use terms::Field;
+use turns::State;
 
 // The answer of a search: the line count and the byte count. `refusal` of specs/Answers has document 01's number of each.
 pub enum Searched {
@@ -114,26 +111,10 @@ pub fn search(left: Field, right: Field, row: &mut [Problem], out: &mut [u8]) ->
 {
     let cap = row.len();
     let room = out.len();
-    let s = queue::begin(left, right, cap);
+    let s = starts::begin(left, right, cap);
     let t = from_root(row, out, s);
-    let u = queue::again(s, t, room);
+    let u = starts::again(s, t, room);
     let v = from_root(row, out, u);
     blank(row);
     report(t, room)
-}
-
-fn at_most(n: usize, most: usize) -> usize
-    ensures { λ r. ⌜ r ≡ min n most ⌝ }
-{
-    if n < most { n } else { most }
-}
-
-// The search over a row of its own: the first `room` of 640 records.
-pub fn search_in(left: Field, right: Field, room: usize, out: &mut [u8]) -> Searched
-    ensures { λ r. ⌜ (r ≡ searchedOf (foundIn (min room 640) left right) (length (now (out .entry)))) × (now (out .exit) ≡ after (bytesOf (foundIn (min room 640) left right)) (now (out .entry))) ⌝ }
-{
-    let b = problems::blank_problem();
-    let mut row = [b; 640];
-    let n = at_most(room, 640);
-    search(left, right, &mut row[..n], out)
 }

@@ -43,9 +43,9 @@ use Rattle.sides.proofs.Sides.{shape-terms, shapes-terms, left-value, right-val
 use Rattle.fillings.specs.declared.Fillings.{Fillings}
 use Rattle.fillings.specs.States.{look}
 use Rattle.fillings.proofs.Agree.{Holds, look-agree}
-use Rattle.rows.specs.declared.Shape.{Shape}
-use Rattle.rows.specs.Rows.{termsOf, shapeValue}
-use Rattle.rows.proofs.Agree.{shape-agree}
+use Rattle.shapes.specs.declared.Shape.{Shape}
+use Rattle.shapes.specs.Shapes.{termsOf, shapeValue}
+use Rattle.shapes.proofs.Agree.{shape-agree}
 use Rattle.entries.specs.declared.Wide.{Wide}
 use Rattle.entries.specs.Values.{widest, blankWide, wideTerms, entryFields, Marked, encodeWide, entryValue}
 use Rattle.shown.specs.declared.Run.{Run}

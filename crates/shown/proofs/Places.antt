@@ -12,7 +12,7 @@ use Rattle.order.specs.Values.{kindOf}
 use Rattle.terms.specs.declared.Form.{Form}
 use Rattle.terms.specs.declared.Form.the-variants.{Int, Str, Var}
 use Rattle.terms.specs.declared.Term.{Term}
-use Rattle.rows.specs.Rows.{isList}
+use Rattle.shapes.specs.Shapes.{isList}
 use Rattle.sides.specs.Sides.{numbersOfSide}
 use Rattle.shown.specs.declared.Run.{Run}
 use Rattle.shown.specs.declared.Shown.{Shown}

@@ -1,7 +1,7 @@
 -- The values of a rule's variables on an entry, as code collects them, term by term.
 -- `known-agree`, `atoms-agree` and `lists-agree` of proofs/Agree say that they are those that the entry's line shows.
 use mathlib.Core.Bool.{true, cond}
-use mathlib.Core.List.{List, [], _∷_}
+use mathlib.Core.List.{List, [], _∷_, map}
 use Prim.Native.Nat.{ℕ, _+_, _-_}
 use lib.Dec.{leb}
 use lib.ListN.{set, take}
@@ -14,7 +14,7 @@ use Rattle.terms.specs.declared.Term.{Term}
 use Rattle.terms.specs.declared.Field.{Field}
 use Rattle.terms.specs.declared.Rule.{Rule}
 use Rattle.sides.specs.Sides.{numbersOfSide}
-use Rattle.rows.specs.Rows.{termsOf, shapeValue}
+use Rattle.shapes.specs.Shapes.{termsOf, shapeValue}
 use Rattle.fillings.specs.declared.Fillings.{Fillings}
 use Rattle.fillings.specs.States.{look}
 use Rattle.entries.specs.declared.Wide.{Wide}
@@ -68,9 +68,15 @@ showTerms run st s (t ∷ ts) (u ∷ us) = showTerms run st (showTerm run s t (l
 abbrev pub showField : Run → Fillings → Shown → Field → Field → Shown
 showField run st s f g = showTerms run st s (termsOf f) (g .terms)
 
--- the items of the entry's field w, which is its field j, between those of the atoms before and behind the list variable of f
+-- the items of the entry's field j, which has n, between those of the atoms before and behind the list variable of f
+abbrev pub runOf : ℕ → Field → ℕ → Run
+runOf j f n = record { field = j; start = (shapeValue (termsOf f)) .head; count = n - ((shapeValue (termsOf f)) .head + (shapeValue (termsOf f)) .tail) }
+
 abbrev pub runAt : ℕ → Field → Wide → Run
-runAt j f w = record { field = j; start = (shapeValue (termsOf f)) .head; count = w .n - ((shapeValue (termsOf f)) .head + (shapeValue (termsOf f)) .tail) }
+runAt j f w = runOf j f (w .n)
+
+abbrev pub sizesOf : Entry → List ℕ
+sizesOf e = map (λ w. w .n) (e .fields)
 
 -- ---- the fields from field j on
 

@@ -1,10 +1,10 @@
 // The values of one rule's variables on an entry of the overlap list, as the line writer takes them.
 ghost use mathlib.Core.Path.{_≡_};
 ghost use Prim.Native.Nat.{_+_, _-_, min};
+ghost use lib.ListN.{length};
 ghost use Rattle.shown.specs.Shown.{blankShown};
-ghost use Rattle.shown.specs.Values.{runAt, placeOf, showField, shownValue};
+ghost use Rattle.shown.specs.Values.{runOf, sizesOf, placeOf, showField, shownValue};
 use entries::Entry;
-use entries::Wide;
 use fillings::Fillings;
 use terms::Field;
 use terms::Form;
@@ -61,17 +61,30 @@ fn between(n: usize, a: usize, b: usize) -> usize
     n - a - b
 }
 
-// The items of the entry's field j between those that the atoms of the rule's field f take.
-fn run_at(j: usize, f: Field, w: Wide) -> Run
-    ensures { λ r. ⌜ r ≡ runAt j f w ⌝ }
+// The items of the entry's field j, which has so many, between those that the atoms of the rule's field f take.
+fn run_at(j: usize, f: Field, size: usize) -> Run
+    ensures { λ r. ⌜ r ≡ runOf j f size ⌝ }
+    ensures { λ _. ⌜ length (f .terms) ≡ 16 ⌝ }
 {
-    let s = rows::shape_of(f);
-    let n = between(w.n, s.head, s.tail);
+    let s = shapes::shape_of(f);
+    let n = between(size, s.head, s.tail);
     Run {
         field: j,
         start: s.head,
         count: n,
     }
+}
+
+// How many terms each of the entry's fields has.
+fn sizes_of(e: Entry) -> [usize; 4]
+    ensures { λ r. ⌜ r ≡ sizesOf e ⌝ }
+    ensures { λ _. ⌜ length (e .fields) ≡ 4 ⌝ }
+{
+    let a = e.fields[0];
+    let b = e.fields[1];
+    let c = e.fields[2];
+    let d = e.fields[3];
+    [a.n, b.n, c.n, d.n]
 }
 
 // The place of a term's variable: below 48 an atom variable's, below 64 a list variable's, else it has none.
@@ -115,18 +128,50 @@ pub fn show_field(s: Shown, f: Field, g: Field, run: Run, st: Fillings) -> Shown
     x
 }
 
+// How many terms a field has.
+fn terms_in(f: Field) -> usize
+    ensures { λ r. ⌜ r ≡ min (f .n) 16 ⌝ }
+    ensures { λ _. ⌜ length (f .terms) ≡ 16 ⌝ }
+{
+    at_most(f.n, 16)
+}
+
 // The values on the entry e of the variables of a rule; `sided` is the same rule as it stands in the pair.
+// One loop goes over the terms of all fields, so that the values stay where they are.
 pub fn shown_of(rule: Rule, sided: Rule, e: Entry, st: Fillings) -> Shown
     ensures { λ r. ⌜ r ≡ shownValue rule sided e st ⌝ }
 {
+    let sizes = sizes_of(e);
     let n = at_most(rule.n, 4);
     let mut x = blank_shown();
+    let mut f = rule.fields[0];
+    let mut g = sided.fields[0];
+    let mut run = run_at(0, g, sizes[0]);
     let mut j: usize = 0;
+    let mut i: usize = 0;
     while j < n {
-        let g = sided.fields[j];
-        let run = run_at(j, g, e.fields[j]);
-        x = show_field(x, rule.fields[j], g, run, st);
-        j += 1;
+        if i < terms_in(f) {
+            let place = place_of(f.terms[i]);
+            let t = g.terms[i];
+            if place < 48 {
+                x.known[place] = true;
+                x.atoms[place] = st.atom(t);
+            } else {
+                if place < 64 {
+                    x.known[place] = true;
+                    x.runs[place - 48] = run;
+                }
+            }
+            i += 1;
+        } else {
+            j += 1;
+            i = 0;
+            if j < n {
+                f = rule.fields[j];
+                g = sided.fields[j];
+                run = run_at(j, g, sizes[j]);
+            }
+        }
     }
     x
 }

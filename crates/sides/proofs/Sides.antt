@@ -2,12 +2,13 @@
 use mathlib.Core.Path.{_≡_, refl, sym, _∙_, ap, ap₂, subst}
 use mathlib.Core.Bool.{cond}
 use mathlib.Core.Option.{Option, none, some, Option·some-inj, Option·some-ne-none}
-use mathlib.Core.List.{List, [], _∷_, _++_, map, map-append}
-use Prim.Native.Nat.{ℕ, zero, suc, _-_, _≤_}
+use mathlib.Core.List.{List, [], _∷_, _++_, map}
+use Prim.Native.Nat.{ℕ, _-_, _≤_}
 use native.Mathlib.Omega.{arith}
 use borrow.Author.Tests.{lt-leb}
 use lib.Dec.{leb}
 use lib.ListN.{length, replicate, length-map}
+use lib.Seq.{take-at, drop-at}
 use Rattle.lists.specs.Seqs.{All}
 use Rattle.order.specs.Order.{basic, list}
 use Rattle.order.specs.Types.{integer, string, atom}
@@ -23,7 +24,7 @@ use Rattle.terms.specs.declared.Field.{Field}
 use Rattle.terms.specs.Values.{pad, blankTerm, blankField, encodeTerm, encodeField, encodeRule}
 use Rattle.unifiers.specs.Shapes.{Side, left, right, fixed, free, of, closed, gapped, withAtom, withList, shapeOf, shapesOf, both}
 use Rattle.sides.specs.Sides.{OurAtom, OurShape, numbersOfSide, sided, atomTerm, sideTerm, shapeTerms}
-use Rattle.sides.specs.Values.{rightTerm, rightField, rightRule}
+use Rattle.sides.specs.Values.{rightTerm, mapFirst, rightField, rightRule}
 
 -- ---- the value of the right rule
 
@@ -43,26 +44,24 @@ module _ {A B : Type 0} (e : A → B) (g : B → B) (s : A → A) (P : A → Typ
   map-same [] h = refl
   map-same (x ∷ xs) h = ap₂ (λ (y : B) (ys : List B). y ∷ ys) (same x (h .0)) (map-same xs (h .1))
 
-  map-blanks : (k : ℕ) (d : B) → g d ≡ d → map g (replicate k d) ≡ replicate k d
-  map-blanks zero d q = refl
-  map-blanks (suc k) d q = ap₂ (λ (y : B) (ys : List B). y ∷ ys) q (map-blanks k d q)
-
-  -- over the unused places too, which stay blank
-  map-padded : (w : ℕ) (d : B) (xs : List A) → g d ≡ d → All P xs → map g (pad w d (map e xs)) ≡ pad w d (map e (map s xs))
-  map-padded w d xs q h =
-      map-append g (map e xs) (replicate (w - length (map e xs)) d)
-      ∙ ap₂ (λ (a b : List B). a ++ b) (map-same xs h) (map-blanks (w - length (map e xs)) d q)
-      ∙ ap (λ (k : ℕ). map e (map s xs) ++ replicate (w - k) d) (length-map xs e ∙ sym (length-map xs s) ∙ sym (length-map (map s xs) e))
+  -- the unused places stay blank
+  map-padded : (w : ℕ) (d : B) (xs : List A) → All P xs → mapFirst g (length xs) (pad w d (map e xs)) ≡ pad w d (map e (map s xs))
+  map-padded w d xs h =
+      let l = length-map xs e in
+      let rest = replicate (w - length (map e xs)) d in
+      ap₂ (λ (a b : List B). map g a ++ b) (take-at (map e xs) rest (length xs) l) (drop-at (map e xs) rest (length xs) l)
+      ∙ ap (λ (a : List B). a ++ rest) (map-same xs h)
+      ∙ ap (λ (k : ℕ). map e (map s xs) ++ replicate (w - k) d) (l ∙ sym (length-map xs s) ∙ sym (length-map (map s xs) e))
 
 pub right-field : (f : List OurTerm) → All TermIn f → rightField (encodeField f) ≡ encodeField (map (sideTerm right) f)
 right-field f h =
     ap₂ (λ (n : ℕ) (ts : List Term). record { n = n; terms = ts }) (sym (length-map f (sideTerm right)))
-    (map-padded encodeTerm rightTerm (sideTerm right) TermIn right-term (rule .width) blankTerm f refl h)
+    (map-padded encodeTerm rightTerm (sideTerm right) TermIn right-term (rule .width) blankTerm f h)
 
 pub right-encoded : (r : List (List OurTerm)) → All (All TermIn) r → rightRule (encodeRule r) ≡ encodeRule (map (map (sideTerm right)) r)
 right-encoded r h =
     ap₂ (λ (n : ℕ) (fs : List Field). record { n = n; fields = fs }) (sym (length-map r (map (sideTerm right))))
-    (map-padded encodeField rightField (map (sideTerm right)) (All TermIn) right-field mostFields blankField r refl h)
+    (map-padded encodeField rightField (map (sideTerm right)) (All TermIn) right-field mostFields blankField r h)
 
 -- ---- the terms of a rule's shapes
 

@@ -1,8 +1,9 @@
 -- The right rule of a pair as a value. `right-encoded` of proofs/Sides says that it is the value of the rule with `sideTerm right`.
 use mathlib.Core.Bool.{cond}
-use mathlib.Core.List.{map}
+use mathlib.Core.List.{List, _++_, map}
 use Prim.Native.Nat.{ℕ}
 use lib.Dec.{leb}
+use lib.ListN.{take, drop}
 use Rattle.order.specs.Order.{basic, list}
 use Rattle.order.specs.Types.{Kind}
 use Rattle.order.specs.Values.{kindOf}
@@ -27,8 +28,12 @@ rightForm (Var k n) = Var k (rightNumber (kindOf k) n)
 abbrev pub rightTerm : Term → Term
 rightTerm t = record { form = rightForm (t .form); text = t .text }
 
+-- the first n members only: the unused places of an array stay as they are
+abbrev pub mapFirst : {A : Type 0} → (A → A) → ℕ → List A → List A
+mapFirst g n s = map g (take n s) ++ drop n s
+
 abbrev pub rightField : Field → Field
-rightField f = record { n = f .n; terms = map rightTerm (f .terms) }
+rightField f = record { n = f .n; terms = mapFirst rightTerm (f .n) (f .terms) }
 
 abbrev pub rightRule : Rule → Rule
-rightRule r = record { n = r .n; fields = map rightField (r .fields) }
+rightRule r = record { n = r .n; fields = mapFirst rightField (r .n) (r .fields) }

@@ -1,5 +1,6 @@
 // The right rule of a pair as a value: the numbers of its atom variables stand above those of the left rule's.
 ghost use mathlib.Core.Path.{_≡_};
+ghost use Prim.Native.Nat.{min};
 ghost use Rattle.order.specs.Values.{kindOf};
 ghost use Rattle.sides.specs.Values.{rightNumber, rightTerm, rightField, rightRule};
 use order::Kind;
@@ -37,26 +38,34 @@ fn right_term(t: Term) -> Term
     }
 }
 
-// The field with each atom variable's number 16 higher.
+fn at_most(n: usize, most: usize) -> usize
+    ensures { λ r. ⌜ r ≡ min n most ⌝ }
+{
+    if n < most { n } else { most }
+}
+
+// The field with the number of each atom variable among its terms 16 higher.
 pub fn right_field(f: Field) -> Field
     ensures { λ r. ⌜ r ≡ rightField f ⌝ }
 {
+    let n = at_most(f.n, 16);
     let mut g = f;
     let mut i: usize = 0;
-    while i < 16 {
+    while i < n {
         g.terms[i] = right_term(f.terms[i]);
         i += 1;
     }
     g
 }
 
-// The rule with each atom variable's number 16 higher. (A number over 15, which no reading returns, stays as it is.)
+// The rule with the number of each atom variable in its fields 16 higher. (A number over 15, which no reading returns, stays as it is.)
 pub fn right_rule(r: Rule) -> Rule
     ensures { λ s. ⌜ s ≡ rightRule r ⌝ }
 {
+    let n = at_most(r.n, 4);
     let mut s = r;
     let mut i: usize = 0;
-    while i < 4 {
+    while i < n {
         s.fields[i] = right_field(r.fields[i]);
         i += 1;
     }

@@ -10,7 +10,8 @@ use lib.Seq.{length-take-le, take-all}
 use Rattle.text.specs.Ascii.{ascii, newline}
 use Rattle.text.specs.Numbers.{digitsOf}
 use Rattle.writing.proofs.Digits.{digits-64}
-use Rattle.solve_answers.specs.Solve.{longestLine, lineText, titleText, longestBody, longestAnswer, solveAnswer}
+use Rattle.search_text.specs.Found.{longestBody}
+use Rattle.solve_answers.specs.Solve.{longestLine, lineText, titleText, longestAnswer, solveAnswer}
 
 pub title-short : (k : ℕ) → k < 18446744073709551616 → length (titleText k) ≤ 28
 title-short k h = omega (arith, length-append (ascii "search " ++ digitsOf k) newline, length-append (ascii "search ") (digitsOf k), digits-64 k h)

@@ -12,7 +12,9 @@ use Rattle.bytes.specs.Bytes.{indexOf}
 use Rattle.text.specs.Ascii.{ascii, newline}
 use Rattle.text.specs.Terms.{OurTerm}
 use Rattle.text.specs.Read.{readRule}
-use Rattle.solve_answers.specs.Solve.{longestLine, part, behind, mostRecords, mostBytes, sizeOf, fieldIn, searchText, lineText}
+use Rattle.sizes.specs.Sizes.{sizeOf}
+use Rattle.search_text.specs.Found.{mostRecords, mostBytes}
+use Rattle.solve_answers.specs.Solve.{longestLine, part, behind, fieldIn, searchText, lineText}
 use Rattle.solve_answers.specs.Values.{sizesText, rightText}
 
 module _ (t : List ℕ) (tab rest : ℕ) (is-tab : tab ≡ indexOf 9 t) (is-rest : rest ≡ min (tab + 1) (length t)) where

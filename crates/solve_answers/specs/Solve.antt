@@ -1,17 +1,18 @@
 -- What `solve` prints for one line, which has two field texts, a row and a room with tabs between them: the lines of the search for the two fields.
-use Prim.Native.String.{String}
-use mathlib.Core.Bool.{Bool, true, false, cond, _&&_}
+use mathlib.Core.Bool.{Bool, cond}
 use mathlib.Core.List.{List, [], _∷_, _++_}
 use mathlib.Core.Option.{Option, none, some}
 use Prim.Native.Nat.{ℕ, suc}
-use lib.Dec.{eqb, leb, ltb}
+use lib.Dec.{ltb}
 use lib.ListN.{length, take, drop}
 use Rattle.bytes.specs.Bytes.{indexOf}
 use Rattle.text.specs.Ascii.{ascii, newline}
-use Rattle.text.specs.Numbers.{value, digitsOf}
+use Rattle.text.specs.Numbers.{digitsOf}
 use Rattle.text.specs.Terms.{OurTerm}
 use Rattle.text.specs.Read.{Outcome, refused, accepted, readRule}
-use Rattle.solving.specs.Answers.{Lines, lines, nine, linesFor, bytesOf}
+use Rattle.solving.specs.Answers.{linesFor}
+use Rattle.sizes.specs.Sizes.{sizeOf}
+use Rattle.search_text.specs.Found.{mostRecords, mostBytes, foundText}
 
 -- ---- a line
 
@@ -47,36 +48,6 @@ rowPart t = part (behind (behind t))
 abbrev pub roomPart : List ℕ → List ℕ
 roomPart t = behind (behind (behind t))
 
--- ---- a size
-
--- as many records and bytes as there are
-abbrev pub mostRecords : ℕ
-mostRecords = 640
-
-abbrev pub mostBytes : ℕ
-mostBytes = 131072
-
-abbrev pub isDigit : ℕ → Bool
-isDigit b = leb 48 b && leb b 57
-
-abbrev pub areDigits : List ℕ → Bool
-areDigits [] = true
-areDigits (b ∷ s) = isDigit b && areDigits s
-
--- decimal digits of a value of at most `most`; zeros may lead
-abbrev pub decimal : ℕ → List ℕ → Option ℕ
-decimal most s = cond (areDigits s && leb (value s) most) (some (value s)) none
-
--- an empty part and `-`, byte 45
-abbrev pub isLeftOpen : List ℕ → Bool
-isLeftOpen [] = true
-isLeftOpen (b ∷ []) = eqb b 45
-isLeftOpen (b ∷ (c ∷ s)) = false
-
--- these stand for as many as there are
-abbrev pub sizeOf : ℕ → List ℕ → Option ℕ
-sizeOf most s = cond (isLeftOpen s) (some most) (decimal most s)
-
 -- ---- the answer
 
 -- a text that is no rule of exactly one field stands for a field that "stands on no accepted rule's left side":
@@ -86,20 +57,6 @@ fieldIn (refused r p) = []
 fieldIn (accepted []) = []
 fieldIn (accepted (f ∷ [])) = f ∷ []
 fieldIn (accepted (f ∷ (g ∷ r))) = []
-
-abbrev pub countText : String → ℕ → List ℕ
-countText words n = ascii words ++ digitsOf n
-
--- the refusal's number, or 0 for none, and the two counts
-abbrev pub countsText : ℕ → ℕ → ℕ → List ℕ
-countsText refusal count bytes = countText "refusal " refusal ++ countText " lines " count ++ countText " bytes " bytes ++ newline
-
--- the lines; document 01: "8: the lines need more bytes than the output buffer has; the line count and the needed byte count are returned",
--- and 9 with "both counts .. 0"
-abbrev pub foundText : ℕ → Lines → List ℕ
-foundText room (lines ls) =
-    let text = bytesOf (lines ls) in cond (leb (length text) room) (countsText 0 (length ls) (length text) ++ text) (countsText 8 (length ls) (length text))
-foundText room nine = countsText 9 0 0
 
 -- of two fields, a row and a room: a bad row is told before a bad room
 abbrev pub searchText : List (List OurTerm) → List (List OurTerm) → Option ℕ → Option ℕ → List ℕ
@@ -120,10 +77,6 @@ titleText k = ascii "search " ++ digitsOf k ++ newline
 -- THE ANSWER to line number k
 unfoldable pub solveAnswer : ℕ → List ℕ → List ℕ
 solveAnswer k t = titleText k ++ lineText t
-
--- the counts' line of at most 64 bytes, and behind it at most `mostBytes`
-abbrev pub longestBody : ℕ
-longestBody = 131136
 
 -- a title of at most 28 bytes, and behind it at most `longestBody`: no answer has more
 abbrev pub longestAnswer : ℕ

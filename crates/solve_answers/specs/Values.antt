@@ -1,27 +1,18 @@
 -- The same texts, from values: of fields as reading gives them, and of what stands behind the parts that were read.
 use mathlib.Core.Bool.{cond}
 use mathlib.Core.List.{List, _++_}
-use mathlib.Core.Option.{Option, none, some}
+use mathlib.Core.Option.{some}
 use Prim.Native.Nat.{ℕ}
 use Rattle.text.specs.Ascii.{ascii, newline}
 use Rattle.text.specs.Terms.{OurTerm}
 use Rattle.text.specs.Read.{readRule}
 use Rattle.terms.specs.declared.Field.{Field}
 use Rattle.accepted.specs.Accepted.{countedField}
-use Rattle.solve_answers.specs.declared.Size.{Size}
-use Rattle.solve_answers.specs.declared.Size.the-variants.{Of, Bad}
-use Rattle.solve_answers.specs.Solve.{hasTab, part, behind, mostRecords, mostBytes, sizeOf, fieldIn, searchText}
+use Rattle.sizes.specs.Sizes.{sizeOf}
+use Rattle.search_text.specs.Found.{mostRecords, mostBytes}
+use Rattle.solve_answers.specs.Solve.{hasTab, part, behind, fieldIn, searchText}
 
--- a size as the code reads it
-abbrev pub sizeValue : Option ℕ → Size
-sizeValue none = Bad
-sizeValue (some n) = Of n
-
--- two fields, with a row and a room
-abbrev pub saidSearch : Field → Field → ℕ → ℕ → List ℕ
-saidSearch left right row room = searchText (countedField left) (countedField right) (some row) (some room)
-
--- with a row, and the part that says the room
+-- two fields with a row, and the part that says the room
 abbrev pub saidRoom : Field → Field → ℕ → List ℕ → List ℕ
 saidRoom left right row room = searchText (countedField left) (countedField right) (some row) (sizeOf mostBytes room)
 

@@ -16,13 +16,14 @@ use Rattle.items.specs.declared.Items.{Items}
 use Rattle.items.specs.Encode.{setting}
 use Rattle.moves.specs.declared.Move.{Move}
 use Rattle.moves.specs.Moves.{moveValue}
-use Rattle.moves.specs.Fails.{failsValue}
 use Rattle.moves.specs.Encode.{number, encodeMove}
-use Rattle.moves.proofs.Agree.{move-agrees, fails-agrees}
+use Rattle.moves.proofs.Agree.{move-agrees}
+use Rattle.failures.specs.Fails.{failsValue}
+use Rattle.failures.proofs.Agree.{fails-agrees}
 use Rattle.problems.specs.declared.Problem.{Problem}
-use Rattle.problems.specs.Values.{appliedValue}
+use Rattle.effects.specs.Applied.{appliedValue}
 use Rattle.problems.proofs.Holds.{within-all, Equation, Holds}
-use Rattle.problems.proofs.Moved.{fresh-holds, applied-holds}
+use Rattle.effects.proofs.Moved.{fresh-holds, applied-holds}
 use Rattle.steps.specs.declared.Child.{Child}
 use Rattle.steps.specs.Steps.{failsOf, noChild, childBy, childOf}
 

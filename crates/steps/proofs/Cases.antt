@@ -7,7 +7,8 @@ use Rattle.names.specs.Sets.{freshValue}
 use Rattle.moves.specs.declared.Move.{Move}
 use Rattle.moves.specs.Moves.{moveValue}
 use Rattle.problems.specs.declared.Problem.{Problem}
-use Rattle.problems.specs.Values.{blankProblem, appliedValue}
+use Rattle.problems.specs.Values.{blankProblem}
+use Rattle.effects.specs.Applied.{appliedValue}
 use Rattle.steps.specs.Steps.{noChild, childBy, childWith, childOf}
 
 module _ (p : Problem) (r f : ℕ) (m : Move) (is-f : f ≡ freshValue (p .used)) (is-m : m ≡ moveValue r (p .left) (p .right) f) where

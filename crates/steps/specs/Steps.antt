@@ -4,9 +4,10 @@ use Prim.Native.Nat.{ℕ}
 use Rattle.names.specs.Sets.{freshValue}
 use Rattle.moves.specs.declared.Move.{Move}
 use Rattle.moves.specs.Moves.{moveValue}
-use Rattle.moves.specs.Fails.{failsValue}
+use Rattle.failures.specs.Fails.{failsValue}
 use Rattle.problems.specs.declared.Problem.{Problem}
-use Rattle.problems.specs.Values.{blankProblem, appliedValue}
+use Rattle.problems.specs.Values.{blankProblem}
+use Rattle.effects.specs.Applied.{appliedValue}
 use Rattle.steps.specs.declared.Child.{Child}
 
 -- "Failure rules come first: a problem that meets one gives no child."

@@ -15,7 +15,7 @@ pub fn fails(p: Problem) -> bool
 {
     let left = p.left;
     let right = p.right;
-    moves::fails(left, right)
+    failures::fails(left, right)
 }
 
 // The child by the rule of this number.
@@ -34,6 +34,6 @@ pub fn child_of(p: Problem, rule: usize) -> Child
     }
     Child {
         ok: true,
-        problem: problems::applied(p, m, fresh),
+        problem: effects::applied(p, m, fresh),
     }
 }

@@ -1,18 +1,13 @@
 -- Laws of a writer's answer: each answer with what it leaves in the lent bytes. Assumes nothing.
-use mathlib.Core.Path.{_≡_, refl, ap, _∙_}
-use mathlib.Core.Bool.{true, false}
+use mathlib.Core.Path.{_≡_, ap, _∙_}
 use mathlib.Core.Option.{none, some}
-use mathlib.Core.List.{List, [], _++_}
+use mathlib.Core.List.{List, _++_}
 use Prim.Native.Nat.{ℕ, _≤_, _<_}
 use native.Mathlib.Nat.{zero-add}
 use native.Mathlib.Omega.{arith}
 use lib.ListN.{length, drop}
 use lib.Seq.{sets, sets-eq}
 use borrow.Author.Tests.{le-leb, lt-leb}
-use Rattle.text.specs.Plain.{plain}
-use Rattle.terms.specs.declared.Rule.{Rule}
-use Rattle.terms.specs.Values.{viewRule}
-use Rattle.accepted.specs.Accepted.{acceptedRule, countedRule}
 use Rattle.writing.specs.declared.Written.{Written}
 use Rattle.writing.specs.declared.Written.the-variants.{Bytes, TooSmall}
 use Rattle.writing.specs.Answers.{writtenOf, refusal, after}
@@ -36,11 +31,3 @@ module _ (t l : List ℕ) where
 
   pub not-refused : length t ≤ length l → refusal (writtenOf t l) ≡ none
   not-refused h = rw (le-leb (length t) (length l) h)
-
-module _ (r : Rule) where
-  -- a value that no reading returns has no bytes, and is never refused
-  pub of-none : (l : List ℕ) → acceptedRule r ≡ false → Answers (plain (countedRule r)) l (Bytes 0) l
-  of-none l e = rw e (wrote [] l (omega arith) refl refl)
-
-  pub of-rule : (l : List ℕ) {w : Written} {m : List ℕ} → acceptedRule r ≡ true → Answers (plain (viewRule r)) l w m → Answers (plain (countedRule r)) l w m
-  of-rule l e h = rw e h

@@ -1,5 +1,4 @@
-// Writing: a rule's and a field's one plain text, and a number's digits, into lent bytes.
-// Document 01: "Writing a rule gives its one plain text: no `empty` unless the field has no terms, integers without leading zeros."
+// Writing: a number's digits and a term's text, into lent bytes.
 // The bytes are counted first, so that a buffer that is too small keeps its old bytes (refusal 8); then they are written into room that is known.
 ghost use mathlib.Core.Path.{_≡_};
 ghost use Prim.Native.Nat.{_≤_, min};
@@ -8,15 +7,12 @@ ghost use Rattle.order.specs.Values.{kindOf};
 ghost use Rattle.text.specs.Bytes.{letter};
 ghost use Rattle.text.specs.Grammar.{raw-str, spell};
 ghost use Rattle.text.specs.Numbers.{digitsOf};
-ghost use Rattle.text.specs.Plain.{termText, fieldText, plain};
-ghost use Rattle.terms.specs.Values.{viewTerm, viewField, viewRule};
-ghost use Rattle.accepted.specs.Accepted.{countedRule, countedField};
+ghost use Rattle.text.specs.Plain.{termText};
+ghost use Rattle.terms.specs.Values.{viewTerm};
 ghost use Rattle.writing.specs.Room.{Room, Put};
 ghost use Rattle.writing.specs.Answers.{writtenOf, after};
 use order::Kind;
-use terms::Field;
 use terms::Form;
-use terms::Rule;
 use terms::Term;
 
 // The answer of a writer. `refusal` of specs/Answers has document 01's number of each.
@@ -49,7 +45,7 @@ fn digits_size(n: u64) -> usize
     size
 }
 
-fn term_size(t: Term) -> usize
+pub fn term_size(t: Term) -> usize
     ensures { λ r. ⌜ (r ≡ length (termText (viewTerm t))) × (r ≤ 17) ⌝ }
 {
     let form = t.form;
@@ -58,40 +54,6 @@ fn term_size(t: Term) -> usize
         Form::Str(k) => at_most(k as usize, 15) + 2,
         Form::Var(_, n) => digits_size(n as u64) + 1,
     }
-}
-
-// The terms with a `:` between them, or the five bytes of `empty`.
-fn field_size(f: Field) -> usize
-    ensures { λ r. ⌜ (r ≡ length (fieldText (viewField f))) × (r ≤ 287) ⌝ }
-{
-    let n = at_most(f.n, 16);
-    if n == 0 {
-        return 5;
-    }
-    let mut size = term_size(f.terms[0]);
-    let mut i: usize = 1;
-    while i < n {
-        size += 1 + term_size(f.terms[i]);
-        i += 1;
-    }
-    size
-}
-
-// The fields with a `|` between them. The longest plain text of a rule has 1,151 bytes.
-fn rule_size(r: Rule) -> usize
-    ensures { λ s. ⌜ (s ≡ length (plain (viewRule r))) × (s ≤ 1151) ⌝ }
-{
-    let n = at_most(r.n, 4);
-    if n == 0 {
-        return 0;
-    }
-    let mut size = field_size(r.fields[0]);
-    let mut i: usize = 1;
-    while i < n {
-        size += 1 + field_size(r.fields[i]);
-        i += 1;
-    }
-    size
 }
 
 // ---- the bytes, into room that is known; each returns the place behind them
@@ -163,65 +125,7 @@ fn put_term(t: Term, out: &mut [u8], at: usize) -> usize
     }
 }
 
-fn put_field(f: Field, out: &mut [u8], at: usize) -> usize
-    requires { ⌜ Room (fieldText (viewField f)) at (now out) ⌝ }
-    ensures { λ r. ⌜ Put (fieldText (viewField f)) at (now (out .entry)) r (now (out .exit)) ⌝ }
-{
-    let n = at_most(f.n, 16);
-    if n == 0 {
-        return put_bytes(b"empty", out, at);
-    }
-    let mut p = put_term(f.terms[0], out, at);
-    let mut i: usize = 1;
-    while i < n {
-        out[p] = b':';
-        p = put_term(f.terms[i], out, p + 1);
-        i += 1;
-    }
-    p
-}
-
-fn put_rule(r: Rule, out: &mut [u8], at: usize) -> usize
-    requires { ⌜ Room (plain (viewRule r)) at (now out) ⌝ }
-    ensures { λ p. ⌜ Put (plain (viewRule r)) at (now (out .entry)) p (now (out .exit)) ⌝ }
-{
-    let n = at_most(r.n, 4);
-    if n == 0 {
-        return at;
-    }
-    let mut p = put_field(r.fields[0], out, at);
-    let mut i: usize = 1;
-    while i < n {
-        out[p] = b'|';
-        p = put_field(r.fields[i], out, p + 1);
-        i += 1;
-    }
-    p
-}
-
 // ---- the public functions
-
-// A rule's plain text. Document 01: a value that no reading can return "counts there as one with no fields; writing such a rule gives no bytes".
-pub fn write_rule(r: Rule, out: &mut [u8]) -> Written
-    ensures { λ w. ⌜ (w ≡ writtenOf (plain (countedRule r)) (now (out .entry))) × (now (out .exit) ≡ after (plain (countedRule r)) (now (out .entry))) ⌝ }
-{
-    if !accepted::is_rule(r) {
-        return Written::Bytes(0);
-    }
-    let need = rule_size(r);
-    // Document 01: "Too small a buffer is refused by 8", and its old bytes stay.
-    if out.len() < need {
-        return Written::TooSmall(need);
-    }
-    Written::Bytes(put_rule(r, out, 0))
-}
-
-// A field's text is that of the rule that has just this field.
-pub fn write_field(f: Field, out: &mut [u8]) -> Written
-    ensures { λ w. ⌜ (w ≡ writtenOf (plain (countedField f)) (now (out .entry))) × (now (out .exit) ≡ after (plain (countedField f)) (now (out .entry))) ⌝ }
-{
-    write_rule(terms::one_field(f), out)
-}
 
 // A term's text, which has at most 17 bytes.
 pub fn write_term(t: Term, out: &mut [u8]) -> Written

@@ -1,12 +1,11 @@
 -- What the library's functions answer, in document 01's numbers and values: of how a text is read, and of the overlaps that two texts have.
 use mathlib.Core.Bool.{cond}
-use mathlib.Core.List.{List, []}
 use Prim.Native.Nat.{ℕ}
 use lib.Dec.{leb}
 use lib.ListN.{length}
-use Rattle.text.specs.Terms.{OurTerm}
 use Rattle.text.specs.Read.{number, Outcome, refused, accepted}
 use Rattle.listing.specs.Overlaps.{linesOf, overlapText}
+use Rattle.overlaps.specs.Answers.{ruleOf}
 use Rattle.yopobrush.specs.declared.Reading.{Reading}
 use Rattle.yopobrush.specs.declared.Listing.{Listing}
 
@@ -14,11 +13,6 @@ use Rattle.yopobrush.specs.declared.Listing.{Listing}
 abbrev pub readingOf : Outcome → Reading
 readingOf (refused r p) = record { refusal = number r; place = p }
 readingOf (accepted x) = record { refusal = 0; place = 0 }
-
--- "A refusal returns its number, its place and the rule with no fields"
-abbrev pub ruleOf : Outcome → List (List OurTerm)
-ruleOf (refused r p) = []
-ruleOf (accepted x) = x
 
 -- "The entry count, which is their number, and the byte count, which is the length of all their lines, are returned. 8: as in searching,
 -- with the entry count and the needed byte count": in a buffer of so much room; "A rule with no fields counts as having no entries"

@@ -1,7 +1,7 @@
 -- The same answers, from the values that reading and listing return. `reading-said` and `listing-said` of proofs/Said say that they are the same.
-use Rattle.reading.specs.declared.Verdict.{Verdict}
-use Rattle.reading.specs.declared.Verdict.the-variants.{Accepted, Refused}
-use Rattle.reading.specs.Answers.{numberOf}
+use Rattle.verdicts.specs.declared.Verdict.{Verdict}
+use Rattle.verdicts.specs.declared.Verdict.the-variants.{Accepted, Refused}
+use Rattle.verdicts.specs.Verdicts.{numberOf}
 use Rattle.overlaps.specs.declared.Listed.{Listed}
 use Rattle.overlaps.specs.declared.Listed.the-variants.{Lines, TooSmall}
 use Rattle.yopobrush.specs.declared.Reading.{Reading}

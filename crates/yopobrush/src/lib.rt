@@ -6,10 +6,11 @@ ghost use lib.ListN.{length};
 ghost use Rattle.text.specs.Read.{readRule};
 ghost use Rattle.listing.specs.Overlaps.{overlapText};
 ghost use Rattle.writing.specs.Answers.{after};
-ghost use Rattle.yopobrush.specs.Answers.{readingOf, ruleOf, listingOf};
+ghost use Rattle.overlaps.specs.Answers.{ruleOf};
+ghost use Rattle.yopobrush.specs.Answers.{readingOf, listingOf};
 ghost use Rattle.yopobrush.specs.Values.{readingBy, listingBy};
 use overlaps::Listed;
-use reading::Verdict;
+use verdicts::Verdict;
 
 // How a rule text is read: the refusal's number and its place, or 0 and 0 where there is none.
 #[repr(C)]
@@ -37,7 +38,7 @@ fn reading_of(v: Verdict) -> Reading
             place: 0,
         },
         Verdict::Refused(reason, place) => Reading {
-            refusal: reading::number(reason) as u64,
+            refusal: verdicts::number(reason) as u64,
             place: place as u64,
         },
     }
@@ -80,10 +81,10 @@ pub extern "C" fn yopobrush_list_overlaps(left: &[u8], right: &[u8], out: &mut [
     ensures { λ r. ⌜ r ≡ listingOf (readRule (now (left .entry))) (readRule (now (right .entry))) (length (now (out .entry))) ⌝ }
     ensures { λ _. ⌜ now (out .exit) ≡ after (overlapText (ruleOf (readRule (now (left .entry)))) (ruleOf (readRule (now (right .entry))))) (now (out .entry)) ⌝ }
 {
-    let l = reading::read_rule(left);
-    let r = reading::read_rule(right);
-    let listed = overlaps::list_overlaps(l.rule, r.rule, out);
-    let left_verdict = l.verdict;
-    let right_verdict = r.verdict;
+    let mut room = [0u8; 1];
+    let said = overlaps::list_texts(left, right, &mut room, out);
+    let left_verdict = said.left;
+    let right_verdict = said.right;
+    let listed = said.listed;
     listing_of(reading_of(left_verdict), reading_of(right_verdict), listed)
 }

@@ -5,7 +5,7 @@ use mathlib.Core.Path.{_≡_}
 use lib.ListN.{length}
 use Rattle.accepted.specs.Accepted.{fieldOk, fieldBlank}
 use Rattle.lists.specs.Seqs.{long-mapped}
-use Rattle.accepted.proofs.Filled.{Passed, passed-none, passed-one, passed-not, passed-all, passed-over}
+use Rattle.canonical.proofs.Filled.{Passed, passed-none, passed-one, passed-not, passed-all, passed-over}
 use Rattle.accepted.proofs.has_fields.Statement.{statement}
 use Rattle.accepted.proofs.has_fields.Tie as tie
 

@@ -3,9 +3,9 @@ use borrow.Author.Needs.{needs}
 use Prim.Native.Nat.{_-_}
 use mathlib.Core.Path.{_≡_}
 use lib.ListN.{length}
-use Rattle.accepted.specs.Accepted.{termOk, termBlank}
+use Rattle.canonical.specs.Terms.{termOk, termBlank}
 use Rattle.lists.specs.Seqs.{long-mapped}
-use Rattle.accepted.proofs.Filled.{Passed, passed-none, passed-one, passed-not, passed-all, passed-over}
+use Rattle.canonical.proofs.Filled.{Passed, passed-none, passed-one, passed-not, passed-all, passed-over}
 use Rattle.accepted.proofs.has_terms.Statement.{statement}
 use Rattle.accepted.proofs.has_terms.Tie as tie
 

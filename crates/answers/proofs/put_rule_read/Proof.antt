@@ -16,6 +16,9 @@ put-rule-requires c κs = search needs
 enum-known-verdict : tie.Need-enum-known-verdict
 enum-known-verdict c = search needs
 
+slice-aggregate-put-refusal : tie.Need-slice-aggregate-put-refusal
+slice-aggregate-put-refusal c = search needs
+
 put-refusal-requires : tie.Need-put-refusal-requires
 put-refusal-requires c κs = search needs
 
@@ -32,8 +35,8 @@ same-length-2 c = search needs
 
 returns-2 : tie.Need-returns-2
 returns-2 c =
-    let z = c .before .before .before .before .before .before .before .before .before .args in
-    placed-as (z .at) (z .out .now) (text-refused (z .read .verdict) (plain (countedRule (z .read .rule))) _ _ (c .before .before .before .before .before .verdict .given .1)) (c .before .before .put-refusal .ensures)
+    let z = c .before .before .before .before .before .before .before .before .before .before .args in
+    placed-as (z .at) (z .out .now) (text-refused (z .read .verdict) (plain (countedRule (z .read .rule))) _ _ (c .before .before .before .before .before .before .verdict .given .1)) (c .before .before .put-refusal .ensures)
 
 pub put-rule-read-spec : {M : Type 1} → statement M
 put-rule-read-spec =
@@ -42,6 +45,7 @@ put-rule-read-spec =
     enum-told
     put-rule-requires
     enum-known-verdict
+    slice-aggregate-put-refusal
     put-refusal-requires
     same-length
     returns

@@ -18,6 +18,9 @@ put-bytes-requires c κs = search needs
 enum-known-verdict : tie.Need-enum-known-verdict
 enum-known-verdict c = search needs
 
+slice-aggregate-put-refusal : tie.Need-slice-aggregate-put-refusal
+slice-aggregate-put-refusal c = search needs
+
 put-refusal-requires : tie.Need-put-refusal-requires
 put-refusal-requires c κs = search needs
 
@@ -34,8 +37,8 @@ same-length-2 c = search needs
 
 returns-2 : tie.Need-returns-2
 returns-2 c =
-    let z = c .before .before .before .before .before .before .before .before .args in
-    placed-as (z .at) (z .out .now) (text-refused (z .verdict) (ascii "read") _ _ (c .before .before .before .before .before .verdict .given .1)) (c .before .before .put-refusal .ensures)
+    let z = c .before .before .before .before .before .before .before .before .before .args in
+    placed-as (z .at) (z .out .now) (text-refused (z .verdict) (ascii "read") _ _ (c .before .before .before .before .before .before .verdict .given .1)) (c .before .before .put-refusal .ensures)
 
 pub put-slip-verdict-spec : {M : Type 1} → statement M
 put-slip-verdict-spec =
@@ -45,6 +48,7 @@ put-slip-verdict-spec =
     slice-aggregate-put-bytes
     put-bytes-requires
     enum-known-verdict
+    slice-aggregate-put-refusal
     put-refusal-requires
     same-length
     returns

@@ -1,4 +1,5 @@
 -- `choices::entry_of` meets its contract. The loop's invariant: pushing the fields from j on pushes all. Assumes nothing.
+use mathlib.Core.Path.{refl}
 use Prim.Native.Nat.{_-_}
 use native.Mathlib.Omega.{arith}
 use borrow.Author.Needs.{needs}
@@ -52,8 +53,16 @@ cast-wide-of c = let h = c .before .before .before .before .loop-test .taken in 
 wide-of-requires : tie.Need-wide-of-requires Inv-loop μ-loop
 wide-of-requires c κs = search needs
 
-push-field-requires : tie.Need-push-field-requires Inv-loop μ-loop
-push-field-requires c κs = search needs
+mul-w : tie.Need-mul-w Inv-loop μ-loop
+mul-w c = let h = c .before .before .before .before .before .loop-test .taken in omega (arith, c .before .before .before .before .before .before .loop .inv .0)
+
+element-set-from-w : tie.Need-element-set-from-w Inv-loop μ-loop
+element-set-from-w c =
+    let h = c .before .before .before .before .before .loop-test .taken in
+    omega (arith, c .before .before .before .before .before .before .loop .inv .0)
+
+add-e : tie.Need-add-e Inv-loop μ-loop
+add-e c = search needs
 
 add-j : tie.Need-add-j Inv-loop μ-loop
 add-j c = search needs
@@ -63,11 +72,11 @@ loop-less c = search needs
 
 loop-again : tie.Need-loop-again Inv-loop μ-loop
 loop-again c =
-    let z = c .before .before .before .before .before .before .before .before .before .before .args in
-    let L = c .before .before .before .before .before .before .before .loop in
-    let w = c .before .wide-of in
-    let e = c .push-field in
-    entering-one (z .t1) (z .t2) (z .t3) (z .st) (c .before .before .before .before .before .before .before .before .before .at-most .result) (L .j) (L .e) (L .inv) (w .result) (e .result) (c .before .before .before .before .before .before .loop-test .taken) (w .ensures) (e .ensures)
+    let z = c .before .before .before .before .before .before .before .before .before .args in
+    let L = c .before .before .before .before .before .before .loop in
+    let w = c .wide-of in
+    entering-one (z .t1) (z .t2) (z .t3) (z .st) (c .before .before .before .before .before .before .before .before .at-most .result)
+    (L .j) (L .e) (L .inv) (w .result) _ (c .before .before .before .before .before .loop-test .taken) (w .ensures) refl
 
 returns : tie.Need-returns Inv-loop μ-loop
 returns c =
@@ -93,7 +102,9 @@ entry-of-spec =
     element-copy-out-wide-of-4
     cast-wide-of
     wide-of-requires
-    push-field-requires
+    mul-w
+    element-set-from-w
+    add-e
     add-j
     loop-less
     loop-again

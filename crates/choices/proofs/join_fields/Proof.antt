@@ -7,7 +7,7 @@ use borrow.Author.Needs.{needs}
 use lib.ListN.{length}
 use mathlib.Core.Bool.{true}
 use Rattle.lists.specs.Seqs.{long-mapped}
-use Rattle.rows.specs.Rows.{termsOf}
+use Rattle.shapes.specs.Shapes.{termsOf}
 use Rattle.fillings.specs.declared.Fillings.{Fillings}
 use Rattle.choices.proofs.Loops.{cell-from, Joining, joining-start, joining-one, joining-clash, joining-all, join-long, joins-not, joins-so}
 use Rattle.choices.proofs.join_fields.Statement.{statement}

@@ -6,7 +6,8 @@ use native.Mathlib.Omega.{arith}
 use borrow.Author.Needs.{needs}
 use lib.ListN.{length}
 use Rattle.lists.specs.Seqs.{long-mapped}
-use Rattle.rows.specs.Rows.{termsOf, mergedCell}
+use Rattle.shapes.specs.Shapes.{termsOf}
+use Rattle.rows.specs.Rows.{mergedCell}
 use Rattle.fillings.specs.States.{look}
 use Rattle.choices.proofs.Loops.{cell-from, Pushing, atom-read, pushing-room, pushing-full, pushing-all}
 use Rattle.choices.proofs.push_atoms.Statement.{statement}

@@ -1,6 +1,6 @@
 -- `choices::wide_of` meets its contract. Assumes nothing.
 use borrow.Author.Needs.{needs}
-use Rattle.rows.specs.Rows.{termsOf}
+use Rattle.shapes.specs.Shapes.{termsOf}
 use Rattle.choices.proofs.Cases.{wide-short, wide-long}
 use Rattle.choices.proofs.wide_of.Statement.{statement}
 use Rattle.choices.proofs.wide_of.Tie as tie

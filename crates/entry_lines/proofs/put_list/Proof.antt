@@ -1,16 +1,15 @@
--- `entry_lines::put_list` meets its contract: the run of the field. Assumes nothing.
-use mathlib.Core.Path.{subst}
-use Rattle.text.specs.Plain.{fieldText}
-use Rattle.entries.specs.declared.Wide.{Wide}
+-- `entry_lines::put_list` meets its contract: two pieces. Assumes nothing.
+use native.Mathlib.Omega.{arith}
+use Rattle.order.specs.Order.{list}
 use Rattle.shown.specs.Shown.{wideRun}
-use Rattle.entry_lines.specs.Shown.{renamedTerms}
-use Rattle.entry_lines.proofs.Pieces.{Piece}
+use Rattle.entry_lines.specs.Shown.{bindingTo}
+use Rattle.entry_lines.proofs.Bindings.{front-value}
 use borrow.Author.Needs.{needs}
 use Rattle.entry_lines.proofs.put_list.Statement.{statement}
 use Rattle.entry_lines.proofs.put_list.Tie as tie
 
-field-at-requires : tie.Need-field-at-requires
-field-at-requires c κs = search needs
+put-front-requires : tie.Need-put-front-requires
+put-front-requires c κs = search needs
 
 put-run-requires : tie.Need-put-run-requires
 put-run-requires c κs = search needs
@@ -20,9 +19,10 @@ same-length c = search needs
 
 returns : tie.Need-returns
 returns c =
-    let z = c .before .before .before .before .before .before .args in
-    let P = c .before .before .put-run in
-    subst (λ (w : Wide). Piece 558 (fieldText (renamedTerms (z .names) (wideRun w (z .r .start) (z .r .count)))) (z .at) (z .out .now) (P .result) (P .last .1 .1 .1 .1 .0)) (c .before .before .before .before .field-at .ensures) (P .ensures)
+    let z = c .before .before .before .before .before .before .before .before .before .args in
+    let F = c .before .before .before .before .before .before .put-front in
+    let b = bindingTo (z .names) list (z .n) (wideRun (z .w) (z .r .start) (z .r .count)) in
+    front-value (z .mark) b 558 578 (z .at) (z .out .now) (F .ensures) (c .before .before .put-run .ensures) (omega arith)
 
 pub put-list-spec : {M : Type 1} → statement M
-put-list-spec = tie.close (tie.spec field-at-requires put-run-requires same-length returns)
+put-list-spec = tie.close (tie.spec put-front-requires put-run-requires same-length returns)

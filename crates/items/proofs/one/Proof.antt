@@ -6,11 +6,11 @@ use Rattle.items.proofs.one.Tie as tie
 blank-items-requires : tie.Need-blank-items-requires
 blank-items-requires c κs = search needs
 
-push-requires : tie.Need-push-requires
-push-requires c κs = search needs
+element-set-from-t : tie.Need-element-set-from-t
+element-set-from-t c = search needs
 
 returns : tie.Need-returns
-returns c = rw (c .push .ensures, c .before .blank-items .ensures)
+returns c = rw (c .blank-items .ensures)
 
 pub one-spec : {M : Type 1} → statement M
-one-spec = tie.close (tie.spec blank-items-requires push-requires returns)
+one-spec = tie.close (tie.spec blank-items-requires element-set-from-t returns)

@@ -18,6 +18,9 @@ room-requires c κs = search needs
 slice-aggregate-put-title : tie.Need-slice-aggregate-put-title
 slice-aggregate-put-title c = search needs
 
+slice-aggregate-put-title-2 : tie.Need-slice-aggregate-put-title-2
+slice-aggregate-put-title-2 c = search needs
+
 put-title-requires : tie.Need-put-title-requires
 put-title-requires c κs = search needs
 
@@ -42,9 +45,9 @@ array-share-prefix-text c = search needs
 slice-aggregate-give : tie.Need-slice-aggregate-give
 unfolding matchAnswer
 slice-aggregate-give c =
-    let z = c .before .before .before .before .before .before .before .before .before .before .before .before .before .before .args in
-    let l = c .before .before .before .before .before .before .before .before .before .before .before .room .result in
-    front-size (matchAnswer (z .k) (z .line .now)) l (omega (arith, answer-short (z .k) (z .line .now) (search needs), c .before .before .before .before .before .before .before .before .before .before .before .room .ensures)) (placed-three (titleText (z .k)) (lineText (z .line .now)) newline 0 l (c .before .before .before .before .before .before .before .before .before .put-title .ensures) (c .before .before .before .before .before .before .put-line .ensures) (c .before .before .put-bytes .ensures))
+    let z = c .before .before .before .before .before .before .before .before .before .before .before .before .before .before .before .args in
+    let l = c .before .before .before .before .before .before .before .before .before .before .before .before .room .result in
+    front-size (matchAnswer (z .k) (z .line .now)) l (omega (arith, answer-short (z .k) (z .line .now) (search needs), c .before .before .before .before .before .before .before .before .before .before .before .before .room .ensures)) (placed-three (titleText (z .k)) (lineText (z .line .now)) newline 0 l (c .before .before .before .before .before .before .before .before .before .put-title .ensures) (c .before .before .before .before .before .before .put-line .ensures) (c .before .before .put-bytes .ensures))
 
 give-requires : tie.Need-give-requires
 give-requires c κs = search needs
@@ -55,10 +58,10 @@ same-length c = search needs
 returns : tie.Need-returns
 unfolding matchAnswer
 returns c =
-    let z = c .before .before .before .before .before .before .before .before .before .before .before .before .before .before .before .before .before .before .args in
-    let l = c .before .before .before .before .before .before .before .before .before .before .before .before .before .before .before .room .result in
+    let z = c .before .before .before .before .before .before .before .before .before .before .before .before .before .before .before .before .before .before .before .args in
+    let l = c .before .before .before .before .before .before .before .before .before .before .before .before .before .before .before .before .room .result in
     let G = c .before .before .give in
-    subst (λ (t : List ℕ). Answers t (z .out .now) (G .result) (G .last .1 .0)) (front-is (matchAnswer (z .k) (z .line .now)) l (omega (arith, answer-short (z .k) (z .line .now) (search needs), c .before .before .before .before .before .before .before .before .before .before .before .before .before .before .before .room .ensures)) (placed-three (titleText (z .k)) (lineText (z .line .now)) newline 0 l (c .before .before .before .before .before .before .before .before .before .before .before .before .before .put-title .ensures) (c .before .before .before .before .before .before .before .before .before .before .put-line .ensures) (c .before .before .before .before .before .before .put-bytes .ensures))) (G .ensures)
+    subst (λ (t : List ℕ). Answers t (z .out .now) (G .result) (G .last .1 .0)) (front-is (matchAnswer (z .k) (z .line .now)) l (omega (arith, answer-short (z .k) (z .line .now) (search needs), c .before .before .before .before .before .before .before .before .before .before .before .before .before .before .before .before .room .ensures)) (placed-three (titleText (z .k)) (lineText (z .line .now)) newline 0 l (c .before .before .before .before .before .before .before .before .before .before .before .before .before .put-title .ensures) (c .before .before .before .before .before .before .before .before .before .before .put-line .ensures) (c .before .before .before .before .before .before .put-bytes .ensures))) (G .ensures)
 
 pub match-answer-spec : {M : Type 1} → statement M
 match-answer-spec =
@@ -66,6 +69,7 @@ match-answer-spec =
     (tie.spec
     room-requires
     slice-aggregate-put-title
+    slice-aggregate-put-title-2
     put-title-requires
     slice-aggregate-put-line
     put-line-requires

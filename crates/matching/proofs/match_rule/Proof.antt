@@ -5,8 +5,9 @@ use native.Mathlib.Omega.{arith}
 use borrow.Author.Needs.{needs}
 use borrow.Author.Tests.{not-true, not-false}
 use lib.ListN.{take}
-use Rattle.accepted.specs.Accepted.{acceptedRule, acceptedSlip}
-use Rattle.matching.specs.declared.Filling.{Filling}
+use Rattle.accepted.specs.Accepted.{acceptedRule}
+use Rattle.accepted_slips.specs.Slips.{acceptedSlip}
+use Rattle.bindings.specs.declared.Filling.{Filling}
 use Rattle.matching.specs.declared.Match.{Match}
 use Rattle.matching.specs.Tests.{runsAll}
 use Rattle.matching.proofs.Accept.{not-rule, not-slip, at-most-four, says-counts, says-no, says-yes}

@@ -1,7 +1,7 @@
 -- `matching::no_match` meets its contract. Assumes nothing.
 use mathlib.Core.Path.{_∙_, ap}
 use Rattle.matching.specs.Answers.{fillingOf}
-use Rattle.matching.specs.declared.Filling.{Filling}
+use Rattle.bindings.specs.declared.Filling.{Filling}
 use mathlib.Core.Bool.{false}
 use borrow.Author.Needs.{needs}
 use Rattle.matching.proofs.no_match.Statement.{statement}

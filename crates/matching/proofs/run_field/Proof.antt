@@ -1,35 +1,36 @@
 -- `matching::run_field` meets its contract. Assumes nothing.
 use mathlib.Core.Path.{_≡_, refl, _∙_, ap, ap₂}
-use Prim.Native.Nat.{ℕ, _-_, min}
+use Prim.Native.Nat.{ℕ, _+_, _-_, min}
 use native.Mathlib.Omega.{arith}
 use borrow.Author.Needs.{needs}
 use Rattle.lists.specs.Seqs.{long-mapped}
-use Rattle.matching.specs.declared.Shape.{Shape}
-use Rattle.matching.specs.Tests.{termsOf, runsOver}
-use Rattle.matching.proofs.Walks.{Put, put-one, put-all, items-count}
+use Rattle.field_match.specs.Fields.{termsOf}
+use Rattle.field_match.proofs.Walks.{items-count}
+use Rattle.matching.specs.Tests.{runsOver}
+use Rattle.matching.proofs.Walks.{Put, put-one, put-all}
 use Rattle.matching.proofs.run_field.Statement.{statement}
 use Rattle.matching.proofs.run_field.Tie as tie
 
 abbrev Inv-loop : tie.InvT-loop
-Inv-loop j f gap n y₀ i₀ y i = (n ≡ min (f .n) 16) × Put j gap (f .n) (f .terms) 16 y₀ i y
+Inv-loop j f n gap y₀ i₀ y i = (n ≡ min (f .n) 16) × Put j gap (f .n) (f .terms) 16 y₀ i y
 
 abbrev μ-loop : tie.MeasureT-loop
-μ-loop j f gap n y₀ i₀ y i = n - i
-
-shape-of-requires : tie.Need-shape-of-requires Inv-loop μ-loop
-shape-of-requires c κs = search needs
+μ-loop j f n gap y₀ i₀ y i = n - i
 
 at-most-requires : tie.Need-at-most-requires Inv-loop μ-loop
 at-most-requires c κs = search needs
 
-left-over-requires : tie.Need-left-over-requires Inv-loop μ-loop
-left-over-requires c κs = search needs
-
 at-most-requires-2 : tie.Need-at-most-requires-2 Inv-loop μ-loop
 at-most-requires-2 c κs = search needs
 
+add-left-over : tie.Need-add-left-over Inv-loop μ-loop
+add-left-over c = omega (arith, c .at-most2 .ensures)
+
+left-over-requires : tie.Need-left-over-requires Inv-loop μ-loop
+left-over-requires c κs = search needs
+
 loop-holds : tie.Need-loop-holds Inv-loop μ-loop
-loop-holds c = (c .at-most2 .ensures, (search long-mapped, refl))
+loop-holds c = (c .before .before .at-most .ensures, (search long-mapped, refl))
 
 mul-with-run : tie.Need-mul-with-run Inv-loop μ-loop
 mul-with-run c = let h = c .loop-test .taken in let e = c .before .loop .inv .0 in omega arith
@@ -49,21 +50,22 @@ loop-less c = search needs
 loop-again : tie.Need-loop-again Inv-loop μ-loop
 loop-again c =
     let l = c .before .before .before .loop in
-    let z = c .before .before .before .before .before .before .before .before in
+    let z = c .before .before .before .before .before .before .before .args in
+    let gap = c .before .before .before .before .left-over .result in
     let h = c .before .before .loop-test .taken in
-    (l .inv .0, put-one (z .args .j) (c .before .before .before .before .before .left-over .result) (z .args .t2 .n) (z .args .t2 .terms) 16 (z .args .x) (l .i) (l .y) _ _ (l .inv .1) (omega (arith, l .inv .0)) (c .with-run .ensures))
+    (l .inv .0, put-one (z .j) gap (z .t2 .n) (z .t2 .terms) 16 (z .x) (l .i) (l .y) _ _ (l .inv .1) (omega (arith, l .inv .0)) (c .with-run .ensures))
 
 returns : tie.Need-returns Inv-loop μ-loop
 returns c =
     let l = c .before .loop in
-    let z = c .before .before .before .before .before .before in
+    let z = c .before .before .before .before .before .args in
     let h = c .loop-test .left in
-    let gap = c .before .before .before .left-over in
-    let count = c .before .before .before .before .at-most in
-    let shape = c .before .before .before .before .before .shape-of in
-    put-all (z .args .j) (gap .result) (z .args .t2 .n) (z .args .t2 .terms) 16 (z .args .x) (l .i) (l .y) (l .inv .1) (omega (arith, l .inv .0))
-    ∙ ap (λ (g : ℕ). runsOver (z .args .j) g 0 (termsOf (z .args .t2)) (z .args .x))
-    (gap .ensures ∙ ap₂ (λ (m : ℕ) (s : Shape). m - s .atoms) (items-count (z .args .w .n) (z .args .w .terms) 64 (count .result) (search long-mapped) (count .ensures)) (shape .ensures))
+    let gap = c .before .before .left-over in
+    let items = c .before .before .before .at-most2 in
+    let terms = c .before .before .before .before .at-most in
+    put-all (z .j) (gap .result) (z .t2 .n) (z .t2 .terms) 16 (z .x) (l .i) (l .y) (l .inv .1) (omega (arith, l .inv .0))
+    ∙ ap (λ (g : ℕ). runsOver (z .j) g 0 (termsOf (z .t2)) (z .x))
+    (gap .ensures ∙ ap₂ (λ (m n : ℕ). m + 1 - n) (items-count (z .w .n) (z .w .terms) 64 (items .result) (search long-mapped) (items .ensures)) (items-count (z .t2 .n) (z .t2 .terms) 16 (terms .result) (search long-mapped) (terms .ensures)))
 
 pub run-field-spec : {M : Type 1} → statement M
 run-field-spec =
@@ -71,10 +73,10 @@ run-field-spec =
     (tie.spec
     Inv-loop
     μ-loop
-    shape-of-requires
     at-most-requires
-    left-over-requires
     at-most-requires-2
+    add-left-over
+    left-over-requires
     loop-holds
     mul-with-run
     element-copy-out-with-run

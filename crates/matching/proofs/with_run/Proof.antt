@@ -9,8 +9,10 @@ use lib.Seq.{set-out}
 use Prim.Native.Nat.{ℕ}
 use Rattle.lists.specs.Seqs.{long-mapped}
 use Rattle.terms.specs.declared.Form.{Form}
-use Rattle.matching.specs.declared.Run.{Run}
-use Rattle.matching.specs.declared.Filling.{Filling}
+use Rattle.bindings.specs.declared.Run.{Run}
+use Rattle.bindings.specs.declared.Filling.{Filling}
+use Rattle.order.specs.Values.{kindOf}
+use Rattle.item_match.proofs.Tests.{list-kind}
 use Rattle.matching.specs.Tests.{runBy}
 use Rattle.matching.proofs.with_run.Statement.{statement}
 use Rattle.matching.proofs.with_run.Tie as tie
@@ -32,14 +34,14 @@ enum-told-2 c = search needs
 enum-known-form : tie.Need-enum-known-form
 enum-known-form c = search needs
 
-is-list-requires : tie.Need-is-list-requires
-is-list-requires c κs = search needs
+same-kind-requires : tie.Need-same-kind-requires
+same-kind-requires c κs = search needs
 
 returns : tie.Need-returns
 returns c =
     let z = c .before .before .before .before .before in
     let f = c .before .before .before .form in
-    sym (ap (byForm (z .args .r) (z .args .x)) (f .given .1) ∙ ap (byList (f .given .0 .1 .0) (z .args .r) (z .args .x)) (sym (c .before .is-list .ensures) ∙ not-true _ (c .if1 .taken)))
+    sym (ap (byForm (z .args .r) (z .args .x)) (f .given .1) ∙ ap (byList (f .given .0 .1 .0) (z .args .r) (z .args .x)) (sym (list-kind (kindOf (f .given .0 .0))) ∙ sym (c .before .same-kind .ensures) ∙ not-true _ (c .if1 .taken)))
 
 cast-i : tie.Need-cast-i
 cast-i c = search needs
@@ -51,7 +53,7 @@ returns-2 c =
     let h : length (z .args .x .runs) ≡ 16 = search long-mapped in
     let b = c .if2 .taken in
     sym (ap (byForm (z .args .r) (z .args .x)) (f .given .1)
-    ∙ ap (byList (f .given .0 .1 .0) (z .args .r) (z .args .x)) (sym (c .before .before .is-list .ensures) ∙ not-false _ (c .before .if1 .left))
+    ∙ ap (byList (f .given .0 .1 .0) (z .args .r) (z .args .x)) (sym (list-kind (kindOf (f .given .0 .0))) ∙ sym (c .before .before .same-kind .ensures) ∙ not-false _ (c .before .if1 .left))
     ∙ rw (set-out (z .args .x .runs) (f .given .0 .1 .0) (z .args .r) (omega arith)))
 
 mul-r : tie.Need-mul-r
@@ -70,7 +72,7 @@ returns-5 : tie.Need-returns-5
 returns-5 c =
     let z = c .before .before .before .before .before .before in
     let f = c .before .before .before .before .form in
-    sym (ap (byForm (z .args .r) (z .args .x)) (f .given .1) ∙ ap (byList (f .given .0 .1 .0) (z .args .r) (z .args .x)) (sym (c .before .before .is-list .ensures) ∙ not-false _ (c .before .if1 .left)))
+    sym (ap (byForm (z .args .r) (z .args .x)) (f .given .1) ∙ ap (byList (f .given .0 .1 .0) (z .args .r) (z .args .x)) (sym (list-kind (kindOf (f .given .0 .0))) ∙ sym (c .before .before .same-kind .ensures) ∙ not-false _ (c .before .if1 .left)))
 
 pub with-run-spec : {M : Type 1} → statement M
 with-run-spec =
@@ -79,7 +81,7 @@ with-run-spec =
     enum-told
     enum-told-2
     enum-known-form
-    is-list-requires
+    same-kind-requires
     returns
     cast-i
     returns-2

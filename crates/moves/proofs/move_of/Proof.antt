@@ -1,7 +1,7 @@
 -- `moves::move_of` meets its contract. Assumes nothing.
 use lib.ListN.{List·getD-eq-default}
 use Rattle.items.specs.Items.{itemsOf}
-use Rattle.moves.proofs.Sides.{not-below}
+use Rattle.moves.proofs.Numbers.{not-below}
 use mathlib.Core.Path.{_≡_, sym, _∙_}
 use Rattle.moves.specs.Moves.{noMove, allOf}
 use borrow.Author.Needs.{needs}

@@ -23,8 +23,8 @@ use Rattle.choices.proofs.choose_at.Reads as choose-at-reads
 use Rattle.choices.proofs.join_fields.Reads as join-fields-reads
 use Rattle.overlaps.proofs.candidate_of.Reads as candidate-of-reads
 use Rattle.overlaps.proofs.put_entry.Reads as put-entry-reads
-use Rattle.rows.proofs.shape_of.Reads as shape-of-reads
-use Rattle.rows.proofs.span_of.Reads as span-of-reads
+use Rattle.shapes.proofs.shape_of.Reads as shape-of-reads
+use Rattle.candidates.proofs.span_of.Reads as span-of-reads
 use Rattle.overlaps.proofs.+choose+next_field.{statement}
 use Rattle.overlaps.proofs.+choose+next_field.Tie.{close}
 

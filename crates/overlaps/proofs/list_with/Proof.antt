@@ -1,10 +1,10 @@
--- `overlaps::list_with` meets its contract. Assumes nothing.
-use borrow.Author.Needs.{needs}
+-- `overlaps::list_with` meets its contract: what is not accepted has no fields. Assumes nothing.
 use mathlib.Core.Path.{sym, _∙_}
 use borrow.Author.Tests.{not-true, not-false}
+use borrow.Author.Needs.{needs}
 use Rattle.accepted.specs.Accepted.{countedRule}
 use Rattle.listing.specs.Overlaps.{linesOf}
-use Rattle.overlaps.proofs.Rules.{none-listed, not-left, not-right, other-count, at-most-four, pair-listed}
+use Rattle.overlaps.proofs.Rules.{none-listed, not-left, not-right}
 use Rattle.overlaps.proofs.list_with.Statement.{statement}
 use Rattle.overlaps.proofs.list_with.Tie as tie
 
@@ -26,16 +26,11 @@ returns-2 c =
     let r = c .before .is-rule2 in
     none-listed (linesOf (countedRule (z .left)) (countedRule (z .right))) (z .out .now) (not-right (z .left) (z .right) (sym (r .ensures) ∙ not-true (r .result) (c .if2 .taken)))
 
-returns-3 : tie.Need-returns-3
-returns-3 c =
-    let z = c .before .before .before .before .before .before .before .before .before .args in
-    none-listed (linesOf (countedRule (z .left)) (countedRule (z .right))) (z .out .now) (other-count (z .left) (z .right) (sym (c .before .before .before .before .before .before .is-rule .ensures) ∙ not-false (c .before .before .before .before .before .before .is-rule .result) (c .before .before .before .before .before .if1 .left)) (sym (c .before .before .before .before .is-rule2 .ensures) ∙ not-false (c .before .before .before .before .is-rule2 .result) (c .before .before .before .if2 .left)) (c .if3 .taken))
-
-right-rule-requires : tie.Need-right-rule-requires
-right-rule-requires c κs = search needs
-
-list-pair-requires : tie.Need-list-pair-requires
-list-pair-requires c κs = let z = c .before .before .before .before .before .before .before .before .before .before .before .before .args in at-most-four (z .left) (sym (c .before .before .before .before .before .before .before .before .before .is-rule .ensures) ∙ not-false (c .before .before .before .before .before .before .before .before .before .is-rule .result) (c .before .before .before .before .before .before .before .before .if1 .left))
+list-accepted-requires : tie.Need-list-accepted-requires
+list-accepted-requires c κs =
+    let l = c .before .before .before .before .before .is-rule in
+    let r = c .before .before .before .is-rule2 in
+    (λ _. sym (l .ensures) ∙ not-false (l .result) (c .before .before .before .before .if1 .left), λ _. sym (r .ensures) ∙ not-false (r .result) (c .before .before .if2 .left))
 
 same-length : tie.Need-same-length
 same-length c = search needs
@@ -43,12 +38,8 @@ same-length c = search needs
 same-length-2 : tie.Need-same-length-2
 same-length-2 c = search needs
 
-returns-4 : tie.Need-returns-4
-returns-4 c =
-    let z = c .before .before .before .before .before .before .before .before .before .before .before .before .before .before .before .before .before .args in
-    let x = c .before .before .before .before .before .before .before .right-rule in
-    let r = c .before .before .before .before .list-pair in
-    pair-listed (z .left) (z .right) (sym (c .before .before .before .before .before .before .before .before .before .before .before .before .before .before .is-rule .ensures) ∙ not-false (c .before .before .before .before .before .before .before .before .before .before .before .before .before .before .is-rule .result) (c .before .before .before .before .before .before .before .before .before .before .before .before .before .if1 .left)) (sym (c .before .before .before .before .before .before .before .before .before .before .before .before .is-rule2 .ensures) ∙ not-false (c .before .before .before .before .before .before .before .before .before .before .before .before .is-rule2 .result) (c .before .before .before .before .before .before .before .before .before .before .before .if2 .left)) (c .before .before .before .before .before .before .before .before .if3 .left) (x .result) (x .ensures) (r .result) (z .out .now) _ (r .ensures)
+returns-3 : tie.Need-returns-3
+returns-3 c = search needs
 
 pub list-with-spec : {M : Type 1} → statement M
 list-with-spec =
@@ -58,9 +49,7 @@ list-with-spec =
     returns
     is-rule-requires-2
     returns-2
-    returns-3
-    right-rule-requires
-    list-pair-requires
+    list-accepted-requires
     same-length
     same-length-2
-    returns-4)
+    returns-3)

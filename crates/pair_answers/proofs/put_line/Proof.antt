@@ -30,27 +30,22 @@ tab-place-requires c κs = search needs
 behind-requires : tie.Need-behind-requires
 behind-requires c κs = search needs
 
-slice-aggregate-read-rule : tie.Need-slice-aggregate-read-rule
-slice-aggregate-read-rule c =
-    sym (length-take-le (c .before .before .tab-place .result) (c .before .before .before .before .before .before .before .args .line .now) (c .before .before .tab-place .ensures .1))
+slice-aggregate-put-texts : tie.Need-slice-aggregate-put-texts
+slice-aggregate-put-texts c =
+    let t = c .before .before .tab-place in
+    sym (length-take-le (t .result) (c .before .before .before .before .before .before .before .args .line .now) (t .ensures .1))
 
-read-rule-requires : tie.Need-read-rule-requires
-read-rule-requires c κs = search needs
+sub-put-texts : tie.Need-sub-put-texts
+sub-put-texts c = search needs
 
-sub-read-rule : tie.Need-sub-read-rule
-sub-read-rule c = search needs
+part-put-texts-start : tie.Need-part-put-texts-start
+part-put-texts-start c = search needs
 
-part-read-rule-start : tie.Need-part-read-rule-start
-part-read-rule-start c = search needs
+part-put-texts-end : tie.Need-part-put-texts-end
+part-put-texts-end c = search needs
 
-part-read-rule-end : tie.Need-part-read-rule-end
-part-read-rule-end c = search needs
-
-read-rule-requires-2 : tie.Need-read-rule-requires-2
-read-rule-requires-2 c κs = search needs
-
-put-reads-requires : tie.Need-put-reads-requires
-put-reads-requires c κs = search needs
+put-texts-requires : tie.Need-put-texts-requires
+put-texts-requires c κs = search needs
 
 same-length-2 : tie.Need-same-length-2
 same-length-2 c = search needs
@@ -60,12 +55,11 @@ same-length-3 c = search needs
 
 returns-2 : tie.Need-returns-2
 returns-2 c =
-    let z = c .before .before .before .before .before .before .before .before .before .before .before .before .before .before .before .before .before .args in
-    let T = c .before .before .before .before .before .before .before .before .before .before .before .before .tab-place in
-    let D = c .before .before .before .before .before .before .before .before .before .before .before .behind in
-    let L = c .before .before .before .before .before .before .before .before .before .read-rule in
-    let R = c .before .before .before .before .before .before .before .read-rule2 in
-    piece-as mostBytes (z .at) (z .out .now) (line-said (z .line .now) (T .result) (D .result) (T .ensures .0) (D .ensures) (L .result) (R .result) (c .before .before .before .before .before .before .before .before .before .before .before .before .before .if1 .left) (L .ensures) (R .ensures)) (c .before .before .before .before .put-reads .ensures)
+    let z = c .before .before .before .before .before .before .before .before .before .before .before .before .before .before .before .args in
+    let T = c .before .before .before .before .before .before .before .before .before .before .tab-place in
+    let D = c .before .before .before .before .before .before .before .before .before .behind in
+    let said = line-said (z .line .now) (T .result) (D .result) (T .ensures .0) (D .ensures) (c .before .before .before .before .before .before .before .before .before .before .before .if1 .left) in
+    piece-as mostBytes (z .at) (z .out .now) said (c .before .before .before .before .put-texts .ensures)
 
 pub put-line-spec : {M : Type 1} → statement M
 put-line-spec =
@@ -77,13 +71,11 @@ put-line-spec =
     returns
     tab-place-requires
     behind-requires
-    slice-aggregate-read-rule
-    read-rule-requires
-    sub-read-rule
-    part-read-rule-start
-    part-read-rule-end
-    read-rule-requires-2
-    put-reads-requires
+    slice-aggregate-put-texts
+    sub-put-texts
+    part-put-texts-start
+    part-put-texts-end
+    put-texts-requires
     same-length-2
     same-length-3
     returns-2)

@@ -2,7 +2,8 @@
 use mathlib.Core.Path.{_∙_, ap}
 use lib.ListN.{length}
 use borrow.Author.Needs.{needs}
-use Rattle.queue.specs.Machine.{lineOf, decided}
+use Rattle.turns.specs.Turns.{decided}
+use Rattle.queue.specs.Machine.{lineOf}
 use Rattle.queue.proofs.Turns.{turn-is}
 use Rattle.queue.proofs.advance.Statement.{statement}
 use Rattle.queue.proofs.advance.Tie as tie

@@ -20,11 +20,13 @@ enum-known-p c = search needs
 enum-told : tie.Need-enum-told
 enum-told c = search needs
 
-width-of-requires : tie.Need-width-of-requires
-width-of-requires c κs = search needs
-
 survey-of-requires : tie.Need-survey-of-requires
-survey-of-requires c κs = let e = c .before .before .before .before .before .bytes-of .ensures in let h = c .before .before .before .before .if1 .left in let b = bytes-small (c .before .before .before .before .before .before .before .args .slip) in omega arith
+survey-of-requires c κs =
+    let l = c .before .before .before in
+    let e = l .before .bytes-of .ensures in
+    let h = l .if1 .left in
+    let b = bytes-small (l .before .before .before .args .slip) in
+    omega arith
 
 verdict-of-requires : tie.Need-verdict-of-requires
 verdict-of-requires c κs = search needs
@@ -33,7 +35,13 @@ returns-2 : tie.Need-returns-2
 returns-2 c = judged-grammar (c .before .before .before .before .before .before .before .args .slip) (c .before .before .before .before .before .before .before .args .text .now) (c .before .before .before .before .before .bytes-of .result) (c .before .before .before .before .before .bytes-of .ensures) (c .before .before .before .grammar-place .result) _ (c .before .before .before .before .if1 .left) (c .before .before .before .grammar-place .ensures) (c .before .p .given .1)
 
 returns-3 : tie.Need-returns-3
-returns-3 c = judged-survey (c .before .before .before .before .before .before .before .before .before .args .slip) (c .before .before .before .before .before .before .before .before .before .args .text .now) (c .before .before .before .before .before .before .before .bytes-of .result) (c .before .before .before .before .before .before .before .bytes-of .ensures) (c .before .before .before .before .before .grammar-place .result) (c .before .before .width-of .result) (c .before .survey-of .result) (c .verdict-of .result) (c .before .before .before .before .before .before .if1 .left) (c .before .before .before .before .before .grammar-place .ensures) (c .before .before .before .enum-told .given .1) (c .before .before .width-of .ensures) (c .before .survey-of .ensures) (c .verdict-of .ensures)
+returns-3 c =
+    let f = c .before .before .before .before in
+    let l = f .before in
+    let b = l .before in
+    let a = b .before .before .args in
+    judged-survey (a .slip) (a .text .now) (b .bytes-of .result) (b .bytes-of .ensures) (f .grammar-place .result) (c .before .survey-of .result) (c .verdict-of .result)
+    (l .if1 .left) (f .grammar-place .ensures) (c .before .before .enum-told .given .1) (c .before .survey-of .ensures) (c .verdict-of .ensures)
 
 pub judge-spec : {M : Type 1} → statement M
 judge-spec =
@@ -44,7 +52,6 @@ judge-spec =
     grammar-place-requires
     enum-known-p
     enum-told
-    width-of-requires
     survey-of-requires
     verdict-of-requires
     returns-2

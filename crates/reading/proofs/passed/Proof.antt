@@ -35,11 +35,11 @@ use Rattle.scanning.proofs.Piece as O
 use Rattle.scanning.proofs.Piece.Laws as O′
 use Rattle.walks.proofs.Walk.{holds, envOf, pos, allocs-all, frees-all, var, sets}
 use Rattle.walks.proofs.Returns.{Met, returns-of, calls-shared}
-use Rattle.reading.specs.declared.At.{At}
+use Rattle.refusals.specs.declared.At.{At}
 use Rattle.reading.specs.declared.Reader.{Reader}
 use Rattle.reading.specs.Places.{spelled, behind, passed}
-use Rattle.reading.proofs.At as P
-use Rattle.reading.proofs.At.Laws as P′
+use Rattle.refusals.proofs.At as P
+use Rattle.refusals.proofs.At.Laws as P′
 use Rattle.reading.proofs.Reader.Laws as R′
 use Rattle.reading.proofs.Held.{B, D, F, mach-text, mach-at, mach, Text, At-is, Reader-is, text-of-is, at-of-is, reader-is, at-typed, reader-typed, text-twice, held, text-of, mach-piece, Token, Piece-is, piece-typed}
 use Rattle.reading.proofs.behind as behind′

@@ -2,7 +2,7 @@
 use mathlib.Core.Path.{sym, _∙_}
 use borrow.Author.Tests.{not-false}
 use borrow.Author.Needs.{needs}
-use Rattle.rows.proofs.Tests.{capped-small}
+use Rattle.shapes.proofs.Small.{capped-small}
 use Rattle.rows.proofs.Places.{with-head, with-none, with-tail}
 use Rattle.rows.proofs.cell_with.Statement.{statement}
 use Rattle.rows.proofs.cell_with.Tie as tie

@@ -2,7 +2,7 @@
 use mathlib.Core.Path.{sym, _∙_}
 use borrow.Author.Tests.{not-false}
 use borrow.Author.Needs.{needs}
-use Rattle.rows.proofs.Tests.{capped-small}
+use Rattle.shapes.proofs.Small.{capped-small}
 use Rattle.rows.proofs.Places.{place-head, place-none, place-tail}
 use Rattle.rows.proofs.place_at.Statement.{statement}
 use Rattle.rows.proofs.place_at.Tie as tie

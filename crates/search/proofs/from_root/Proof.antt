@@ -39,8 +39,8 @@ use Rattle.queue.specs.Row.{blanks}
 use Rattle.queue.specs.Machine.{Config, conf, Ends, Reaches, fromRoot}
 use Rattle.problems.proofs.Problem as T
 use Rattle.problems.proofs.Problem.Laws as T′
-use Rattle.queue.proofs.State as S
-use Rattle.queue.proofs.State.Laws as S′
+use Rattle.turns.proofs.State as S
+use Rattle.turns.proofs.State.Laws as S′
 use Rattle.walks.proofs.Walk.{holds, envOf, pos, allocs-all, frees-all, var, sets, reborrows}
 use Rattle.search.proofs.Lending.{x, Own}
 use Rattle.search.proofs.Drives.{mach, mach-state, Blanks, Put, Running, calls-blank, calls-put, calls-drive}

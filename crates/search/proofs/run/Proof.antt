@@ -39,8 +39,8 @@ use denote.Exit.{yes}
 use Rattle.problems.specs.declared.Problem.{Problem}
 use Rattle.queue.specs.Machine.{Config, conf, next, after, Ends, Reaches, turn-on, turn-off}
 use Rattle.problems.proofs.Problem as T
-use Rattle.queue.proofs.State as S
-use Rattle.queue.proofs.State.Laws as S′
+use Rattle.turns.proofs.State as S
+use Rattle.turns.proofs.State.Laws as S′
 use Rattle.walks.proofs.Walk.{Spots, room, holds, envOf, cells, pos, allocs-all, frees-all, var, sets, reborrows}
 use Rattle.search.proofs.Lending.{x, Own}
 use Rattle.search.proofs.Drives.{mach-state, Stepping, calls-drive}

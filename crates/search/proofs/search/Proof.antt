@@ -40,20 +40,21 @@ use Rattle.terms.proofs.Field.Laws as F′
 use Rattle.problems.specs.declared.Problem.{Problem}
 use Rattle.problems.specs.Values.{blankProblem}
 use Rattle.problems.proofs.Problem as T
-use Rattle.queue.specs.declared.State.{State}
+use Rattle.turns.specs.declared.State.{State}
 use Rattle.queue.specs.Row.{blanks}
-use Rattle.queue.specs.Machine.{Config, conf, Ends, Reaches, fromRoot, begun, again}
-use Rattle.queue.proofs.State as S
-use Rattle.queue.proofs.State.Laws as S′
+use Rattle.starts.specs.Starts.{begun, again}
+use Rattle.queue.specs.Machine.{Config, conf, Ends, Reaches, fromRoot}
+use Rattle.turns.proofs.State as S
+use Rattle.turns.proofs.State.Laws as S′
 use Rattle.walks.proofs.Walk.{holds, envOf, pos, allocs-all, frees-all, var, sets, reborrows}
 use Rattle.search.proofs.Lending.{x, Own}
 use Rattle.search.proofs.Drives.{mach-state, Blanks, Searching, calls-blank, calls-drive}
-use Rattle.queue.proofs.begin.Symbol as begin-def
-use Rattle.queue.proofs.begin.Symbol.{name as #queue·begin}
-use Rattle.queue.proofs.begin.Met as begin-thm
-use Rattle.queue.proofs.again.Symbol as again-def
-use Rattle.queue.proofs.again.Symbol.{name as #queue·again}
-use Rattle.queue.proofs.again.Met as again-thm
+use Rattle.starts.proofs.begin.Symbol as begin-def
+use Rattle.starts.proofs.begin.Symbol.{name as #starts·begin}
+use Rattle.starts.proofs.begin.Met as begin-thm
+use Rattle.starts.proofs.again.Symbol as again-def
+use Rattle.starts.proofs.again.Symbol.{name as #starts·again}
+use Rattle.starts.proofs.again.Met as again-thm
 use Rattle.search.proofs.from_root.Symbol as from-root-def
 use Rattle.search.proofs.from_root.Symbol.{name as #search·from-root}
 use Rattle.search.proofs.from_root.Met as from-root-thm
@@ -110,7 +111,7 @@ module _ {M : Type 1} (𝓤 : URA M) (H : Heap 𝓤) (A : Atoms 𝓤) (W : Given
     abbrev L′ : ℕ → ℕ
     L′ n = pos 5 22 n
 
-    walk : Halts f g ys os → Room T.the-row (length ys) → Room u8 (length os) → (𝓣 : Tables 𝓤 H) → Triple 𝓤 (𝓣 .C #queue·begin) (Begin 𝓤 H A mem run) → Triple 𝓤 (𝓣 .C #queue·again) (Again 𝓤 H A mem run) → Triple 𝓤 (𝓣 .C #search·report) (Report 𝓤 H A mem run)
+    walk : Halts f g ys os → Room T.the-row (length ys) → Room u8 (length os) → (𝓣 : Tables 𝓤 H) → Triple 𝓤 (𝓣 .C #starts·begin) (Begin 𝓤 H A mem run) → Triple 𝓤 (𝓣 .C #starts·again) (Again 𝓤 H A mem run) → Triple 𝓤 (𝓣 .C #search·report) (Report 𝓤 H A mem run)
         → Triple 𝓤 (𝓣 .C #search·blank) (Blanks 𝓤 H A mem run) → Triple 𝓤 (𝓣 .C #search·from-root) (Searching 𝓤 H A)
         → ent 𝓤 (onEntry 𝓤 H A search′.signature (κ, (κ′, tt)) (q, (q′, tt)) (bound .0 .3) (bound .0 .4)) (WpFn 𝓤 H (𝓣 .C) (𝓣 .Λ) code.function (mach-field f ∷ mach-field g ∷ r₀ ∷ o₀ ∷ []) Post)
     walk ends fits fits′ 𝓣 ks kt ka kb kf =
@@ -178,8 +179,8 @@ search-spec 𝓤 H 𝓜 𝓖 𝓡 =
     (walked 𝓤 H A search′.ended stayed clauses goes (λ κs. (LL.vals F.the-type F′.the-laws, (LL.vals F.the-type F′.the-laws, (slice-vals, (slice-vals, tt))))) (λ κs. (LL.tells F.the-type F′.the-laws, (LL.tells F.the-type F′.the-laws, (mut-slice-tells (named 0) (κs .0) T.the-row, (mut-slice-tells (named 1) (κs .1 .0) u8, tt)))))
     (λ κs qs bounds a g are. via 𝓤 _ (fst∗ 𝓤 _ (emp 𝓤))
     (walk 𝓤 H A W (𝓜 .mem) (𝓡 .run) (κs .0) (κs .1 .0) (qs .0) (qs .1 .0) (a .1 .1 .0 .ptr .0) (a .1 .1 .0 .ptr .1) (a .1 .1 .1 .0 .ptr .0) (a .1 .1 .1 .0 .ptr .1) (a .1 .1 .0 .name) (a .1 .1 .1 .0 .name) (a .0) (a .1 .0) (a .1 .1 .0 .now) (a .1 .1 .1 .0 .now) (are .0) (are .1 .0) (halts (a .0) (a .1 .0) (a .1 .1 .0 .now) (a .1 .1 .1 .0 .now)) (are .1 .1 .0 .0 .1) (are .1 .1 .1 .0 .0 .1) 𝓣
-    (cited 𝓤 H (Begin 𝓤 H A (𝓜 .mem) (𝓡 .run)) 𝓜 𝓡 code.env #queue·begin begin-def.routine code.calls-queue·begin (begin-thm.met 𝓤 H 𝓜 𝓖 𝓡))
-    (cited 𝓤 H (Again 𝓤 H A (𝓜 .mem) (𝓡 .run)) 𝓜 𝓡 code.env #queue·again again-def.routine code.calls-queue·again (again-thm.met 𝓤 H 𝓜 𝓖 𝓡))
+    (cited 𝓤 H (Begin 𝓤 H A (𝓜 .mem) (𝓡 .run)) 𝓜 𝓡 code.env #starts·begin begin-def.routine code.calls-starts·begin (begin-thm.met 𝓤 H 𝓜 𝓖 𝓡))
+    (cited 𝓤 H (Again 𝓤 H A (𝓜 .mem) (𝓡 .run)) 𝓜 𝓡 code.env #starts·again again-def.routine code.calls-starts·again (again-thm.met 𝓤 H 𝓜 𝓖 𝓡))
     (cited 𝓤 H (Report 𝓤 H A (𝓜 .mem) (𝓡 .run)) 𝓜 𝓡 code.env #search·report report-def.routine code.calls-search·report (report-thm.met 𝓤 H 𝓜 𝓖 𝓡))
     (cited 𝓤 H (Blanks 𝓤 H A (𝓜 .mem) (𝓡 .run)) 𝓜 𝓡 code.env #search·blank blank-def.routine code.calls-search·blank (blank-thm.met 𝓤 H 𝓜 𝓖 𝓡))
     (cited 𝓤 H (Searching 𝓤 H A) 𝓜 𝓡 code.env #search·from-root from-root-def.routine code.calls-search·from-root (from-root-thm.met 𝓤 H 𝓜 𝓖 𝓡))))))

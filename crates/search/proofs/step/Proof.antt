@@ -33,14 +33,14 @@ use denote.Triple.Table.{entered, cited}
 use denote.Triple.Walked.{says, Stays, stay-slice, stay-none, walkOf, goes-slice, goes-none, ends-at, walked, walk-meets}
 use denote.Exit.{yes}
 use Rattle.problems.specs.declared.Problem.{Problem}
-use Rattle.queue.specs.declared.Turn.{Turn}
+use Rattle.turns.specs.declared.Turn.{Turn}
 use Rattle.queue.specs.Machine.{Config, conf, read, moved, next}
 use Rattle.problems.proofs.Problem as T
 use Rattle.problems.proofs.Problem.Laws as T′
-use Rattle.queue.proofs.State as S
-use Rattle.queue.proofs.State.Laws as S′
-use Rattle.queue.proofs.Turn as U
-use Rattle.queue.proofs.Turn.Laws as U′
+use Rattle.turns.proofs.State as S
+use Rattle.turns.proofs.State.Laws as S′
+use Rattle.turns.proofs.Turn as U
+use Rattle.turns.proofs.Turn.Laws as U′
 use Rattle.walks.proofs.Walk.{holds, envOf, pos, allocs-all, frees-all, var, sets, reborrows}
 use Rattle.search.proofs.Lending.{x, Own}
 use Rattle.search.proofs.Drives.{mach, mach-state, mach-turn, Take, Advance, Put, calls-take, calls-advance, calls-put}

@@ -1,11 +1,15 @@
 -- `solve_answers::put_room` meets its contract: by the size. Assumes nothing.
-use mathlib.Core.Path.{sym, ap, _∙_}
+use mathlib.Core.Path.{_≡_, sym, ap, ap₂, _∙_}
 use mathlib.Core.Option.{some}
+use Prim.Native.Nat.{ℕ, min}
 use native.Mathlib.Omega.{arith}
 use Rattle.accepted.specs.Accepted.{countedField}
 use Rattle.entry_lines.proofs.Pieces.{piece-as}
-use Rattle.solve_answers.specs.Solve.{mostBytes, sizeOf, searchText, longestBody}
-use Rattle.solve_answers.proofs.Sizes.{size-least, size-of, size-bad}
+use Rattle.solving.specs.Answers.{linesFor}
+use Rattle.sizes.specs.Sizes.{sizeOf}
+use Rattle.sizes.proofs.Digits.{size-least, size-of, size-bad}
+use Rattle.search_text.specs.Found.{mostRecords, mostBytes, foundText, longestBody}
+use Rattle.solve_answers.specs.Solve.{searchText}
 use borrow.Author.Needs.{needs}
 use Rattle.solve_answers.proofs.put_room.Statement.{statement}
 use Rattle.solve_answers.proofs.put_room.Tie as tie
@@ -17,9 +21,7 @@ enum-known-bytes : tie.Need-enum-known-bytes
 enum-known-bytes c = search needs
 
 put-search-requires : tie.Need-put-search-requires
-put-search-requires c κs =
-    let z = c .before .before .before .before .before .before .before in
-    (z .pre, size-least mostBytes (z .args .room .now) _ (size-of _ _ (sym (c .before .before .before .before .read-size .ensures) ∙ c .before .before .bytes .given .1)))
+put-search-requires c κs = search needs
 
 enum-told : tie.Need-enum-told
 enum-told c = search needs
@@ -35,9 +37,16 @@ same-length c = search needs
 
 returns : tie.Need-returns
 returns c =
-    let z = c .before .before .before .before .before .before .before .before .before .before .args in
-    let e = size-of (sizeOf mostBytes (z .room .now)) _ (sym (c .before .before .before .before .before .before .before .read-size .ensures) ∙ c .before .before .before .before .before .bytes .given .1) in
-    piece-as longestBody (z .at) (z .out .now) (ap (searchText (countedField (z .left)) (countedField (z .right)) (some (z .row))) e) (c .before .before .put-search .ensures)
+    let start = c .before .before .before .before .before .before .before .before .before .before in
+    let z = start .args in
+    let n = c .before .before .before .before .before .bytes .given in
+    let e = size-of (sizeOf mostBytes (z .room .now)) _ (sym (c .before .before .before .before .before .before .before .read-size .ensures) ∙ n .1) in
+    let row : z .row ≡ min (z .row) mostRecords = omega (arith, start .pre) in
+    let room : n .0 .0 ≡ min (n .0 .0) mostBytes = omega (arith, size-least mostBytes (z .room .now) _ e) in
+    piece-as longestBody (z .at) (z .out .now)
+    (ap (searchText (countedField (z .left)) (countedField (z .right)) (some (z .row))) e
+    ∙ ap₂ (λ (m k : ℕ). foundText m (linesFor k (countedField (z .left)) (countedField (z .right)))) room row)
+    (c .before .before .put-search .ensures)
 
 same-length-2 : tie.Need-same-length-2
 same-length-2 c = search needs

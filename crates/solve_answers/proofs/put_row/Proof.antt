@@ -5,8 +5,10 @@ use Prim.Native.Nat.{ℕ}
 use native.Mathlib.Omega.{arith}
 use Rattle.accepted.specs.Accepted.{countedField}
 use Rattle.entry_lines.proofs.Pieces.{piece-as}
-use Rattle.solve_answers.specs.Solve.{mostRecords, mostBytes, sizeOf, searchText, longestBody}
-use Rattle.solve_answers.proofs.Sizes.{size-least, size-of, size-bad}
+use Rattle.sizes.specs.Sizes.{sizeOf}
+use Rattle.sizes.proofs.Digits.{size-least, size-of, size-bad}
+use Rattle.search_text.specs.Found.{mostRecords, mostBytes, longestBody}
+use Rattle.solve_answers.specs.Solve.{searchText}
 use borrow.Author.Needs.{needs}
 use Rattle.solve_answers.proofs.put_row.Statement.{statement}
 use Rattle.solve_answers.proofs.put_row.Tie as tie

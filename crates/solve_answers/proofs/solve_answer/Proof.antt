@@ -17,6 +17,9 @@ room-requires c κs = search needs
 slice-aggregate-put-title : tie.Need-slice-aggregate-put-title
 slice-aggregate-put-title c = search needs
 
+slice-aggregate-put-title-2 : tie.Need-slice-aggregate-put-title-2
+slice-aggregate-put-title-2 c = search needs
+
 put-title-requires : tie.Need-put-title-requires
 put-title-requires c κs = search needs
 
@@ -32,8 +35,8 @@ array-share-prefix-text c = search needs
 slice-aggregate-give : tie.Need-slice-aggregate-give
 unfolding solveAnswer
 slice-aggregate-give c =
-    let z = c .before .before .before .before .before .before .before .before .before .before .args in
-    let l = c .before .before .before .before .before .before .before .room in
+    let z = c .before .before .before .before .before .before .before .before .before .before .before .args in
+    let l = c .before .before .before .before .before .before .before .before .room in
     let L = c .before .before .put-line .ensures in
     front-size (solveAnswer (z .k) (z .line .now)) (l .result) (omega (arith, answer-short (z .k) (z .line .now) (search needs) (L .1), l .ensures)) (placed-next (titleText (z .k)) (lineText (z .line .now)) 0 (l .result) (c .before .before .before .before .before .put-title .ensures) (L .0))
 
@@ -46,8 +49,8 @@ same-length c = search needs
 returns : tie.Need-returns
 unfolding solveAnswer
 returns c =
-    let z = c .before .before .before .before .before .before .before .before .before .before .before .before .before .before .args in
-    let l = c .before .before .before .before .before .before .before .before .before .before .before .room in
+    let z = c .before .before .before .before .before .before .before .before .before .before .before .before .before .before .before .args in
+    let l = c .before .before .before .before .before .before .before .before .before .before .before .before .room in
     let L = c .before .before .before .before .before .before .put-line .ensures in
     let G = c .before .before .give in
     let h = answer-short (z .k) (z .line .now) (search needs) (L .1) in
@@ -59,6 +62,7 @@ solve-answer-spec =
     (tie.spec
     room-requires
     slice-aggregate-put-title
+    slice-aggregate-put-title-2
     put-title-requires
     slice-aggregate-put-line
     put-line-requires

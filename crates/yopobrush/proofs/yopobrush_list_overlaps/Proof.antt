@@ -1,17 +1,14 @@
--- `yopobrush::yopobrush_list_overlaps` meets its contract: what is said of the values is what is said of the texts. Assumes nothing.
+-- `yopobrush::yopobrush_list_overlaps` meets its contract: what is said of the lister's answer is what is said of the texts. Assumes nothing.
 use borrow.Author.Needs.{needs}
-use Rattle.yopobrush.proofs.Said.{texts-said, bytes-said}
+use Rattle.yopobrush.proofs.Said.{texts-said}
 use Rattle.yopobrush.proofs.yopobrush_list_overlaps.Statement.{statement}
 use Rattle.yopobrush.proofs.yopobrush_list_overlaps.Tie as tie
 
-read-rule-requires : tie.Need-read-rule-requires
-read-rule-requires c κs = search needs
+slice-aggregate-list-texts : tie.Need-slice-aggregate-list-texts
+slice-aggregate-list-texts c = search needs
 
-read-rule-requires-2 : tie.Need-read-rule-requires-2
-read-rule-requires-2 c κs = search needs
-
-list-overlaps-requires : tie.Need-list-overlaps-requires
-list-overlaps-requires c κs = search needs
+list-texts-requires : tie.Need-list-texts-requires
+list-texts-requires c κs = search needs
 
 reading-of-requires : tie.Need-reading-of-requires
 reading-of-requires c κs = search needs
@@ -28,22 +25,17 @@ same-length c = search needs
 returns : tie.Need-returns
 returns c =
     let z = c .before .before .before .before .before .before .before .before .before .before .before .before .args in
-    let l = c .before .before .before .before .before .before .before .before .read-rule in
-    let r = c .before .before .before .before .before .before .before .read-rule2 in
-    let o = c .before .before .before .before .before .list-overlaps .ensures in
+    let said = c .before .before .before .before .before .before .list-texts in
     let a = c .before .before .reading-of .ensures in
-    let b = c .before .reading-of2 .ensures in (
-      texts-said (z .left .now) (z .right .now) (z .out .now) _ _ _ _ _ _ (l .ensures) (r .ensures) (o .0) a b (c .listing-of .ensures),
-      bytes-said (z .left .now) (z .right .now) (z .out .now) _ _ _ (l .ensures) (r .ensures) (o .1),
-    )
+    let b = c .before .reading-of2 .ensures in
+    (texts-said (z .left .now) (z .right .now) _ (said .result) _ _ _ (said .ensures .0) a b (c .listing-of .ensures), said .ensures .1)
 
 pub yopobrush-list-overlaps-spec : {M : Type 1} → statement M
 yopobrush-list-overlaps-spec =
     tie.close
     (tie.spec
-    read-rule-requires
-    read-rule-requires-2
-    list-overlaps-requires
+    slice-aggregate-list-texts
+    list-texts-requires
     reading-of-requires
     reading-of-requires-2
     listing-of-requires

@@ -1,0 +1,3 @@
+pub mod Two
+pub mod Bindings
+pub mod Moved

@@ -1,0 +1,64 @@
+-- The test of a field on values, as code makes it. `field-agrees` of matching's proofs/Agree says that it is the matcher's.
+use mathlib.Core.Bool.{Bool, true, false, cond}
+use mathlib.Core.List.{List, [], _∷_, foldl}
+use Prim.Native.Nat.{ℕ, _+_, _-_}
+use lib.Dec.{eqb, leb}
+use lib.ListN.{length, getD, take}
+use Rattle.order.specs.Values.{kindOf}
+use Rattle.terms.specs.declared.Form.{Form}
+use Rattle.terms.specs.declared.Form.the-variants.{Int, Str, Var}
+use Rattle.terms.specs.declared.Term.{Term}
+use Rattle.terms.specs.declared.Field.{Field}
+use Rattle.terms.specs.declared.SlipField.{SlipField}
+use Rattle.terms.specs.Values.{blankTerm}
+use Rattle.bindings.specs.declared.Values.{Values}
+use Rattle.item_match.specs.declared.Tested.{Tested}
+use Rattle.item_match.specs.Tests.{isList, tested}
+use Rattle.field_match.specs.declared.Shape.{Shape}
+
+-- ---- the terms of a field from the left, the first at item p; a list variable takes `gap` items
+
+abbrev pub isListForm : Form → Bool
+isListForm (Int m) = false
+isListForm (Str k) = false
+isListForm (Var k n) = isList (kindOf k)
+
+abbrev pub isListTerm : Term → Bool
+isListTerm t = isListForm (t .form)
+
+abbrev pub widthOf : ℕ → Term → ℕ
+widthOf gap t = cond (isListTerm t) gap 1
+
+abbrev pub pick : Bool → Tested → Tested → Tested
+pick true t u = t
+pick false t u = u
+
+abbrev pub goOn : Tested → (Values → Tested) → Tested
+goOn r k = pick (r .ok) (k (r .values)) r
+
+abbrev pub walked : ℕ → List Term → List Term → ℕ → Values → Tested
+walked gap items [] p v = record { ok = true; values = v }
+walked gap items (t ∷ f) p v = goOn (tested t (getD items p blankTerm) v) (walked gap items f (p + widthOf gap t))
+
+-- ---- a field: first its length
+
+abbrev pub shapeWith : Shape → Term → Shape
+shapeWith s t = cond (isListTerm t) (record { atoms = s .atoms; lists = s .lists + 1 }) (record { atoms = s .atoms + 1; lists = s .lists })
+
+abbrev pub noShape : Shape
+noShape = record { atoms = 0; lists = 0 }
+
+abbrev pub shapeOf : List Term → Shape
+shapeOf f = foldl shapeWith noShape f
+
+abbrev pub fitsLength : Shape → ℕ → Bool
+fitsLength s n = cond (eqb (s .lists) 0) (eqb (s .atoms) n) (leb (s .atoms) n)
+
+abbrev pub fieldTested : List Term → List Term → Values → Tested
+fieldTested f items v = cond (fitsLength (shapeOf f) (length items)) (walked (length items - (shapeOf f) .atoms) items f 0 v) (record { ok = false; values = v })
+
+abbrev pub termsOf : Field → List Term
+termsOf f = take (f .n) (f .terms)
+
+abbrev pub itemsOf : SlipField → List Term
+itemsOf w = take (w .n) (w .terms)

@@ -1,0 +1,27 @@
+-- `shapes::with_term` meets its contract. Assumes nothing.
+use borrow.Author.Needs.{needs}
+use mathlib.Core.Path.{sym, _∙_}
+use Rattle.shapes.proofs.with_term.Statement.{statement}
+use Rattle.shapes.proofs.with_term.Tie as tie
+
+add-t4 : tie.Need-add-t4
+add-t4 c = search needs
+
+returns : tie.Need-returns
+returns c = rw (c .before .if1 .taken)
+
+is-list-term-requires : tie.Need-is-list-term-requires
+is-list-term-requires c κs = search needs
+
+returns-2 : tie.Need-returns-2
+returns-2 c = rw (c .before .before .if1 .left, sym (c .before .is-list-term .ensures) ∙ c .if2 .taken)
+
+add-t6 : tie.Need-add-t6
+add-t6 c = search needs
+
+returns-3 : tie.Need-returns-3
+returns-3 c = rw (c .before .before .before .if1 .left, sym (c .before .before .is-list-term .ensures) ∙ c .before .if2 .left)
+
+pub with-term-spec : {M : Type 1} → statement M
+with-term-spec =
+    tie.close (tie.spec add-t4 returns is-list-term-requires returns-2 add-t6 returns-3)

@@ -1,0 +1,23 @@
+-- `turns::join` meets its contract. Assumes nothing.
+use mathlib.Core.Path.{refl}
+use borrow.Author.Needs.{needs}
+use Rattle.turns.proofs.join.Statement.{statement}
+use Rattle.turns.proofs.join.Tie as tie
+
+add-rule : tie.Need-add-rule
+add-rule c = search needs
+
+next-place-requires : tie.Need-next-place-requires
+next-place-requires c κs = search needs
+
+aim-requires : tie.Need-aim-requires
+aim-requires c κs = search needs
+
+add-t : tie.Need-add-t
+add-t c = search needs
+
+returns : tie.Need-returns
+returns c = rw (c .before .aim .ensures) (rw (c .before .before .next-place .ensures) refl)
+
+pub join-spec : {M : Type 1} → statement M
+join-spec = tie.close (tie.spec add-rule next-place-requires aim-requires add-t returns)
