@@ -37,6 +37,7 @@ use Rattle.listing.specs.Variables.{numbersFrom, numbers, ofKind, every, inFiel
 use Rattle.listing.proofs.Rising.{keep-mem}
 use Rattle.listing.proofs.Variables.{every-mem, in-variables, variables-distinct}
 use Rattle.solving.specs.Answers.{setting, fieldOn, markOf, valueOf}
+use Rattle.solving.proofs.Short.{occurring}
 use Rattle.entries.specs.declared.Wide.{Wide}
 use Rattle.entries.specs.Values.{widest, blankWide, pushed, Marked, encodeWide}
 use Rattle.entries.specs.Marks.{MarkedIn}
@@ -280,17 +281,11 @@ module _ (d : Side) (f : List OurTerm) (is-rule : IsRule (f ∷ [])) (σ : Bindi
       go false rec = rec
 
   -- a field has no more variables than terms
-  some-term : (k : Kind) (n : ℕ) (g : List OurTerm) → Occurs k n g → List·Memᴰ (var k n) g
-  some-term k n [] o = absurd o
-  some-term k n (con c ∷ g) o = List·Memᴰ·tail (some-term k n g o)
-  some-term k n (var j m ∷ g) (inl e) = List·Memᴰ·head (ap₂ (λ (a : Kind) (b : ℕ). var a b) (e .0) (e .1))
-  some-term k n (var j m ∷ g) (inr o) = List·Memᴰ·tail (some-term k n g o)
-
   variables-few : length (keep has every) ≤ length f
   variables-few = pigeon (λ (v : variables.Variable) (t : OurTerm). t ≡ var (v .0) (v .1)) (keep has every) f (variables-distinct (f ∷ [])) find same-one
     where
       find : (v : variables.Variable) → List·Memᴰ v (keep has every) → (t : OurTerm) × List·Memᴰ t f × (t ≡ var (v .0) (v .1))
-      find v i = (var (v .0) (v .1), some-term (v .0) (v .1) f (only (in-variables (f ∷ []) (is-rule .0 .3) (v .0) (v .1) .0 i)), refl)
+      find v i = (var (v .0) (v .1), occurring (v .0) (v .1) f (only (in-variables (f ∷ []) (is-rule .0 .3) (v .0) (v .1) .0 i)), refl)
         where
           only : Any (Occurs (v .0) (v .1)) (f ∷ []) → Occurs (v .0) (v .1) f
           only (inl o) = o

@@ -1,27 +1,16 @@
 -- Document 01's constants, as constants of the theory. A change of the constants or of their equality is made here.
-use mathlib.Core.Path.{_≡_, refl, ap, ap₂}
+use mathlib.Core.Path.{_≡_, refl, ap}
 use mathlib.Core.Bool.{true}
-use mathlib.Core.List.{List, [], _∷_, nil≢cons, cons≢nil, head-eq-of-cons-eq, tail-eq-of-cons-eq}
+use mathlib.Core.List.{List, []}
 use Prim.Native.Nat.{ℕ}
 use native.Mathlib.Omega.{arith}
 use native.Mathlib.Decide.{ℕ-discrete}
+use Rattle.lists.specs.Equality.{list-eq}
 use Rattle.order.specs.Types.{Basic, integer, string, atom, basics}
 use Rattle.theory.specs.Constants.{Consts}
 use Rattle.text.specs.Terms.{Con, int, str}
 
 -- ---- equality, decided by computation
-
-module _ {A : Type 0} (d : Discrete A) where
-  abbrev both-eq : {x y : A} {xs ys : List A} → Dec (x ≡ y) → Dec (xs ≡ ys) → Dec (_≡_ {A = List A} (x ∷ xs) (y ∷ ys))
-  both-eq (yes p) (yes q) = yes (ap₂ (λ (z : A) (l : List A). z ∷ l) p q)
-  both-eq (yes p) (no n) = no (λ e. n (tail-eq-of-cons-eq e))
-  both-eq (no n) q = no (λ e. n (head-eq-of-cons-eq e))
-
-  abbrev pub list-eq : Discrete (List A)
-  list-eq [] [] = yes refl
-  list-eq [] (y ∷ ys) = no (λ e. nil≢cons e)
-  list-eq (x ∷ xs) [] = no (λ e. cons≢nil e)
-  list-eq (x ∷ xs) (y ∷ ys) = both-eq (d x y) (list-eq xs ys)
 
 pub int-once : {m n : ℕ} → int m ≡ int n → m ≡ n
 int-once e = cc

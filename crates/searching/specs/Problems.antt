@@ -1,7 +1,8 @@
 -- The problems of the search: what is left of the equation, the bindings so far, the list variables used so far.
-use mathlib.Core.Path.{_≡_, refl, sym, ap, ap₂, subst}
+use mathlib.Core.Path.{_≡_, sym, ap, subst}
 use mathlib.Core.Logic.{ite}
-use mathlib.Core.List.{List, [], _∷_, _++_, List·Memᴰ, nil≢cons, cons≢nil, head-eq-of-cons-eq, tail-eq-of-cons-eq}
+use mathlib.Core.List.{List, [], _∷_, _++_, List·Memᴰ}
+use Rattle.lists.specs.Equality.{list-eq}
 use Rattle.order.specs.Order.{Order, Full, basic, list}
 use Rattle.theory.specs.Constants.{Consts}
 use Rattle.theory.specs.Seqs.{concat-map}
@@ -55,20 +56,6 @@ module _ {C X : Type 0} where
   atom-eq e f (fixed c) (free y) = no (λ p. subst IsFixed p tt)
   atom-eq e f (free x) (fixed d) = no (λ p. subst IsFixed (sym p) tt)
   atom-eq e f (free x) (free y) = same-free (f x y)
-
--- ---- equality of fields, decided by computation
-
-module _ {A : Type 0} (d : Discrete A) where
-  abbrev both-eq : {x y : A} {xs ys : List A} → Dec (x ≡ y) → Dec (xs ≡ ys) → Dec (_≡_ {A = List A} (x ∷ xs) (y ∷ ys))
-  both-eq (yes p) (yes q) = yes (ap₂ (λ (z : A) (l : List A). z ∷ l) p q)
-  both-eq (yes p) (no n) = no (λ e. n (tail-eq-of-cons-eq e))
-  both-eq (no n) q = no (λ e. n (head-eq-of-cons-eq e))
-
-  abbrev pub list-eq : Discrete (List A)
-  list-eq [] [] = yes refl
-  list-eq [] (y ∷ ys) = no (λ e. nil≢cons e)
-  list-eq (x ∷ xs) [] = no (λ e. cons≢nil e)
-  list-eq (x ∷ xs) (y ∷ ys) = both-eq (d x y) (list-eq xs ys)
 
 module _ (E : Setting) where
   open Setting E using (order, constants, variables, names)

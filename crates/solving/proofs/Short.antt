@@ -148,7 +148,7 @@ variables-most : (r : List (List OurTerm)) → length (variables r) ≤ 64
 variables-most r = omega (arith, keep-most (λ (v : Variable). occurs (v .0) (v .1) r) every, every-many)
 
 -- what occurs is a term of the field
-occurring : (k : Kind) (n : ℕ) (f : List OurTerm) → Occurs k n f → List·Memᴰ (var k n) f
+pub occurring : (k : Kind) (n : ℕ) (f : List OurTerm) → Occurs k n f → List·Memᴰ (var k n) f
 occurring k n [] o = absurd o
 occurring k n (con c ∷ f) o = List·Memᴰ·tail (occurring k n f o)
 occurring k n (var j m ∷ f) (inl e) = List·Memᴰ·head (ap₂ (λ (i : Kind) (x : ℕ). var i x) (e .0) (e .1))
