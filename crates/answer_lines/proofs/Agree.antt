@@ -38,11 +38,11 @@ use Rattle.problems.specs.declared.Problem.{Problem}
 use Rattle.entries.specs.declared.Wide.{Wide}
 use Rattle.entries.specs.declared.Entry.{Entry}
 use Rattle.entries.specs.Values.{widest, blankWide, pushed, Marked, encodeWide, entryValue}
-use Rattle.entries.specs.Marks.{MarkedIn, Met}
-use Rattle.entries.proofs.Agree.{names-append}
+use Rattle.renumbering.specs.Marks.{MarkedIn, Met}
+use Rattle.renumbering.proofs.Agree.{names-append}
 use Rattle.shown.specs.declared.Shown.{Shown}
-use Rattle.entry_lines.specs.Shows.{runIn, Shows}
-use Rattle.entry_lines.proofs.Lines.{rule-agrees}
+use Rattle.entry_parts.specs.Shows.{runIn, Shows}
+use Rattle.entry_parts.proofs.Agree.{rule-agrees}
 use Rattle.answer_lines.specs.Answers.{knownAtoms, listWide, answerEntry, shownSide, bindingsValue, bindingsOf, answerValue}
 use Rattle.answer_lines.proofs.Side.{push-all, listValue, shown, known-is, atom-is, value-atom, atomValues, known-atoms, atoms-marked, list-is, run-at, values-are, atom-there}
 

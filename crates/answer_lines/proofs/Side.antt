@@ -40,7 +40,7 @@ use Rattle.solving.specs.Answers.{setting, fieldOn, markOf, valueOf}
 use Rattle.solving.proofs.Short.{occurring}
 use Rattle.entries.specs.declared.Wide.{Wide}
 use Rattle.entries.specs.Values.{widest, blankWide, pushed, Marked, encodeWide}
-use Rattle.entries.specs.Marks.{MarkedIn}
+use Rattle.renumbering.specs.Marks.{MarkedIn}
 use Rattle.entries.proofs.Pushes.{push-agrees}
 use Rattle.shown.specs.declared.Run.{Run}
 use Rattle.shown.specs.declared.Shown.{Shown}
@@ -48,7 +48,7 @@ use Rattle.shown.specs.Shown.{blankRun, blankShown, placeIn, isKnown}
 use Rattle.shown.specs.Values.{showField}
 use Rattle.shown.proofs.Places.{atom-rank}
 use Rattle.shown.proofs.Puts.{place-below, put, Right, right-blank, right-field, known-field, run-field}
-use Rattle.shown.proofs.Agree.{value, sidedField, field-put, mark-atom}
+use Rattle.rule_shown.proofs.Agree.{value, sidedField, field-put, mark-atom}
 use Rattle.answer_lines.specs.Answers.{pushIf, pushKnown, knownAtoms, wholeField}
 
 -- ---- those that pass a test, of two lists

@@ -17,7 +17,7 @@ use Rattle.problems.specs.declared.Problem.{Problem}
 use Rattle.problems.proofs.Holds.{Within, stateOf, Holds}
 use Rattle.problems.proofs.Known as known
 use Rattle.roots.proofs.Rooted.{equation-of}
-use Rattle.entries.specs.Marks.{MarkedIn}
+use Rattle.renumbering.specs.Marks.{MarkedIn}
 use Rattle.answer_lines.specs.Answers.{answerValue}
 use Rattle.answer_lines.proofs.Side.{listValue}
 use Rattle.answer_lines.proofs.Agree.{Listed, Answered, answer-agrees}

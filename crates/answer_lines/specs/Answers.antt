@@ -19,12 +19,12 @@ use Rattle.problems.specs.declared.Problem.{Problem}
 use Rattle.entries.specs.declared.Wide.{Wide}
 use Rattle.entries.specs.declared.Entry.{Entry}
 use Rattle.entries.specs.Values.{widest, blankWide, pushed}
-use Rattle.entries.specs.Names.{namesValue}
+use Rattle.renumbering.specs.Names.{namesValue}
 use Rattle.shown.specs.declared.Run.{Run}
 use Rattle.shown.specs.declared.Shown.{Shown}
 use Rattle.shown.specs.Shown.{blankShown}
 use Rattle.shown.specs.Values.{showField}
-use Rattle.entry_lines.specs.Shown.{shownBindings}
+use Rattle.entry_parts.specs.Shown.{shownBindings}
 
 -- ---- the values as fields of an entry
 

@@ -106,9 +106,9 @@ fn put_both(e: Entry, left: Shown, right: Shown, out: &mut [u8], at: usize) -> u
     ensures { λ r. ⌜ Placed (bindingsValue e left right) at (now (out .entry)) r (now (out .exit)) ⌝ }
     ensures { λ _. ⌜ length (bindingsValue e left right) ≤ bindingsBound ⌝ }
 {
-    let names = entries::names_of(e);
-    let a = entry_lines::put_bindings(names, e, left, b'<', out, at);
-    entry_lines::put_bindings(names, e, right, b'>', out, a)
+    let names = renumbering::names_of(e);
+    let a = entry_parts::put_bindings(names, e, left, b'<', out, at);
+    entry_parts::put_bindings(names, e, right, b'>', out, a)
 }
 
 fn put_parts(

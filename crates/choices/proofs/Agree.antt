@@ -1,9 +1,8 @@
--- THE MIRROR IS THE MATHEMATICS: the joins of a candidate, the field that it gives, the entry of a whole choice.
-use mathlib.Core.Path.{_≡_, refl, sym, _∙_, ap, ap₂, subst}
+-- THE MIRROR IS THE MATHEMATICS: the field that a candidate gives, the entry of a whole choice.
+use mathlib.Core.Path.{_≡_, refl, sym, _∙_, ap, ap₂}
 use mathlib.Core.Bool.{Bool, true, false, cond, _&&_}
-use mathlib.Core.Option.{Option, none, some}
 use mathlib.Core.List.{List, [], _∷_, _++_, map, map-append, foldl, List·Memᴰ}
-use Prim.Native.Nat.{ℕ, zero, suc, _+_, _-_, _<_, _≤_, max, min}
+use Prim.Native.Nat.{ℕ, suc, _+_, _-_, _<_, _≤_, max, min}
 use native.Mathlib.Omega.{arith}
 use native.Mathlib.Decide.{ℕ-discrete}
 use borrow.Author.Tests.{lt-leb}
@@ -14,7 +13,6 @@ use Rattle.lists.specs.Seqs.{All, tabulate, tabulate-same}
 use Rattle.order.specs.Types.{basics}
 use Rattle.order.specs.Order.{list}
 use Rattle.theory.specs.Terms.{var}
-use Rattle.theory.specs.Matcher.{andThen}
 use Rattle.text.specs.Sizes.{mostFields}
 use Rattle.text.specs.Terms.{OurTerm}
 use Rattle.instance.specs.Constants.{consts}
@@ -24,64 +22,31 @@ use Rattle.terms.specs.declared.Rule.{Rule}
 use Rattle.terms.specs.Values.{blankField, encodeTerm, encodeField, encodeRule}
 use Rattle.unifiers.specs.Shapes.{fixed, free, of}
 use Rattle.unifiers.specs.Candidates.{Cand, exact, long, before, cands}
-use Rattle.unifiers.specs.Joins.{resolve, join, joins}
-use Rattle.unifiers.specs.Entries.{span, cells, equations, fieldFor, fieldsFor}
+use Rattle.unifiers.specs.Joins.{resolve}
+use Rattle.unifiers.specs.Entries.{span, cells, fieldFor, fieldsFor}
 use Rattle.unifiers.specs.Overlaps.{place, termOf, fieldOf, mapShape, markedFields}
 use Rattle.sides.specs.Sides.{OurAtom, OurShape, OurState, AtomIn, shapeTerms, encodeAtom, markTerm}
 use Rattle.fillings.specs.declared.Fillings.{Fillings}
-use Rattle.fillings.specs.declared.Joined.{Joined}
-use Rattle.fillings.specs.States.{look, joinTerms}
-use Rattle.fillings.proofs.Agree.{names, Holds, Agrees, look-agree, join-agree}
+use Rattle.fillings.specs.States.{look}
+use Rattle.fillings.proofs.Agree.{names, Holds, look-agree}
 use Rattle.shapes.specs.declared.Shape.{Shape}
 use Rattle.candidates.specs.declared.Span.{Span}
-use Rattle.rows.specs.declared.Cell.{Cell}
 use Rattle.shapes.specs.Shapes.{termsOf}
-use Rattle.rows.specs.Rows.{cellValue, mergedValue}
+use Rattle.rows.specs.Rows.{mergedValue}
 use Rattle.shapes.specs.Views.{termsIn, encodeShape}
 use Rattle.candidates.specs.Views.{candAt}
-use Rattle.rows.specs.Views.{encodePair, bothFrom}
 use Rattle.shapes.proofs.Agree.{shape-agree}
-use Rattle.rows.proofs.Agree.{equations-agree, merged-agree}
+use Rattle.rows.proofs.Agree.{merged-agree}
 use Rattle.entries.specs.declared.Wide.{Wide}
 use Rattle.entries.specs.Values.{widest, blankWide, blankEntry, pushed, encodeWide, encodeEntry, entryValue}
 use Rattle.entries.proofs.Pushes.{push-agrees, entry-more}
 use Rattle.choices.specs.declared.Choice.{Choice}
-use Rattle.choices.specs.Choices.{goOn, joinFrom, joinFields, atomsAt, pushAtoms, listVariable, largerHead, wideValue, pushedField, wideAt, entryFrom, entryOf, noChoice, chosenAt}
-use Rattle.choices.specs.Views.{ShapeIn, isLong, HoldsFrom, ChoiceHolds}
+use Rattle.choices.specs.Choices.{atomsAt, pushAtoms, listVariable, largerHead, wideValue, pushedField, wideAt, entryFrom, entryOf, noChoice, chosenAt}
+use Rattle.joins.specs.Views.{ShapeIn}
+use Rattle.choices.specs.Views.{isLong, HoldsFrom, ChoiceHolds}
 use Rattle.choices.proofs.Arrays.{tabulate-map, take-table, drop-table, take-map, drop-map, long-as-table, walk-fold, walk-first, push-all}
-use Rattle.choices.proofs.Within.{PairIn, equations-in, cells-in, exact-few, long-few, head-within}
-
--- ---- the joins
-
--- one pair of atoms after another
-abbrev joinPairs : List (Term × Term) → Fillings → Joined
-joinPairs [] st = record { ok = true; next = st }
-joinPairs (e ∷ es) st = goOn (joinTerms (e .0) (e .1) st) (joinPairs es)
-
--- where one of two cells is empty nothing is joined
-join-pairs : (a b : ℕ → Cell) (k p : ℕ) (st : Fillings) → joinFrom a b k p st ≡ joinPairs (bothFrom a b p k) st
-join-pairs a b zero p st = refl
-join-pairs a b (suc k) p st = go ((a p) .some && (b p) .some) (λ st′. join-pairs a b k (p + 1) st′)
-  where
-    j : Joined
-    j = joinTerms ((a p) .atom) ((b p) .atom) st
-
-    go : (x : Bool) → ((st′ : Fillings) → joinFrom a b k (p + 1) st′ ≡ joinPairs (bothFrom a b (p + 1) k) st′)
-        → goOn (cond x j (record { ok = true; next = st })) (joinFrom a b k (p + 1)) ≡ joinPairs (cond x (((a p) .atom, (b p) .atom) ∷ bothFrom a b (p + 1) k) (bothFrom a b (p + 1) k)) st
-    go true rest = ap (λ (i : Joined). cond (j .ok) i j) (rest (j .next))
-    go false rest = rest st
-
-go-on : (j : Joined) (o : Option OurState) (f : Fillings → Joined) (g : OurState → Option OurState) → Agrees j o
-    → ((st : Fillings) (s : OurState) → Holds st s → Agrees (f st) (g s)) → Agrees (goOn j f) (andThen o g)
-go-on j none f g e h = ap (λ (x : Bool). (cond x (f (j .next)) j) .ok) e ∙ e
-go-on j (some s) f g e h = subst (λ (x : Bool). Agrees (cond x (f (j .next)) j) (g s)) (sym (e .0)) (h (j .next) s (e .1))
-
-pairs-agree : (es : List (OurAtom × OurAtom)) → All PairIn es → (st : Fillings) (s : OurState) → Holds st s → Agrees (joinPairs (map encodePair es) st) (joins basics consts names es s)
-pairs-agree [] i st s h = (refl, h)
-pairs-agree (e ∷ es) i st s h =
-    go-on (joinTerms (encodeAtom (e .0)) (encodeAtom (e .1)) st) (join basics consts names s (e .0) (e .1)) (joinPairs (map encodePair es)) (λ s′. joins basics consts names es s′)
-    (join-agree st s h (e .0) (e .1) (i .0 .0) (i .0 .1))
-    (λ st′ s′ h′. pairs-agree es (i .1) st′ s′ h′)
+use Rattle.joins.proofs.Within.{cells-in}
+use Rattle.choices.proofs.Within.{exact-few, long-few, head-within}
 
 -- ---- the field of a candidate
 
@@ -109,16 +74,6 @@ module _ (st : Fillings) (s : OurState) (h : Holds st s) where
   look-all (a ∷ xs) i = ap₂ (λ (t : Term) (ts : List Term). t ∷ ts) (look-agree st s h a (i .0)) (look-all xs (i .1))
 
   module _ (S T : OurShape) (in-S : ShapeIn S) (in-T : ShapeIn T) where
-    -- THE JOINS of a candidate
-    pub join-fields-agree : (c : Cand) → List·Memᴰ c (cands S T) → Agrees (joinFields (termsIn S) (termsIn T) (span S T c) st) (joins basics consts names (equations S T c) s)
-    join-fields-agree c i =
-        let n = span S T c in
-        subst (λ (j : Joined). Agrees j (joins basics consts names (equations S T c) s))
-        (ap (λ (es : List (Term × Term)). joinPairs es st) (equations-agree S T (in-S .0) (in-T .0) c i)
-        ∙ sym (join-pairs (cellValue (termsIn S) (encodeShape S) n) (cellValue (termsIn T) (encodeShape T) n) n 0 st)
-        ∙ ap₂ (λ (u v : Shape). joinFrom (cellValue (termsIn S) u n) (cellValue (termsIn T) v n) n 0 st) (sym (shape-agree S)) (sym (shape-agree T)))
-        (pairs-agree (equations S T c) (equations-in S T (in-S .1) (in-T .1) c) st s h)
-
     -- the atoms at the positions, as the state has them
     atoms-agree : (c : Cand) → List·Memᴰ c (cands S T) → tabulate (span S T c) (atomsAt (termsIn S) (termsIn T) (span S T c) st) ≡ map encodeAtom (map res (cells S T c))
     atoms-agree c i =

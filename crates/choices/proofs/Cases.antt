@@ -1,6 +1,6 @@
 -- The branches, case by case as code makes them.
-use mathlib.Core.Path.{_≡_, refl, sym, _∙_, ap, ap₂}
-use mathlib.Core.Bool.{Bool, true, false, cond, _&&_, not}
+use mathlib.Core.Path.{_≡_, sym, _∙_, ap, ap₂}
+use mathlib.Core.Bool.{Bool, true, false, not}
 use mathlib.Core.List.{List}
 use Prim.Native.Nat.{ℕ, _-_, _≤_, max}
 use native.Mathlib.Omega.{arith}
@@ -10,16 +10,13 @@ use lib.Seq.{set-out}
 use Rattle.text.specs.Sizes.{mostFields}
 use Rattle.terms.specs.declared.Term.{Term}
 use Rattle.shapes.specs.declared.Shape.{Shape}
-use Rattle.rows.specs.declared.Cell.{Cell}
 use Rattle.shapes.specs.Shapes.{shapeValue}
 use Rattle.fillings.specs.declared.Fillings.{Fillings}
-use Rattle.fillings.specs.declared.Joined.{Joined}
-use Rattle.fillings.specs.States.{joinTerms}
 use Rattle.entries.specs.declared.Wide.{Wide}
 use Rattle.entries.specs.Values.{blankWide, pushed}
 use Rattle.choices.specs.declared.Choice.{Choice}
-use Rattle.choices.specs.Choices.{joinCells, chosenAt, atomsAt, pushAtoms, listVariable, wideValue}
-use Rattle.choices.proofs.Loops.{from-zero}
+use Rattle.choices.specs.Choices.{chosenAt, atomsAt, pushAtoms, listVariable, wideValue}
+use Rattle.joins.proofs.Loops.{from-zero}
 
 -- ---- a field that no choice has
 

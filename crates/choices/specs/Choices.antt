@@ -1,6 +1,6 @@
--- A choice on values, as code works with it: the joins of a candidate, and the entry of a whole choice.
--- The theorems of proofs/Agree say that they are the joins and the fields that the overlap list has.
-use mathlib.Core.Bool.{Bool, true, false, cond, not, _&&_}
+-- A choice on values, as code works with it: the candidates chosen, and the entry of a whole choice.
+-- The theorems of proofs/Agree say that its fields are those that the overlap list has.
+use mathlib.Core.Bool.{Bool, false, cond}
 use mathlib.Core.List.{List}
 use Prim.Native.Nat.{ℕ, zero, suc, _+_, _-_, max, min}
 use lib.Dec.{leb}
@@ -11,12 +11,10 @@ use Rattle.text.specs.Sizes.{mostFields}
 use Rattle.terms.specs.declared.Term.{Term}
 use Rattle.terms.specs.declared.Rule.{Rule}
 use Rattle.terms.specs.Values.{blankField, encodeTerm}
-use Rattle.rows.specs.declared.Cell.{Cell}
 use Rattle.shapes.specs.Shapes.{termsOf, shapeValue}
-use Rattle.rows.specs.Rows.{cellValue, mergedValue}
+use Rattle.rows.specs.Rows.{mergedValue}
 use Rattle.fillings.specs.declared.Fillings.{Fillings}
-use Rattle.fillings.specs.declared.Joined.{Joined}
-use Rattle.fillings.specs.States.{sameAtom, heldBy, look, joinTerms}
+use Rattle.fillings.specs.States.{look}
 use Rattle.entries.specs.declared.Wide.{Wide}
 use Rattle.entries.specs.declared.Entry.{Entry}
 use Rattle.entries.specs.Values.{blankWide, blankEntry, pushed}
@@ -28,28 +26,6 @@ use Rattle.choices.specs.declared.Choice.{Choice}
 abbrev pub walk : {A : Type 0} → (ℕ → A → A) → ℕ → ℕ → A → A
 walk f zero p x = x
 walk f (suc k) p x = walk f k (p + 1) (f p x)
-
--- ---- joins
-
--- go on if the join before did not clash
-abbrev pub goOn : Joined → (Fillings → Joined) → Joined
-goOn j k = cond (j .ok) (k (j .next)) j
-
--- "Atoms that share a position are joined."
-abbrev pub joinCells : Cell → Cell → Fillings → Joined
-joinCells a b st = cond (a .some && b .some) (joinTerms (a .atom) (b .atom) st) (record { ok = true; next = st })
-
--- whether the join changes the state or clashes; x and y are what the places to read for the two atoms have (`joins-not` and `joins-so` of proofs/Loops)
-abbrev pub differ : Cell → Cell → Term → Term → Bool
-differ a b x y = a .some && (b .some && not (sameAtom (heldBy (a .atom .form) (a .atom) x) (heldBy (b .atom .form) (b .atom) y)))
-
--- the positions from p on, k of them
-abbrev pub joinFrom : (ℕ → Cell) → (ℕ → Cell) → ℕ → ℕ → Fillings → Joined
-joinFrom a b zero p st = record { ok = true; next = st }
-joinFrom a b (suc k) p st = goOn (joinCells (a p) (b p) st) (joinFrom a b k (p + 1))
-
-abbrev pub joinFields : List Term → List Term → ℕ → Fillings → Joined
-joinFields f g n st = joinFrom (cellValue f (shapeValue f) n) (cellValue g (shapeValue g) n) n 0 st
 
 -- ---- the choice
 

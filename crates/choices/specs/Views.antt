@@ -1,29 +1,14 @@
--- What the values of this crate stand for: shapes within document 01's limits, and the candidates that a choice holds.
+-- What the values of this crate stand for: the candidates that a choice holds.
 use mathlib.Core.Path.{_≡_}
 use mathlib.Core.Bool.{Bool, true, false}
 use mathlib.Core.List.{List, [], _∷_, List·Memᴰ}
-use Prim.Native.Nat.{ℕ, suc, _≤_}
+use Prim.Native.Nat.{ℕ, suc}
 use lib.ListN.{length, getD}
-use Rattle.lists.specs.Seqs.{All}
 use Rattle.text.specs.Sizes.{mostFields}
-use Rattle.text.specs.Read.{rule}
-use Rattle.unifiers.specs.Shapes.{closed, gapped}
 use Rattle.unifiers.specs.Candidates.{Cand, exact, long, cands}
 use Rattle.unifiers.specs.Entries.{span}
-use Rattle.sides.specs.Sides.{OurShape, AtomIn, shapeTerms}
+use Rattle.sides.specs.Sides.{OurShape}
 use Rattle.choices.specs.declared.Choice.{Choice}
-
--- ---- a field's shape
-
-abbrev pub AtomsIn : OurShape → Type 0
-AtomsIn (closed xs) = All AtomIn xs
-AtomsIn (gapped f l t) = All AtomIn f × All AtomIn t
-
--- the shape of a field of an accepted rule
-abbrev pub ShapeIn : OurShape → Type 0
-ShapeIn S = (length (shapeTerms S) ≤ rule .width) × AtomsIn S
-
--- ---- a choice
 
 abbrev pub isLong : Cand → Bool
 isLong (exact n) = false

@@ -1,14 +1,12 @@
-// A choice, one candidate a field: what a candidate joins, and the entry that a whole choice gives.
+// A choice, one candidate a field, and the entry that a whole choice gives.
 ghost use mathlib.Core.Path.{_≡_};
 ghost use Prim.Native.Nat.{_-_, max, min};
-ghost use Rattle.choices.specs.Choices.{noChoice, chosenAt, differ, joinFields, pushAtoms, atomsAt, listVariable, wideValue, entryOf};
+ghost use Rattle.choices.specs.Choices.{noChoice, chosenAt, pushAtoms, atomsAt, listVariable, wideValue, entryOf};
 ghost use Rattle.shapes.specs.Shapes.{termsOf};
 use entries::Entry;
 use entries::Wide;
 use fillings::Fillings;
-use fillings::Joined;
 use order::Kind;
-use rows::Cell;
 use terms::Field;
 use terms::Form;
 use terms::Rule;
@@ -18,50 +16,6 @@ use terms::Term;
 pub struct Choice {
     pub sizes: [usize; 4],
     pub longs: [bool; 4],
-}
-
-// Whether two cells have atoms that are to be joined and are not one yet; x and y are what the places to read for their atoms have.
-fn differ(a: Cell, b: Cell, x: Term, y: Term) -> bool
-    ensures { λ r. ⌜ r ≡ differ a b x y ⌝ }
-{
-    if !a.some {
-        return false;
-    }
-    if !b.some {
-        return false;
-    }
-    !fillings::same_atom(fillings::held(a.atom, x), fillings::held(b.atom, y))
-}
-
-// The state after the joins of two fields that have n items, or a clash. Atoms that share a position are joined;
-// where they are one already the state stays where it is.
-pub fn join_fields(f: Field, g: Field, n: usize, st: Fillings) -> Joined
-    ensures { λ r. ⌜ r ≡ joinFields (termsOf f) (termsOf g) n st ⌝ }
-{
-    let s = shapes::shape_of(f);
-    let t = shapes::shape_of(g);
-    let mut now = st;
-    let mut p: usize = 0;
-    while p < n {
-        let i = rows::place_at(s, n, p);
-        let j = rows::place_at(t, n, p);
-        let a = rows::cell_with(f.n, s, n, p, f.terms[i]);
-        let b = rows::cell_with(g.n, t, n, p, g.terms[j]);
-        let u = fillings::place_of(a.atom);
-        let v = fillings::place_of(b.atom);
-        if differ(a, b, now.atoms[u], now.atoms[v]) {
-            let k = now.join(a.atom, b.atom);
-            if !k.ok {
-                return k;
-            }
-            now = k.next;
-        }
-        p += 1;
-    }
-    Joined {
-        ok: true,
-        next: now,
-    }
 }
 
 // Nothing is chosen.
@@ -109,10 +63,10 @@ fn push_atoms(w: Wide, f: Field, g: Field, n: usize, from: usize, to: usize, st:
         let a = rows::cell_with(f.n, s, n, p, f.terms[i]);
         let b = rows::cell_with(g.n, t, n, p, g.terms[j]);
         let atom = rows::merged(a, b);
-        let u = fillings::place_of(atom);
+        let u = atoms::place_of(atom);
         let m = x.n;
         if m < 31 {
-            x.terms[m] = fillings::held(atom, st.atoms[u]);
+            x.terms[m] = atoms::held(atom, st.atoms[u]);
             x.n = m + 1;
         }
         p += 1;
@@ -131,7 +85,7 @@ fn list_variable(place: u8) -> Term
 }
 
 // An entry's field: the atoms of n positions; in the long one the list variable stands behind the larger head.
-pub fn wide_of(f: Field, g: Field, n: usize, long: bool, place: u8, st: Fillings) -> Wide
+fn wide_of(f: Field, g: Field, n: usize, long: bool, place: u8, st: Fillings) -> Wide
     ensures { λ r. ⌜ r ≡ wideValue (termsOf f) (termsOf g) n long place st ⌝ }
 {
     let b = entries::blank_wide();

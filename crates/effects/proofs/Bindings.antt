@@ -23,8 +23,9 @@ use Rattle.terms.specs.declared.Term.{Term}
 use Rattle.terms.specs.Values.{blankTerm}
 use Rattle.sides.specs.Sides.{OurAtom, OurState, encodeAtom, AtomIn}
 use Rattle.fillings.specs.declared.Fillings.{Fillings}
-use Rattle.fillings.specs.States.{sameAtom, swap, replaced}
-use Rattle.fillings.proofs.Atoms.{same-atom-is}
+use Rattle.atoms.specs.Atoms.{sameAtom}
+use Rattle.fillings.specs.States.{swap, replaced}
+use Rattle.atoms.proofs.Atoms.{same-atom-is}
 use Rattle.fillings.proofs.Agree.{names, holds-bind}
 use Rattle.fillings.proofs.Agree as fillings
 use Rattle.items.specs.Items.{mostItems, itemsOf}

@@ -1,6 +1,1 @@
-pub mod Loops
-pub mod Counts
-pub mod Places
-pub mod Firsts
-pub mod Agree
 pub mod Pushes

@@ -17,7 +17,7 @@ use Rattle.entries.specs.Values.{Marked, entryValue}
 use Rattle.shown.specs.declared.Run.{Run}
 use Rattle.shown.specs.declared.Shown.{Shown}
 use Rattle.shown.specs.Shown.{blankShown, placeIn}
-use Rattle.entry_lines.specs.Shown.{lineValue}
+use Rattle.entry_lines.specs.Lines.{lineValue}
 
 abbrev withAtom : ℕ → Marked → Shown → Shown
 withAtom n t s = record { known = set (s .known) (placeIn (basic atom) n) true; atoms = set (s .atoms) (placeIn (basic atom) n) (encodeTerm (markTerm t)); runs = s .runs }

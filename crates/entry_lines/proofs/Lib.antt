@@ -1,6 +1,2 @@
-pub mod Pieces
-pub mod Rows
-pub mod Runs
-pub mod Bindings
 pub mod Lines
 pub mod Examples

@@ -1,3 +1,1 @@
-pub mod Sizes
-pub mod Shown
-pub mod Shows
+pub mod Lines

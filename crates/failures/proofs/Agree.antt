@@ -15,8 +15,8 @@ use Rattle.unifiers.specs.Shapes.{fixed, free}
 use Rattle.searching.specs.Problems.{atomic, listvar, Tm, Field, field-eq, termType, fieldType, fixed-once}
 use Rattle.searching.specs.Rules as rules
 use Rattle.sides.specs.Sides.{AtomIn}
-use Rattle.fillings.specs.States.{sameAtom}
-use Rattle.fillings.proofs.Atoms.{same-encoded, other-encoded}
+use Rattle.atoms.specs.Atoms.{sameAtom}
+use Rattle.atoms.proofs.Atoms.{same-encoded, other-encoded}
 use Rattle.items.specs.Items.{mostItems}
 use Rattle.items.specs.Encode.{setting, encodeTm, encodeAll, encodeItems, TmIn}
 use Rattle.substitution.proofs.Agree.{decided, same-agree, occurs-agree}

@@ -5,7 +5,7 @@ use mathlib.Core.List.{List}
 use Rattle.order.specs.Types.{le}
 use Rattle.order.specs.Values.{kindOf}
 use Rattle.terms.specs.declared.Term.{Term}
-use Rattle.fillings.specs.States.{sameAtom}
+use Rattle.atoms.specs.Atoms.{sameAtom}
 use Rattle.items.specs.declared.Items.{Items}
 use Rattle.items.specs.Items.{itemsOf}
 use Rattle.substitution.specs.Substitution.{sameTerms, occursIn}

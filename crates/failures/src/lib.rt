@@ -20,7 +20,7 @@ fn clash1(a: Head, b: Head) -> bool
 {
     let s = a.first;
     let t = b.first;
-    a.some & !a.variable & b.some & !b.variable & !fillings::same_atom(s, t)
+    a.some & !a.variable & b.some & !b.variable & !atoms::same_atom(s, t)
 }
 
 fn clash2(a: Head, b: Head) -> bool

@@ -21,12 +21,14 @@ use Rattle.unifiers.specs.Joins.{start, resolve, replace, bind, joinClasses, jo
 use Rattle.terms.specs.declared.Term.{Term}
 use Rattle.terms.specs.Values.{blankTerm}
 use Rattle.sides.specs.Sides.{OurAtom, OurState, sided, encodeAtom, AtomIn}
+use Rattle.atoms.specs.Atoms.{sameAtom, numbersOfPair, places, slot, hasPlace}
+use Rattle.atoms.proofs.Places.{slot-small, sided-small}
+use Rattle.atoms.proofs.Atoms.{same-encoded, other-encoded, atomKind, kind-encoded}
 use Rattle.fillings.specs.declared.Fillings.{Fillings}
 use Rattle.fillings.specs.declared.Joined.{Joined}
-use Rattle.fillings.specs.States.{sameAtom, takes, numbersOfPair, places, slot, hasPlace, look, variableAt, startValue, swap, replaced, joinedBy, joinAtoms, joinTerms}
+use Rattle.fillings.specs.States.{takes, look, variableAt, startValue, swap, replaced, joinedBy, joinAtoms, joinTerms}
 use Rattle.fillings.proofs.Arrays.{entry-any}
-use Rattle.fillings.proofs.Places.{slot-small, sided-small, variable-there}
-use Rattle.fillings.proofs.Atoms.{same-encoded, other-encoded, atomKind, takes-fixed, takes-free}
+use Rattle.fillings.proofs.Places.{variable-there}
 
 -- the variables of a pair of rules
 abbrev pub names : Vars basics
@@ -126,6 +128,16 @@ module _ (x : Variable Basic ℕ) (w : OurAtom) (in-x : AtomIn (free x)) (in-w :
             ∙ swap-agree (s (of d k n)) (h .within d k n l);
         within = λ d k n l. replace-within (s (of d k n)) (h .within d k n l);
       }
+
+-- ---- which atom takes which
+
+-- a constant is no variable
+takes-fixed : (c : Con) (t : Term) → takes (encodeAtom (fixed c)) t ≡ false
+takes-fixed (int n) t = refl
+takes-fixed (str s) t = refl
+
+takes-free : (x : Variable Basic ℕ) (a : OurAtom) → takes (encodeAtom (free x)) (encodeAtom a) ≡ le (basic (atomKind a)) (basic (kindIn x))
+takes-free (of d k n) a = ap₂ le (kind-encoded a) (kind-encoded (free (of d k n)))
 
 -- ---- joining
 

@@ -3,37 +3,18 @@ use mathlib.Core.Path.{_≡_, sym, _∙_, ap, ap₂, subst}
 use mathlib.Core.Bool.{Bool, true, false, cond, _&&_, not}
 use mathlib.Core.List.{List}
 use Prim.Native.Nat.{ℕ, _+_, _<_}
-use native.Mathlib.Omega.{arith}
 use borrow.Author.Tests.{not-true, not-false}
-use lib.Dec.{eqb}
-use lib.ListN.{length, getD, set}
-use Rattle.order.specs.Types.{le, same}
+use lib.ListN.{getD, set}
+use Rattle.order.specs.Types.{le}
 use Rattle.order.specs.Values.{kindOf, kindFrom, kindOf-from}
 use Rattle.order.specs.declared.Kind.{Kind as KindValue}
-use Rattle.terms.specs.declared.Form.{Form}
-use Rattle.terms.specs.declared.Form.the-variants.{Var}
 use Rattle.terms.specs.declared.Term.{Term}
-use Rattle.terms.specs.Values.{blankTerm}
+use Rattle.atoms.specs.Atoms.{sameAtom, isVariable, kindOfAtom, places}
 use Rattle.fillings.specs.declared.Fillings.{Fillings}
-use Rattle.fillings.specs.States.{sameForm, sameBytes, sameAtom, isVariable, kindOfAtom, takes, places, slot, hasPlace, lookBy, look, swap, replaced, joinedBy, joinAtoms, joinTerms}
-use Rattle.fillings.proofs.Places.{place-small}
-use Rattle.fillings.proofs.Arrays.{entry-any, Passed, passed-set, passed-same}
+use Rattle.fillings.specs.States.{takes, look, swap, replaced, joinedBy, joinAtoms, joinTerms}
+use Rattle.fillings.proofs.Arrays.{Passed, passed-set, passed-same}
 
--- ---- atoms
-
-module _ (j k : KindValue) (m n : ℕ) (b : Bool) (is-b : b ≡ same (kindOf j) (kindOf k)) where
-  pub kinds-differ : not b ≡ true → false ≡ sameForm (Var j m) (Var k n)
-  kinds-differ e = ap (λ (x : Bool). x && eqb m n) (sym (not-true b e) ∙ is-b)
-
-  pub numbers-decide : not b ≡ false → eqb m n ≡ sameForm (Var j m) (Var k n)
-  numbers-decide e = ap (λ (x : Bool). x && eqb m n) (sym (not-false b e) ∙ is-b)
-
-module _ (a b : Term) (x : Bool) (is-x : x ≡ sameForm (a .form) (b .form)) where
-  pub forms-differ : not x ≡ true → false ≡ sameAtom a b
-  forms-differ e = ap (λ (y : Bool). y && sameBytes (a .text) (b .text)) (sym (not-true x e) ∙ is-x)
-
-  pub bytes-decide : (r : Bool) → not x ≡ false → r ≡ sameBytes (a .text) (b .text) → r ≡ sameAtom a b
-  bytes-decide r e q = q ∙ ap (λ (y : Bool). y && sameBytes (a .text) (b .text)) (sym (not-false x e) ∙ is-x)
+-- ---- which atom takes which
 
 module _ (x y : Term) (b : Bool) (is-b : b ≡ isVariable (x .form)) where
   pub takes-none : not b ≡ true → false ≡ takes x y
@@ -43,27 +24,6 @@ module _ (x y : Term) (b : Bool) (is-b : b ≡ isVariable (x .form)) where
   takes-below j k r e p q s =
       s ∙ ap₂ le (ap kindOf p ∙ kindOf-from (kindOfAtom (y .form))) (ap kindOf q ∙ kindOf-from (kindOfAtom (x .form)))
       ∙ ap (λ (c : Bool). c && le (kindOfAtom (y .form)) (kindOfAtom (x .form))) (sym (not-false b e) ∙ is-b)
-
--- ---- what the variable t of kind k and number n stands for
-
-module _ (st : Fillings) (t : Term) (k : KindValue) (n : ℕ) (is-t : t .form ≡ Var k n) (b : Bool) (is-b : b ≡ hasPlace (kindOf k) n) where
-  look-by : (c : Bool) → b ≡ c → cond c (getD (st .atoms) (slot (kindOf k) n) blankTerm) t ≡ look st t
-  look-by c e =
-      ap (λ (x : Bool). cond x (getD (st .atoms) (slot (kindOf k) n) blankTerm) t) (sym e ∙ is-b)
-      ∙ ap (λ (f : Form). lookBy f t st) (sym is-t)
-
-  pub look-itself : not b ≡ true → t ≡ look st t
-  look-itself e = look-by false (not-true b e)
-
-  pub place-at : (i : ℕ) → not b ≡ false → i ≡ slot (kindOf k) n → i < places
-  place-at i e q = let h = place-small (kindOf k) n (sym is-b ∙ not-false b e) in omega arith
-
-  pub look-there : (i : ℕ) (d : Term) → length (st .atoms) ≡ places → not b ≡ false → i ≡ slot (kindOf k) n → getD (st .atoms) i d ≡ look st t
-  look-there i d l e q =
-      let h = place-at i e q in
-      entry-any (st .atoms) i d blankTerm (omega (arith, l))
-      ∙ ap (λ (j : ℕ). getD (st .atoms) j blankTerm) q
-      ∙ look-by true (not-false b e)
 
 -- ---- replacing x by w, at place i
 

@@ -1,8 +1,7 @@
 // The state of the fillings of a pair of rules: what each atom variable stands for, and the join of two atoms.
 ghost use mathlib.Core.Path.{_≡_};
-ghost use Prim.Native.Nat.{_<_};
-ghost use Rattle.order.specs.Values.{kindOf, kindFrom};
-ghost use Rattle.fillings.specs.States.{sameBytes, sameForm, sameAtom, isVariable, kindOfAtom, takes, slot, hasPlace, places, placeOf, heldBy, look, replaced, joinTerms, kindAt, startValue};
+ghost use Rattle.order.specs.Values.{kindFrom};
+ghost use Rattle.fillings.specs.States.{takes, look, replaced, joinTerms, kindAt, startValue};
 use order::Kind;
 use terms::Form;
 use terms::Term;
@@ -18,146 +17,14 @@ pub struct Joined {
     pub next: Fillings,
 }
 
-// ---- atoms
-
-fn same_bytes(a: [u8; 15], b: [u8; 15]) -> bool
-    ensures { λ r. ⌜ r ≡ sameBytes a b ⌝ }
-{
-    let mut i: usize = 0;
-    while i < 15 {
-        if a[i] != b[i] {
-            return false;
-        }
-        i += 1;
-    }
-    true
-}
-
-fn same_form(a: Form, b: Form) -> bool
-    ensures { λ r. ⌜ r ≡ sameForm a b ⌝ }
-{
-    match a {
-        Form::Int(m) => match b {
-            Form::Int(n) => m == n,
-            Form::Str(_) => false,
-            Form::Var(_, _) => false,
-        },
-        Form::Str(k) => match b {
-            Form::Int(_) => false,
-            Form::Str(l) => k == l,
-            Form::Var(_, _) => false,
-        },
-        Form::Var(j, m) => match b {
-            Form::Int(_) => false,
-            Form::Str(_) => false,
-            Form::Var(k, n) => {
-                if !order::same_kind(j, k) {
-                    return false;
-                }
-                m == n
-            }
-        },
-    }
-}
-
-// Whether two atoms are one, variables too.
-pub fn same_atom(a: Term, b: Term) -> bool
-    ensures { λ r. ⌜ r ≡ sameAtom a b ⌝ }
-{
-    let x = a.form;
-    let y = b.form;
-    let s = a.text;
-    let t = b.text;
-    if !same_form(x, y) {
-        return false;
-    }
-    same_bytes(s, t)
-}
-
-pub fn is_variable(t: Term) -> bool
-    ensures { λ r. ⌜ r ≡ isVariable (t .form) ⌝ }
-{
-    let form = t.form;
-    match form {
-        Form::Int(_) => false,
-        Form::Str(_) => false,
-        Form::Var(_, _) => true,
-    }
-}
-
-pub fn kind_of(t: Term) -> Kind
-    ensures { λ r. ⌜ r ≡ kindFrom (kindOfAtom (t .form)) ⌝ }
-{
-    let form = t.form;
-    match form {
-        Form::Int(_) => Kind::Integer,
-        Form::Str(_) => Kind::String,
-        Form::Var(k, _) => k,
-    }
-}
-
 // Whether x is a variable that y can replace: y's type is at or below its own.
 fn takes(x: Term, y: Term) -> bool
     ensures { λ r. ⌜ r ≡ takes x y ⌝ }
 {
-    if !is_variable(x) {
+    if !atoms::is_variable(x) {
         return false;
     }
-    order::below(kind_of(y), kind_of(x))
-}
-
-// ---- places
-
-// The place of an atom variable.
-fn slot(k: Kind, n: u8) -> usize
-    ensures { λ r. ⌜ r ≡ slot (kindOf k) n ⌝ }
-{
-    32 * order::rank(k) + n as usize
-}
-
-// Whether a variable has a place. (A list variable has none.)
-fn has_place(k: Kind, n: u8) -> bool
-    ensures { λ r. ⌜ r ≡ hasPlace (kindOf k) n ⌝ }
-{
-    if order::same_kind(k, Kind::List) {
-        return false;
-    }
-    n < 32
-}
-
-// The place to read for an atom: that of an atom variable, and any other for an atom that has none.
-pub fn place_of(t: Term) -> usize
-    ensures { λ r. ⌜ r ≡ placeOf t ⌝ }
-    ensures { λ r. ⌜ r < places ⌝ }
-{
-    let form = t.form;
-    match form {
-        Form::Int(_) => 0,
-        Form::Str(_) => 0,
-        Form::Var(k, n) => {
-            if !has_place(k, n) {
-                return 0;
-            }
-            slot(k, n)
-        }
-    }
-}
-
-// What an atom stands for, given what the place to read has: so a caller that has a state need not hand it on.
-pub fn held(t: Term, there: Term) -> Term
-    ensures { λ r. ⌜ r ≡ heldBy (t .form) t there ⌝ }
-{
-    let form = t.form;
-    match form {
-        Form::Int(_) => t,
-        Form::Str(_) => t,
-        Form::Var(k, n) => {
-            if !has_place(k, n) {
-                return t;
-            }
-            there
-        }
-    }
+    order::below(atoms::kind_of(y), atoms::kind_of(x))
 }
 
 // The type below list of this rank.
@@ -198,17 +65,8 @@ impl Fillings {
     pub fn atom(self, t: Term) -> Term
         ensures { λ r. ⌜ r ≡ look self t ⌝ }
     {
-        let form = t.form;
-        match form {
-            Form::Int(_) => t,
-            Form::Str(_) => t,
-            Form::Var(k, n) => {
-                if !has_place(k, n) {
-                    return t;
-                }
-                self.atoms[slot(k, n)]
-            }
-        }
+        let u = atoms::place_of(t);
+        atoms::held(t, self.atoms[u])
     }
 
     // The state where every place that has x gets w.
@@ -218,7 +76,7 @@ impl Fillings {
         let mut st = self;
         let mut i: usize = 0;
         while i < 96 {
-            if same_atom(st.atoms[i], x) {
+            if atoms::same_atom(st.atoms[i], x) {
                 st.atoms[i] = w;
             }
             i += 1;
@@ -232,7 +90,7 @@ impl Fillings {
     {
         let x = self.atom(a);
         let y = self.atom(b);
-        if same_atom(x, y) {
+        if atoms::same_atom(x, y) {
             return Joined {
                 ok: true,
                 next: self,

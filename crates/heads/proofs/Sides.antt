@@ -8,7 +8,7 @@ use lib.Dec.{leb}
 use lib.ListN.{length, getD, take}
 use Rattle.order.specs.Values.{kindFrom}
 use Rattle.terms.specs.declared.Term.{Term}
-use Rattle.fillings.specs.States.{kindOfAtom}
+use Rattle.atoms.specs.Atoms.{kindOfAtom}
 use Rattle.items.specs.Items.{mostItems}
 use Rattle.heads.specs.Heads.{headBy, headOf}
 

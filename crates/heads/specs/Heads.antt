@@ -8,7 +8,7 @@ use Rattle.order.specs.declared.Kind.{Kind}
 use Rattle.order.specs.declared.Kind.the-variants as kinds
 use Rattle.terms.specs.declared.Term.{Term}
 use Rattle.terms.specs.Values.{blankTerm}
-use Rattle.fillings.specs.States.{isVariable, kindOfAtom}
+use Rattle.atoms.specs.Atoms.{isVariable, kindOfAtom}
 use Rattle.heads.specs.declared.Head.{Head}
 
 -- a side with no terms has the type list

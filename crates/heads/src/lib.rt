@@ -56,11 +56,11 @@ pub fn head_of(w: Items) -> Head
     }
     let t = w.terms[0];
     let longer = 2 <= n;
-    let k = fillings::kind_of(t);
+    let k = atoms::kind_of(t);
     Head {
         some: true,
         longer: longer,
-        variable: fillings::is_variable(t),
+        variable: atoms::is_variable(t),
         list: order::same_kind(k, Kind::List),
         kind: k,
         whole: whole_of(longer, k),

@@ -16,8 +16,8 @@ use Rattle.searching.specs.Rules.{Rule, keep, bind, rule, Remove, Decomp1, Deco
 use Rattle.searching.specs.Rules as rules
 use Rattle.sides.specs.Sides.{AtomIn}
 use Rattle.terms.specs.declared.Term.{Term}
-use Rattle.fillings.specs.States.{sameAtom}
-use Rattle.fillings.proofs.Atoms.{same-encoded, other-encoded}
+use Rattle.atoms.specs.Atoms.{sameAtom}
+use Rattle.atoms.proofs.Atoms.{same-encoded, other-encoded}
 use Rattle.items.specs.declared.Items.{Items}
 use Rattle.items.specs.Items.{mostItems}
 use Rattle.substitution.specs.Substitution.{occursIn}

@@ -9,7 +9,7 @@ use Rattle.order.specs.Values.{kindOf}
 use Rattle.theory.specs.Seqs.{concat-map}
 use Rattle.terms.specs.declared.Term.{Term}
 use Rattle.terms.specs.Values.{blankTerm}
-use Rattle.fillings.specs.States.{sameAtom}
+use Rattle.atoms.specs.Atoms.{sameAtom}
 use Rattle.items.specs.declared.Items.{Items}
 use Rattle.items.specs.Items.{blankItems, itemsOf, collect}
 use Rattle.substitution.specs.Substitution.{putTerm, sameTerms, occursIn}

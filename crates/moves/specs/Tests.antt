@@ -9,7 +9,7 @@ use Rattle.order.specs.declared.Kind.the-variants as kinds
 use Rattle.theory.specs.Terms.{var}
 use Rattle.terms.specs.declared.Term.{Term}
 use Rattle.terms.specs.Values.{encodeTerm}
-use Rattle.fillings.specs.States.{sameAtom}
+use Rattle.atoms.specs.Atoms.{sameAtom}
 use Rattle.heads.specs.declared.Head.{Head}
 
 -- the first term of the side of b is an atom that can replace the first of the side of a, a variable x of type atom or below.

@@ -49,7 +49,7 @@ fn replaces(a: Head, b: Head) -> bool
     let j = a.kind;
     let k = b.kind;
     if b.some & !b.list {
-        return !fillings::same_atom(y, x) & order::below(k, j);
+        return !atoms::same_atom(y, x) & order::below(k, j);
     }
     false
 }
@@ -236,7 +236,7 @@ fn decomp3(l: Items, r: Items, a: Head, b: Head) -> Move
 {
     let s = a.first;
     let t = b.first;
-    if a.some & b.some & fillings::same_atom(s, t) {
+    if a.some & b.some & atoms::same_atom(s, t) {
         return kept(items::rest(l), items::rest(r));
     }
     no_move()

@@ -12,7 +12,8 @@ use Rattle.fillings.specs.declared.Fillings.{Fillings}
 use Rattle.fillings.specs.declared.Joined.{Joined}
 use Rattle.fillings.specs.States.{startValue}
 use Rattle.choices.specs.declared.Choice.{Choice}
-use Rattle.choices.specs.Choices.{noChoice, chosenAt, joinFields}
+use Rattle.choices.specs.Choices.{noChoice, chosenAt}
+use Rattle.joins.specs.Joins.{joinFields}
 use Rattle.writing.specs.Answers.{after}
 use Rattle.pieces.proofs.Stored.{stored}
 use Rattle.overlaps.specs.declared.Pair.{Pair}

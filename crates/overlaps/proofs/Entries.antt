@@ -31,9 +31,12 @@ use Rattle.candidates.specs.Views.{candAt}
 use Rattle.shapes.proofs.Agree.{shape-agree}
 use Rattle.candidates.proofs.Agree.{span-agree, span-at, cand-in}
 use Rattle.choices.specs.declared.Choice.{Choice}
-use Rattle.choices.specs.Choices.{noChoice, chosenAt, joinFields}
-use Rattle.choices.specs.Views.{ShapeIn, isLong, ChoiceHolds}
-use Rattle.choices.proofs.Agree.{join-fields-agree, no-choice-holds, long-at, chosen-holds, FieldsFrom}
+use Rattle.choices.specs.Choices.{noChoice, chosenAt}
+use Rattle.joins.specs.Joins.{joinFields}
+use Rattle.joins.specs.Views.{ShapeIn}
+use Rattle.choices.specs.Views.{isLong, ChoiceHolds}
+use Rattle.joins.proofs.Agree.{join-fields-agree}
+use Rattle.choices.proofs.Agree.{no-choice-holds, long-at, chosen-holds, FieldsFrom}
 use Rattle.overlaps.specs.declared.Pair.{Pair}
 use Rattle.overlaps.specs.declared.Candidate.{Candidate}
 use Rattle.overlaps.specs.Lines.{lineAt}

@@ -10,13 +10,13 @@ use Rattle.fillings.specs.declared.Fillings.{Fillings}
 use Rattle.fillings.specs.declared.Joined.{Joined}
 use Rattle.candidates.specs.declared.Span.{Span}
 use Rattle.choices.specs.declared.Choice.{Choice}
-use Rattle.choices.specs.Choices.{chosenAt, joinFields, entryOf}
+use Rattle.choices.specs.Choices.{chosenAt, entryOf}
+use Rattle.joins.specs.Joins.{joinFields}
 use Rattle.entries.specs.declared.Entry.{Entry}
 use Rattle.shown.specs.declared.Shown.{Shown}
-use Rattle.shown.specs.Values.{shownValue}
+use Rattle.rule_shown.specs.Values.{shownValue}
 use Rattle.writing.specs.Answers.{after}
-use Rattle.entry_lines.specs.Shown.{lineValue}
-use Rattle.entry_lines.specs.Sizes.{lineBound}
+use Rattle.entry_lines.specs.Lines.{lineValue, lineBound}
 use Rattle.pieces.proofs.Stored.{bytes-length, stores-append, stores-length}
 use Rattle.overlaps.specs.declared.Pair.{Pair}
 use Rattle.overlaps.specs.declared.Tally.{Tally}

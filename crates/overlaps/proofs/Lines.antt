@@ -39,16 +39,17 @@ use Rattle.fillings.specs.declared.Fillings.{Fillings}
 use Rattle.fillings.proofs.Agree.{names, Holds, look-within}
 use Rattle.entries.specs.declared.Entry.{Entry}
 use Rattle.entries.specs.Values.{Marked, entryValue}
-use Rattle.entries.specs.Marks.{MarkedIn, Met}
+use Rattle.renumbering.specs.Marks.{MarkedIn, Met}
 use Rattle.choices.specs.declared.Choice.{Choice}
 use Rattle.choices.specs.Choices.{entryOf}
-use Rattle.choices.specs.Views.{AtomsIn, ShapeIn, ChoiceHolds}
+use Rattle.joins.specs.Views.{AtomsIn, ShapeIn}
+use Rattle.choices.specs.Views.{ChoiceHolds}
 use Rattle.choices.proofs.Agree.{entry-agree, FieldsFrom, fields-there}
 use Rattle.shown.specs.declared.Shown.{Shown}
-use Rattle.shown.specs.Values.{shownValue}
-use Rattle.shown.proofs.Agree.{theValues, known-agree, atom-agree, run-agree, atom-stands, left-values, right-values}
-use Rattle.entry_lines.specs.Shown.{lineValue}
-use Rattle.entry_lines.specs.Shows.{Shows}
+use Rattle.rule_shown.specs.Values.{shownValue}
+use Rattle.rule_shown.proofs.Agree.{theValues, known-agree, atom-agree, run-agree, atom-stands, left-values, right-values}
+use Rattle.entry_lines.specs.Lines.{lineValue}
+use Rattle.entry_parts.specs.Shows.{Shows}
 use Rattle.entry_lines.proofs.Lines.{line-agrees}
 use Rattle.overlaps.specs.declared.Pair.{Pair}
 use Rattle.overlaps.specs.Lines.{lineAt}

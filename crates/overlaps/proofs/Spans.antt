@@ -17,7 +17,7 @@ use Rattle.terms.specs.Values.{blankField}
 use Rattle.fillings.specs.declared.Fillings.{Fillings}
 use Rattle.fillings.specs.declared.Joined.{Joined}
 use Rattle.fillings.proofs.Arrays.{entry-any}
-use Rattle.choices.specs.Choices.{joinFields}
+use Rattle.joins.specs.Joins.{joinFields}
 use Rattle.choices.proofs.Loops.{no-field}
 use Rattle.overlaps.specs.declared.Pair.{Pair}
 use Rattle.overlaps.specs.Listing.{leftAt, rightAt, spanAt, candidateOf}

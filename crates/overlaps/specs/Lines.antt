@@ -5,8 +5,8 @@ use Rattle.fillings.specs.declared.Fillings.{Fillings}
 use Rattle.entries.specs.declared.Entry.{Entry}
 use Rattle.choices.specs.declared.Choice.{Choice}
 use Rattle.choices.specs.Choices.{entryOf}
-use Rattle.shown.specs.Values.{shownValue}
-use Rattle.entry_lines.specs.Shown.{lineValue}
+use Rattle.rule_shown.specs.Values.{shownValue}
+use Rattle.entry_lines.specs.Lines.{lineValue}
 use Rattle.overlaps.specs.declared.Pair.{Pair}
 
 -- the entry before the renumbering

@@ -18,9 +18,10 @@ use Rattle.candidates.specs.declared.Span.{Span}
 use Rattle.shapes.specs.Shapes.{termsOf, shapeValue}
 use Rattle.candidates.specs.Candidates.{spanValue}
 use Rattle.choices.specs.declared.Choice.{Choice}
-use Rattle.choices.specs.Choices.{chosenAt, joinFields, noChoice}
+use Rattle.choices.specs.Choices.{chosenAt, noChoice}
+use Rattle.joins.specs.Joins.{joinFields}
 use Rattle.pieces.specs.Stored.{bytesOf}
-use Rattle.entry_lines.specs.Sizes.{lineBound}
+use Rattle.entry_lines.specs.Lines.{lineBound}
 use Rattle.overlaps.specs.declared.Pair.{Pair}
 use Rattle.overlaps.specs.declared.Tally.{Tally}
 use Rattle.overlaps.specs.declared.Candidate.{Candidate}

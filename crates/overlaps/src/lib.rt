@@ -7,7 +7,7 @@ ghost use Rattle.writing.specs.Answers.{after};
 ghost use Rattle.text.specs.Read.{readRule};
 ghost use Rattle.accepted.specs.Accepted.{countedRule};
 ghost use Rattle.listing.specs.Overlaps.{linesOf, overlapText};
-ghost use Rattle.entry_lines.specs.Sizes.{lineBound};
+ghost use Rattle.entry_lines.specs.Lines.{lineBound};
 ghost use Rattle.overlaps.specs.Lines.{lineAt};
 ghost use Rattle.pieces.specs.Stored.{bytesOf, storeAll};
 ghost use Rattle.overlaps.specs.Listing.{spanAt, candidateOf, choiceLines, linesFrom, allLines, noTally, tallied, Moderate, Countable, AsRead};
@@ -61,8 +61,8 @@ fn line_into(p: Pair, ch: Choice, st: Fillings, out: &mut [u8]) -> usize
     let right = p.right;
     let sided = p.sided;
     let e = choices::entry_of(left, sided, ch, st);
-    let l = shown::shown_of(left, left, e, st);
-    let r = shown::shown_of(right, sided, e, st);
+    let l = rule_shown::shown_of(left, left, e, st);
+    let r = rule_shown::shown_of(right, sided, e, st);
     entry_lines::put_line(e, l, r, out)
 }
 
@@ -132,7 +132,7 @@ fn choose(p: Pair, j: usize, ch: Choice, st: Fillings, out: &mut [u8], t: Tally)
     let mut k = s.count;
     while 0 < k {
         let c = candidate_of(s, k);
-        let joined = choices::join_fields(f, g, c.items, st);
+        let joined = joins::join_fields(f, g, c.items, st);
         if joined.ok {
             let chosen = choices::choose_at(ch, j, c.items, c.long);
             u = next_field(p, j + 1, chosen, joined.next, out, u);

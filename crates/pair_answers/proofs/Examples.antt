@@ -10,7 +10,8 @@ use Rattle.bytes.specs.Bytes.{indexAfter, indexOf}
 use Rattle.text.specs.Ascii.{ascii, newline}
 use Rattle.text.specs.Bytes.{digit?, begins, follows, first, holds}
 use Rattle.text.specs.Marks.{fifth?, many?, over?, clash?, clashOf?}
-use Rattle.pair_answers.specs.Pairs.{listedText, lineText, pairAnswer}
+use Rattle.overlap_text.specs.Texts.{listedText}
+use Rattle.pair_answers.specs.Pairs.{lineText, pairAnswer}
 
 -- a line and what is said of it
 pub record Case : Type 0 where

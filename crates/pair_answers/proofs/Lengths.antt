@@ -10,7 +10,8 @@ use lib.Seq.{length-take-le, take-all}
 use Rattle.text.specs.Ascii.{ascii, newline}
 use Rattle.text.specs.Numbers.{digitsOf}
 use Rattle.writing.proofs.Digits.{digits-64}
-use Rattle.pair_answers.specs.Pairs.{longestLine, mostBytes, lineText, titleText, longestAnswer, pairAnswer}
+use Rattle.overlap_text.specs.Texts.{mostBytes}
+use Rattle.pair_answers.specs.Pairs.{longestLine, lineText, titleText, longestAnswer, pairAnswer}
 
 pub title-short : (k : ℕ) → k < 18446744073709551616 → length (titleText k) ≤ 26
 title-short k h = omega (arith, length-append (ascii "pair " ++ digitsOf k) newline, length-append (ascii "pair ") (digitsOf k), digits-64 k h)

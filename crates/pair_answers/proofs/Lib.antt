@@ -1,6 +1,3 @@
-pub mod Lists
-pub mod Values
 pub mod Said
-pub mod Texts
 pub mod Lengths
 pub mod Examples

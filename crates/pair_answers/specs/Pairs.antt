@@ -2,14 +2,13 @@
 use mathlib.Core.Bool.{cond}
 use mathlib.Core.List.{List, _++_}
 use Prim.Native.Nat.{ℕ, suc}
-use lib.Dec.{leb, ltb}
+use lib.Dec.{ltb}
 use lib.ListN.{length, take, drop}
 use Rattle.bytes.specs.Bytes.{indexOf}
 use Rattle.text.specs.Ascii.{ascii, newline}
 use Rattle.text.specs.Numbers.{digitsOf}
-use Rattle.text.specs.Read.{number, Outcome, refused, accepted, readRule}
-use Rattle.listing.specs.Overlaps.{overlapText}
-use Rattle.pieces.specs.Refusals.{numberAt}
+use Rattle.text.specs.Read.{readRule}
+use Rattle.overlap_text.specs.Texts.{readText}
 
 -- ---- a line
 
@@ -30,20 +29,6 @@ rightPart t = drop (suc (indexOf tab t)) t
 
 -- ---- the answer
 
--- "`too long B` where B bytes exceed its 65,536"
-abbrev pub mostBytes : ℕ
-mostBytes = 65536
-
--- "the overlap lines", each of which ends with a newline, or in their place one line with their size
-abbrev pub listedText : List ℕ → List ℕ
-listedText t = cond (leb (length t) mostBytes) t (ascii "too long " ++ digitsOf (length t) ++ newline)
-
--- "`refused left N at P`, or else `refused right N at P`, N the number and P the place"
-abbrev pub readText : Outcome → Outcome → List ℕ
-readText (refused r p) o = ascii "refused left " ++ numberAt (number r) p ++ newline
-readText (accepted left) (refused r p) = ascii "refused right " ++ numberAt (number r) p ++ newline
-readText (accepted left) (accepted right) = listedText (overlapText left right)
-
 -- a line over its limit is too long whatever it holds
 unfoldable pub lineText : List ℕ → List ℕ
 lineText t = cond (ltb longestLine (length t)) (ascii "line too long" ++ newline) (readText (readRule (leftPart t)) (readRule (rightPart t)))
@@ -56,6 +41,6 @@ titleText k = ascii "pair " ++ digitsOf k ++ newline
 unfoldable pub pairAnswer : ℕ → List ℕ → List ℕ
 pairAnswer k t = titleText k ++ lineText t
 
--- a title of at most 26 bytes, and behind it at most `mostBytes`: no answer has more
+-- a title of at most 26 bytes, and behind it at most 65,536: no answer has more
 abbrev pub longestAnswer : ℕ
 longestAnswer = 65562

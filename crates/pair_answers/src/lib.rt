@@ -2,71 +2,15 @@
 // It is put together piece behind piece where the room is known to be enough: in the lent bytes, or else in bytes of its own that are then given whole or not at all.
 // The room that is handed on is for the lister's work, and what it holds afterwards is not said.
 ghost use mathlib.Core.Path.{_≡_};
-ghost use mathlib.Core.List.{_++_};
-ghost use Prim.Native.Nat.{_+_, _≤_, min};
+ghost use Prim.Native.Nat.{_+_, _≤_};
 ghost use lib.ListN.{length};
-ghost use Rattle.text.specs.Ascii.{ascii, newline};
-ghost use Rattle.text.specs.Numbers.{digitsOf};
-ghost use Rattle.text.specs.Read.{readRule};
-ghost use Rattle.verdicts.specs.Verdicts.{numberOf};
 ghost use Rattle.writing.specs.Answers.{writtenOf, after};
-ghost use Rattle.pieces.specs.Refusals.{numberAt};
 ghost use Rattle.pieces.specs.Placed.{Placed};
-ghost use Rattle.pair_answers.specs.Pairs.{mostBytes, readText, lineText, titleText, longestAnswer, pairAnswer};
-use overlaps::Listed;
-use verdicts::Reason;
-use verdicts::Verdict;
+ghost use Rattle.overlap_text.specs.Texts.{mostBytes};
+ghost use Rattle.pair_answers.specs.Pairs.{lineText, longestAnswer, pairAnswer};
 use writing::Written;
 
 // ---- pieces: each is put at a place of the room, and returns the place behind it
-
-fn put_too_long(bytes: usize, out: &mut [u8], at: usize) -> usize
-    ensures { λ r. ⌜ Placed (ascii "too long " ++ digitsOf bytes ++ newline) at (now (out .entry)) r (now (out .exit)) ⌝ }
-{
-    let a = pieces::put_bytes(b"too long ", out, at);
-    let b = pieces::put_number(bytes as u64, out, a);
-    pieces::put_bytes(b"\n", out, b)
-}
-
-fn put_refusal(words: &[u8], reason: Reason, place: usize, out: &mut [u8], at: usize) -> usize
-    ensures { λ r. ⌜ Placed (now (words .entry) ++ numberAt (numberOf reason) place ++ newline) at (now (out .entry)) r (now (out .exit)) ⌝ }
-{
-    let n = verdicts::number(reason);
-    let a = pieces::put_bytes(words, out, at);
-    let b = pieces::put_number_at(n as u64, place as u64, out, a);
-    pieces::put_bytes(b"\n", out, b)
-}
-
-// What is said of two texts, the left one's refusal before the right one's.
-// The list is lent no more than the 65,536 bytes that it may have, so that the lister itself tells a list that is too long.
-fn put_texts(left: &[u8], right: &[u8], room: &mut [u8], out: &mut [u8], at: usize) -> usize
-    requires { ⌜ at + mostBytes ≤ length (now out) ⌝ }
-    ensures { λ p. ⌜ Placed (readText (readRule (now (left .entry))) (readRule (now (right .entry)))) at (now (out .entry)) p (now (out .exit)) ⌝ }
-    ensures { λ _. ⌜ length (readText (readRule (now (left .entry))) (readRule (now (right .entry)))) ≤ mostBytes ⌝ }
-{
-    let end = at + 65536;
-    let said = overlaps::list_texts(left, right, room, &mut out[at..end]);
-    let l = said.left;
-    let r = said.right;
-    let listed = said.listed;
-    if let Verdict::Refused(reason, place) = l {
-        return put_refusal(b"refused left ", reason, place, out, at);
-    }
-    if let Verdict::Refused(reason, place) = r {
-        return put_refusal(b"refused right ", reason, place, out, at);
-    }
-    match listed {
-        Listed::Lines(_, bytes) => at + bytes,
-        Listed::TooSmall(_, bytes) => put_too_long(bytes, out, at),
-    }
-}
-
-// The place behind the tab, or the line's end.
-fn behind(tab: usize, n: usize) -> usize
-    ensures { λ r. ⌜ r ≡ min (tab + 1) n ⌝ }
-{
-    if tab < n { tab + 1 } else { n }
-}
 
 // What is said of a line. Two of the longest rules and the tab have 4,097 bytes.
 fn put_line(line: &[u8], room: &mut [u8], out: &mut [u8], at: usize) -> usize
@@ -79,16 +23,8 @@ fn put_line(line: &[u8], room: &mut [u8], out: &mut [u8], at: usize) -> usize
         return pieces::put_bytes(b"line too long\n", out, at);
     }
     let tab = pieces::tab_place(line);
-    let rest = behind(tab, n);
-    put_texts(&line[..tab], &line[rest..], room, out, at)
-}
-
-fn put_title(k: u64, out: &mut [u8], at: usize) -> usize
-    ensures { λ r. ⌜ Placed (titleText k) at (now (out .entry)) r (now (out .exit)) ⌝ }
-{
-    let a = pieces::put_bytes(b"pair ", out, at);
-    let b = pieces::put_number(k, out, a);
-    pieces::put_bytes(b"\n", out, b)
+    let rest = line_pieces::behind(tab, n);
+    overlap_text::put_texts(&line[..tab], &line[rest..], room, out, at)
 }
 
 // The title and what is said of the line.
@@ -97,7 +33,7 @@ fn put_answer(k: u64, line: &[u8], room: &mut [u8], out: &mut [u8]) -> usize
     ensures { λ r. ⌜ Placed (pairAnswer k (now (line .entry))) 0 (now (out .entry)) r (now (out .exit)) ⌝ }
     ensures { λ _. ⌜ length (pairAnswer k (now (line .entry))) ≤ longestAnswer ⌝ }
 {
-    let a = put_title(k, out, 0);
+    let a = line_pieces::put_title(b"pair ", k, out, 0);
     put_line(line, room, out, a)
 }
 

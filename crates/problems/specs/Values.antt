@@ -5,7 +5,7 @@ use Rattle.order.specs.Order.{list}
 use Rattle.order.specs.Types.{same}
 use Rattle.terms.specs.declared.Term.{Term}
 use Rattle.terms.specs.Values.{blankTerm}
-use Rattle.fillings.specs.States.{kindOfAtom, places}
+use Rattle.atoms.specs.Atoms.{kindOfAtom, places}
 use Rattle.items.specs.Items.{blankItems}
 use Rattle.problems.specs.declared.Problem.{Problem}
 

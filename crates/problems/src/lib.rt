@@ -46,5 +46,5 @@ pub fn list_variables(p: Problem) -> u32
 pub fn is_list(t: Term) -> bool
     ensures { λ r. ⌜ r ≡ isList t ⌝ }
 {
-    order::same_kind(fillings::kind_of(t), Kind::List)
+    order::same_kind(atoms::kind_of(t), Kind::List)
 }

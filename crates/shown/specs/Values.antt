@@ -1,10 +1,9 @@
--- The values of a rule's variables on an entry, as code collects them, term by term.
--- `known-agree`, `atoms-agree` and `lists-agree` of proofs/Agree say that they are those that the entry's line shows.
+-- The values of the variables of a rule's field on an entry, as code collects them, term by term.
 use mathlib.Core.Bool.{true, cond}
-use mathlib.Core.List.{List, [], _∷_, map}
-use Prim.Native.Nat.{ℕ, _+_, _-_}
+use mathlib.Core.List.{List, [], _∷_}
+use Prim.Native.Nat.{ℕ}
 use lib.Dec.{leb}
-use lib.ListN.{set, take}
+use lib.ListN.{set}
 use Rattle.order.specs.Order.{basic, list}
 use Rattle.order.specs.Types.{Kind}
 use Rattle.order.specs.Values.{kindOf}
@@ -12,16 +11,13 @@ use Rattle.terms.specs.declared.Form.{Form}
 use Rattle.terms.specs.declared.Form.the-variants.{Int, Str, Var}
 use Rattle.terms.specs.declared.Term.{Term}
 use Rattle.terms.specs.declared.Field.{Field}
-use Rattle.terms.specs.declared.Rule.{Rule}
 use Rattle.sides.specs.Sides.{numbersOfSide}
-use Rattle.shapes.specs.Shapes.{termsOf, shapeValue}
+use Rattle.shapes.specs.Shapes.{termsOf}
 use Rattle.fillings.specs.declared.Fillings.{Fillings}
 use Rattle.fillings.specs.States.{look}
-use Rattle.entries.specs.declared.Wide.{Wide}
-use Rattle.entries.specs.declared.Entry.{Entry}
 use Rattle.shown.specs.declared.Run.{Run}
 use Rattle.shown.specs.declared.Shown.{Shown}
-use Rattle.shown.specs.Shown.{blankShown, placeIn}
+use Rattle.shown.specs.Shown.{placeIn}
 
 -- ---- one variable
 
@@ -67,25 +63,3 @@ showTerms run st s (t ∷ ts) (u ∷ us) = showTerms run st (showTerm run s t (l
 
 abbrev pub showField : Run → Fillings → Shown → Field → Field → Shown
 showField run st s f g = showTerms run st s (termsOf f) (g .terms)
-
--- the items of the entry's field j, which has n, between those of the atoms before and behind the list variable of f
-abbrev pub runOf : ℕ → Field → ℕ → Run
-runOf j f n = record { field = j; start = (shapeValue (termsOf f)) .head; count = n - ((shapeValue (termsOf f)) .head + (shapeValue (termsOf f)) .tail) }
-
-abbrev pub runAt : ℕ → Field → Wide → Run
-runAt j f w = runOf j f (w .n)
-
-abbrev pub sizesOf : Entry → List ℕ
-sizesOf e = map (λ w. w .n) (e .fields)
-
--- ---- the fields from field j on
-
-abbrev pub showFields : Fillings → ℕ → Shown → List Field → List Field → List Wide → Shown
-showFields st j s [] gs ws = s
-showFields st j s (f ∷ fs) [] ws = s
-showFields st j s (f ∷ fs) (g ∷ gs) [] = s
-showFields st j s (f ∷ fs) (g ∷ gs) (w ∷ ws) = showFields st (j + 1) (showField (runAt j g w) st s f g) fs gs ws
-
--- THE VALUES
-abbrev pub shownValue : Rule → Rule → Entry → Fillings → Shown
-shownValue r sided e st = showFields st 0 blankShown (take (r .n) (r .fields)) (sided .fields) (e .fields)

@@ -14,8 +14,8 @@ use Rattle.searching.specs.Problems.{atomic, listvar, Tm, Field, tm-eq, field-e
 use Rattle.searching.specs.Rules.{occurs}
 use Rattle.terms.specs.declared.Term.{Term}
 use Rattle.terms.specs.Values.{viewTerm}
-use Rattle.fillings.specs.States.{sameAtom}
-use Rattle.fillings.proofs.Atoms.{same-atom-is, view-encode, encode-once}
+use Rattle.atoms.specs.Atoms.{sameAtom}
+use Rattle.atoms.proofs.Atoms.{same-atom-is, view-encode, encode-once}
 use Rattle.items.specs.Items.{mostItems, itemsOf, collect}
 use Rattle.items.specs.Encode.{setting, tmTerm, encodeTm, encodeAll, encodeItems, TmIn}
 use Rattle.items.proofs.Agree.{items-of}

@@ -7,7 +7,7 @@ use native.Mathlib.Omega.{arith}
 use borrow.Author.Tests.{not-true, not-false}
 use lib.ListN.{length, getD, take, drop, length-take}
 use Rattle.terms.specs.declared.Term.{Term}
-use Rattle.fillings.specs.States.{sameAtom}
+use Rattle.atoms.specs.Atoms.{sameAtom}
 use Rattle.items.proofs.Loops.{next, past}
 use Rattle.substitution.specs.Substitution.{sameTerms, occursIn}
 

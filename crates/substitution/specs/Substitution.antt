@@ -2,7 +2,7 @@
 use mathlib.Core.Bool.{Bool, true, false, cond, _&&_, _||_}
 use mathlib.Core.List.{List, [], _∷_}
 use Rattle.terms.specs.declared.Term.{Term}
-use Rattle.fillings.specs.States.{sameAtom}
+use Rattle.atoms.specs.Atoms.{sameAtom}
 
 -- {x ↦ s} of a term
 abbrev pub putTerm : Term → List Term → Term → List Term

@@ -11,7 +11,7 @@ use terms::Term;
 fn put_term(y: Items, x: Term, s: Items, t: Term) -> Items
     ensures { λ r. ⌜ r ≡ foldl pushed y (putTerm x (itemsOf s) t) ⌝ }
 {
-    if fillings::same_atom(t, x) {
+    if atoms::same_atom(t, x) {
         return items::push_from(y, s, 0);
     }
     items::push(y, t)
@@ -41,7 +41,7 @@ pub fn same(w: Items, v: Items) -> bool
     }
     let mut i: usize = 0;
     while i < n {
-        if !fillings::same_atom(w.terms[i], v.terms[i]) {
+        if !atoms::same_atom(w.terms[i], v.terms[i]) {
             return false;
         }
         i += 1;
@@ -56,7 +56,7 @@ pub fn occurs(x: Term, w: Items) -> bool
     let n = items::used(w);
     let mut i: usize = 0;
     while i < n {
-        if fillings::same_atom(w.terms[i], x) {
+        if atoms::same_atom(w.terms[i], x) {
             return true;
         }
         i += 1;

@@ -7,7 +7,7 @@ use lib.ListN.{length, take, drop, length-drop}
 use lib.Seq.{take-all}
 use Rattle.writing.specs.Answers.{after}
 use Rattle.answer_lines.specs.Answers.{withoutBlank}
-use Rattle.entry_lines.proofs.Pieces.{size-either}
+use Rattle.entry_parts.proofs.Pieces.{size-either}
 use Rattle.answer_lines.proofs.Parts.{before-small}
 use borrow.Author.Needs.{needs}
 use Rattle.answer_lines.proofs.give_line.Statement.{statement}

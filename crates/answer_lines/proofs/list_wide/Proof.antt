@@ -8,7 +8,7 @@ use borrow.Author.Needs.{needs}
 use Rattle.lists.specs.Seqs.{long-mapped}
 use Rattle.entries.specs.declared.Wide.{Wide}
 use Rattle.entries.specs.Values.{blankWide, pushed}
-use Rattle.entries.proofs.Loops.{Folding, folding-one, folding-all}
+use Rattle.renumbering.proofs.Loops.{Folding, folding-one, folding-all}
 use Rattle.answer_lines.proofs.list_wide.Statement.{statement}
 use Rattle.answer_lines.proofs.list_wide.Tie as tie
 

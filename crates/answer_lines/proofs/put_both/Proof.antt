@@ -6,10 +6,10 @@ use native.Mathlib.Omega.{arith}
 use borrow.Author.Needs.{needs}
 use Rattle.listing.specs.Lines.{leftMark, rightMark, bindingsText}
 use Rattle.entries.specs.declared.Entry.{Entry}
-use Rattle.entries.specs.declared.Names.{Names}
+use Rattle.renumbering.specs.declared.Names.{Names}
 use Rattle.shown.specs.declared.Shown.{Shown}
-use Rattle.entry_lines.specs.Shown.{shownBindings}
-use Rattle.entry_lines.proofs.Pieces.{Piece, piece-next}
+use Rattle.entry_parts.specs.Shown.{shownBindings}
+use Rattle.entry_parts.proofs.Pieces.{Piece, piece-next}
 use Rattle.answer_lines.specs.Sizes.{bindingsBound}
 use Rattle.answer_lines.proofs.put_both.Statement.{statement}
 use Rattle.answer_lines.proofs.put_both.Tie as tie

@@ -9,7 +9,8 @@ use Rattle.lists.specs.Seqs.{long-mapped}
 use Rattle.shapes.specs.Shapes.{termsOf}
 use Rattle.rows.specs.Rows.{mergedCell}
 use Rattle.fillings.specs.States.{look}
-use Rattle.choices.proofs.Loops.{cell-from, Pushing, atom-read, pushing-room, pushing-full, pushing-all}
+use Rattle.joins.proofs.Loops.{cell-from}
+use Rattle.choices.proofs.Loops.{Pushing, atom-read, pushing-room, pushing-full, pushing-all}
 use Rattle.choices.proofs.push_atoms.Statement.{statement}
 use Rattle.choices.proofs.push_atoms.Tie as tie
 

@@ -7,8 +7,8 @@ use lib.ListN.{length, take}
 use borrow.Author.Needs.{needs}
 use Rattle.writing.specs.Answers.{after}
 use Rattle.pieces.proofs.Pieces.{front-is, front-size}
-use Rattle.entry_lines.specs.Shown.{lineValue}
-use Rattle.entry_lines.proofs.Pieces.{front-after, size-either}
+use Rattle.entry_lines.specs.Lines.{lineValue}
+use Rattle.entry_parts.proofs.Pieces.{front-after, size-either}
 use Rattle.entry_lines.proofs.put_line.Statement.{statement}
 use Rattle.entry_lines.proofs.put_line.Tie as tie
 

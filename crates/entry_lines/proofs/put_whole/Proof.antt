@@ -1,11 +1,10 @@
 -- `entry_lines::put_whole` meets its contract: four pieces. Assumes nothing.
 use mathlib.Core.Path.{subst}
 use Rattle.listing.specs.Lines.{lineText}
-use Rattle.entries.specs.declared.Names.{Names}
-use Rattle.entry_lines.specs.Sizes.{lineBound}
-use Rattle.entry_lines.specs.Shown.{lineWith}
-use Rattle.entry_lines.proofs.Pieces.{Piece}
-use Rattle.entry_lines.proofs.Bindings.{line-four}
+use Rattle.renumbering.specs.declared.Names.{Names}
+use Rattle.entry_lines.specs.Lines.{lineBound, lineWith}
+use Rattle.entry_parts.proofs.Pieces.{Piece}
+use Rattle.entry_lines.proofs.Lines.{line-four}
 use borrow.Author.Needs.{needs}
 use Rattle.entry_lines.proofs.put_whole.Statement.{statement}
 use Rattle.entry_lines.proofs.put_whole.Tie as tie
@@ -22,18 +21,25 @@ put-bindings-requires c κs = search needs
 put-bindings-requires-2 : tie.Need-put-bindings-requires-2
 put-bindings-requires-2 c κs = search needs
 
-put-byte-requires : tie.Need-put-byte-requires
-put-byte-requires c κs = search needs
+slice-aggregate-put-bytes : tie.Need-slice-aggregate-put-bytes
+slice-aggregate-put-bytes c = search needs
+
+put-bytes-requires : tie.Need-put-bytes-requires
+put-bytes-requires c κs = search needs
 
 same-length : tie.Need-same-length
 same-length c = search needs
 
 returns : tie.Need-returns
 returns c =
-    let z = c .before .before .before .before .before .before .before .before .before .before .before .before .before .before .before .before .before .before .args in
-    let P = c .before .before .put-byte in
-    subst (λ (x : Names). Piece lineBound (lineText (lineWith x (z .e) (z .left) (z .right))) (z .at) (z .out .now) (P .result) (P .last .1 .0)) (c .before .before .before .before .before .before .before .before .before .before .before .before .before .before .before .before .names-of .ensures)
-    (line-four (lineWith (c .before .before .before .before .before .before .before .before .before .before .before .before .before .before .before .before .names-of .result) (z .e) (z .left) (z .right)) (z .at) (z .out .now) (c .before .before .before .before .before .before .before .before .before .before .before .before .before .before .put-fields .ensures) (c .before .before .before .before .before .before .before .before .before .before .put-bindings .ensures) (c .before .before .before .before .before .before .put-bindings2 .ensures) (P .ensures))
+    let p = c .before .before .before .before .before .before .before in
+    let q = p .before .before .before .before .before .before .before .before in
+    let z = q .before .before .before .before .args in
+    let N = q .before .before .names-of in
+    let P = c .before .before .put-bytes in
+    subst (λ (x : Names). Piece lineBound (lineText (lineWith x (z .e) (z .left) (z .right))) (z .at) (z .out .now) (P .result) (P .last .1 .0)) (N .ensures)
+    (line-four (lineWith (N .result) (z .e) (z .left) (z .right)) (z .at) (z .out .now)
+    (q .put-fields .ensures) (p .before .before .before .before .put-bindings .ensures) (p .put-bindings2 .ensures) (P .ensures))
 
 pub put-whole-spec : {M : Type 1} → statement M
 put-whole-spec =
@@ -43,6 +49,7 @@ put-whole-spec =
     put-fields-requires
     put-bindings-requires
     put-bindings-requires-2
-    put-byte-requires
+    slice-aggregate-put-bytes
+    put-bytes-requires
     same-length
     returns)

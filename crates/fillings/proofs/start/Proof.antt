@@ -9,7 +9,8 @@ use Rattle.terms.specs.declared.Form.the-variants.{Var}
 use native.Mathlib.Omega.{arith}
 use borrow.Author.Needs.{needs}
 use Rattle.terms.specs.declared.Term.{Term}
-use Rattle.fillings.specs.States.{places, variableAt}
+use Rattle.atoms.specs.Atoms.{places}
+use Rattle.fillings.specs.States.{variableAt}
 use Rattle.fillings.proofs.Arrays.{Filled, filled-one, filled-all}
 use Rattle.fillings.proofs.start.Statement.{statement}
 use Rattle.fillings.proofs.start.Tie as tie

@@ -20,7 +20,7 @@ use Rattle.overlaps.proofs.next_field.Reads as next-field
 use Rattle.overlaps.proofs.next_field.Kinds as next-field-kinds
 use Rattle.overlaps.proofs.+choose+next_field.Lts-next_field as next-field-lts
 use Rattle.choices.proofs.choose_at.Reads as choose-at-reads
-use Rattle.choices.proofs.join_fields.Reads as join-fields-reads
+use Rattle.joins.proofs.join_fields.Reads as join-fields-reads
 use Rattle.overlaps.proofs.candidate_of.Reads as candidate-of-reads
 use Rattle.overlaps.proofs.put_entry.Reads as put-entry-reads
 use Rattle.shapes.proofs.shape_of.Reads as shape-of-reads

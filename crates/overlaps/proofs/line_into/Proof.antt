@@ -5,7 +5,7 @@ use mathlib.Core.List.{List}
 use Prim.Native.Nat.{ℕ, _≤_}
 use lib.ListN.{length}
 use Rattle.writing.specs.Answers.{after}
-use Rattle.entry_lines.specs.Sizes.{lineBound}
+use Rattle.entry_lines.specs.Lines.{lineBound}
 use Rattle.overlaps.proofs.Laws.{line-is}
 use Rattle.overlaps.proofs.line_into.Statement.{statement}
 use Rattle.overlaps.proofs.line_into.Tie as tie

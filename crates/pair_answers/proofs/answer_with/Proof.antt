@@ -8,7 +8,7 @@ use lib.ListN.{length}
 use Rattle.writing.specs.declared.Written.the-variants.{Bytes}
 use Rattle.writing.proofs.Answers.{Answers}
 use Rattle.pieces.proofs.Pieces.{front-is, front-size}
-use Rattle.entry_lines.proofs.Pieces.{front-after}
+use Rattle.entry_parts.proofs.Pieces.{front-after}
 use Rattle.pair_answers.specs.Pairs.{pairAnswer}
 use borrow.Author.Needs.{needs}
 use Rattle.pair_answers.proofs.answer_with.Statement.{statement}

@@ -7,14 +7,17 @@ use borrow.Author.Needs.{needs}
 use Rattle.pair_answers.proofs.put_answer.Statement.{statement}
 use Rattle.pair_answers.proofs.put_answer.Tie as tie
 
+slice-aggregate-put-title : tie.Need-slice-aggregate-put-title
+slice-aggregate-put-title c = search needs
+
 put-title-requires : tie.Need-put-title-requires
 put-title-requires c κs = search needs
 
 put-line-requires : tie.Need-put-line-requires
 put-line-requires c κs =
-    let z = c .before .before .before .before .before .before .before .before .before .args in
+    let z = c .before .before .before .before .before .before .before .before .before .before .args in
     let T = c .before .before .before .before .put-title in
-    omega (arith, title-short (z .k) (search needs), T .ensures .0, c .before .before .before .before .before .before .before .before .before .pre, T .kept .1 .0)
+    omega (arith, title-short (z .k) (search needs), T .ensures .0, c .before .before .before .before .before .before .before .before .before .before .pre, T .kept .1 .1 .0)
 
 same-length : tie.Need-same-length
 same-length c = search needs
@@ -25,10 +28,10 @@ same-length-2 c = search needs
 returns : tie.Need-returns
 unfolding pairAnswer
 returns c =
-    let z = c .before .before .before .before .before .before .before .before .before .before .before .before .before .before .args in
+    let z = c .before .before .before .before .before .before .before .before .before .before .before .before .before .before .before .args in
     let L = c .before .before .before .before .put-line .ensures in
     (placed-next (titleText (z .k)) (lineText (z .line .now)) 0 (z .out .now) (c .before .before .before .before .before .before .before .before .before .put-title .ensures) (L .0), answer-short (z .k) (z .line .now) (search needs) (L .1))
 
 pub put-answer-spec : {M : Type 1} → statement M
 put-answer-spec =
-    tie.close (tie.spec put-title-requires put-line-requires same-length same-length-2 returns)
+    tie.close (tie.spec slice-aggregate-put-title put-title-requires put-line-requires same-length same-length-2 returns)

@@ -1,9 +1,11 @@
 -- `pair_answers::put_line` meets its contract: too long, or what is said of the two parts. Assumes nothing.
 use mathlib.Core.Path.{sym}
+use Prim.Native.Nat.{_-_}
 use native.Mathlib.Omega.{arith}
+use lib.ListN.{length}
 use lib.Seq.{length-take-le}
-use Rattle.entry_lines.proofs.Pieces.{piece-as}
-use Rattle.pair_answers.specs.Pairs.{mostBytes}
+use Rattle.entry_parts.proofs.Pieces.{piece-as}
+use Rattle.overlap_text.specs.Texts.{mostBytes}
 use Rattle.pair_answers.proofs.Said.{line-said}
 use Rattle.pair_answers.proofs.Lengths.{line-long}
 use borrow.Author.Needs.{needs}
@@ -55,10 +57,11 @@ same-length-3 c = search needs
 
 returns-2 : tie.Need-returns-2
 returns-2 c =
-    let z = c .before .before .before .before .before .before .before .before .before .before .before .before .before .before .before .args in
+    let s = c .before .before .before .before .before .before .before .before .before .before .before .before .before .before .before in
+    let z = s .args in
     let T = c .before .before .before .before .before .before .before .before .before .before .tab-place in
     let D = c .before .before .before .before .before .before .before .before .before .behind in
-    let said = line-said (z .line .now) (T .result) (D .result) (T .ensures .0) (D .ensures) (c .before .before .before .before .before .before .before .before .before .before .before .if1 .left) in
+    let said = line-said (z .line .now) (T .result) (D .result) (T .ensures .0) (D .ensures) (length (z .out .now) - z .at) (c .before .before .before .before .before .before .before .before .before .before .before .if1 .left) (omega (arith, s .pre)) in
     piece-as mostBytes (z .at) (z .out .now) said (c .before .before .before .before .put-texts .ensures)
 
 pub put-line-spec : {M : Type 1} → statement M

@@ -3,7 +3,7 @@ use mathlib.Core.Path.{ap, _∙_}
 use Rattle.order.specs.Order.{list}
 use Rattle.order.specs.Types.{Kind, same}
 use Rattle.order.specs.Values.{kindOf, kindOf-from}
-use Rattle.fillings.specs.States.{kindOfAtom}
+use Rattle.atoms.specs.Atoms.{kindOfAtom}
 use borrow.Author.Needs.{needs}
 use Rattle.problems.proofs.is_list.Statement.{statement}
 use Rattle.problems.proofs.is_list.Tie as tie

@@ -6,7 +6,8 @@ use Prim.Native.Nat.{_-_}
 use borrow.Author.Needs.{needs}
 use Rattle.lists.specs.Seqs.{long-mapped}
 use Rattle.terms.specs.declared.Term.{Term}
-use Rattle.fillings.specs.States.{places, swap}
+use Rattle.atoms.specs.Atoms.{places}
+use Rattle.fillings.specs.States.{swap}
 use Rattle.fillings.proofs.Arrays.{Passed, passed-all}
 use Rattle.fillings.proofs.Cases.{replaced-here, kept-here}
 use Rattle.fillings.proofs.Fillings.replace.Statement.{statement}

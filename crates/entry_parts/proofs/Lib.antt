@@ -1,0 +1,5 @@
+pub mod Pieces
+pub mod Rows
+pub mod Runs
+pub mod Bindings
+pub mod Agree

@@ -1,0 +1,55 @@
+-- `overlap_text::put_texts` meets its contract: nothing, or all that is said. Assumes nothing.
+use Prim.Native.Nat.{_-_}
+use native.Mathlib.Omega.{arith}
+use lib.ListN.{length}
+use Rattle.text.specs.Read.{readRule}
+use Rattle.pieces.proofs.Pieces.{placed-none}
+use Rattle.entry_parts.proofs.Pieces.{piece-as}
+use Rattle.overlap_text.specs.Texts.{mostBytes}
+use Rattle.overlap_text.proofs.Said.{in-room, no-room}
+use borrow.Author.Needs.{needs}
+use Rattle.overlap_text.proofs.put_texts.Statement.{statement}
+use Rattle.overlap_text.proofs.put_texts.Tie as tie
+
+bytes-behind-requires : tie.Need-bytes-behind-requires
+bytes-behind-requires c κs = search needs
+
+returns : tie.Need-returns
+returns c =
+    let a = c .before .before .before .before .before .before .args in
+    piece-as mostBytes (a .at) (a .out .now)
+    (no-room (length (a .out .now) - a .at) (readRule (a .left .now)) (readRule (a .right .now))
+    (omega (arith, c .if1 .taken, c .before .bytes-behind .ensures)))
+    (placed-none (a .at) (a .out .now), omega arith)
+
+put-read-requires : tie.Need-put-read-requires
+put-read-requires c κs =
+    let b = c .before .before in
+    omega (arith, b .if1 .left, b .before .bytes-behind .ensures)
+
+same-length : tie.Need-same-length
+same-length c = search needs
+
+same-length-2 : tie.Need-same-length-2
+same-length-2 c = search needs
+
+returns-2 : tie.Need-returns-2
+returns-2 c =
+    let p = c .before .before .before .before in
+    let b = p .before .before .before in
+    let a = b .before .before .before .before .before .before .args in
+    piece-as mostBytes (a .at) (a .out .now)
+    (in-room (length (a .out .now) - a .at) (readRule (a .left .now)) (readRule (a .right .now))
+    (omega (arith, b .if1 .left, b .before .bytes-behind .ensures)))
+    (p .put-read .ensures)
+
+pub put-texts-spec : {M : Type 1} → statement M
+put-texts-spec =
+    tie.close
+    (tie.spec
+    bytes-behind-requires
+    returns
+    put-read-requires
+    same-length
+    same-length-2
+    returns-2)

@@ -1,0 +1,29 @@
+-- What is said of two texts that are to be rules: a refusal, their overlaps, or how long these are. Document 01, "The program".
+use mathlib.Core.Bool.{cond}
+use mathlib.Core.List.{List, [], _++_}
+use Prim.Native.Nat.{ℕ}
+use lib.Dec.{leb}
+use lib.ListN.{length}
+use Rattle.text.specs.Ascii.{ascii, newline}
+use Rattle.text.specs.Numbers.{digitsOf}
+use Rattle.text.specs.Read.{number, Outcome, refused, accepted}
+use Rattle.listing.specs.Overlaps.{overlapText}
+use Rattle.pieces.specs.Refusals.{numberAt}
+
+-- "`too long B` where B bytes exceed its 65,536"
+abbrev pub mostBytes : ℕ
+mostBytes = 65536
+
+-- "the overlap lines", each of which ends with a newline, or in their place one line with their size
+abbrev pub listedText : List ℕ → List ℕ
+listedText t = cond (leb (length t) mostBytes) t (ascii "too long " ++ digitsOf (length t) ++ newline)
+
+-- "`refused left N at P`, or else `refused right N at P`, N the number and P the place"
+abbrev pub readText : Outcome → Outcome → List ℕ
+readText (refused r p) o = ascii "refused left " ++ numberAt (number r) p ++ newline
+readText (accepted left) (refused r p) = ascii "refused right " ++ numberAt (number r) p ++ newline
+readText (accepted left) (accepted right) = listedText (overlapText left right)
+
+-- the same where k bytes are left for it: with fewer than it may have nothing is said
+abbrev pub textsIn : ℕ → Outcome → Outcome → List ℕ
+textsIn k o p = cond (leb mostBytes k) (readText o p) []

@@ -1,0 +1,63 @@
+// The text of what is said of two texts that are to be rules: a refusal, the lines of their overlaps, or how long these are.
+ghost use mathlib.Core.Path.{_≡_};
+ghost use mathlib.Core.List.{_++_};
+ghost use Prim.Native.Nat.{_+_, _-_, _≤_};
+ghost use lib.ListN.{length};
+ghost use Rattle.text.specs.Ascii.{newline};
+ghost use Rattle.text.specs.Read.{readRule};
+ghost use Rattle.verdicts.specs.Verdicts.{numberOf};
+ghost use Rattle.pieces.specs.Refusals.{numberAt};
+ghost use Rattle.pieces.specs.Placed.{Placed};
+ghost use Rattle.overlap_text.specs.Texts.{mostBytes, readText, textsIn};
+use overlaps::Listed;
+use verdicts::Reason;
+use verdicts::Verdict;
+
+fn put_refused(words: &[u8], reason: Reason, place: usize, out: &mut [u8], at: usize) -> usize
+    ensures { λ r. ⌜ Placed (now (words .entry) ++ numberAt (numberOf reason) place ++ newline) at (now (out .entry)) r (now (out .exit)) ⌝ }
+{
+    let a = line_pieces::put_refusal(words, reason, place, out, at);
+    pieces::put_bytes(b"\n", out, a)
+}
+
+// How many of n bytes lie behind a place.
+fn bytes_behind(at: usize, n: usize) -> usize
+    ensures { λ r. ⌜ r ≡ n - at ⌝ }
+{
+    if at < n { n - at } else { 0 }
+}
+
+// What is said of two texts, the left one's refusal before the right one's.
+// The list is lent no more than the 65,536 bytes that it may have, so that the lister itself tells a list that is too long.
+fn put_read(left: &[u8], right: &[u8], room: &mut [u8], out: &mut [u8], at: usize) -> usize
+    requires { ⌜ at + mostBytes ≤ length (now out) ⌝ }
+    ensures { λ p. ⌜ Placed (readText (readRule (now (left .entry))) (readRule (now (right .entry)))) at (now (out .entry)) p (now (out .exit)) ⌝ }
+    ensures { λ _. ⌜ length (readText (readRule (now (left .entry))) (readRule (now (right .entry)))) ≤ mostBytes ⌝ }
+{
+    let end = at + 65536;
+    let said = overlaps::list_texts(left, right, room, &mut out[at..end]);
+    let l = said.left;
+    let r = said.right;
+    let listed = said.listed;
+    if let Verdict::Refused(reason, place) = l {
+        return put_refused(b"refused left ", reason, place, out, at);
+    }
+    if let Verdict::Refused(reason, place) = r {
+        return put_refused(b"refused right ", reason, place, out, at);
+    }
+    match listed {
+        Listed::Lines(_, bytes) => at + bytes,
+        Listed::TooSmall(_, bytes) => line_pieces::put_title(b"too long ", bytes as u64, out, at),
+    }
+}
+
+// The same behind a place with room for the longest list; with less nothing is put.
+pub fn put_texts(left: &[u8], right: &[u8], room: &mut [u8], out: &mut [u8], at: usize) -> usize
+    ensures { λ p. ⌜ Placed (textsIn (length (now (out .entry)) - at) (readRule (now (left .entry))) (readRule (now (right .entry)))) at (now (out .entry)) p (now (out .exit)) ⌝ }
+    ensures { λ _. ⌜ length (textsIn (length (now (out .entry)) - at) (readRule (now (left .entry))) (readRule (now (right .entry)))) ≤ mostBytes ⌝ }
+{
+    if bytes_behind(at, out.len()) < 65536 {
+        return at;
+    }
+    put_read(left, right, room, out, at)
+}

@@ -1,0 +1,5 @@
+pub mod Loops
+pub mod Counts
+pub mod Places
+pub mod Firsts
+pub mod Agree

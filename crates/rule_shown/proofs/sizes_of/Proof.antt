@@ -1,0 +1,31 @@
+-- `rule_shown::sizes_of` meets its contract. Assumes nothing.
+use mathlib.Core.Path.{_≡_}
+use lib.ListN.{length}
+use Rattle.lists.specs.Seqs.{long-mapped}
+use Rattle.rule_shown.proofs.Loops.{four-sizes}
+use borrow.Author.Needs.{needs}
+use Rattle.rule_shown.proofs.sizes_of.Statement.{statement}
+use Rattle.rule_shown.proofs.sizes_of.Tie as tie
+
+element-copy-out-a : tie.Need-element-copy-out-a
+element-copy-out-a c = search needs
+
+element-copy-out-b : tie.Need-element-copy-out-b
+element-copy-out-b c = search needs
+
+element-copy-out-c : tie.Need-element-copy-out-c
+element-copy-out-c c = search needs
+
+element-copy-out-d : tie.Need-element-copy-out-d
+element-copy-out-d c = search needs
+
+returns : tie.Need-returns
+returns c =
+    let z = c .before .before .before .before .args in
+    let long : length (z .t1 .fields) ≡ 4 = search long-mapped in
+    (four-sizes (z .t1 .fields) _ long, long)
+
+pub sizes-of-spec : {M : Type 1} → statement M
+sizes-of-spec =
+    tie.close
+    (tie.spec element-copy-out-a element-copy-out-b element-copy-out-c element-copy-out-d returns)
