@@ -15,9 +15,9 @@ use Rattle.order.specs.Types.{Basic, same}
 use Rattle.order.specs.Values.{kindOf, kindOf-from, same-kind-is}
 use Rattle.theory.specs.Terms.{con, var}
 use Rattle.text.specs.Sizes.{longestString, largestNumber}
-use Rattle.text.specs.Terms.{Con, int, str, OurTerm}
+use Rattle.text.specs.Terms.{int, str, OurTerm}
 use Rattle.instance.specs.Constants.{kind-of}
-use Rattle.unifiers.specs.Shapes.{fixed, free, val, Side, left, right, Variable, of, kindIn}
+use Rattle.unifiers.specs.Shapes.{fixed, free, val, Side, left, right, of, kindIn}
 use Rattle.terms.specs.declared.Form.{Form}
 use Rattle.terms.specs.declared.Form.the-variants.{Int, Str, Var}
 use Rattle.terms.specs.declared.Term.{Term}

@@ -25,7 +25,7 @@ use Rattle.solving.specs.Answers.{setting, shownOn, answerText, Lines as Found,
 use Rattle.solving.proofs.Shown.{lines-answers, InstanceOfLine, shown-solves, shown-left, shown-right, shown-complete}
 use Rattle.terms.specs.declared.Field.{Field}
 use Rattle.terms.specs.Values.{viewField, viewRule, oneField}
-use Rattle.accepted.specs.Accepted.{acceptedField, countedField}
+use Rattle.accepted.specs.Accepted.{acceptedField}
 use Rattle.accepted.proofs.Accepted.{accepted-field}
 use Rattle.writing.specs.Answers.{after}
 use Rattle.problems.specs.declared.Problem.{Problem}

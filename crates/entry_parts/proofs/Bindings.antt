@@ -15,8 +15,8 @@ use Rattle.order.specs.Types.{integer, string, atom, Kind}
 use Rattle.terms.specs.declared.Term.{Term}
 use Rattle.terms.specs.Values.{blankTerm, viewTerm}
 use Rattle.listing.specs.Variables.{Variable, numbersFrom, every, keep}
-use Rattle.text.specs.Plain.{termText, fieldText, plain}
-use Rattle.listing.specs.Lines.{Binding, Line, nameText, bindingText, leftMark, rightMark, bindingsText, lineText}
+use Rattle.text.specs.Plain.{termText, fieldText}
+use Rattle.listing.specs.Lines.{Binding, nameText, bindingText, bindingsText}
 use Rattle.entries.specs.declared.Wide.{Wide}
 use Rattle.entries.specs.declared.Entry.{Entry}
 use Rattle.renumbering.specs.declared.Names.{Names}

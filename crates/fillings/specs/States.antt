@@ -1,6 +1,6 @@
 -- The state of the fillings on values, as code keeps it. `join-agree` of proofs/Agree says that its join is the theory's.
 use mathlib.Core.Bool.{Bool, true, false, cond, _&&_}
-use mathlib.Core.List.{List, map}
+use mathlib.Core.List.{map}
 use Prim.Native.Nat.{ℕ, zero, suc, _/_, _%_}
 use lib.ListN.{getD, replicate}
 use Rattle.order.specs.Order.{basic}

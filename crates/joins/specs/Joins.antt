@@ -2,7 +2,6 @@
 use mathlib.Core.Bool.{Bool, true, cond, not, _&&_}
 use mathlib.Core.List.{List}
 use Prim.Native.Nat.{ℕ, zero, suc, _+_}
-use Rattle.order.specs.Order.{list}
 use Rattle.terms.specs.declared.Term.{Term}
 use Rattle.rows.specs.declared.Cell.{Cell}
 use Rattle.shapes.specs.Shapes.{shapeValue}

@@ -6,8 +6,6 @@ use Rattle.verdicts.specs.declared.Reason.{Reason}
 use Rattle.verdicts.specs.declared.Verdict.{Verdict}
 use Rattle.verdicts.specs.declared.Verdict.the-variants.{Accepted, Refused}
 use Rattle.verdicts.specs.Verdicts.{numberOf}
-use borrow.Author.Tests.{not-true, not-false}
-use lib.Dec.{eqb}
 use Rattle.pieces.specs.Refusals.{numberAt}
 use Rattle.match_answers.specs.Values.{verdictText}
 

@@ -3,12 +3,12 @@ use mathlib.Core.Path.{_≡_, refl, sym, _∙_, ap, ap₂, subst}
 use mathlib.Core.Logic.{_≢_, ite}
 use mathlib.Core.Bool.{Bool, true, false, cond, _&&_, false≢true}
 use mathlib.Core.Option.{Option, none, some}
-use mathlib.Core.List.{List, [], _∷_, map, map-map, foldl}
+use mathlib.Core.List.{List, [], _∷_, map, map-map}
 use Prim.Native.Nat.{ℕ, zero, suc, _+_, _-_, _<_, _≤_}
 use native.Mathlib.Omega.{arith}
 use native.Mathlib.Decide.{ℕ-discrete}
 use borrow.Author.Tests.{eq-eqb, ne-eqb, eqb-true}
-use lib.Dec.{eqb, leb}
+use lib.Dec.{eqb}
 use lib.ListN.{length, getD, set, take, drop, replicate, length-set, length-map, getD-replicate}
 use lib.Seq.{getD-set-same, getD-set-other, take-at}
 use Rattle.lists.specs.Seqs.{All, both?}
@@ -18,7 +18,7 @@ use Rattle.order.specs.Values.{kindOf, kindFrom, kindOf-from}
 use Rattle.theory.specs.Terms.{con, var}
 use Rattle.theory.specs.Fillings.{Filling}
 use Rattle.theory.specs.Matcher.{andThen, atoms, width, blank, bind, same, meets, test, walk, matchField, matchFields, hasRoom, room}
-use Rattle.theory.specs.Linear.{lists, OneList}
+use Rattle.theory.specs.Linear.{OneList}
 use Rattle.theory.proofs.Slices.{span, room-span}
 use Rattle.theory.proofs.Seqs.{item-at}
 use Rattle.text.specs.Sizes.{longestString}

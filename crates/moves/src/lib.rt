@@ -1,6 +1,6 @@
 // What the search's rules make of an equation. Each rule is a test of the two sides' heads and what it leaves.
 ghost use mathlib.Core.Path.{_≡_};
-ghost use mathlib.Core.List.{[], _∷_};
+ghost use mathlib.Core.List.{_∷_};
 ghost use lib.ListN.{drop};
 ghost use Rattle.theory.specs.Seqs.{concat-map};
 ghost use Rattle.items.specs.Items.{itemsOf, collect};

@@ -15,7 +15,6 @@ use Rattle.joins.specs.Joins.{joinFields}
 use Rattle.entries.specs.declared.Entry.{Entry}
 use Rattle.shown.specs.declared.Shown.{Shown}
 use Rattle.rule_shown.specs.Values.{shownValue}
-use Rattle.writing.specs.Answers.{after}
 use Rattle.entry_lines.specs.Lines.{lineValue, lineBound}
 use Rattle.pieces.proofs.Stored.{bytes-length, stores-append, stores-length}
 use Rattle.overlaps.specs.declared.Pair.{Pair}

@@ -4,9 +4,8 @@
 use mathlib.Core.Path.{_≡_, refl, sym, ap, subst}
 use mathlib.Core.Bool.{Bool, true, false, not}
 use mathlib.Core.WellFounded.{WellFounded, InvImage·wf}
-use Prim.Native.Nat.{ℕ, _+_, _-_, _<_, _≤_, _^_}
+use Prim.Native.Nat.{ℕ, _-_, _<_, _≤_, _^_}
 use mathlib.Core.List.{[], _∷_, List, foldl}
-use native.Mathlib.Omega.{arith}
 use lib.Dec.{T as Holds, ltb, ltb→lt, nltb→le}
 use lib.WfN.{Nat·lt-wfRel}
 use lib.ListN.{length}
@@ -39,7 +38,7 @@ use Rattle.scanning.proofs.Piece.Laws as O′
 use Rattle.walks.proofs.Walk.{Spots, room, holds, envOf, cells, pos, allocs-all, frees-all, var, sets}
 use Rattle.walks.proofs.Returns.{Spelt, Good, Returns, Met, returns-plain, calls-plain, calls-shared}
 use Rattle.refusals.specs.declared.At.{At}
-use Rattle.reading.specs.Places.{first, spelled, termAt, markAt}
+use Rattle.reading.specs.Places.{first, termAt, markAt}
 use Rattle.reading.specs.Build.{turns, turned, put, whole as whole-of}
 use Rattle.refusals.proofs.At as P
 use Rattle.refusals.proofs.At.Laws as P′

@@ -1,7 +1,7 @@
 -- The shape of a field, on values, as code computes it. `shape-agree` of proofs/Agree says that it is the shape of the mathematics.
 use mathlib.Core.Bool.{Bool, true, false, cond}
 use mathlib.Core.List.{List, foldl}
-use Prim.Native.Nat.{ℕ, _+_, _≤_, min}
+use Prim.Native.Nat.{_+_, _≤_, min}
 use lib.ListN.{take}
 use Rattle.order.specs.Order.{basic, list}
 use Rattle.order.specs.Types.{Kind}

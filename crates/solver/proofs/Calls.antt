@@ -31,7 +31,6 @@ use denote.Triple.Spec.{tripleOf}
 use denote.Triple.Statement.{Contract, Triple}
 use denote.Triple.Call.{calls-at}
 use denote.Triple.Clauses.{ensured, lasts}
-use denote.Triple.Walked.{says}
 use Rattle.terms.specs.declared.Field.{Field}
 use Rattle.terms.proofs.Field as F
 use Rattle.terms.proofs.Field.Laws as F′

@@ -2,7 +2,7 @@
 use lib.ListN.{List·getD-eq-default}
 use Rattle.items.specs.Items.{itemsOf}
 use Rattle.moves.proofs.Numbers.{not-below}
-use mathlib.Core.Path.{_≡_, sym, _∙_}
+use mathlib.Core.Path.{sym, _∙_}
 use Rattle.moves.specs.Moves.{noMove, allOf}
 use borrow.Author.Needs.{needs}
 use Rattle.moves.proofs.move_of.Statement.{statement}

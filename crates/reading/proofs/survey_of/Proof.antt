@@ -3,9 +3,8 @@
 use mathlib.Core.Path.{_≡_, refl, sym, subst}
 use mathlib.Core.Bool.{Bool, true, false, not}
 use mathlib.Core.WellFounded.{WellFounded, InvImage·wf}
-use Prim.Native.Nat.{ℕ, _+_, _-_, _<_, _≤_}
+use Prim.Native.Nat.{ℕ, _-_, _<_, _≤_}
 use mathlib.Core.List.{[], _∷_, List, foldl}
-use native.Mathlib.Omega.{arith}
 use lib.Dec.{T as Holds, ltb, ltb→lt, nltb→le}
 use lib.WfN.{Nat·lt-wfRel}
 use lib.ListN.{length}
@@ -50,7 +49,7 @@ use Rattle.walks.proofs.Returns.{Met, returns-plain, calls-plain}
 use Rattle.verdicts.specs.Verdicts.{sortOf}
 use Rattle.refusals.specs.declared.At.{At}
 use Rattle.refusals.specs.declared.Survey.{Survey}
-use Rattle.reading.specs.Places.{first, spelled, termAt}
+use Rattle.reading.specs.Places.{first, termAt}
 use Rattle.refusals.specs.Refusals.{surveyed, surveyMark, nothingYet}
 use Rattle.refusals.proofs.At as P
 use Rattle.refusals.proofs.At.Laws as P′

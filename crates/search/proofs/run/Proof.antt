@@ -37,7 +37,7 @@ use denote.Triple.Table.{entered, cited}
 use denote.Triple.Walked.{says, needs, Stays, stay-slice, stay-none, walkOf, goes-slice, goes-none, ends-at, walked, walk-meets}
 use denote.Exit.{yes}
 use Rattle.problems.specs.declared.Problem.{Problem}
-use Rattle.queue.specs.Machine.{Config, conf, next, after, Ends, Reaches, turn-on, turn-off}
+use Rattle.queue.specs.Machine.{Config, conf, next, after, Ends, turn-on, turn-off}
 use Rattle.problems.proofs.Problem as T
 use Rattle.turns.proofs.State as S
 use Rattle.turns.proofs.State.Laws as S′

@@ -62,7 +62,7 @@ use Rattle.search.proofs.blank.Symbol as blank-def
 use Rattle.search.proofs.blank.Symbol.{name as #search·blank}
 use Rattle.search.proofs.blank.Met as blank-thm
 use Rattle.search.specs.declared.Searched.{Searched}
-use Rattle.search.specs.Answers.{reported, Halts, Done}
+use Rattle.search.specs.Answers.{Halts, Done}
 use Rattle.search.proofs.Searched as N
 use Rattle.search.proofs.Searched.Laws as N′
 use Rattle.search.proofs.Settled.{halts, settled}
