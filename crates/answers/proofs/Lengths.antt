@@ -1,7 +1,6 @@
 -- How long an answer is, and that only the first bytes of a line matter. Assumes nothing.
 use mathlib.Core.Path.{_≡_, refl, ap}
 use mathlib.Core.Logic.{inl}
-use mathlib.Core.Bool.{Bool, true, false, cond}
 use mathlib.Core.List.{List, []}
 use Prim.Native.Nat.{ℕ, _≤_, _<_}
 use native.Mathlib.Omega.{arith}
@@ -14,22 +13,10 @@ use Rattle.text.specs.Read.{Reason, long, rule, slip, Outcome, refused, accepte
 use Rattle.text.proofs.Read.{read-refused}
 use Rattle.text.proofs.Refused.{rule-place, slip-place}
 use Rattle.text.proofs.Accepted.{rule-read, rule-length}
-use Rattle.terms.specs.declared.Rule.{Rule}
-use Rattle.terms.specs.Values.{viewRule}
-use Rattle.accepted.specs.Accepted.{acceptedRule, countedRule}
-use Rattle.accepted.proofs.Accepted.{accepted-rule}
 use Rattle.pieces.proofs.Refusals.{number-at-length}
 use Rattle.answers.specs.Texts.{refusalText, ruleText, slipText, ruleAnswer, slipAnswer, textsAnswer}
 
 -- ---- answers
-
--- what is written of a value: its plain text, or nothing
-pub plain-short : (r : Rule) → length (plain (countedRule r)) ≤ 1151
-plain-short r = go (acceptedRule r) refl
-  where
-    go : (b : Bool) → acceptedRule r ≡ b → length (plain (cond b (viewRule r) [])) ≤ 1151
-    go true e = rule-length (viewRule r) (accepted-rule r e .0 .0)
-    go false e = omega arith
 
 refusal-length : (r : Reason) (p : ℕ) → p < 10000 → length (refusalText r p) ≤ 17
 refusal-length r p h = omega (arith, number-at-length r p h)

@@ -26,17 +26,6 @@ pub fn blank_wide() -> Wide
     }
 }
 
-// The entry with no fields.
-pub fn blank_entry() -> Entry
-    ensures { λ r. ⌜ r ≡ blankEntry ⌝ }
-{
-    let f = blank_wide();
-    Entry {
-        n: 0,
-        fields: [f; 4],
-    }
-}
-
 // The field with t behind its terms. A full field stays as it is.
 pub fn push(w: Wide, t: Term) -> Wide
     ensures { λ r. ⌜ r ≡ pushed w t ⌝ }

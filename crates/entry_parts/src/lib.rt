@@ -1,18 +1,18 @@
-// The parts of the line of an entry of the overlap list: its fields, and the bindings of a rule's variables.
+// The parts of a line of an entry: terms, and the bindings of a rule's variables.
 ghost use mathlib.Core.Path.{_≡_};
 ghost use mathlib.Core.List.{[], _∷_};
 ghost use Prim.Native.Nat.{_-_, _≤_, _<_, min};
 ghost use lib.ListN.{length};
 ghost use Rattle.order.specs.Order.{list};
 ghost use Rattle.order.specs.Values.{kindOf, kindFrom};
-ghost use Rattle.text.specs.Plain.{termText, fieldText, plain};
+ghost use Rattle.text.specs.Plain.{termText, fieldText};
 ghost use Rattle.theory.specs.Terms.{var};
 ghost use Rattle.terms.specs.Values.{viewTerm};
 ghost use Rattle.listing.specs.Lines.{bindingText, bindingsText};
 ghost use Rattle.renumbering.specs.Names.{renamedTerm};
 ghost use Rattle.pieces.specs.Placed.{Placed};
 ghost use Rattle.shown.specs.Shown.{wideRun};
-ghost use Rattle.entry_parts.specs.Shown.{renamedTerms, fieldOf, fieldsOf, runWithin, frontText, bindingTo, kindAt, shownBindings};
+ghost use Rattle.entry_parts.specs.Shown.{renamedTerms, runWithin, frontText, bindingTo, kindAt, shownBindings};
 use entries::Entry;
 use entries::Wide;
 use order::Kind;
@@ -24,7 +24,7 @@ use terms::Term;
 
 // ---- pieces: each is put at a place as far as there is room, and returns the place behind it
 
-fn put_byte(b: u8, out: &mut [u8], at: usize) -> usize
+pub fn put_byte(b: u8, out: &mut [u8], at: usize) -> usize
     ensures { λ r. ⌜ Placed (b ∷ []) at (now (out .entry)) r (now (out .exit)) ⌝ }
 {
     if out.len() <= at {
@@ -44,7 +44,7 @@ fn put_term(t: Term, out: &mut [u8], at: usize) -> usize
     pieces::put_bytes(&text[..size], out, at)
 }
 
-// ---- the entry's fields
+// ---- runs of a field's terms
 
 // A count beyond the array counts for the whole array.
 fn at_most(n: usize, places: usize) -> usize
@@ -54,7 +54,7 @@ fn at_most(n: usize, places: usize) -> usize
 }
 
 // How many terms a run of so many from the start has, of a field that has n.
-fn run_length(n: usize, start: usize, count: usize) -> usize
+pub fn run_length(n: usize, start: usize, count: usize) -> usize
     ensures { λ r. ⌜ r ≡ min count (min n 31 - start) ⌝ }
 {
     let m = at_most(n, 31);
@@ -64,7 +64,7 @@ fn run_length(n: usize, start: usize, count: usize) -> usize
     at_most(count, m - start)
 }
 
-fn put_renamed(names: Names, t: Term, out: &mut [u8], at: usize) -> usize
+pub fn put_renamed(names: Names, t: Term, out: &mut [u8], at: usize) -> usize
     ensures { λ r. ⌜ Placed (termText (viewTerm (renamedTerm names t))) at (now (out .entry)) r (now (out .exit)) ⌝ }
     ensures { λ _. ⌜ length (termText (viewTerm (renamedTerm names t))) ≤ 17 ⌝ }
 {
@@ -97,44 +97,10 @@ fn put_run(names: Names, w: Wide, start: usize, count: usize, out: &mut [u8], at
     p
 }
 
-fn put_field(names: Names, w: Wide, out: &mut [u8], at: usize) -> usize
-    ensures { λ r. ⌜ Placed (fieldText (fieldOf names w)) at (now (out .entry)) r (now (out .exit)) ⌝ }
-    ensures { λ _. ⌜ length (fieldText (fieldOf names w)) ≤ 558 ⌝ }
-{
-    let n = w.n;
-    put_run(names, w, 0, n, out, at)
-}
-
-fn put_next_field(names: Names, w: Wide, out: &mut [u8], at: usize) -> usize
-    ensures { λ r. ⌜ Placed (124 ∷ fieldText (fieldOf names w)) at (now (out .entry)) r (now (out .exit)) ⌝ }
-    ensures { λ _. ⌜ length (fieldText (fieldOf names w)) ≤ 558 ⌝ }
-{
-    let p = put_byte(b'|', out, at);
-    put_field(names, w, out, p)
-}
-
-// The fields with a `|` between them.
-pub fn put_fields(names: Names, e: Entry, out: &mut [u8], at: usize) -> usize
-    ensures { λ r. ⌜ Placed (plain (fieldsOf names e)) at (now (out .entry)) r (now (out .exit)) ⌝ }
-    ensures { λ _. ⌜ length (plain (fieldsOf names e)) ≤ 2236 ⌝ }
-{
-    let n = at_most(e.n, 4);
-    if n == 0 {
-        return at;
-    }
-    let mut p = put_field(names, e.fields[0], out, at);
-    let mut i: usize = 1;
-    while i < n {
-        p = put_next_field(names, e.fields[i], out, p);
-        i += 1;
-    }
-    p
-}
-
 // ---- the bindings
 
 // The run, or the one with no terms where an entry of n fields has no such field.
-fn run_within(r: Run, n: usize) -> Run
+pub fn run_within(r: Run, n: usize) -> Run
     ensures { λ q. ⌜ q ≡ runWithin n r ⌝ }
     ensures { λ q. ⌜ q .field < 4 ⌝ }
 {
@@ -162,14 +128,13 @@ fn put_name(k: Kind, n: u8, out: &mut [u8], at: usize) -> usize
 }
 
 // Document 01: "a blank, `<`, name, `=`, value"; the mark is `<` or `>`. This is what stands before the value.
-fn put_front(mark: u8, k: Kind, n: usize, out: &mut [u8], at: usize) -> usize
-    requires { ⌜ n < 16 ⌝ }
+pub fn put_front(mark: u8, k: Kind, n: u8, out: &mut [u8], at: usize) -> usize
     ensures { λ r. ⌜ Placed (frontText mark (kindOf k) n) at (now (out .entry)) r (now (out .exit)) ⌝ }
     ensures { λ _. ⌜ length (frontText mark (kindOf k) n) ≤ 20 ⌝ }
 {
     let a = put_byte(b' ', out, at);
     let b = put_byte(mark, out, a);
-    let c = put_name(k, n as u8, out, b);
+    let c = put_name(k, n, out, b);
     put_byte(b'=', out, c)
 }
 
@@ -179,7 +144,7 @@ fn put_atom(names: Names, t: Term, mark: u8, k: Kind, n: usize, out: &mut [u8], 
     ensures { λ r. ⌜ Placed (bindingText mark (bindingTo names (kindOf k) n (t ∷ []))) at (now (out .entry)) r (now (out .exit)) ⌝ }
     ensures { λ _. ⌜ length (bindingText mark (bindingTo names (kindOf k) n (t ∷ []))) ≤ 37 ⌝ }
 {
-    let p = put_front(mark, k, n, out, at);
+    let p = put_front(mark, k, n as u8, out, at);
     put_renamed(names, t, out, p)
 }
 
@@ -189,12 +154,12 @@ fn put_list(names: Names, w: Wide, r: Run, mark: u8, n: usize, out: &mut [u8], a
     ensures { λ p. ⌜ Placed (bindingText mark (bindingTo names list n (wideRun w (r .start) (r .count)))) at (now (out .entry)) p (now (out .exit)) ⌝ }
     ensures { λ _. ⌜ length (bindingText mark (bindingTo names list n (wideRun w (r .start) (r .count)))) ≤ 578 ⌝ }
 {
-    let p = put_front(mark, Kind::List, n, out, at);
+    let p = put_front(mark, Kind::List, n as u8, out, at);
     put_run(names, w, r.start, r.count, out, p)
 }
 
 // The type of the variable whose place is i: 16 places each for integer, string, atom and list variables.
-fn kind_at(i: usize) -> Kind
+pub fn kind_at(i: usize) -> Kind
     ensures { λ r. ⌜ r ≡ kindFrom (kindAt i) ⌝ }
 {
     if i < 16 {

@@ -1,7 +1,7 @@
-// The state of the fillings of a pair of rules: what each atom variable stands for, and the join of two atoms.
+// The state of the fillings of a pair of rules: what each atom variable stands for. Its join stands in specs/States; code that joins works on tokens (`token_fillings`).
 ghost use mathlib.Core.Path.{_≡_};
 ghost use Rattle.order.specs.Values.{kindFrom};
-ghost use Rattle.fillings.specs.States.{takes, look, replaced, joinTerms, kindAt, startValue};
+ghost use Rattle.fillings.specs.States.{look, replaced, kindAt, startValue};
 use order::Kind;
 use terms::Form;
 use terms::Term;
@@ -11,20 +11,10 @@ pub struct Fillings {
     pub atoms: [Term; 96],
 }
 
-// The next state, or a clash with the state as it was.
+// The answer of the join of specs/States: the next state, or a clash with the state as it was.
 pub struct Joined {
     pub ok: bool,
     pub next: Fillings,
-}
-
-// Whether x is a variable that y can replace: y's type is at or below its own.
-fn takes(x: Term, y: Term) -> bool
-    ensures { λ r. ⌜ r ≡ takes x y ⌝ }
-{
-    if !atoms::is_variable(x) {
-        return false;
-    }
-    order::below(atoms::kind_of(y), atoms::kind_of(x))
 }
 
 // The type below list of this rank.
@@ -82,35 +72,5 @@ impl Fillings {
             i += 1;
         }
         st
-    }
-
-    // The next state, where what a and b stand for is one, or a clash.
-    pub fn join(self, a: Term, b: Term) -> Joined
-        ensures { λ r. ⌜ r ≡ joinTerms a b self ⌝ }
-    {
-        let x = self.atom(a);
-        let y = self.atom(b);
-        if atoms::same_atom(x, y) {
-            return Joined {
-                ok: true,
-                next: self,
-            };
-        }
-        if takes(x, y) {
-            return Joined {
-                ok: true,
-                next: self.replace(x, y),
-            };
-        }
-        if takes(y, x) {
-            return Joined {
-                ok: true,
-                next: self.replace(y, x),
-            };
-        }
-        Joined {
-            ok: false,
-            next: self,
-        }
     }
 }

@@ -1,5 +1,5 @@
 -- The joins of a candidate on values, as code makes them. The theorem of proofs/Agree says that they are the joins that the overlap list has.
-use mathlib.Core.Bool.{Bool, true, cond, not, _&&_}
+use mathlib.Core.Bool.{true, cond, _&&_}
 use mathlib.Core.List.{List}
 use Prim.Native.Nat.{ℕ, zero, suc, _+_}
 use Rattle.terms.specs.declared.Term.{Term}
@@ -9,7 +9,6 @@ use Rattle.rows.specs.Rows.{cellValue}
 use Rattle.fillings.specs.declared.Fillings.{Fillings}
 use Rattle.fillings.specs.declared.Joined.{Joined}
 use Rattle.fillings.specs.States.{joinTerms}
-use Rattle.atoms.specs.Atoms.{sameAtom, heldBy}
 
 -- go on if the join before did not clash
 abbrev pub goOn : Joined → (Fillings → Joined) → Joined
@@ -18,10 +17,6 @@ goOn j k = cond (j .ok) (k (j .next)) j
 -- "Atoms that share a position are joined."
 abbrev pub joinCells : Cell → Cell → Fillings → Joined
 joinCells a b st = cond (a .some && b .some) (joinTerms (a .atom) (b .atom) st) (record { ok = true; next = st })
-
--- whether the join changes the state or clashes; x and y are what the places to read for the two atoms have (`joins-not` and `joins-so` of proofs/Loops)
-abbrev pub differ : Cell → Cell → Term → Term → Bool
-differ a b x y = a .some && (b .some && not (sameAtom (heldBy (a .atom .form) (a .atom) x) (heldBy (b .atom .form) (b .atom) y)))
 
 -- the positions from p on, k of them
 abbrev pub joinFrom : (ℕ → Cell) → (ℕ → Cell) → ℕ → ℕ → Fillings → Joined

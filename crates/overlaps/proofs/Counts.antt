@@ -16,7 +16,7 @@ use Rattle.choices.specs.Choices.{noChoice, chosenAt}
 use Rattle.joins.specs.Joins.{joinFields}
 use Rattle.writing.specs.Answers.{after}
 use Rattle.pieces.proofs.Stored.{stored}
-use Rattle.overlaps.specs.declared.Pair.{Pair}
+use Rattle.overlaps.specs.Pairs.{Pair}
 use Rattle.overlaps.specs.declared.Tally.{Tally}
 use Rattle.overlaps.specs.declared.Candidate.{Candidate}
 use Rattle.overlaps.specs.declared.Listed.the-variants.{Lines, TooSmall}

@@ -37,7 +37,7 @@ use Rattle.joins.specs.Views.{ShapeIn}
 use Rattle.choices.specs.Views.{isLong, ChoiceHolds}
 use Rattle.joins.proofs.Agree.{join-fields-agree}
 use Rattle.choices.proofs.Agree.{no-choice-holds, long-at, chosen-holds, FieldsFrom}
-use Rattle.overlaps.specs.declared.Pair.{Pair}
+use Rattle.overlaps.specs.Pairs.{Pair}
 use Rattle.overlaps.specs.declared.Candidate.{Candidate}
 use Rattle.overlaps.specs.Lines.{lineAt}
 use Rattle.overlaps.specs.Listing.{leftAt, rightAt, spanAt, candidateOf, afterJoin, candidateLines, choiceLines, linesFrom, allLines}

@@ -17,9 +17,10 @@ use Rattle.shown.specs.declared.Shown.{Shown}
 use Rattle.rule_shown.specs.Values.{shownValue}
 use Rattle.entry_lines.specs.Lines.{lineValue, lineBound}
 use Rattle.pieces.proofs.Stored.{bytes-length, stores-append, stores-length}
-use Rattle.overlaps.specs.declared.Pair.{Pair}
+use Rattle.overlaps.specs.Pairs.{Pair}
 use Rattle.overlaps.specs.declared.Tally.{Tally}
 use Rattle.overlaps.specs.declared.Candidate.{Candidate}
+use Rattle.rule_shown.specs.Plain.{plainRule}
 use Rattle.overlaps.specs.Lines.{lineAt}
 use Rattle.pieces.specs.Stored.{bytesOf, storeAll}
 use Rattle.overlaps.specs.Listing.{leftAt, rightAt, spanAt, candidateOf, candidateLines, choiceLines, linesFrom, tallied, Moderate, Countable}
@@ -104,12 +105,12 @@ module _ (t : Tally) (old : List ℕ) where
 
 -- ---- the line of a whole choice
 
-pub line-is : (p : Pair) (ch : Choice) (st : Fillings) (e : Entry) (l r : Shown) → e ≡ entryOf (p .left) (p .sided) ch st → l ≡ shownValue (p .left) (p .left) e st → r ≡ shownValue (p .right) (p .sided) e st
+pub line-is : (p : Pair) (ch : Choice) (st : Fillings) (e : Entry) (l r : Shown) → e ≡ entryOf (p .left) (p .sided) ch st → l ≡ shownValue (plainRule (p .left)) (p .left) e st → r ≡ shownValue (plainRule (p .sided)) (p .sided) e st
     → lineValue e l r ≡ lineAt p ch st
 unfolding lineAt
 line-is p ch st e l r a b c =
     ap₂ (λ (x y : Shown). lineValue e x y) b c
-    ∙ ap (λ (x : Entry). lineValue x (shownValue (p .left) (p .left) x st) (shownValue (p .right) (p .sided) x st)) a
+    ∙ ap (λ (x : Entry). lineValue x (shownValue (plainRule (p .left)) (p .left) x st) (shownValue (plainRule (p .sided)) (p .sided) x st)) a
 
 -- ---- the candidates of field j one after the other, from a tally t and the bytes old: k are left, and what is left makes what was to list
 

@@ -51,8 +51,9 @@ use Rattle.rule_shown.proofs.Agree.{theValues, known-agree, atom-agree, run-agr
 use Rattle.entry_lines.specs.Lines.{lineValue}
 use Rattle.entry_parts.specs.Shows.{Shows}
 use Rattle.entry_lines.proofs.Lines.{line-agrees}
-use Rattle.overlaps.specs.declared.Pair.{Pair}
-use Rattle.overlaps.specs.Lines.{lineAt}
+use Rattle.overlaps.specs.Pairs.{Pair}
+use Rattle.rule_shown.proofs.Plain.{plain-left, plain-right}
+use Rattle.overlaps.specs.Lines.{entryAt, lineAt}
 use Rattle.overlaps.specs.Listing.{allLines}
 use Rattle.overlaps.proofs.Entries.{Raw, rawFrom, all-agree}
 
@@ -151,8 +152,8 @@ module _ (r₁ r₂ : List (List OurTerm)) (is₁ : IsRule r₁) (is₂ : IsRule
   abbrev Ts : List OurShape
   Ts = shapes₂ .0
 
-  abbrev pub pairOf : Pair
-  pairOf = record { left = encodeRule r₁; right = encodeRule r₂; sided = rightRule (encodeRule r₂) }
+  abbrev pub rulePair : Pair
+  rulePair = record { left = encodeRule r₁; sided = rightRule (encodeRule r₂) }
 
   few : length Ss ≤ mostFields
   few = omega (arith, shapes-length left r₁ Ss (shapes₁ .1), is₁ .0 .1)
@@ -160,10 +161,11 @@ module _ (r₁ r₂ : List (List OurTerm)) (is₁ : IsRule r₁) (is₂ : IsRule
   line : Raw → List ℕ
   line e = lineText (lineOf r₁ r₂ (shown basics consts ℕ-discrete Ss Ts e))
 
-  line-agree : (st : Fillings) (s : OurState) (ch : Choice) (cs : List Cand) → Holds st s → ChoiceHolds ch Ss Ts cs → List·Memᴰ (cs, s) (rawFrom Ss Ts (start basics consts names)) → lineAt pairOf ch st ≡ line (cs, s)
+  line-agree : (st : Fillings) (s : OurState) (ch : Choice) (cs : List Cand) → Holds st s → ChoiceHolds ch Ss Ts cs → List·Memᴰ (cs, s) (rawFrom Ss Ts (start basics consts names)) → lineAt rulePair ch st ≡ line (cs, s)
   unfolding lineAt line
   line-agree st s ch cs h c i =
-      ap (λ (e : Entry). lineValue e (shownValue (encodeRule r₁) (encodeRule r₁) e st) (shownValue (encodeRule r₂) (rightRule (encodeRule r₂)) e st)) entry
+      ap₂ (λ (x y : Rule). lineValue (entryAt rulePair ch st) (shownValue x (encodeRule r₁) (entryAt rulePair ch st) st) (shownValue y (rightRule (encodeRule r₂)) (entryAt rulePair ch st) st)) (plain-left r₁ (is₁ .0 .3)) (plain-right r₂ (is₂ .0 .3))
+      ∙ ap (λ (e : Entry). lineValue e (shownValue (encodeRule r₁) (encodeRule r₁) e st) (shownValue (encodeRule r₂) (rightRule (encodeRule r₂)) e st)) entry
       ∙ ap₂ (λ (x y : Shown). lineValue (entryValue fs) x y) (left-values r₁ is₁ Ss fs many₁ st s h (shapes₁ .1)) (right-values r₂ is₂ Ts fs many₂ st s h (shapes₂ .1))
       ∙ line-agrees fs (marked-in st s h Ss Ts cs few (shapes-in left r₁ is₁ Ss (shapes₁ .1)) (shapes-in right r₂ is₂ Ts (shapes₂ .1))) r₁ r₂
       (markedValue basics consts ℕ-discrete left Ss s fs) (markedValue basics consts ℕ-discrete right Ts s fs)
@@ -191,10 +193,10 @@ module _ (r₁ r₂ : List (List OurTerm)) (is₁ : IsRule r₁) (is₂ : IsRule
           ∙ entry-agree st s h Ss Ts few (shapes-in left r₁ is₁ Ss (shapes₁ .1)) (shapes-in right r₂ is₂ Ts (shapes₂ .1)) cs ch c
 
   -- ALL LINES are those of the overlap list
-  pub lines-are : allLines pairOf ≡ map lineText (linesOf r₁ r₂)
+  pub lines-are : allLines rulePair ≡ map lineText (linesOf r₁ r₂)
   unfolding line
   lines-are =
-      all-agree pairOf line Ss Ts line-agree (shapes-in left r₁ is₁ Ss (shapes₁ .1)) (shapes-in right r₂ is₂ Ts (shapes₂ .1))
+      all-agree rulePair line Ss Ts line-agree (shapes-in left r₁ is₁ Ss (shapes₁ .1)) (shapes-in right r₂ is₂ Ts (shapes₂ .1))
       (shapes-length left r₁ Ss (shapes₁ .1) ∙ same ∙ sym (shapes-length right r₂ Ts (shapes₂ .1))) few (sym (shapes-length left r₁ Ss (shapes₁ .1)))
       (subst (λ (x : Rule). FieldsFrom 0 (x .fields) Ss) (sym (left-value r₁ Ss (shapes₁ .1))) (fields-there Ss (replicate (mostFields - length (map encodeField (map shapeTerms Ss))) blankField)))
       (subst (λ (x : Rule). FieldsFrom 0 (x .fields) Ts) (sym (right-value r₂ Ts (is₂ .0 .3) (shapes₂ .1))) (fields-there Ts (replicate (mostFields - length (map encodeField (map shapeTerms Ts))) blankField)))

@@ -33,6 +33,9 @@ use Rattle.overlaps.specs.declared.Listed.{Listed}
 use Rattle.overlaps.specs.declared.Listed.the-variants.{Lines, TooSmall}
 use Rattle.pieces.specs.Stored.{bytesOf}
 use Rattle.overlaps.specs.Listing.{allLines, AsRead}
+use Rattle.tokens.specs.declared.TokenRule.{TokenRule}
+use Rattle.tokens.specs.Tokens.{ruleOf}
+use Rattle.overlaps.specs.Pairs.{saidRule, Said}
 use Rattle.overlaps.specs.Answers.{counted, listedOf, answerOf}
 use Rattle.overlaps.proofs.Entries.{Raw, rawFrom}
 use Rattle.overlaps.proofs.Lines.{lines-are}
@@ -67,7 +70,7 @@ listed-none none p h = refl
 listed-none (some Ss) none h = refl
 listed-none (some Ss) (some Ts) h = ap (map (shown basics consts ℕ-discrete Ss Ts)) (raw-none Ss Ts (start basics consts names) (h Ss Ts refl refl))
 
-pub lines-none : (r₁ r₂ : List (List OurTerm)) → length r₁ ≢ length r₂ → linesOf r₁ r₂ ≡ []
+lines-none : (r₁ r₂ : List (List OurTerm)) → length r₁ ≢ length r₂ → linesOf r₁ r₂ ≡ []
 lines-none [] r₂ n = refl
 lines-none (f ∷ r₁) r₂ n = ap (map (lineOf (f ∷ r₁) r₂)) (listed-none (shapesOf left (f ∷ r₁)) (shapesOf right r₂)
     (λ Ss Ts a b e. n (sym (shapes-length left (f ∷ r₁) Ss a) ∙ e ∙ shapes-length right r₂ Ts b)))
@@ -77,13 +80,6 @@ no-right [] = refl
 no-right (f ∷ r) = lines-none (f ∷ r) [] (λ e. absurd (omega (arith, e)))
 
 -- ---- rule values
-
--- what no reading returns has no fields
-pub not-left : (v w : Rule) → acceptedRule v ≡ false → linesOf (countedRule v) (countedRule w) ≡ []
-not-left v w e = ap (λ (b : Bool). linesOf (cond b (viewRule v) []) (countedRule w)) e
-
-pub not-right : (v w : Rule) → acceptedRule w ≡ false → linesOf (countedRule v) (countedRule w) ≡ []
-not-right v w e = ap (λ (b : Bool). linesOf (countedRule v) (cond b (viewRule w) [])) e ∙ no-right (countedRule v)
 
 module _ (v : Rule) (h : acceptedRule v ≡ true) where
   counted-is : countedRule v ≡ viewRule v
@@ -98,7 +94,7 @@ module _ (v : Rule) (h : acceptedRule v ≡ true) where
   count-is : v .n ≡ length (countedRule v)
   count-is = sym (ap (λ (x : Rule). x .n) value-is)
 
-  pub at-most-four : v .n ≤ 4
+  at-most-four : v .n ≤ 4
   at-most-four = omega (arith, count-is, is-rule .0 .1)
 
 -- ---- the answer
@@ -119,7 +115,7 @@ no-fields v e = go (acceptedRule v) refl
     go true q = no-terms (countedRule v) (sym (count-is v q) ∙ e)
     go false q = ap (λ (b : Bool). cond b (viewRule v) []) q
 
-pub nothing-left : (v w : Rule) → v .n ≡ 0 → linesOf (countedRule v) (countedRule w) ≡ []
+nothing-left : (v w : Rule) → v .n ≡ 0 → linesOf (countedRule v) (countedRule w) ≡ []
 nothing-left v w e = ap (λ (r : List (List OurTerm)). linesOf r (countedRule w)) (no-fields v e)
 
 module _ (v w : Rule) (a : acceptedRule v ≡ true) (b : acceptedRule w ≡ true) where
@@ -127,19 +123,19 @@ module _ (v w : Rule) (a : acceptedRule v ≡ true) (b : acceptedRule w ≡ true
   other-count n = lines-none (countedRule v) (countedRule w) (λ e. n (count-is v a ∙ e ∙ sym (count-is w b)))
 
   module _ (same : v .n ≡ w .n) (x : Rule) (is-x : x ≡ rightRule w) where
-    lines : allLines (record { left = v; right = w; sided = x }) ≡ map lineText (linesOf (countedRule v) (countedRule w))
+    lines : allLines (record { left = v; sided = x }) ≡ map lineText (linesOf (countedRule v) (countedRule w))
     lines =
-        ap (λ (y : Rule). allLines (record { left = v; right = w; sided = y })) is-x
-        ∙ ap₂ (λ (y z : Rule). allLines (record { left = y; right = z; sided = rightRule z })) (sym (value-is v a)) (sym (value-is w b))
+        ap (λ (y : Rule). allLines (record { left = v; sided = y })) is-x
+        ∙ ap₂ (λ (y z : Rule). allLines (record { left = y; sided = rightRule z })) (sym (value-is v a)) (sym (value-is w b))
         ∙ lines-are (countedRule v) (countedRule w) (is-rule v a) (is-rule w b) (sym (count-is v a) ∙ same ∙ count-is w b)
 
-    bytes : bytesOf (allLines (record { left = v; right = w; sided = x })) ≡ overlapText (countedRule v) (countedRule w)
+    bytes : bytesOf (allLines (record { left = v; sided = x })) ≡ overlapText (countedRule v) (countedRule w)
     bytes = ap bytesOf lines ∙ texts-are (linesOf (countedRule v) (countedRule w))
 
-    entries : length (allLines (record { left = v; right = w; sided = x })) ≡ length (linesOf (countedRule v) (countedRule w))
+    entries : length (allLines (record { left = v; sided = x })) ≡ length (linesOf (countedRule v) (countedRule w))
     entries = ap length lines ∙ length-map (linesOf (countedRule v) (countedRule w)) lineText
 
-    pub pair-listed : (r : Listed) (old new : List ℕ) → (r ≡ answerOf (allLines (record { left = v; right = w; sided = x })) (length old)) × (new ≡ after (bytesOf (allLines (record { left = v; right = w; sided = x }))) old)
+    pair-listed : (r : Listed) (old new : List ℕ) → (r ≡ answerOf (allLines (record { left = v; sided = x })) (length old)) × (new ≡ after (bytesOf (allLines (record { left = v; sided = x }))) old)
         → (r ≡ listedOf (linesOf (countedRule v) (countedRule w)) (length old)) × (new ≡ after (overlapText (countedRule v) (countedRule w)) old)
     pair-listed r old new h = (
       h .0 ∙ ap₂ (λ (n m : ℕ). counted n m (length old)) entries (ap length bytes),
@@ -148,12 +144,43 @@ module _ (v w : Rule) (a : acceptedRule v ≡ true) (b : acceptedRule w ≡ true
 
 -- ---- values as reading returns them
 
-pub counts-differ : (v w : Rule) → AsRead v × AsRead w → v .n ≢ 0 → v .n ≢ w .n → linesOf (countedRule v) (countedRule w) ≡ []
+counts-differ : (v w : Rule) → AsRead v × AsRead w → v .n ≢ 0 → v .n ≢ w .n → linesOf (countedRule v) (countedRule w) ≡ []
 counts-differ v w h k n = go (ℕ-discrete (w .n) 0)
   where
     go : Dec (w .n ≡ 0) → linesOf (countedRule v) (countedRule w) ≡ []
     go (yes e) = ap (linesOf (countedRule v)) (no-fields w e) ∙ no-right (countedRule v)
     go (no m) = other-count v w (h .0 k) (h .1 m) n
 
-pub same-accepted : (v w : Rule) → AsRead v × AsRead w → v .n ≢ 0 → v .n ≡ w .n → (acceptedRule v ≡ true) × (acceptedRule w ≡ true)
+same-accepted : (v w : Rule) → AsRead v × AsRead w → v .n ≢ 0 → v .n ≡ w .n → (acceptedRule v ≡ true) × (acceptedRule w ≡ true)
 same-accepted v w h k e = (h .0 k, h .1 (λ z. k (e ∙ z)))
+
+-- ---- what two texts say, given by the tokens of each
+
+module _ (l r : List ℕ) (x y : TokenRule) (said : Said l r x y) where
+  left-count : x .n ≡ saidRule l .n
+  left-count = ap (λ (v : Rule). v .n) (said .0)
+
+  right-count : y .n ≡ saidRule r .n
+  right-count = ap (λ (v : Rule). v .n) (said .1)
+
+  pub said-none : x .n ≡ 0 → linesOf (countedRule (saidRule l)) (countedRule (saidRule r)) ≡ []
+  said-none e = nothing-left (saidRule l) (saidRule r) (sym left-count ∙ e)
+
+  module _ (read : AsRead (saidRule l) × AsRead (saidRule r)) (n : x .n ≢ 0) where
+    present : saidRule l .n ≢ 0
+    present e = n (left-count ∙ e)
+
+    pub said-four : x .n ≤ 4
+    said-four = omega (arith, left-count, at-most-four (saidRule l) (read .0 present))
+
+    pub said-differ : x .n ≢ y .n → linesOf (countedRule (saidRule l)) (countedRule (saidRule r)) ≡ []
+    said-differ m = counts-differ (saidRule l) (saidRule r) read present (λ e. m (left-count ∙ e ∙ sym right-count))
+
+    module _ (same : x .n ≡ y .n) (o : Listed) (old new : List ℕ)
+        (h : (o ≡ answerOf (allLines (record { left = ruleOf l r x; sided = ruleOf l r y })) (length old)) × (new ≡ after (bytesOf (allLines (record { left = ruleOf l r x; sided = ruleOf l r y }))) old)) where
+      pub said-listed : (o ≡ listedOf (linesOf (countedRule (saidRule l)) (countedRule (saidRule r))) (length old)) × (new ≡ after (overlapText (countedRule (saidRule l)) (countedRule (saidRule r))) old)
+      said-listed =
+          let counts : saidRule l .n ≡ saidRule r .n = sym left-count ∙ same ∙ right-count in
+          let a = same-accepted (saidRule l) (saidRule r) read present counts in
+          pair-listed (saidRule l) (saidRule r) (a .0) (a .1) counts (ruleOf l r y) (said .1) o old new
+          (subst (λ (v : Rule). (o ≡ answerOf (allLines (record { left = v; sided = ruleOf l r y })) (length old)) × (new ≡ after (bytesOf (allLines (record { left = v; sided = ruleOf l r y }))) old)) (said .0) h)

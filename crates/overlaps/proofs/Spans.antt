@@ -1,11 +1,11 @@
 -- How many candidates a field pair can have, of any values; and the candidate that comes next. Assumes nothing.
-use mathlib.Core.Path.{_≡_, refl, _∙_, ap, ap₂}
+use mathlib.Core.Path.{_≡_, refl, sym, _∙_, ap, ap₂}
 use mathlib.Core.Logic.{_≢_}
 use mathlib.Core.Bool.{Bool, true, false, _&&_}
-use mathlib.Core.List.{List}
+use mathlib.Core.List.{List, [], map}
 use Prim.Native.Nat.{ℕ, _+_, _-_, _≤_, _<_}
 use native.Mathlib.Omega.{arith}
-use lib.ListN.{length, getD}
+use lib.ListN.{length, getD, length-map, List·getD-map}
 use borrow.Author.Tests.{eq-eqb, ne-eqb}
 use Rattle.shapes.specs.declared.Shape.{Shape}
 use Rattle.candidates.specs.declared.Span.{Span}
@@ -18,8 +18,10 @@ use Rattle.fillings.specs.declared.Fillings.{Fillings}
 use Rattle.fillings.specs.declared.Joined.{Joined}
 use Rattle.fillings.proofs.Arrays.{entry-any}
 use Rattle.joins.specs.Joins.{joinFields}
-use Rattle.choices.proofs.Loops.{no-field}
-use Rattle.overlaps.specs.declared.Pair.{Pair}
+use Rattle.tokens.specs.declared.TokenField.{TokenField}
+use Rattle.tokens.specs.Tokens.{fieldOf}
+use Rattle.overlaps.specs.declared.TokenPair.{TokenPair}
+use Rattle.overlaps.specs.Pairs.{Pair, pairOf}
 use Rattle.overlaps.specs.Listing.{leftAt, rightAt, spanAt, candidateOf}
 
 pub few-left : (p : Pair) (j : ℕ) → spanAt p j .count ≤ 17
@@ -51,15 +53,24 @@ candidate-before s k n = rw (ne-eqb k 1 n) (ap (λ (b : Bool). record { items = 
 
 -- ---- what is read of a pair's fields: behind an array's end the reads speak of a field with no terms
 
-module _ (p : Pair) (j : ℕ) (h : j < 4) (long-l : length (p .left .fields) ≡ 4) (long-r : length (p .sided .fields) ≡ 4) where
-  left-is : termsOf (getD (p .left .fields) j no-field) ≡ leftAt p j
-  left-is = ap termsOf (entry-any (p .left .fields) j no-field blankField (omega (arith, long-l)))
+abbrev pub no-tokens : TokenField
+no-tokens = record { n = 0; tokens = [] }
 
-  right-is : termsOf (getD (p .sided .fields) j no-field) ≡ rightAt p j
-  right-is = ap termsOf (entry-any (p .sided .fields) j no-field blankField (omega (arith, long-r)))
+module _ (l r : List ℕ) (p : TokenPair) (j : ℕ) (h : j < 4) (long-l : length (p .left .fields) ≡ 4) (long-r : length (p .right .fields) ≡ 4) where
+  field-is : (fs : List TokenField) → length fs ≡ 4 → termsOf (fieldOf l r (getD fs j no-tokens)) ≡ termsOf (getD (map (fieldOf l r) fs) j blankField)
+  field-is fs e = ap termsOf (sym (List·getD-map (fieldOf l r) fs j no-tokens) ∙ entry-any (map (fieldOf l r) fs) j (fieldOf l r no-tokens) blankField (omega (arith, length-map fs (fieldOf l r), e)))
 
-  pub span-is : (s t : Shape) (r : Span) → s ≡ shapeValue (termsOf (getD (p .left .fields) j no-field)) → t ≡ shapeValue (termsOf (getD (p .sided .fields) j no-field)) → r ≡ spanValue s t → r ≡ spanAt p j
-  span-is s t r a b e = e ∙ ap₂ spanValue (a ∙ ap shapeValue left-is) (b ∙ ap shapeValue right-is)
+  left-is : termsOf (fieldOf l r (getD (p .left .fields) j no-tokens)) ≡ leftAt (pairOf l r p) j
+  left-is = field-is (p .left .fields) long-l
 
-  pub join-is : (n : ℕ) (st : Fillings) (r : Joined) → r ≡ joinFields (termsOf (getD (p .left .fields) j no-field)) (termsOf (getD (p .sided .fields) j no-field)) n st → r ≡ joinFields (leftAt p j) (rightAt p j) n st
-  join-is n st r e = e ∙ ap₂ (λ (f g : List Term). joinFields f g n st) left-is right-is
+  right-is : termsOf (fieldOf l r (getD (p .right .fields) j no-tokens)) ≡ rightAt (pairOf l r p) j
+  right-is = field-is (p .right .fields) long-r
+
+  pub span-is : (s t : Shape) (x : Span) → s ≡ shapeValue (termsOf (fieldOf l r (getD (p .left .fields) j no-tokens))) → t ≡ shapeValue (termsOf (fieldOf l r (getD (p .right .fields) j no-tokens))) → x ≡ spanValue s t
+      → x ≡ spanAt (pairOf l r p) j
+  span-is s t x a b e = e ∙ ap₂ spanValue (a ∙ ap shapeValue left-is) (b ∙ ap shapeValue right-is)
+
+  pub join-is : (n : ℕ) (st : Fillings) (x : Joined)
+      → x ≡ joinFields (termsOf (fieldOf l r (getD (p .left .fields) j no-tokens))) (termsOf (fieldOf l r (getD (p .right .fields) j no-tokens))) n st
+      → x ≡ joinFields (leftAt (pairOf l r p) j) (rightAt (pairOf l r p) j) n st
+  join-is n st x e = e ∙ ap₂ (λ (f g : List Term). joinFields f g n st) left-is right-is

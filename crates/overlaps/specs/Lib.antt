@@ -1,3 +1,4 @@
+pub mod Pairs
 pub mod Lines
 pub mod Listing
 pub mod Answers

@@ -6,12 +6,13 @@ use Rattle.entries.specs.declared.Entry.{Entry}
 use Rattle.choices.specs.declared.Choice.{Choice}
 use Rattle.choices.specs.Choices.{entryOf}
 use Rattle.rule_shown.specs.Values.{shownValue}
+use Rattle.rule_shown.specs.Plain.{plainRule}
 use Rattle.entry_lines.specs.Lines.{lineValue}
-use Rattle.overlaps.specs.declared.Pair.{Pair}
+use Rattle.overlaps.specs.Pairs.{Pair}
 
 -- the entry before the renumbering
 abbrev pub entryAt : Pair → Choice → Fillings → Entry
 entryAt p ch st = entryOf (p .left) (p .sided) ch st
 
 unfoldable pub lineAt : Pair → Choice → Fillings → List ℕ
-lineAt p ch st = lineValue (entryAt p ch st) (shownValue (p .left) (p .left) (entryAt p ch st) st) (shownValue (p .right) (p .sided) (entryAt p ch st) st)
+lineAt p ch st = lineValue (entryAt p ch st) (shownValue (plainRule (p .left)) (p .left) (entryAt p ch st) st) (shownValue (plainRule (p .sided)) (p .sided) (entryAt p ch st) st)

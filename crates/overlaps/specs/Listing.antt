@@ -22,7 +22,7 @@ use Rattle.choices.specs.Choices.{chosenAt, noChoice}
 use Rattle.joins.specs.Joins.{joinFields}
 use Rattle.pieces.specs.Stored.{bytesOf}
 use Rattle.entry_lines.specs.Lines.{lineBound}
-use Rattle.overlaps.specs.declared.Pair.{Pair}
+use Rattle.overlaps.specs.Pairs.{Pair}
 use Rattle.overlaps.specs.declared.Tally.{Tally}
 use Rattle.overlaps.specs.declared.Candidate.{Candidate}
 use Rattle.overlaps.specs.Lines.{lineAt}

@@ -1,16 +1,15 @@
 -- Of a text without refusals, the terms put one by one into fields and the fields into the whole make the one value of what the text says.
 use mathlib.Core.Path.{_≡_, refl, sym, _∙_, ap, ap₂}
-use mathlib.Core.Logic.{_≢_, _⊎_, inl, inr}
+use mathlib.Core.Logic.{_≢_, inr}
 use mathlib.Core.Bool.{Bool, true, false, _&&_}
 use mathlib.Core.List.{List, [], _∷_, _++_, map, foldl, append-nil, append-assoc, map-append}
 use mathlib.Core.List.{foldl-append}
-use Prim.Native.Nat.{ℕ, suc, _+_, _-_, _%_, _<_, _≤_, min}
-use native.Mathlib.Numerals.{add-one}
+use Prim.Native.Nat.{ℕ, suc, _+_, _%_, _<_, _≤_, min}
 use native.Mathlib.Omega.{arith}
 use borrow.Author.Tests.{lt-ltb, ne-eqb}
 use lib.Dec.{ltb}
-use lib.ListN.{length, getD, take, drop, set, replicate, length-append, length-map, length-drop}
-use lib.Seq.{set-append-seam, take-all, take-suc, length-take-le, getD-drop}
+use lib.ListN.{length, set, replicate, length-append, length-map}
+use lib.Seq.{take-all}
 use Rattle.lists.specs.Seqs.{All}
 use Rattle.order.specs.Values.{kindFrom}
 use Rattle.text.specs.Sizes.{largestInteger, longestString, largestNumber, mostFields}
@@ -25,44 +24,11 @@ use Rattle.terms.specs.declared.Field.{Field}
 use Rattle.terms.specs.declared.SlipField.{SlipField}
 use Rattle.terms.specs.Values.{pad, blankTerm, blankField, blankSlipField, encodeTerm, encodeField, encodeRule, encodeSlipField, encodeSlip}
 use Rattle.scanning.specs.Pieces.{capped}
-use Rattle.reading.specs.Build.{termFrom, isEmpty, addRaw, pushField, addItem, pushSlipField, turns, turned, put, whole, builtRule, builtSlip}
+use Rattle.text_terms.specs.Terms.{termFrom}
+use Rattle.text_terms.proofs.Copies.{pad-set}
+use Rattle.reading.specs.Build.{isEmpty, addRaw, pushField, addItem, pushSlipField, turns, ofRaw, turned, put, whole, builtRule, builtSlip}
 
--- one more in the place behind the used ones
-pad-set : {A : Type 0} (w : ℕ) (d : A) (s : List A) (a : A) → length s < w → set (pad w d s) (length s) a ≡ pad w d (s ++ a ∷ [])
-pad-set w d s a h =
-    let k = w - (length s + 1) in
-    let e : w - length s ≡ suc k = omega arith in
-    let e′ : w - length (s ++ a ∷ []) ≡ k = omega (arith, length-append s (a ∷ [])) in
-    ap (λ (n : ℕ). set (s ++ replicate n d) (length s) a) e
-    ∙ set-append-seam s d (replicate k d) a
-    ∙ sym (append-assoc s (a ∷ []) (replicate k d))
-    ∙ ap (λ (n : ℕ). (s ++ a ∷ []) ++ replicate n d) (sym e′)
-
--- A LOOP that copies the bytes of z into an array of w
-module _ (w : ℕ) (t : List ℕ) (from : ℕ) where
-  abbrev pub Copied : ℕ → List ℕ → Type 0
-  Copied i bytes = (i ≤ length (drop from t)) × (bytes ≡ pad w 0 (take i (drop from t)))
-
-  pub copied-one : (i : ℕ) (bytes : List ℕ) → Copied i bytes → from + i < length t → i < w → Copied (i + 1) (set bytes i (getD t (from + i) 0))
-  copied-one i bytes v h k =
-      let z = drop from t in
-      let long : i < length z = omega (arith, length-drop from t) in
-      let e : length (take i z) ≡ i = length-take-le i z (omega arith) in (
-        omega arith,
-        ap₂ (λ (l : List ℕ) (b : ℕ). set l i b) (v .1) (sym (getD-drop from t i 0))
-            ∙ ap (λ (n : ℕ). set (pad w 0 (take i z)) n (getD z i 0)) (sym e)
-            ∙ pad-set w 0 (take i z) (getD z i 0) (omega arith)
-            ∙ ap (pad w 0) (sym (take-suc z i 0 long) ∙ ap (λ (n : ℕ). take n z) (sym (add-one i))),
-      )
-
-  pub copied-all : (i n : ℕ) (bytes : List ℕ) → Copied i bytes → i ≤ n → (n ≤ i) ⊎ (length t - from ≤ i) → bytes ≡ pad w 0 (take n (drop from t))
-  copied-all i n bytes v h (inl k) = let e : i ≡ n = omega arith in v .1 ∙ ap (λ (m : ℕ). pad w 0 (take m (drop from t))) e
-  copied-all i n bytes v h (inr k) =
-      let z = drop from t in
-      let d = length-drop from t in
-      v .1 ∙ ap (pad w 0) (take-all i z (omega arith) ∙ sym (take-all n z (omega arith)))
-
--- the same of what a list of A is encoded as, stored at the count
+-- one more in the place behind the used ones, of what a list of A is encoded as
 module _ {A B : Type 0} (enc : A → B) (d : B) (w : ℕ) (s : List A) (a : A) (h : length s < w) where
   pub stored : set (pad w d (map enc s)) (length s) (enc a) ≡ pad w d (map enc (s ++ a ∷ []))
   stored =
@@ -108,10 +74,10 @@ module _ {F R : Type 0} (encF : List OurTerm → F) (encR : List (List OurTerm) 
       go false = refl
 
   -- the further terms of a field
-  more : (rs : List Raw) (p n i : ℕ) (b : R × F) → foldl (put blank add push) b (marksF p n (suc (suc i)) rs) ≡ (b .0, foldl add (b .1) rs)
+  more : (rs : List Raw) (p n i : ℕ) (b : R × F) → foldl (put blank (ofRaw add) push) b (marksF p n (suc (suc i)) rs) ≡ (b .0, foldl add (b .1) rs)
   more [] p n i b = refl
   more (r ∷ rs) p n i b =
-      ap (λ (c : Bool). foldl (put blank add push) (turned blank add push c b .0, add (turned blank add push c b .1) r) (marksF (suc (p + length (spell r))) n (suc (suc (suc i))) rs)) (turns-not n (suc (suc i)) (λ e. omega arith))
+      ap (λ (c : Bool). foldl (put blank (ofRaw add) push) (turned blank (ofRaw add) push c b .0, add (turned blank (ofRaw add) push c b .1) r) (marksF (suc (p + length (spell r))) n (suc (suc (suc i))) rs)) (turns-not n (suc (suc i)) (λ e. omega arith))
       ∙ more rs (suc (p + length (spell r))) n (suc i) (b .0, add (b .1) r)
 
   turns-yes : (n : ℕ) → turns (suc (suc n)) 1 ≡ true
@@ -119,15 +85,15 @@ module _ {F R : Type 0} (encF : List OurTerm → F) (encR : List (List OurTerm) 
 
   -- the fields behind the first, which is cur
   later : (x : List (List Raw)) (p n : ℕ) (done : List (List OurTerm)) (cur : List OurTerm) → All FieldOk x → All Fine x → length done + length x < mostFields
-      → whole blank add push (foldl (put blank add push) (encR done, encF cur) (marksT p (suc (suc n)) x)) ≡ encR (done ++ cur ∷ fieldsOf x)
+      → whole blank (ofRaw add) push (foldl (put blank (ofRaw add) push) (encR done, encF cur) (marksT p (suc (suc n)) x)) ≡ encR (done ++ cur ∷ fieldsOf x)
   later [] p n done cur g o h = push-is done cur (omega arith)
   later ([] ∷ fs) p n done cur g o h = absurd (g .0 .0)
   later ((r ∷ rs) ∷ fs) p n done cur g o h =
       let q = suc (p + length (spellF (r ∷ rs))) in
       let field = r ∷ rs in
-      ap (whole blank add push) (foldl-append (put blank add push) (encR done, encF cur) (marksF p (suc (suc n)) 1 field) (marksT q (suc (suc (suc n))) fs)
-      ∙ ap (λ (b : R × F). foldl (put blank add push) b (marksT q (suc (suc (suc n))) fs))
-      (ap (λ (c : Bool). foldl (put blank add push) (turned blank add push c (encR done, encF cur) .0, add (turned blank add push c (encR done, encF cur) .1) r) (marksF (suc (p + length (spell r))) (suc (suc n)) 2 rs)) (turns-yes n)
+      ap (whole blank (ofRaw add) push) (foldl-append (put blank (ofRaw add) push) (encR done, encF cur) (marksF p (suc (suc n)) 1 field) (marksT q (suc (suc (suc n))) fs)
+      ∙ ap (λ (b : R × F). foldl (put blank (ofRaw add) push) b (marksT q (suc (suc (suc n))) fs))
+      (ap (λ (c : Bool). foldl (put blank (ofRaw add) push) (turned blank (ofRaw add) push c (encR done, encF cur) .0, add (turned blank (ofRaw add) push c (encR done, encF cur) .1) r) (marksF (suc (p + length (spell r))) (suc (suc n)) 2 rs)) (turns-yes n)
       ∙ more rs (suc (p + length (spell r))) (suc (suc n)) 0 (push (encR done) (encF cur), add blank r)
       ∙ ap₂ (λ (a : R) (c : F). (a, c)) (push-is done cur (omega arith)) (ap (λ (f : F). foldl add f field) (sym blank-is) ∙ adds field [] (o .0 .0) (omega (arith, o .0 .1)))))
       ∙ later fs q (suc n) (done ++ cur ∷ []) (fieldOf field) (g .1) (o .1) (omega (arith, length-append done (cur ∷ [])))
@@ -135,28 +101,28 @@ module _ {F R : Type 0} (encF : List OurTerm → F) (encR : List (List OurTerm) 
 
   -- THE WHOLE
   pub built-is : (x : List (List Raw)) → TextOk x → All Fine x → length x ≤ mostFields
-      → whole blank add push (foldl (put blank add push) (encR [], blank) (marks x)) ≡ encR (fieldsOf x)
+      → whole blank (ofRaw add) push (foldl (put blank (ofRaw add) push) (encR [], blank) (marks x)) ≡ encR (fieldsOf x)
   built-is [] g o h = absurd (g .0)
   built-is ([] ∷ fs) g o h = absurd (g .1 .0 .0)
   built-is ((r ∷ rs) ∷ fs) g o h =
       let q = suc (0 + length (spellF (r ∷ rs))) in
       let field = r ∷ rs in
-      ap (whole blank add push) (foldl-append (put blank add push) (encR [], blank) (marksF 0 1 1 field) (marksT q 2 fs)
-      ∙ ap (λ (c : R × F). foldl (put blank add push) c (marksT q 2 fs))
+      ap (whole blank (ofRaw add) push) (foldl-append (put blank (ofRaw add) push) (encR [], blank) (marksF 0 1 1 field) (marksT q 2 fs)
+      ∙ ap (λ (c : R × F). foldl (put blank (ofRaw add) push) c (marksT q 2 fs))
       (more rs (suc (0 + length (spell r))) 1 0 (encR [], add blank r)
       ∙ ap (λ (c : F). (encR [], c)) (ap (λ (f : F). foldl add f field) (sym blank-is) ∙ adds field [] (o .0 .0) (omega (arith, o .0 .1)))))
       ∙ later fs q 0 [] (fieldOf field) (g .1 .1) (o .1) (omega arith)
 
 -- one term put, as code does it: whether a field is complete, then the term
-module _ {F R : Type 0} (blank : F) (add : F → Raw → F) (push : R → F → R) where
+module _ {F R : Type 0} (blank : F) (add : F → Mark → F) (push : R → F → R) where
   pub turned-yes : (c : Bool) (b : R × F) (r : R) (f : F) → c ≡ true → r ≡ push (b .0) (b .1) → f ≡ blank → (r, f) ≡ turned blank add push c b
   turned-yes c b r f e p q = ap₂ (λ (x : R) (y : F). (x, y)) p q ∙ ap (λ (d : Bool). turned blank add push d b) (sym e)
 
   pub turned-no : (c : Bool) (b : R × F) (r : R) (f : F) → c ≡ false → r ≡ b .0 → f ≡ b .1 → (r, f) ≡ turned blank add push c b
   turned-no c b r f e p q = ap₂ (λ (x : R) (y : F). (x, y)) p q ∙ ap (λ (d : Bool). turned blank add push d b) (sym e)
 
-  pub put-is : (b j : R × F) (m : Mark) (g : F) → j ≡ turned blank add push (turns (m .inField) (m .index)) b → g ≡ add (j .1) (m .raw) → (j .0, g) ≡ put blank add push b m
-  put-is b j m g e q = ap (λ (y : F). (j .0, y)) q ∙ ap (λ (i : R × F). (i .0, add (i .1) (m .raw))) e
+  pub put-is : (b j : R × F) (m : Mark) (g : F) → j ≡ turned blank add push (turns (m .inField) (m .index)) b → g ≡ add (j .1) m → (j .0, g) ≡ put blank add push b m
+  put-is b j m g e q = ap (λ (y : F). (j .0, y)) q ∙ ap (λ (i : R × F). (i .0, add (i .1) m)) e
 
 -- ---- the two instances
 

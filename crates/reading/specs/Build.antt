@@ -2,32 +2,22 @@
 -- `rule-built`, `slip-built` of proofs/Build say that, of a text without refusals, this is the one value of what it says.
 use mathlib.Core.Bool.{Bool, true, false, cond, _&&_}
 use mathlib.Core.List.{List, foldl}
-use Prim.Native.Nat.{ℕ, _+_, _%_, min}
+use Prim.Native.Nat.{ℕ, _+_}
 use lib.Dec.{eqb, ltb}
-use lib.ListN.{length, take, set, replicate}
-use Rattle.order.specs.Values.{kindFrom}
-use Rattle.text.specs.Sizes.{longestString, mostFields}
+use lib.ListN.{set}
+use Rattle.text.specs.Sizes.{mostFields}
 use Rattle.text.specs.Grammar.{Raw, raw-int, raw-str, raw-var, raw-empty}
-use Rattle.text.specs.Numbers.{value}
 use Rattle.text.specs.Marks.{Mark}
 use Rattle.text.specs.Read.{rule, slip}
-use Rattle.terms.specs.declared.Form.the-variants.{Int, Str, Var}
 use Rattle.terms.specs.declared.Term.{Term}
 use Rattle.terms.specs.declared.Field.{Field}
 use Rattle.terms.specs.declared.Rule.{Rule}
 use Rattle.terms.specs.declared.SlipField.{SlipField}
 use Rattle.terms.specs.declared.Slip.{Slip}
-use Rattle.terms.specs.Values.{pad, blankTerm, blankField, blankRule, blankSlipField, blankSlip}
+use Rattle.terms.specs.Values.{blankField, blankRule, blankSlipField, blankSlip}
 use Rattle.scanning.specs.declared.Spelled.{Spelled}
 use Rattle.scanning.specs.declared.Spelled.the-variants as spelled
-use Rattle.scanning.specs.Pieces.{capped}
-
--- a written term as a value; one over its limits, which refusal 5 has met, is cut to what the value can hold
-abbrev pub termFrom : Raw → Term
-termFrom (raw-int ds) = record { form = Int (capped (value ds)); text = replicate longestString 0 }
-termFrom (raw-str s) = record { form = Str (min (length s) longestString); text = pad longestString 0 (take longestString s) }
-termFrom (raw-var k ds) = record { form = Var (kindFrom k) (capped (value ds) % 256); text = replicate longestString 0 }
-termFrom raw-empty = blankTerm
+use Rattle.text_terms.specs.Terms.{termFrom}
 
 abbrev pub isEmpty : Raw → Bool
 isEmpty (raw-int ds) = false
@@ -65,8 +55,12 @@ pushSlipField s f = cond (ltb (s .n) mostFields) (record { n = s .n + 1; fields 
 abbrev pub turns : ℕ → ℕ → Bool
 turns field index = ltb 1 field && eqb index 1
 
--- over any fields F and wholes R: how one is added to the other, and the blank field
-module _ {F R : Type 0} (blank : F) (add : F → Raw → F) (push : R → F → R) where
+-- what a mark adds is what its written term does
+abbrev pub ofRaw : {F : Type 0} → (F → Raw → F) → F → Mark → F
+ofRaw add f m = add f (m .raw)
+
+-- over any fields F and wholes R: what a mark adds to a field, how a field is added to the whole, and the blank field
+module _ {F R : Type 0} (blank : F) (add : F → Mark → F) (push : R → F → R) where
   abbrev pub Building : Type 0
   Building = R × F
 
@@ -75,13 +69,13 @@ module _ {F R : Type 0} (blank : F) (add : F → Raw → F) (push : R → F → 
   turned false b = b
 
   abbrev pub put : Building → Mark → Building
-  put b m = let c = turned (turns (m .inField) (m .index)) b in (c .0, add (c .1) (m .raw))
+  put b m = let c = turned (turns (m .inField) (m .index)) b in (c .0, add (c .1) m)
 
   abbrev pub whole : Building → R
   whole b = push (b .0) (b .1)
 
 abbrev pub builtRule : List Mark → Rule
-builtRule ms = whole blankField addRaw pushField (foldl (put blankField addRaw pushField) (blankRule, blankField) ms)
+builtRule ms = whole blankField (ofRaw addRaw) pushField (foldl (put blankField (ofRaw addRaw) pushField) (blankRule, blankField) ms)
 
 abbrev pub builtSlip : List Mark → Slip
-builtSlip ms = whole blankSlipField addItem pushSlipField (foldl (put blankSlipField addItem pushSlipField) (blankSlip, blankSlipField) ms)
+builtSlip ms = whole blankSlipField (ofRaw addItem) pushSlipField (foldl (put blankSlipField (ofRaw addItem) pushSlipField) (blankSlip, blankSlipField) ms)

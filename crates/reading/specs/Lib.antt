@@ -1,3 +1,4 @@
 pub mod Places
 pub mod Build
+pub mod Tokens
 pub mod Answers

@@ -1,31 +1,36 @@
-// Reading a rule and a slip: the grammar first, then one pass that meets every other refusal, then the value.
+// Reading a rule and a slip: the grammar first, then one pass that meets every other refusal, then the value, or a rule's tokens.
 ghost use mathlib.Core.Path.{_≡_};
-ghost use mathlib.Core.List.{foldl};
-ghost use Prim.Native.Nat.{_+_, _≤_, _<_, min};
+ghost use mathlib.Core.Bool.{cond};
+ghost use mathlib.Core.List.{List, foldl};
+ghost use Prim.Native.Nat.{ℕ, _+_, _≤_, _<_};
 ghost use lib.Dec.{ltb};
-ghost use lib.ListN.{length, take, drop};
-ghost use Rattle.text.specs.Sizes.{longestString};
+ghost use lib.ListN.{length, drop};
 ghost use Rattle.text.specs.Read.{read, readRule, readSlip};
 ghost use Rattle.text.specs.Walk.{front, walked};
-ghost use Rattle.terms.specs.Values.{pad};
 ghost use Rattle.scanning.specs.Pieces.{pieceOf};
 ghost use Rattle.verdicts.specs.Verdicts.{sortOf, verdictOf};
 ghost use Rattle.refusals.specs.Refusals.{surveyMark, nothingYet};
 ghost use Rattle.reading.specs.Places.{spelled, colonAt, behind, termAt, started, passed};
-ghost use Rattle.reading.specs.Build.{termFrom, emptyBy, pushTerm, addRaw, pushField, pushItem, addItem, pushSlipField, turns, builtRule, builtSlip};
+ghost use Rattle.reading.specs.Build.{emptyBy, pushTerm, addRaw, pushField, pushItem, addItem, pushSlipField, turns, builtRule, builtSlip};
+ghost use Rattle.tokens.specs.Tokens.{blankTokens, blankTokenRule, ruleOf};
+ghost use Rattle.reading.specs.Tokens.{onSide, numberOn, tokenAt, pushToken, withToken, pushTokens, builtTokens};
 ghost use Rattle.reading.specs.Answers.{ruleRead, slipRead};
 use linearity::Lists;
+use order::Kind;
 use refusals::At;
 use refusals::Survey;
 use scanning::Found;
 use scanning::Piece;
 use scanning::Spelled;
 use terms::Field;
-use terms::Form;
 use terms::Rule;
 use terms::Slip;
 use terms::SlipField;
 use terms::Term;
+use tokens::Token;
+use tokens::TokenField;
+use tokens::TokenRule;
+use tokens::What;
 use verdicts::Reason;
 use verdicts::Verdict;
 
@@ -37,6 +42,11 @@ pub struct RuleRead {
 pub struct SlipRead {
     pub verdict: Verdict,
     pub slip: Slip,
+}
+
+pub struct TokensRead {
+    pub verdict: Verdict,
+    pub rule: TokenRule,
 }
 
 // A text with the place where it is read. Document 01: "the reading place travels together with the text it reads".
@@ -154,56 +164,6 @@ fn survey_of(text: &[u8], slip: bool) -> Survey
     s
 }
 
-fn at_most(n: usize, limit: usize) -> usize
-    ensures { λ r. ⌜ r ≡ min n limit ⌝ }
-{
-    if n < limit { n } else { limit }
-}
-
-// The bytes of a string: n of the text from `from` on, as far as there are any.
-fn string_at(text: &[u8], from: usize, n: usize) -> [u8; 15]
-    requires { ⌜ (from ≤ length (now text)) × (n ≤ 15) ⌝ }
-    ensures { λ r. ⌜ r ≡ pad longestString 0 (take n (drop from (now (text .entry)))) ⌝ }
-{
-    let mut bytes = [0u8; 15];
-    let mut i: usize = 0;
-    while i < n {
-        if text.len() - from <= i {
-            return bytes;
-        }
-        bytes[i] = text[from + i];
-        i += 1;
-    }
-    bytes
-}
-
-// The term p that stands at a place of the text.
-fn term_at(text: &[u8], place: usize, p: Piece) -> Term
-    requires { ⌜ (place < length (now text)) × (p ≡ pieceOf (front (drop place (now text)))) ⌝ }
-    ensures { λ r. ⌜ r ≡ termFrom (front (drop place (now (text .entry)))) ⌝ }
-{
-    let what = p.what;
-    match what {
-        Spelled::Int => Term {
-            form: Form::Int(p.value),
-            text: [0; 15],
-        },
-        Spelled::Str => {
-            let n = at_most(p.size, 15);
-            let bytes = string_at(text, place + 1, n);
-            Term {
-                form: Form::Str(n as u8),
-                text: bytes,
-            }
-        }
-        Spelled::Var(k) => Term {
-            form: Form::Var(k, (p.value % 256) as u8),
-            text: [0; 15],
-        },
-        Spelled::Empty => terms::blank_term(),
-    }
-}
-
 fn is_empty(p: Piece) -> bool
     ensures { λ r. ⌜ r ≡ emptyBy (p .what) ⌝ }
 {
@@ -224,7 +184,7 @@ fn with_term(f: Field, text: &[u8], place: usize, p: Piece) -> Field
     if is_empty(p) {
         return f;
     }
-    let t = term_at(text, place, p);
+    let t = text_terms::term_at(text, place);
     push_term(f, t)
 }
 
@@ -261,7 +221,7 @@ fn with_item(f: SlipField, text: &[u8], place: usize, p: Piece) -> SlipField
     if is_empty(p) {
         return f;
     }
-    let t = term_at(text, place, p);
+    let t = text_terms::term_at(text, place);
     push_item(f, t)
 }
 
@@ -345,6 +305,114 @@ fn build_slip(text: &[u8]) -> Slip
     push_slip_field(slip, field)
 }
 
+// The tokens of a field with no terms.
+fn blank_tokens() -> TokenField
+    ensures { λ r. ⌜ r ≡ blankTokens ⌝ }
+{
+    let t = tokens::blank_token();
+    TokenField {
+        n: 0,
+        tokens: [t; 16],
+    }
+}
+
+// The tokens of a rule with no fields.
+fn blank_token_rule() -> TokenRule
+    ensures { λ r. ⌜ r ≡ blankTokenRule ⌝ }
+{
+    let f = blank_tokens();
+    TokenRule {
+        n: 0,
+        fields: [f; 4],
+    }
+}
+
+// A variable's number on its side: the right rule's atom variables have numbers 16 higher.
+fn number_on(right: bool, k: Kind, n: u8) -> u8
+    ensures { λ r. ⌜ r ≡ numberOn right k n ⌝ }
+{
+    if !right {
+        return n;
+    }
+    sides::right_number(k, n)
+}
+
+// The token of the term p, which stands at a place of the right text or the left.
+fn token_at(p: Piece, place: usize, right: bool) -> Token
+    requires { ⌜ place ≤ 8192 ⌝ }
+    ensures { λ r. ⌜ r ≡ tokenAt right place p ⌝ }
+{
+    let here = Token {
+        what: What::Text(right, place as u16),
+    };
+    let what = p.what;
+    match what {
+        Spelled::Int => here,
+        Spelled::Str => here,
+        Spelled::Var(k) => tokens::variable(k, number_on(right, k, (p.value % 256) as u8)),
+        Spelled::Empty => tokens::blank_token(),
+    }
+}
+
+fn push_token(f: TokenField, t: Token) -> TokenField
+    ensures { λ r. ⌜ r ≡ pushToken f t ⌝ }
+{
+    let n = f.n;
+    if 16 <= n {
+        return f;
+    }
+    let mut g = f;
+    g.tokens[n] = t;
+    g.n = n + 1;
+    g
+}
+
+// The field with the token of the term p behind its others; `empty` adds none.
+fn with_token(f: TokenField, place: usize, p: Piece, right: bool) -> TokenField
+    requires { ⌜ place ≤ 8192 ⌝ }
+    ensures { λ r. ⌜ r ≡ withToken right f place p ⌝ }
+{
+    if is_empty(p) {
+        return f;
+    }
+    push_token(f, token_at(p, place, right))
+}
+
+fn push_tokens(r: TokenRule, f: TokenField) -> TokenRule
+    ensures { λ s. ⌜ s ≡ pushTokens r f ⌝ }
+{
+    let n = r.n;
+    if 4 <= n {
+        return r;
+    }
+    let mut s = r;
+    s.fields[n] = f;
+    s.n = n + 1;
+    s
+}
+
+// The tokens of the rule that a text without refusals says.
+fn build_tokens(text: &[u8], right: bool) -> TokenRule
+    requires { ⌜ length (now text) ≤ 8192 ⌝ }
+    ensures { λ r. ⌜ r ≡ builtTokens right (walked (now (text .entry))) ⌝ }
+{
+    let mut rule = blank_token_rule();
+    let mut field = blank_tokens();
+    let mut r = start(text);
+    while has_term(r) {
+        let p = term(r);
+        if is_turn(r.at) {
+            rule = push_tokens(rule, field);
+            let next = blank_tokens();
+            field = next;
+        }
+        field = with_token(field, r.at.place, p, right);
+        let q = passed(r, p);
+        r = q;
+    }
+    push_tokens(rule, field)
+}
+
 fn bytes_of(slip: bool) -> usize
     ensures { λ r. ⌜ r ≡ (sortOf slip) .bytes ⌝ }
 {
@@ -398,6 +466,24 @@ pub fn read_slip(text: &[u8]) -> SlipRead
         Verdict::Refused(_, _) => SlipRead {
             verdict: verdict,
             slip: terms::blank_slip(),
+        },
+    }
+}
+
+// Reads a rule as tokens: as the right text of a pair its atom variables have numbers 16 higher, and its constants are places of the right text.
+pub fn read_tokens(text: &[u8], right: bool) -> TokensRead
+    ensures { λ r. ⌜ r .verdict ≡ (ruleRead (readRule (now (text .entry)))) .verdict ⌝ }
+    ensures { λ r. ⌜ ((o : List ℕ) → ruleOf (cond right o (now (text .entry))) (cond right (now (text .entry)) o) (r .rule) ≡ onSide right ((ruleRead (readRule (now (text .entry)))) .rule)) ⌝ }
+{
+    let verdict = judge(text, false);
+    match verdict {
+        Verdict::Accepted => TokensRead {
+            verdict: verdict,
+            rule: build_tokens(text, right),
+        },
+        Verdict::Refused(_, _) => TokensRead {
+            verdict: verdict,
+            rule: blank_token_rule(),
         },
     }
 }

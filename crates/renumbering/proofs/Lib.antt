@@ -1,4 +1,5 @@
 pub mod Loops
+pub mod Tokens
 pub mod Counts
 pub mod Places
 pub mod Firsts

@@ -9,7 +9,13 @@ use Rattle.terms.specs.declared.Term.{Term}
 use Rattle.terms.specs.Values.{blankTerm}
 use Rattle.shapes.specs.declared.Shape.{Shape}
 use Rattle.shapes.specs.Shapes.{capped}
+use Rattle.tokens.specs.Tokens.{termOf}
 use Rattle.rows.specs.declared.Cell.{Cell}
+use Rattle.rows.specs.declared.TokenCell.{TokenCell}
+
+-- the cell that a cell of tokens stands for, of the left text and the right one
+abbrev pub cellOf : List ℕ → List ℕ → TokenCell → Cell
+cellOf l r c = record { some = c .some; atom = termOf l r (c .atom) }
 
 abbrev pub someCell : Term → Cell
 someCell t = record { some = true; atom = t }

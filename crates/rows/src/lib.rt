@@ -1,16 +1,25 @@
-// Two fields laid over each other: the atoms at each position. A cell is made from a term that is read beforehand, so that no field is handed on.
+// Two fields laid over each other: the atoms at each position. A cell is made from a token that is read beforehand, so that no field is handed on.
 ghost use mathlib.Core.Path.{_≡_};
 ghost use mathlib.Core.Bool.{true};
-ghost use Prim.Native.Nat.{_<_, min};
+ghost use mathlib.Core.List.{List};
+ghost use Prim.Native.Nat.{ℕ, _<_, min};
 ghost use Rattle.shapes.specs.Shapes.{Small};
-ghost use Rattle.rows.specs.Rows.{someCell, noCell, inTail, tailPlace, mergedCell, placeValue, termBy, cellBy};
+ghost use Rattle.tokens.specs.Tokens.{termOf};
+ghost use Rattle.rows.specs.Rows.{someCell, noCell, inTail, tailPlace, mergedCell, placeValue, termBy, cellBy, cellOf};
 use shapes::Shape;
 use terms::Term;
+use tokens::Token;
 
 // A field's atom at a position, the blank one where it has none.
 pub struct Cell {
     pub some: bool,
     pub atom: Term,
+}
+
+// A field's atom at a position, as a token; the blank one where it has none.
+pub struct TokenCell {
+    pub some: bool,
+    pub atom: Token,
 }
 
 fn at_most(n: usize, m: usize) -> usize
@@ -19,20 +28,20 @@ fn at_most(n: usize, m: usize) -> usize
     if n < m { n } else { m }
 }
 
-fn some_cell(t: Term) -> Cell
-    ensures { λ r. ⌜ r ≡ someCell t ⌝ }
+fn some_cell(t: Token) -> TokenCell
+    ensures { λ c. ⌜ ((l r : List ℕ) → cellOf l r c ≡ someCell (termOf l r t)) ⌝ }
 {
-    Cell {
+    TokenCell {
         some: true,
         atom: t,
     }
 }
 
-fn no_cell() -> Cell
-    ensures { λ r. ⌜ r ≡ noCell ⌝ }
+fn no_cell() -> TokenCell
+    ensures { λ c. ⌜ ((l r : List ℕ) → cellOf l r c ≡ noCell) ⌝ }
 {
-    let t = terms::blank_term();
-    Cell {
+    let t = tokens::blank_token();
+    TokenCell {
         some: false,
         atom: t,
     }
@@ -74,19 +83,19 @@ pub fn place_at(s: Shape, n: usize, p: usize) -> usize
     at_most(tail_place(c, n, p), 15)
 }
 
-// The term t, if a field of m terms has a term of number i.
-fn term_with(m: usize, i: usize, t: Term) -> Term
-    ensures { λ r. ⌜ r ≡ termBy m i t ⌝ }
+// The token t, if a field of m terms has a term of number i.
+fn term_with(m: usize, i: usize, t: Token) -> Token
+    ensures { λ u. ⌜ ((l r : List ℕ) → termOf l r u ≡ termBy m i (termOf l r t)) ⌝ }
 {
     if i < at_most(m, 16) {
         return t;
     }
-    terms::blank_term()
+    tokens::blank_token()
 }
 
-// The atom that a field of m terms and this shape has at position p of n items; t is the term at the place to read.
-pub fn cell_with(m: usize, s: Shape, n: usize, p: usize, t: Term) -> Cell
-    ensures { λ r. ⌜ r ≡ cellBy m s n p t ⌝ }
+// The atom that a field of m terms and this shape has at position p of n items; t is the token at the place to read.
+pub fn cell_with(m: usize, s: Shape, n: usize, p: usize, t: Token) -> TokenCell
+    ensures { λ c. ⌜ ((l r : List ℕ) → cellOf l r c ≡ cellBy m s n p (termOf l r t)) ⌝ }
 {
     let c = shapes::capped(s);
     if p < c.head {
@@ -99,8 +108,8 @@ pub fn cell_with(m: usize, s: Shape, n: usize, p: usize, t: Term) -> Cell
 }
 
 // The left atom, else the right one, else the blank one.
-pub fn merged(a: Cell, b: Cell) -> Term
-    ensures { λ r. ⌜ r ≡ mergedCell a b ⌝ }
+pub fn merged(a: TokenCell, b: TokenCell) -> Token
+    ensures { λ t. ⌜ ((l r : List ℕ) → termOf l r t ≡ mergedCell (cellOf l r a) (cellOf l r b)) ⌝ }
 {
     if a.some {
         return a.atom;

@@ -300,7 +300,7 @@ module _ (r : List (List OurTerm)) (is-rule : IsRule r) (d : Side) (Ss : List Ou
       subst (λ (gs : List (List Marked)). Any (λ f. Any (λ t. t ≡ termOf (σ (of d k n))) f) gs) e
       (stands (markedValue basics consts ℕ-discrete d Ss σ fs) (basic k) n (termOf (σ (of d k n))) refl r o)
 
--- ---- the two rules of a pair, as `shown_of` takes them
+-- ---- the two rules of a pair, as they are and as they stand in it
 
 module _ (r : List (List OurTerm)) (is-rule : IsRule r) (Ss : List OurShape) (fs : List (List Marked)) (as-many : length fs ≡ length r) (st : Fillings) (σ : OurState) (h : Holds st σ) where
   pub left-values : (shapes : shapesOf left r ≡ some Ss) → shownValue (encodeRule r) (encodeRule r) (entryValue fs) st ≡ theValues r is-rule left Ss shapes fs as-many st σ h

@@ -91,14 +91,15 @@ module _ (st : Fillings) (n : ℕ) (fs gs : List Field) (ws : List Wide) (w : �
 
 -- ---- how many terms the entry's fields have
 
-pub four-sizes : (ws : List Wide) (d : Wide) → length ws ≡ 4
-    → _≡_ {A = List ℕ} ((getD ws 0 d) .n ∷ ((getD ws 1 d) .n ∷ ((getD ws 2 d) .n ∷ ((getD ws 3 d) .n ∷ [])))) (map (λ w. w .n) ws)
-four-sizes [] d h = absurd (omega (arith, h))
-four-sizes (a ∷ []) d h = absurd (omega (arith, h))
-four-sizes (a ∷ b ∷ []) d h = absurd (omega (arith, h))
-four-sizes (a ∷ b ∷ c ∷ []) d h = absurd (omega (arith, h))
-four-sizes (a ∷ b ∷ c ∷ e ∷ []) d h = refl
-four-sizes (a ∷ b ∷ c ∷ e ∷ f ∷ ws) d h = absurd (omega (arith, h))
+module _ {A : Type 0} (size : A → ℕ) where
+  pub four-sizes : (ws : List A) (d : A) → length ws ≡ 4
+      → _≡_ {A = List ℕ} (size (getD ws 0 d) ∷ (size (getD ws 1 d) ∷ (size (getD ws 2 d) ∷ (size (getD ws 3 d) ∷ [])))) (map size ws)
+  four-sizes [] d h = absurd (omega (arith, h))
+  four-sizes (a ∷ []) d h = absurd (omega (arith, h))
+  four-sizes (a ∷ b ∷ []) d h = absurd (omega (arith, h))
+  four-sizes (a ∷ b ∷ c ∷ []) d h = absurd (omega (arith, h))
+  four-sizes (a ∷ b ∷ c ∷ e ∷ []) d h = refl
+  four-sizes (a ∷ b ∷ c ∷ e ∷ f ∷ ws) d h = absurd (omega (arith, h))
 
 size-at : (ws : List Wide) (j k : ℕ) (d : Wide) → j < length ws → getD (map (λ (w : Wide). w .n) ws) j k ≡ (getD ws j d) .n
 size-at [] j k d h = absurd (omega (arith, h))

@@ -47,7 +47,7 @@ fn at_most(n: usize, places: usize) -> usize
 
 // The place of a term's variable: below 48 an atom variable's, below 64 a list variable's, else it has none.
 // (A number over 15, which no reading returns, has no place.)
-pub fn place_of(t: Term) -> usize
+fn place_of(t: Term) -> usize
     ensures { λ r. ⌜ r ≡ placeOf t ⌝ }
 {
     let form = t.form;

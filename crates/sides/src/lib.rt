@@ -1,15 +1,15 @@
-// The right rule of a pair as a value: the numbers of its atom variables stand above those of the left rule's.
+// Fields of the right rule of a pair as values: the numbers of its atom variables stand above those of the left rule's.
 ghost use mathlib.Core.Path.{_≡_};
 ghost use Prim.Native.Nat.{min};
 ghost use Rattle.order.specs.Values.{kindOf};
-ghost use Rattle.sides.specs.Values.{rightNumber, rightTerm, rightField, rightRule};
+ghost use Rattle.sides.specs.Values.{rightNumber, rightTerm, rightField};
 use order::Kind;
 use terms::Field;
 use terms::Form;
-use terms::Rule;
 use terms::Term;
 
-fn right_number(k: Kind, n: u8) -> u8
+// The number of a variable of the right rule: 16 higher for the types below list. (A number over 15, which no reading returns, stays as it is.)
+pub fn right_number(k: Kind, n: u8) -> u8
     ensures { λ r. ⌜ r ≡ rightNumber (kindOf k) n ⌝ }
 {
     if 16 <= n {
@@ -56,18 +56,4 @@ pub fn right_field(f: Field) -> Field
         i += 1;
     }
     g
-}
-
-// The rule with the number of each atom variable in its fields 16 higher. (A number over 15, which no reading returns, stays as it is.)
-pub fn right_rule(r: Rule) -> Rule
-    ensures { λ s. ⌜ s ≡ rightRule r ⌝ }
-{
-    let n = at_most(r.n, 4);
-    let mut s = r;
-    let mut i: usize = 0;
-    while i < n {
-        s.fields[i] = right_field(r.fields[i]);
-        i += 1;
-    }
-    s
 }

@@ -5,7 +5,7 @@ use borrow.Author.Needs.{needs}
 use Rattle.text.specs.Plain.{plain}
 use Rattle.accepted.specs.Accepted.{countedRule}
 use Rattle.pieces.proofs.Pieces.{written-long, written-count, written-front, placed-as}
-use Rattle.answers.proofs.Lengths.{plain-short}
+use Rattle.plain_text.proofs.Lengths.{plain-short}
 use Rattle.answers.proofs.put_rule.Statement.{statement}
 use Rattle.answers.proofs.put_rule.Tie as tie
 

@@ -1,6 +1,10 @@
 -- `choices::wide_of` meets its contract. Assumes nothing.
+use mathlib.Core.Path.{ap}
 use borrow.Author.Needs.{needs}
 use Rattle.shapes.specs.Shapes.{termsOf}
+use Rattle.tokens.specs.Tokens.{termOf, fieldOf}
+use Rattle.token_entries.specs.Entries.{wideOf}
+use Rattle.token_fillings.specs.States.{fillingsOf}
 use Rattle.choices.proofs.Cases.{wide-short, wide-long}
 use Rattle.choices.proofs.wide_of.Statement.{statement}
 use Rattle.choices.proofs.wide_of.Tie as tie
@@ -12,11 +16,11 @@ push-atoms-requires : tie.Need-push-atoms-requires
 push-atoms-requires c κs = search needs
 
 returns : tie.Need-returns
-returns c =
+returns c l r =
     let z = c .before .before .before .args in
     let b = c .before .before .blank-wide in
-    let r = c .push-atoms in
-    wide-short (termsOf (z .f)) (termsOf (z .g)) (z .n) (z .long) (z .place) (z .st) (b .result) (b .ensures) (r .result) (c .before .if1 .taken) (r .ensures)
+    let y = c .push-atoms in
+    wide-short (termsOf (fieldOf l r (z .f))) (termsOf (fieldOf l r (z .g))) (z .n) (z .long) (z .place) (fillingsOf l r (z .st)) (wideOf l r (b .result)) (ap (wideOf l r) (b .ensures)) (wideOf l r (y .result)) (c .before .if1 .taken) (y .ensures l r)
 
 shape-of-requires : tie.Need-shape-of-requires
 shape-of-requires c κs = search needs
@@ -40,18 +44,19 @@ push-atoms-requires-3 : tie.Need-push-atoms-requires-3
 push-atoms-requires-3 c κs = search needs
 
 returns-2 : tie.Need-returns-2
-returns-2 c =
+returns-2 c l r =
     let z = c .before .before .before .before .before .before .before .before .before .args in
     let b = c .before .before .before .before .before .before .before .before .blank-wide in
     let s = c .before .before .before .before .before .before .shape-of in
     let t = c .before .before .before .before .before .shape-of2 in
     let h = c .before .before .before .before .larger in
     let x = c .before .before .before .push-atoms2 in
-    let l = c .before .before .list-variable in
+    let v = c .before .before .list-variable in
     let w = c .before .push in
-    let r = c .push-atoms3 in
-    wide-long (termsOf (z .f)) (termsOf (z .g)) (z .n) (z .long) (z .place) (z .st) (b .result) (b .ensures) (s .result) (t .result) (h .result) (x .result) (l .result) (w .result) (r .result)
-    (c .before .before .before .before .before .before .before .if1 .left) (s .ensures) (t .ensures) (h .ensures) (x .ensures) (l .ensures) (w .ensures) (r .ensures)
+    let y = c .push-atoms3 in
+    wide-long (termsOf (fieldOf l r (z .f))) (termsOf (fieldOf l r (z .g))) (z .n) (z .long) (z .place) (fillingsOf l r (z .st)) (wideOf l r (b .result)) (ap (wideOf l r) (b .ensures)) (s .result) (t .result) (h .result)
+    (wideOf l r (x .result)) (termOf l r (v .result)) (wideOf l r (w .result)) (wideOf l r (y .result))
+    (c .before .before .before .before .before .before .before .if1 .left) (s .ensures l r) (t .ensures l r) (h .ensures) (x .ensures l r) (v .ensures l r) (w .ensures l r) (y .ensures l r)
 
 pub wide-of-spec : {M : Type 1} → statement M
 wide-of-spec =

@@ -7,6 +7,8 @@ use lib.ListN.{length, take}
 use borrow.Author.Needs.{needs}
 use Rattle.writing.specs.Answers.{after}
 use Rattle.pieces.proofs.Pieces.{front-is, front-size}
+use Rattle.token_entries.specs.Entries.{entryOf}
+use Rattle.token_shown.specs.Shown.{shownOf}
 use Rattle.entry_lines.specs.Lines.{lineValue}
 use Rattle.entry_parts.proofs.Pieces.{front-after, size-either}
 use Rattle.entry_lines.proofs.put_line.Statement.{statement}
@@ -20,9 +22,10 @@ same-length c = search needs
 
 returns : tie.Need-returns
 returns c =
-    let z = c .before .before .before .before .before .before .args in
+    let z = c .before .before .before .before .before .before .before .before .args in
+    let v = lineValue (entryOf (z .left .now) (z .right .now) (z .e)) (shownOf (z .left .now) (z .right .now) (z .x)) (shownOf (z .left .now) (z .right .now) (z .y)) in
     let P = c .before .before .put-whole in
-    (front-after (lineValue (z .e) (z .left) (z .right)) (z .out .now) (omega (arith, P .ensures .1, c .before .before .before .before .if1 .taken)) (P .ensures .0), P .ensures .1)
+    (front-after v (z .out .now) (omega (arith, P .ensures .1, c .before .before .before .before .if1 .taken)) (P .ensures .0), P .ensures .1)
 
 room-requires : tie.Need-room-requires
 room-requires c κs = search needs
@@ -38,10 +41,11 @@ array-share-prefix-text c = search needs
 
 slice-aggregate-give : tie.Need-slice-aggregate-give
 slice-aggregate-give c =
-    let z = c .before .before .before .before .before .before .before .args in
+    let z = c .before .before .before .before .before .before .before .before .before .args in
+    let v = lineValue (entryOf (z .left .now) (z .right .now) (z .e)) (shownOf (z .left .now) (z .right .now) (z .x)) (shownOf (z .left .now) (z .right .now) (z .y)) in
     let R = c .before .before .before .before .room in
     let P = c .before .before .put-whole2 in
-    front-size (lineValue (z .e) (z .left) (z .right)) (R .result) (omega (arith, P .ensures .1, R .ensures)) (P .ensures .0)
+    front-size v (R .result) (omega (arith, P .ensures .1, R .ensures)) (P .ensures .0)
 
 give-requires : tie.Need-give-requires
 give-requires c κs = search needs
@@ -54,13 +58,14 @@ same-length-2 c = search needs
 
 returns-2 : tie.Need-returns-2
 returns-2 c =
-    let z = c .before .before .before .before .before .before .before .before .before .before .before .before .args in
+    let z = c .before .before .before .before .before .before .before .before .before .before .before .before .before .before .args in
+    let v = lineValue (entryOf (z .left .now) (z .right .now) (z .e)) (shownOf (z .left .now) (z .right .now) (z .x)) (shownOf (z .left .now) (z .right .now) (z .y)) in
     let R = c .before .before .before .before .before .before .before .before .before .room in
     let P = c .before .before .before .before .before .before .before .put-whole2 in
     let G = c .before .before .before .give in
     let S = c .size-of in (
-      subst (λ (t : List ℕ). (S .result ≡ length t) × (G .last .1 .0 ≡ after t (z .out .now))) (front-is (lineValue (z .e) (z .left) (z .right)) (R .result) (omega (arith, P .ensures .1, R .ensures)) (P .ensures .0))
-          (size-either (take (P .result) (P .last .1 .1 .1 .0)) (z .out .now) (S .ensures) (G .ensures .0), G .ensures .1),
+      subst (λ (t : List ℕ). (S .result ≡ length t) × (G .last .1 .0 ≡ after t (z .out .now))) (front-is v (R .result) (omega (arith, P .ensures .1, R .ensures)) (P .ensures .0))
+          (size-either (take (P .result) (P .last .1 .1 .1 .1 .1 .0)) (z .out .now) (S .ensures) (G .ensures .0), G .ensures .1),
       P .ensures .1,
     )
 

@@ -2,6 +2,8 @@
 use mathlib.Core.Path.{subst}
 use Rattle.listing.specs.Lines.{lineText}
 use Rattle.renumbering.specs.declared.Names.{Names}
+use Rattle.token_entries.specs.Entries.{entryOf}
+use Rattle.token_shown.specs.Shown.{shownOf}
 use Rattle.entry_lines.specs.Lines.{lineBound, lineWith}
 use Rattle.entry_parts.proofs.Pieces.{Piece}
 use Rattle.entry_lines.proofs.Lines.{line-four}
@@ -9,8 +11,8 @@ use borrow.Author.Needs.{needs}
 use Rattle.entry_lines.proofs.put_whole.Statement.{statement}
 use Rattle.entry_lines.proofs.put_whole.Tie as tie
 
-names-of-requires : tie.Need-names-of-requires
-names-of-requires c κs = search needs
+token-names-requires : tie.Need-token-names-requires
+token-names-requires c κs = search needs
 
 put-fields-requires : tie.Need-put-fields-requires
 put-fields-requires c κs = search needs
@@ -34,18 +36,20 @@ returns : tie.Need-returns
 returns c =
     let p = c .before .before .before .before .before .before .before in
     let q = p .before .before .before .before .before .before .before .before in
-    let z = q .before .before .before .before .args in
-    let N = q .before .before .names-of in
+    let z = q .before .before .before .before .before .before .args in
+    let l = z .left .now in
+    let r = z .right .now in
+    let N = q .before .before .token-names in
     let P = c .before .before .put-bytes in
-    subst (λ (x : Names). Piece lineBound (lineText (lineWith x (z .e) (z .left) (z .right))) (z .at) (z .out .now) (P .result) (P .last .1 .0)) (N .ensures)
-    (line-four (lineWith (N .result) (z .e) (z .left) (z .right)) (z .at) (z .out .now)
+    subst (λ (x : Names). Piece lineBound (lineText (lineWith x (entryOf l r (z .e)) (shownOf l r (z .x)) (shownOf l r (z .y)))) (z .at) (z .out .now) (P .result) (P .last .1 .0)) (N .ensures l r)
+    (line-four (lineWith (N .result) (entryOf l r (z .e)) (shownOf l r (z .x)) (shownOf l r (z .y))) (z .at) (z .out .now)
     (q .put-fields .ensures) (p .before .before .before .before .put-bindings .ensures) (p .put-bindings2 .ensures) (P .ensures))
 
 pub put-whole-spec : {M : Type 1} → statement M
 put-whole-spec =
     tie.close
     (tie.spec
-    names-of-requires
+    token-names-requires
     put-fields-requires
     put-bindings-requires
     put-bindings-requires-2

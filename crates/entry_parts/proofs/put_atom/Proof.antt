@@ -9,6 +9,9 @@ use borrow.Author.Needs.{needs}
 use Rattle.entry_parts.proofs.put_atom.Statement.{statement}
 use Rattle.entry_parts.proofs.put_atom.Tie as tie
 
+cast-put-front : tie.Need-cast-put-front
+cast-put-front c = search needs
+
 put-front-requires : tie.Need-put-front-requires
 put-front-requires c κs = search needs
 
@@ -26,4 +29,4 @@ returns c =
     (piece-as 17 _ _ (one-term (z .names) (z .t)) (c .before .before .put-renamed .ensures)) (omega arith)
 
 pub put-atom-spec : {M : Type 1} → statement M
-put-atom-spec = tie.close (tie.spec put-front-requires put-renamed-requires same-length returns)
+put-atom-spec = tie.close (tie.spec cast-put-front put-front-requires put-renamed-requires same-length returns)

@@ -11,9 +11,6 @@ put-byte-requires c κs = search needs
 put-byte-requires-2 : tie.Need-put-byte-requires-2
 put-byte-requires-2 c κs = search needs
 
-cast-put-name : tie.Need-cast-put-name
-cast-put-name c = search needs
-
 put-name-requires : tie.Need-put-name-requires
 put-name-requires c κs = search needs
 
@@ -37,7 +34,6 @@ put-front-spec =
     (tie.spec
     put-byte-requires
     put-byte-requires-2
-    cast-put-name
     put-name-requires
     put-byte-requires-3
     same-length

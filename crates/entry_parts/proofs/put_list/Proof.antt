@@ -8,6 +8,9 @@ use borrow.Author.Needs.{needs}
 use Rattle.entry_parts.proofs.put_list.Statement.{statement}
 use Rattle.entry_parts.proofs.put_list.Tie as tie
 
+cast-put-front : tie.Need-cast-put-front
+cast-put-front c = search needs
+
 put-front-requires : tie.Need-put-front-requires
 put-front-requires c κs = search needs
 
@@ -25,4 +28,4 @@ returns c =
     front-value (z .mark) b 558 578 (z .at) (z .out .now) (F .ensures) (c .before .before .put-run .ensures) (omega arith)
 
 pub put-list-spec : {M : Type 1} → statement M
-put-list-spec = tie.close (tie.spec put-front-requires put-run-requires same-length returns)
+put-list-spec = tie.close (tie.spec cast-put-front put-front-requires put-run-requires same-length returns)

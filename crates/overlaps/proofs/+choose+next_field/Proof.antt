@@ -7,6 +7,8 @@ use native.Mathlib.Omega.{arith}
 use lib.ListN.{length}
 use borrow.Author.Needs.{needs}
 use Rattle.lists.specs.Seqs.{long-mapped}
+use Rattle.token_fillings.specs.States.{fillingsOf, joinedOf}
+use Rattle.overlaps.specs.Pairs.{pairOf}
 use Rattle.overlaps.specs.Lines.{lineAt}
 use Rattle.overlaps.specs.Listing.{spanAt, choiceLines, linesFrom, Countable}
 use Rattle.overlaps.proofs.Spans.{few-candidates, span-is, join-is}
@@ -23,36 +25,37 @@ use Rattle.choices.proofs.choose_at.Reads as choose-at-reads
 use Rattle.joins.proofs.join_fields.Reads as join-fields-reads
 use Rattle.overlaps.proofs.candidate_of.Reads as candidate-of-reads
 use Rattle.overlaps.proofs.put_entry.Reads as put-entry-reads
-use Rattle.shapes.proofs.shape_of.Reads as shape-of-reads
+use Rattle.token_shapes.proofs.shape_of.Reads as shape-of-reads
 use Rattle.candidates.proofs.span_of.Reads as span-of-reads
 use Rattle.overlaps.proofs.+choose+next_field.{statement}
 use Rattle.overlaps.proofs.+choose+next_field.Tie.{close}
 
-abbrev μ-choose : Measures 1 choose-kinds.ps ℕ
+abbrev μ-choose : Measures 3 choose-kinds.ps ℕ
 μ-choose κs a = 2 * (a .0 .left .n - (a .1 .0 + 1)) + 1
 
-abbrev μ-next-field : Measures 1 next-field-kinds.ps ℕ
+abbrev μ-next-field : Measures 3 next-field-kinds.ps ℕ
 μ-next-field κs a = 2 * (a .0 .left .n - a .1 .0)
 
-abbrev choose-at : ℕ → In 1 choose-kinds.ps
-choose-at t = and 1 choose-kinds.ps (is 1 choose-kinds.ps μ-choose t) choose.Pre
+abbrev choose-at : ℕ → In 3 choose-kinds.ps
+choose-at t = and 3 choose-kinds.ps (is 3 choose-kinds.ps μ-choose t) choose.Pre
 
-abbrev choose-below : ℕ → In 1 choose-kinds.ps
-choose-below t = and 1 choose-kinds.ps (falls 1 choose-kinds.ps _<_ μ-choose t) choose.Pre
+abbrev choose-below : ℕ → In 3 choose-kinds.ps
+choose-below t = and 3 choose-kinds.ps (falls 3 choose-kinds.ps _<_ μ-choose t) choose.Pre
 
-abbrev next-field-at : ℕ → In 1 next-field-kinds.ps
+abbrev next-field-at : ℕ → In 3 next-field-kinds.ps
 next-field-at t =
-    and 1 next-field-kinds.ps (is 1 next-field-kinds.ps μ-next-field t) next-field.Pre
+    and 3 next-field-kinds.ps (is 3 next-field-kinds.ps μ-next-field t) next-field.Pre
 
-abbrev next-field-below : ℕ → In 1 next-field-kinds.ps
+abbrev next-field-below : ℕ → In 3 next-field-kinds.ps
 next-field-below t =
-    and 1 next-field-kinds.ps (falls 1 next-field-kinds.ps _<_ μ-next-field t) next-field.Pre
+    and 3 next-field-kinds.ps (falls 3 next-field-kinds.ps _<_ μ-next-field t) next-field.Pre
 
 abbrev choose-Inv-loop : choose-lts.InvT-loop
-choose-Inv-loop p j ch st out₀ f g s u₀ k₀ out u k = Choosing p j ch st u₀ out₀ s k u out × (length (p .left .fields) ≡ 4) × (length (p .sided .fields) ≡ 4)
+choose-Inv-loop p j ch st left right out₀ f g s u₀ k₀ out u k =
+    Choosing (pairOf left right p) j ch (fillingsOf left right st) u₀ out₀ s k u out × (length (p .left .fields) ≡ 4) × (length (p .right .fields) ≡ 4)
 
 abbrev choose-μ-loop : choose-lts.MeasureT-loop
-choose-μ-loop p j ch st out₀ f g s u₀ k₀ out u k = k
+choose-μ-loop p j ch st left right out₀ f g s u₀ k₀ out u k = k
 
 choose-mul-f : (t : ℕ) → choose-lts.Need-mul-f (
   shape-of-reads.Asked,
@@ -84,7 +87,7 @@ choose-element-copy-out-f : (t : ℕ) → choose-lts.Need-element-copy-out-f (
   next-field-below t,
   next-field.Post,
 ) (choose-at t) choose.Post choose-Inv-loop choose-μ-loop
-choose-element-copy-out-f t c = omega (arith, c .before .before .before .pre .1 .0, c .before .before .before .pre .1 .1)
+choose-element-copy-out-f t c = omega (arith, c .before .before .before .before .before .pre .1 .0, c .before .before .before .before .before .pre .1 .1)
 
 choose-mul-g : (t : ℕ) → choose-lts.Need-mul-g (
   shape-of-reads.Asked,
@@ -116,7 +119,7 @@ choose-element-copy-out-g : (t : ℕ) → choose-lts.Need-element-copy-out-g (
   next-field-below t,
   next-field.Post,
 ) (choose-at t) choose.Post choose-Inv-loop choose-μ-loop
-choose-element-copy-out-g t c = omega (arith, c .before .before .before .before .pre .1 .0, c .before .before .before .before .pre .1 .1)
+choose-element-copy-out-g t c = omega (arith, c .before .before .before .before .before .before .pre .1 .0, c .before .before .before .before .before .before .pre .1 .1)
 
 choose-shape-of-requires : (t : ℕ) → choose-lts.Need-shape-of-requires (
   shape-of-reads.Asked,
@@ -195,7 +198,7 @@ choose-long-right : (t : ℕ) (c : choose-lts.Start (
   choose-at-reads.Learnt,
   next-field-below t,
   next-field.Post,
-) (choose-at t) choose.Post choose-Inv-loop choose-μ-loop) → length (c .args .p .sided .fields) ≡ 4
+) (choose-at t) choose.Post choose-Inv-loop choose-μ-loop) → length (c .args .p .right .fields) ≡ 4
 choose-long-right t c = search long-mapped
 
 choose-loop-holds : (t : ℕ) → choose-lts.Need-loop-holds (
@@ -213,12 +216,12 @@ choose-loop-holds : (t : ℕ) → choose-lts.Need-loop-holds (
   next-field.Post,
 ) (choose-at t) choose.Post choose-Inv-loop choose-μ-loop
 choose-loop-holds t c =
-    let z = c .before .before .before .before .before .before .before .before .args in
-    let j = c .before .before .before .before .before .before .before .before .pre .1 in
-    let l = choose-long-left t (c .before .before .before .before .before .before .before .before) in
-    let r = choose-long-right t (c .before .before .before .before .before .before .before .before) in
+    let z = c .before .before .before .before .before .before .before .before .before .before .args in
+    let j = c .before .before .before .before .before .before .before .before .before .before .pre .1 in
+    let l = choose-long-left t (c .before .before .before .before .before .before .before .before .before .before) in
+    let r = choose-long-right t (c .before .before .before .before .before .before .before .before .before .before) in
     let s = c .span-of in
-    (choosing-start (z .p) (z .j) (z .ch) (z .st) (z .t) (z .out .now) (s .result) (span-is (z .p) (z .j) (omega (arith, j .0, j .1)) l r (c .before .before .shape-of .result) (c .before .shape-of2 .result) (s .result) (c .before .before .shape-of .ensures) (c .before .shape-of2 .ensures) (s .ensures)) (j .2), l, r)
+    (choosing-start (pairOf (z .left .now) (z .right .now) (z .p)) (z .j) (z .ch) (fillingsOf (z .left .now) (z .right .now) (z .st)) (z .t) (z .out .now) (s .result) (span-is (z .left .now) (z .right .now) (z .p) (z .j) (omega (arith, j .0, j .1)) l r (c .before .before .shape-of .result) (c .before .shape-of2 .result) (s .result) (c .before .before .shape-of .ensures (z .left .now) (z .right .now)) (c .before .shape-of2 .ensures (z .left .now) (z .right .now)) (s .ensures)) (j .2), l, r)
 
 choose-candidate-of-requires : (t : ℕ) → choose-lts.Need-candidate-of-requires (
   shape-of-reads.Asked,
@@ -235,9 +238,9 @@ choose-candidate-of-requires : (t : ℕ) → choose-lts.Need-candidate-of-requir
   next-field.Post,
 ) (choose-at t) choose.Post choose-Inv-loop choose-μ-loop
 choose-candidate-of-requires t c κs =
-    let z = c .before .before .before .before .before .before .before .before .before .before .args in
+    let z = c .before .before .before .before .before .before .before .before .before .before .before .before .args in
     let L = c .before .loop in
-    let n = few-candidates (z .p) (z .j) (L .k) (c .before .before .span-of .result) (L .inv .0 .span-is) (λ e. absurd (omega (arith, c .loop-test .taken, e))) (L .inv .0 .within) in
+    let n = few-candidates (pairOf (z .left .now) (z .right .now) (z .p)) (z .j) (L .k) (c .before .before .span-of .result) (L .inv .0 .span-is) (λ e. absurd (omega (arith, c .loop-test .taken, e))) (L .inv .0 .within) in
     (n .0, n .1, n .2)
 
 choose-join-fields-requires : (t : ℕ) → choose-lts.Need-join-fields-requires (
@@ -286,7 +289,7 @@ choose-add-next-field : (t : ℕ) → choose-lts.Need-add-next-field (
   next-field-below t,
   next-field.Post,
 ) (choose-at t) choose.Post choose-Inv-loop choose-μ-loop
-choose-add-next-field t c = omega (arith, c .before .before .before .before .before .before .before .before .before .before .before .before .before .before .pre .1 .0, c .before .before .before .before .before .before .before .before .before .before .before .before .before .before .pre .1 .1)
+choose-add-next-field t c = omega (arith, c .before .before .before .before .before .before .before .before .before .before .before .before .before .before .before .before .pre .1 .0, c .before .before .before .before .before .before .before .before .before .before .before .before .before .before .before .before .pre .1 .1)
 
 choose-next-field-requires : (t : ℕ) → choose-lts.Need-next-field-requires (
   shape-of-reads.Asked,
@@ -303,11 +306,11 @@ choose-next-field-requires : (t : ℕ) → choose-lts.Need-next-field-requires (
   next-field.Post,
 ) (choose-at t) choose.Post choose-Inv-loop choose-μ-loop
 choose-next-field-requires t c κs =
-    let z = c .before .before .before .before .before .before .before .before .before .before .before .before .before .before .before .args in
-    let j = c .before .before .before .before .before .before .before .before .before .before .before .before .before .before .before .pre in
+    let z = c .before .before .before .before .before .before .before .before .before .before .before .before .before .before .before .before .before .args in
+    let j = c .before .before .before .before .before .before .before .before .before .before .before .before .before .before .before .before .before .pre in
     let L = c .before .before .before .before .before .before .loop in
     let r = c .before .before .before .join-fields in
-    (omega (arith, j .0), (j .1 .0, omega (arith, j .1 .1), choosing-first (z .p) (z .j) (z .ch) (z .st) (z .t) (z .out .now) (c .before .before .before .before .before .before .before .span-of .result) (L .k) (L .u) (L .out) (L .inv .0) (omega (arith, c .before .before .before .before .before .loop-test .taken)) (c .before .before .before .before .candidate-of .result) (r .result) (c .before .before .before .before .candidate-of .ensures) (join-is (z .p) (z .j) (omega (arith, j .1 .0, j .1 .1)) (L .inv .1) (L .inv .2) (c .before .before .before .before .candidate-of .result .items) (z .st) (r .result) (r .ensures)) (c .before .choose-at .result) (c .before .before .if1 .taken) (c .before .choose-at .ensures)))
+    (omega (arith, j .0), (j .1 .0, omega (arith, j .1 .1), choosing-first (pairOf (z .left .now) (z .right .now) (z .p)) (z .j) (z .ch) (fillingsOf (z .left .now) (z .right .now) (z .st)) (z .t) (z .out .now) (c .before .before .before .before .before .before .before .span-of .result) (L .k) (L .u) (L .out) (L .inv .0) (omega (arith, c .before .before .before .before .before .loop-test .taken)) (c .before .before .before .before .candidate-of .result) (joinedOf (z .left .now) (z .right .now) (r .result)) (c .before .before .before .before .candidate-of .ensures) (join-is (z .left .now) (z .right .now) (z .p) (z .j) (omega (arith, j .1 .0, j .1 .1)) (L .inv .1) (L .inv .2) (c .before .before .before .before .candidate-of .result .items) (fillingsOf (z .left .now) (z .right .now) (z .st)) (joinedOf (z .left .now) (z .right .now) (r .result)) (r .ensures)) (c .before .choose-at .result) (c .before .before .if1 .taken) (c .before .choose-at .ensures)))
 
 choose-sub-k : (t : ℕ) → choose-lts.Need-sub-k (
   shape-of-reads.Asked,
@@ -356,15 +359,15 @@ choose-loop-again : (t : ℕ) → choose-lts.Need-loop-again (
   next-field.Post,
 ) (choose-at t) choose.Post choose-Inv-loop choose-μ-loop
 choose-loop-again t c =
-    let z = c .before .before .before .before .before .before .before .before .before .before .before .before .before .args in
-    let j = c .before .before .before .before .before .before .before .before .before .before .before .before .before .pre .1 in
+    let z = c .before .before .before .before .before .before .before .before .before .before .before .before .before .before .before .args in
+    let j = c .before .before .before .before .before .before .before .before .before .before .before .before .before .before .before .pre .1 in
     let L = c .before .before .before .before .loop in
     let r = c .before .join-fields in
     let h : 1 ≤ L .k = omega (arith, c .before .before .before .loop-test .taken) in
-    let is-r = join-is (z .p) (z .j) (omega (arith, j .0, j .1)) (L .inv .1) (L .inv .2) (c .before .before .candidate-of .result .items) (z .st) (r .result) (r .ensures) in (
+    let is-r = join-is (z .left .now) (z .right .now) (z .p) (z .j) (omega (arith, j .0, j .1)) (L .inv .1) (L .inv .2) (c .before .before .candidate-of .result .items) (fillingsOf (z .left .now) (z .right .now) (z .st)) (joinedOf (z .left .now) (z .right .now) (r .result)) (r .ensures) in (
       ⊎-elim
-          (λ w. choosing-as (z .p) (z .j) (z .ch) (z .st) (z .t) (z .out .now) (c .before .before .before .before .before .span-of .result) (L .k - 1) _ _ _ _ (w .6) (w .7) (choosing-alive (z .p) (z .j) (z .ch) (z .st) (z .t) (z .out .now) (c .before .before .before .before .before .span-of .result) (L .k) (L .u) (L .out) (L .inv .0) h (c .before .before .candidate-of .result) (r .result) (c .before .before .candidate-of .ensures) is-r (w .1 .result) (w .0 .taken) (w .1 .ensures) _ _ (w .3 .ensures .0) (w .3 .ensures .1)))
-          (λ w. choosing-as (z .p) (z .j) (z .ch) (z .st) (z .t) (z .out .now) (c .before .before .before .before .before .span-of .result) (L .k - 1) _ _ _ _ (w .1) (w .2) (choosing-clash (z .p) (z .j) (z .ch) (z .st) (z .t) (z .out .now) (c .before .before .before .before .before .span-of .result) (L .k) (L .u) (L .out) (L .inv .0) h (c .before .before .candidate-of .result) (r .result) (c .before .before .candidate-of .ensures) is-r (w .0 .left)))
+          (λ w. choosing-as (pairOf (z .left .now) (z .right .now) (z .p)) (z .j) (z .ch) (fillingsOf (z .left .now) (z .right .now) (z .st)) (z .t) (z .out .now) (c .before .before .before .before .before .span-of .result) (L .k - 1) _ _ _ _ (w .6) (w .7) (choosing-alive (pairOf (z .left .now) (z .right .now) (z .p)) (z .j) (z .ch) (fillingsOf (z .left .now) (z .right .now) (z .st)) (z .t) (z .out .now) (c .before .before .before .before .before .span-of .result) (L .k) (L .u) (L .out) (L .inv .0) h (c .before .before .candidate-of .result) (joinedOf (z .left .now) (z .right .now) (r .result)) (c .before .before .candidate-of .ensures) is-r (w .1 .result) (w .0 .taken) (w .1 .ensures) _ _ (w .3 .ensures .0) (w .3 .ensures .1)))
+          (λ w. choosing-as (pairOf (z .left .now) (z .right .now) (z .p)) (z .j) (z .ch) (fillingsOf (z .left .now) (z .right .now) (z .st)) (z .t) (z .out .now) (c .before .before .before .before .before .span-of .result) (L .k - 1) _ _ _ _ (w .1) (w .2) (choosing-clash (pairOf (z .left .now) (z .right .now) (z .p)) (z .j) (z .ch) (fillingsOf (z .left .now) (z .right .now) (z .st)) (z .t) (z .out .now) (c .before .before .before .before .before .span-of .result) (L .k) (L .u) (L .out) (L .inv .0) h (c .before .before .candidate-of .result) (joinedOf (z .left .now) (z .right .now) (r .result)) (c .before .before .candidate-of .ensures) is-r (w .0 .left)))
           (c .if1 .came),
       L .inv .1,
       L .inv .2,
@@ -401,9 +404,9 @@ choose-returns : (t : ℕ) → choose-lts.Need-returns (
   next-field.Post,
 ) (choose-at t) choose.Post choose-Inv-loop choose-μ-loop
 choose-returns t c =
-    let z = c .before .before .before .before .before .before .before .before .before .before .args in
+    let z = c .before .before .before .before .before .before .before .before .before .before .before .before .args in
     let L = c .before .loop in
-    choosing-end (z .p) (z .j) (z .ch) (z .st) (z .t) (z .out .now) (c .before .before .span-of .result) (L .k) (L .u) (L .out) (L .inv .0) (c .loop-test .left)
+    choosing-end (pairOf (z .left .now) (z .right .now) (z .p)) (z .j) (z .ch) (fillingsOf (z .left .now) (z .right .now) (z .st)) (z .t) (z .out .now) (c .before .before .span-of .result) (L .k) (L .u) (L .out) (L .inv .0) (c .loop-test .left)
 
 next-field-put-entry-requires : (t : ℕ) → next-field-lts.Need-put-entry-requires (
   put-entry-reads.Asked,
@@ -411,7 +414,7 @@ next-field-put-entry-requires : (t : ℕ) → next-field-lts.Need-put-entry-requ
   choose-below t,
   choose.Post,
 ) (next-field-at t) next-field.Post
-next-field-put-entry-requires t c κs = let z = c .before .before .before .before .before in subst (Countable (z .args .t)) (lines-end (z .args .p) (z .args .j) (z .args .ch) (z .args .st) (c .before .if1 .taken)) (z .pre .1 .2)
+next-field-put-entry-requires t c κs = let z = c .before .before .before .before .before .before .before in subst (Countable (z .args .t)) (lines-end (pairOf (z .args .left .now) (z .args .right .now) (z .args .p)) (z .args .j) (z .args .ch) (fillingsOf (z .args .left .now) (z .args .right .now) (z .args .st)) (c .before .if1 .taken)) (z .pre .1 .2)
 
 next-field-same-length : (t : ℕ) → next-field-lts.Need-same-length (
   put-entry-reads.Asked,
@@ -419,7 +422,7 @@ next-field-same-length : (t : ℕ) → next-field-lts.Need-same-length (
   choose-below t,
   choose.Post,
 ) (next-field-at t) next-field.Post
-next-field-same-length t c = c .before .before .put-entry .kept .1 .1 .1 .0
+next-field-same-length t c = c .before .before .put-entry .kept .1 .1 .1 .1 .1 .0
 
 next-field-returns : (t : ℕ) → next-field-lts.Need-returns (
   put-entry-reads.Asked,
@@ -428,8 +431,8 @@ next-field-returns : (t : ℕ) → next-field-lts.Need-returns (
   choose.Post,
 ) (next-field-at t) next-field.Post
 next-field-returns t c =
-    let z = c .before .before .before .before .before .before .before .before .args in (
-      listed-as (z .t) (z .out .now) (linesFrom (z .p .left .n - z .j) (z .p) (z .j) (z .ch) (z .st)) (lineAt (z .p) (z .ch) (z .st) ∷ []) (lines-end (z .p) (z .j) (z .ch) (z .st) (c .before .before .before .before .if1 .taken)) (c .before .before .put-entry .ensures .0),
+    let z = c .before .before .before .before .before .before .before .before .before .before .args in (
+      listed-as (z .t) (z .out .now) (linesFrom (z .p .left .n - z .j) (pairOf (z .left .now) (z .right .now) (z .p)) (z .j) (z .ch) (fillingsOf (z .left .now) (z .right .now) (z .st))) (lineAt (pairOf (z .left .now) (z .right .now) (z .p)) (z .ch) (fillingsOf (z .left .now) (z .right .now) (z .st)) ∷ []) (lines-end (pairOf (z .left .now) (z .right .now) (z .p)) (z .j) (z .ch) (fillingsOf (z .left .now) (z .right .now) (z .st)) (c .before .before .before .before .if1 .taken)) (c .before .before .put-entry .ensures .0),
       c .before .before .put-entry .ensures .1,
     )
 
@@ -440,9 +443,9 @@ next-field-choose-requires : (t : ℕ) → next-field-lts.Need-choose-requires (
   choose.Post,
 ) (next-field-at t) next-field.Post
 next-field-choose-requires t c κs =
-    let z = c .before .before .before .before .before .args in
-    let h = c .before .before .before .before .before .pre in
-    (omega (arith, h .0, c .before .if1 .left), (h .1 .0, omega (arith, c .before .if1 .left), subst (Countable (z .t)) (lines-goes (z .p) (z .j) (z .ch) (z .st) (spanAt (z .p) (z .j)) refl (omega (arith, c .before .if1 .left))) (h .1 .2)))
+    let z = c .before .before .before .before .before .before .before .args in
+    let h = c .before .before .before .before .before .before .before .pre in
+    (omega (arith, h .0, c .before .if1 .left), (h .1 .0, omega (arith, c .before .if1 .left), subst (Countable (z .t)) (lines-goes (pairOf (z .left .now) (z .right .now) (z .p)) (z .j) (z .ch) (fillingsOf (z .left .now) (z .right .now) (z .st)) (spanAt (pairOf (z .left .now) (z .right .now) (z .p)) (z .j)) refl (omega (arith, c .before .if1 .left))) (h .1 .2)))
 
 next-field-same-length-2 : (t : ℕ) → next-field-lts.Need-same-length-2 (
   put-entry-reads.Asked,
@@ -450,7 +453,7 @@ next-field-same-length-2 : (t : ℕ) → next-field-lts.Need-same-length-2 (
   choose-below t,
   choose.Post,
 ) (next-field-at t) next-field.Post
-next-field-same-length-2 t c = c .before .before .choose .kept .1 .1 .1 .1 .0
+next-field-same-length-2 t c = c .before .before .choose .kept .1 .1 .1 .1 .1 .1 .0
 
 next-field-returns-2 : (t : ℕ) → next-field-lts.Need-returns-2 (
   put-entry-reads.Asked,
@@ -459,8 +462,8 @@ next-field-returns-2 : (t : ℕ) → next-field-lts.Need-returns-2 (
   choose.Post,
 ) (next-field-at t) next-field.Post
 next-field-returns-2 t c =
-    let z = c .before .before .before .before .before .before .before .before .args in (
-      listed-as (z .t) (z .out .now) (linesFrom (z .p .left .n - z .j) (z .p) (z .j) (z .ch) (z .st)) (choiceLines (linesFrom (z .p .left .n - (z .j + 1)) (z .p) (z .j + 1)) (z .p) (z .j) (spanAt (z .p) (z .j) .count) (z .ch) (z .st)) (lines-goes (z .p) (z .j) (z .ch) (z .st) (spanAt (z .p) (z .j)) refl (omega (arith, c .before .before .before .before .if1 .left))) (c .before .before .choose .ensures .0),
+    let z = c .before .before .before .before .before .before .before .before .before .before .args in (
+      listed-as (z .t) (z .out .now) (linesFrom (z .p .left .n - z .j) (pairOf (z .left .now) (z .right .now) (z .p)) (z .j) (z .ch) (fillingsOf (z .left .now) (z .right .now) (z .st))) (choiceLines (linesFrom (z .p .left .n - (z .j + 1)) (pairOf (z .left .now) (z .right .now) (z .p)) (z .j + 1)) (pairOf (z .left .now) (z .right .now) (z .p)) (z .j) (spanAt (pairOf (z .left .now) (z .right .now) (z .p)) (z .j) .count) (z .ch) (fillingsOf (z .left .now) (z .right .now) (z .st))) (lines-goes (pairOf (z .left .now) (z .right .now) (z .p)) (z .j) (z .ch) (fillingsOf (z .left .now) (z .right .now) (z .st)) (spanAt (pairOf (z .left .now) (z .right .now) (z .p)) (z .j)) refl (omega (arith, c .before .before .before .before .if1 .left))) (c .before .before .choose .ensures .0),
       c .before .before .choose .ensures .1,
     )
 

@@ -3,6 +3,7 @@ use mathlib.Core.Path.{sym}
 use native.Mathlib.Omega.{arith}
 use lib.Seq.{length-take-le}
 use borrow.Author.Needs.{needs}
+use Rattle.overlaps.specs.Pairs.{pairOf}
 use Rattle.overlaps.specs.Listing.{allLines}
 use Rattle.overlaps.proofs.Counts.{too-small, room-enough, copied-in}
 use Rattle.overlaps.proofs.list_pair.Statement.{statement}
@@ -16,9 +17,9 @@ same-length c = search needs
 
 returns : tie.Need-returns
 returns c =
-    let z = c .before .before .before .before .before .before .before .args in
+    let z = c .before .before .before .before .before .before .before .before .before .args in
     let t = c .before .before .before .all-lines in
-    too-small (allLines (z .p)) (z .out .now) (t .result) (t .ensures .0) (c .if1 .taken)
+    too-small (allLines (pairOf (z .left .now) (z .right .now) (z .p))) (z .out .now) (t .result) (t .ensures .0) (c .if1 .taken)
 
 all-lines-requires-2 : tie.Need-all-lines-requires-2
 all-lines-requires-2 c κs = search needs
@@ -31,10 +32,10 @@ same-length-3 c = search needs
 
 returns-2 : tie.Need-returns-2
 returns-2 c =
-    let z = c .before .before .before .before .before .before .before .before .before .before .before .before .args in
+    let z = c .before .before .before .before .before .before .before .before .before .before .before .before .before .before .args in
     let t = c .before .before .before .before .before .before .before .before .all-lines in
     let u = c .before .before .all-lines2 in
-    room-enough (allLines (z .p)) (z .out .now) (t .result) (t .ensures .0) (c .before .before .before .before .before .if1 .left) (u .result) _ (u .ensures)
+    room-enough (allLines (pairOf (z .left .now) (z .right .now) (z .p))) (z .out .now) (t .result) (t .ensures .0) (c .before .before .before .before .before .if1 .left) (u .result) _ (u .ensures)
 
 slice-reshare-prefix-copy : tie.Need-slice-reshare-prefix-copy
 slice-reshare-prefix-copy c = search needs
@@ -43,7 +44,7 @@ slice-aggregate-copy : tie.Need-slice-aggregate-copy
 slice-aggregate-copy c = sym (length-take-le _ _ (omega (arith, c .before .if2 .left)))
 
 copy-requires : tie.Need-copy-requires
-copy-requires c κs = omega (arith, length-take-le (c .before .before .before .before .before .before .all-lines .result .bytes) (c .before .before .before .before .before .before .all-lines .last .1 .0) (omega (arith, c .before .before .if2 .left)), c .before .before .before .if1 .left)
+copy-requires c κs = omega (arith, length-take-le (c .before .before .before .before .before .before .all-lines .result .bytes) (c .before .before .before .before .before .before .all-lines .last .1 .1 .1 .0) (omega (arith, c .before .before .if2 .left)), c .before .before .before .if1 .left)
 
 same-length-4 : tie.Need-same-length-4
 same-length-4 c = search needs
@@ -53,9 +54,9 @@ same-length-5 c = search needs
 
 returns-3 : tie.Need-returns-3
 returns-3 c =
-    let z = c .before .before .before .before .before .before .before .before .before .before .before .before .before .args in
+    let z = c .before .before .before .before .before .before .before .before .before .before .before .before .before .before .before .args in
     let t = c .before .before .before .before .before .before .before .before .before .all-lines in
-    copied-in (allLines (z .p)) (z .out .now) (t .result) (t .ensures .0) (c .before .before .before .before .before .before .if1 .left) (z .room .now) _ _ (omega (arith, c .before .before .before .before .before .if2 .left, t .kept .1 .0)) (t .ensures .1) (c .before .before .copy .ensures .1)
+    copied-in (allLines (pairOf (z .left .now) (z .right .now) (z .p))) (z .out .now) (t .result) (t .ensures .0) (c .before .before .before .before .before .before .if1 .left) (z .room .now) _ _ (omega (arith, c .before .before .before .before .before .if2 .left, t .kept .1 .1 .1 .0)) (t .ensures .1) (c .before .before .copy .ensures .1)
 
 pub list-pair-spec : {M : Type 1} → statement M
 list-pair-spec =

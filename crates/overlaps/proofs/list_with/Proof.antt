@@ -1,36 +1,46 @@
--- `overlaps::list_with` meets its contract: what is not accepted has no fields. Assumes nothing.
-use mathlib.Core.Path.{sym, _∙_}
-use borrow.Author.Tests.{not-true, not-false}
-use borrow.Author.Needs.{needs}
+-- `overlaps::list_with` meets its contract: the plain text of a value says what the value counts as. Assumes nothing.
+use lib.ListN.{replicate}
+use Rattle.text.specs.Plain.{plain}
 use Rattle.accepted.specs.Accepted.{countedRule}
-use Rattle.listing.specs.Overlaps.{linesOf}
-use Rattle.overlaps.proofs.Rules.{none-listed, not-left, not-right}
+use Rattle.pieces.proofs.Pieces.{written-long, written-count, written-front}
+use Rattle.plain_text.proofs.Lengths.{plain-short}
+use Rattle.overlaps.proofs.Texts.{values-listed}
+use borrow.Author.Needs.{needs}
 use Rattle.overlaps.proofs.list_with.Statement.{statement}
 use Rattle.overlaps.proofs.list_with.Tie as tie
 
-is-rule-requires : tie.Need-is-rule-requires
-is-rule-requires c κs = search needs
+slice-aggregate-write-rule : tie.Need-slice-aggregate-write-rule
+slice-aggregate-write-rule c = search needs
 
-returns : tie.Need-returns
-returns c =
-    let z = c .before .before .before .before .args in
-    let r = c .before .is-rule in
-    none-listed (linesOf (countedRule (z .left)) (countedRule (z .right))) (z .out .now) (not-left (z .left) (z .right) (sym (r .ensures) ∙ not-true (r .result) (c .if1 .taken)))
+write-rule-requires : tie.Need-write-rule-requires
+write-rule-requires c κs = search needs
 
-is-rule-requires-2 : tie.Need-is-rule-requires-2
-is-rule-requires-2 c κs = search needs
+size-of-requires : tie.Need-size-of-requires
+size-of-requires c κs = search needs
 
-returns-2 : tie.Need-returns-2
-returns-2 c =
-    let z = c .before .before .before .before .before .before .args in
-    let r = c .before .is-rule2 in
-    none-listed (linesOf (countedRule (z .left)) (countedRule (z .right))) (z .out .now) (not-right (z .left) (z .right) (sym (r .ensures) ∙ not-true (r .result) (c .if2 .taken)))
+slice-aggregate-write-rule-2 : tie.Need-slice-aggregate-write-rule-2
+slice-aggregate-write-rule-2 c = search needs
 
-list-accepted-requires : tie.Need-list-accepted-requires
-list-accepted-requires c κs =
-    let l = c .before .before .before .before .before .is-rule in
-    let r = c .before .before .before .is-rule2 in
-    (λ _. sym (l .ensures) ∙ not-false (l .result) (c .before .before .before .before .if1 .left), λ _. sym (r .ensures) ∙ not-false (r .result) (c .before .before .if2 .left))
+write-rule-requires-2 : tie.Need-write-rule-requires-2
+write-rule-requires-2 c κs = search needs
+
+size-of-requires-2 : tie.Need-size-of-requires-2
+size-of-requires-2 c κs = search needs
+
+array-share-prefix-a : tie.Need-array-share-prefix-a
+array-share-prefix-a c = let v = c .before .before .before .before .before .before .before .before .before .before .args .left in written-long (plain (countedRule v)) (replicate 1151 0) (plain-short v) (c .before .before .before .before .size-of .ensures) (c .before .before .before .before .before .before .write-rule .ensures)
+
+slice-aggregate-list-texts : tie.Need-slice-aggregate-list-texts
+slice-aggregate-list-texts c = let v = c .before .before .before .before .before .before .before .before .before .before .before .args .left in written-count (plain (countedRule v)) (replicate 1151 0) (plain-short v) (c .before .before .before .before .before .size-of .ensures) (c .before .before .before .before .before .before .before .write-rule .ensures)
+
+array-share-prefix-b : tie.Need-array-share-prefix-b
+array-share-prefix-b c = let v = c .before .before .before .before .before .before .before .before .before .before .before .args .right in written-long (plain (countedRule v)) (replicate 1151 0) (plain-short v) (c .before .size-of2 .ensures) (c .before .before .before .write-rule2 .ensures)
+
+slice-aggregate-list-texts-2 : tie.Need-slice-aggregate-list-texts-2
+slice-aggregate-list-texts-2 c = let v = c .before .before .before .before .before .before .before .before .before .before .before .before .args .right in written-count (plain (countedRule v)) (replicate 1151 0) (plain-short v) (c .before .before .size-of2 .ensures) (c .before .before .before .before .write-rule2 .ensures)
+
+list-texts-requires : tie.Need-list-texts-requires
+list-texts-requires c κs = search needs
 
 same-length : tie.Need-same-length
 same-length c = search needs
@@ -38,18 +48,30 @@ same-length c = search needs
 same-length-2 : tie.Need-same-length-2
 same-length-2 c = search needs
 
-returns-3 : tie.Need-returns-3
-returns-3 c = search needs
+returns : tie.Need-returns
+returns c =
+    let z = c .before .before .before .before .before .before .before .before .before .before .before .before .before .before .before .before .before .before .before .args in
+    let o = c .before .before .before .before .list-texts in
+    values-listed (z .left) (z .right) _ _ (z .out .now) _
+    (written-front (plain (countedRule (z .left))) (replicate 1151 0) (plain-short (z .left)) (c .before .before .before .before .before .before .before .before .before .before .before .before .before .size-of .ensures) (c .before .before .before .before .before .before .before .before .before .before .before .before .before .before .before .write-rule .ensures))
+    (written-front (plain (countedRule (z .right))) (replicate 1151 0) (plain-short (z .right)) (c .before .before .before .before .before .before .before .before .before .size-of2 .ensures) (c .before .before .before .before .before .before .before .before .before .before .before .write-rule2 .ensures))
+    (o .result) (o .ensures .0) (o .ensures .1)
 
 pub list-with-spec : {M : Type 1} → statement M
 list-with-spec =
     tie.close
     (tie.spec
-    is-rule-requires
-    returns
-    is-rule-requires-2
-    returns-2
-    list-accepted-requires
+    slice-aggregate-write-rule
+    write-rule-requires
+    size-of-requires
+    slice-aggregate-write-rule-2
+    write-rule-requires-2
+    size-of-requires-2
+    array-share-prefix-a
+    slice-aggregate-list-texts
+    array-share-prefix-b
+    slice-aggregate-list-texts-2
+    list-texts-requires
     same-length
     same-length-2
-    returns-3)
+    returns)

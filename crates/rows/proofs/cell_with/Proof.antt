@@ -3,6 +3,8 @@ use mathlib.Core.Path.{sym, _∙_}
 use borrow.Author.Tests.{not-false}
 use borrow.Author.Needs.{needs}
 use Rattle.shapes.proofs.Small.{capped-small}
+use Rattle.tokens.specs.Tokens.{termOf}
+use Rattle.rows.specs.Rows.{cellOf}
 use Rattle.rows.proofs.Places.{with-head, with-none, with-tail}
 use Rattle.rows.proofs.cell_with.Statement.{statement}
 use Rattle.rows.proofs.cell_with.Tie as tie
@@ -17,10 +19,10 @@ some-cell-requires : tie.Need-some-cell-requires
 some-cell-requires c κs = search needs
 
 returns : tie.Need-returns
-returns c =
+returns c l r =
     let z = c .before .before .before .before .before .args in
     let k = c .before .before .before .before .capped in
-    with-head (z .s) (z .n) (z .p) (k .result) (k .ensures) (z .m) (z .t) (c .before .term-with .result) (c .some-cell .result) (c .before .before .if1 .taken) (c .before .term-with .ensures) (c .some-cell .ensures)
+    with-head (z .s) (z .n) (z .p) (k .result) (k .ensures) (z .m) (termOf l r (z .t)) (termOf l r (c .before .term-with .result)) (cellOf l r (c .some-cell .result)) (c .before .before .if1 .taken) (c .before .term-with .ensures l r) (c .some-cell .ensures l r)
 
 in-tail-requires : tie.Need-in-tail-requires
 in-tail-requires c κs = search needs
@@ -29,11 +31,11 @@ no-cell-requires : tie.Need-no-cell-requires
 no-cell-requires c κs = search needs
 
 returns-2 : tie.Need-returns-2
-returns-2 c =
+returns-2 c l r =
     let z = c .before .before .before .before .before .before .args in
     let k = c .before .before .before .before .before .capped in
     let b = c .before .before .in-tail in
-    with-none (z .s) (z .n) (z .p) (k .result) (k .ensures) (z .m) (z .t) (b .result) (c .before .before .before .if1 .left) (b .ensures) (c .no-cell .result) (c .before .if2 .taken) (c .no-cell .ensures)
+    with-none (z .s) (z .n) (z .p) (k .result) (k .ensures) (z .m) (termOf l r (z .t)) (b .result) (c .before .before .before .if1 .left) (b .ensures) (cellOf l r (c .no-cell .result)) (c .before .if2 .taken) (c .no-cell .ensures l r)
 
 tail-place-requires : tie.Need-tail-place-requires
 tail-place-requires c κs =
@@ -47,11 +49,11 @@ some-cell-requires-2 : tie.Need-some-cell-requires-2
 some-cell-requires-2 c κs = search needs
 
 returns-3 : tie.Need-returns-3
-returns-3 c =
+returns-3 c l r =
     let z = c .before .before .before .before .before .before .before .before .args in
     let k = c .before .before .before .before .before .before .before .capped in
     let b = c .before .before .before .before .in-tail in
-    with-tail (z .s) (z .n) (z .p) (k .result) (k .ensures) (z .m) (z .t) (b .result) (c .before .before .before .before .before .if1 .left) (b .ensures) (c .before .before .tail-place .result) (c .before .term-with2 .result) (c .some-cell2 .result) (c .before .before .before .if2 .left) (c .before .before .tail-place .ensures) (c .before .term-with2 .ensures) (c .some-cell2 .ensures)
+    with-tail (z .s) (z .n) (z .p) (k .result) (k .ensures) (z .m) (termOf l r (z .t)) (b .result) (c .before .before .before .before .before .if1 .left) (b .ensures) (c .before .before .tail-place .result) (termOf l r (c .before .term-with2 .result)) (cellOf l r (c .some-cell2 .result)) (c .before .before .before .if2 .left) (c .before .before .tail-place .ensures) (c .before .term-with2 .ensures l r) (c .some-cell2 .ensures l r)
 
 pub cell-with-spec : {M : Type 1} → statement M
 cell-with-spec =

@@ -3,11 +3,11 @@ use borrow.Author.Needs.{needs}
 use Rattle.rows.proofs.no_cell.Statement.{statement}
 use Rattle.rows.proofs.no_cell.Tie as tie
 
-blank-term-requires : tie.Need-blank-term-requires
-blank-term-requires c κs = search needs
+blank-token-requires : tie.Need-blank-token-requires
+blank-token-requires c κs = search needs
 
 returns : tie.Need-returns
-returns c = rw (c .blank-term .ensures)
+returns c l r = rw (c .blank-token .ensures)
 
 pub no-cell-spec : {M : Type 1} → statement M
-no-cell-spec = tie.close (tie.spec blank-term-requires returns)
+no-cell-spec = tie.close (tie.spec blank-token-requires returns)

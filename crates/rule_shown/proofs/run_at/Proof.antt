@@ -14,8 +14,8 @@ between-requires c κs = search needs
 
 returns : tie.Need-returns
 returns c =
-    let long : length (c .before .before .args .f .terms) ≡ 16 = search long-mapped in
-    (rw (c .between .ensures, c .before .shape-of .ensures), long)
+    let long : length (c .before .before .args .f .tokens) ≡ 16 = search long-mapped in
+    (λ l r. rw (c .between .ensures, c .before .shape-of .ensures l r), long)
 
 pub run-at-spec : {M : Type 1} → statement M
 run-at-spec = tie.close (tie.spec shape-of-requires between-requires returns)

@@ -1,7 +1,11 @@
 -- `rule_shown::sizes_of` meets its contract. Assumes nothing.
-use mathlib.Core.Path.{_≡_}
+use mathlib.Core.Path.{_≡_, sym, _∙_}
+use mathlib.Core.List.{map-map}
 use lib.ListN.{length}
 use Rattle.lists.specs.Seqs.{long-mapped}
+use Rattle.entries.specs.declared.Wide.{Wide as TermsWide}
+use Rattle.token_entries.specs.declared.Wide.{Wide}
+use Rattle.token_entries.specs.Entries.{wideOf}
 use Rattle.rule_shown.proofs.Loops.{four-sizes}
 use borrow.Author.Needs.{needs}
 use Rattle.rule_shown.proofs.sizes_of.Statement.{statement}
@@ -23,7 +27,7 @@ returns : tie.Need-returns
 returns c =
     let z = c .before .before .before .before .args in
     let long : length (z .t1 .fields) ≡ 4 = search long-mapped in
-    (four-sizes (z .t1 .fields) _ long, long)
+    (λ l r. four-sizes (λ (w : Wide). w .n) (z .t1 .fields) _ long ∙ sym (map-map (λ (w : TermsWide). w .n) (wideOf l r) (z .t1 .fields)), long)
 
 pub sizes-of-spec : {M : Type 1} → statement M
 sizes-of-spec =

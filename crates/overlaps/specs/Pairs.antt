@@ -1,0 +1,27 @@
+-- The two rules that are listed: the left one, and the right one with its variables kept apart from the left one's.
+use mathlib.Core.List.{List}
+use Prim.Native.Nat.{ℕ}
+use mathlib.Core.Path.{_≡_}
+use Rattle.text.specs.Read.{readRule}
+use Rattle.terms.specs.declared.Rule.{Rule}
+use Rattle.sides.specs.Values.{rightRule}
+use Rattle.reading.specs.Answers.{ruleRead}
+use Rattle.tokens.specs.declared.TokenRule.{TokenRule}
+use Rattle.tokens.specs.Tokens.{ruleOf}
+use Rattle.overlaps.specs.declared.TokenPair.{TokenPair}
+
+pub record Pair : Type 0 where
+  pub left : Rule
+  pub sided : Rule
+
+-- the rules that a pair of token rules stands for, of the left text and the right one
+abbrev pub pairOf : List ℕ → List ℕ → TokenPair → Pair
+pairOf l r p = record { left = ruleOf l r (p .left); sided = ruleOf l r (p .right) }
+
+-- the rule that a text says as a value, with no fields where it is refused
+abbrev pub saidRule : List ℕ → Rule
+saidRule t = (ruleRead (readRule t)) .rule
+
+-- token rules that stand for what the left text l and the right text r say
+abbrev pub Said : List ℕ → List ℕ → TokenRule → TokenRule → Type 0
+Said l r x y = (ruleOf l r x ≡ saidRule l) × (ruleOf l r y ≡ rightRule (saidRule r))

@@ -1,0 +1,121 @@
+-- `token_fillings::Fillings::join` meets its contract. Assumes nothing.
+use mathlib.Core.Path.{_≡_}
+use mathlib.Core.Logic.{⊎-elim}
+use lib.ListN.{length}
+use Rattle.lists.specs.Seqs.{long-mapped}
+use Rattle.atoms.specs.Atoms.{places}
+use Rattle.token_fillings.proofs.Cases.{looks, join-same, join-left, join-right, join-clash}
+use borrow.Author.Needs.{needs}
+use Rattle.token_fillings.proofs.Fillings.join.Statement.{statement}
+use Rattle.token_fillings.proofs.Fillings.join.Tie as tie
+
+place-of-requires : tie.Need-place-of-requires
+place-of-requires c κs = search needs
+
+place-of-requires-2 : tie.Need-place-of-requires-2
+place-of-requires-2 c κs = search needs
+
+mul-held : tie.Need-mul-held
+mul-held c = search needs
+
+element-copy-out-held : tie.Need-element-copy-out-held
+element-copy-out-held c = search needs
+
+held-requires : tie.Need-held-requires
+held-requires c κs = search needs
+
+mul-held-2 : tie.Need-mul-held-2
+mul-held-2 c = search needs
+
+element-copy-out-held-2 : tie.Need-element-copy-out-held-2
+element-copy-out-held-2 c = search needs
+
+held-requires-2 : tie.Need-held-requires-2
+held-requires-2 c κs = search needs
+
+term-of-requires : tie.Need-term-of-requires
+term-of-requires c κs = search needs
+
+term-of-requires-2 : tie.Need-term-of-requires-2
+term-of-requires-2 c κs = search needs
+
+same-atom-requires : tie.Need-same-atom-requires
+same-atom-requires c κs = search needs
+
+returns : tie.Need-returns
+returns c =
+    let p = c .before in
+    let z = p .before .before .before .before .before .before .before .before .before .before .before .args in
+    let l = z .left .now in
+    let r = z .right .now in
+    let known = p .before .before .before .before .before .before .before .before .before .before .before .good .0 .1 .1 .0 .1 .0 in
+    let n : length (z .t1 .atoms) ≡ places = search (long-mapped, known) in
+    let x = p .before .before .before .before .before .held in
+    let y = p .before .before .before .held2 in
+    let is-x = looks l r (z .t1) (z .a) (p .before .before .before .before .before .before .before .before .place-of .result) _ (x .result) n (p .before .before .before .before .before .before .before .before .place-of .ensures .0) (x .ensures) in
+    let is-y = looks l r (z .t1) (z .b) (p .before .before .before .before .before .before .before .place-of2 .result) _ (y .result) n (p .before .before .before .before .before .before .before .place-of2 .ensures .0) (y .ensures) in
+    join-same l r (z .a) (z .b) (z .t1) (x .result) (y .result) is-x is-y (p .before .before .term-of .result) (p .before .term-of2 .result) (p .before .before .term-of .ensures) (p .before .term-of2 .ensures) (p .same-atom .result) (p .same-atom .ensures) (c .if1 .taken)
+
+takes-requires : tie.Need-takes-requires
+takes-requires c κs = search needs
+
+takes-requires-2 : tie.Need-takes-requires-2
+takes-requires-2 c κs = search needs
+
+returns-2 : tie.Need-returns-2
+returns-2 c =
+    let p = c .before .before .before .before .before in
+    let z = p .before .before .before .before .before .before .before .before .before .before .before .args in
+    let l = z .left .now in
+    let r = z .right .now in
+    let known = p .before .before .before .before .before .before .before .before .before .before .before .good .0 .1 .1 .0 .1 .0 in
+    let n : length (z .t1 .atoms) ≡ places = search (long-mapped, known) in
+    let x = p .before .before .before .before .before .held in
+    let y = p .before .before .before .held2 in
+    let is-x = looks l r (z .t1) (z .a) (p .before .before .before .before .before .before .before .before .place-of .result) _ (x .result) n (p .before .before .before .before .before .before .before .before .place-of .ensures .0) (x .ensures) in
+    let is-y = looks l r (z .t1) (z .b) (p .before .before .before .before .before .before .before .place-of2 .result) _ (y .result) n (p .before .before .before .before .before .before .before .place-of2 .ensures .0) (y .ensures) in
+    join-clash l r (z .a) (z .b) (z .t1) (x .result) (y .result) is-x is-y (p .before .before .term-of .result) (p .before .term-of2 .result) (p .before .before .term-of .ensures) (p .before .term-of2 .ensures) (p .same-atom .result) (p .same-atom .ensures) (c .before .before .before .takes .result) (c .before .before .before .takes .ensures) (c .before .before .before .before .if1 .left) (c .before .takes2 .result) (c .before .takes2 .ensures) (c .before .before .if2 .taken) (c .if3 .taken)
+
+replace-requires : tie.Need-replace-requires
+replace-requires c κs = search needs
+
+returns-3 : tie.Need-returns-3
+returns-3 c =
+    let p = c .before .before .before .before in
+    let z = p .before .before .before .before .before .before .before .before .before .before .before .args in
+    let l = z .left .now in
+    let r = z .right .now in
+    let known = p .before .before .before .before .before .before .before .before .before .before .before .good .0 .1 .1 .0 .1 .0 in
+    let n : length (z .t1 .atoms) ≡ places = search (long-mapped, known) in
+    let x = p .before .before .before .before .before .held in
+    let y = p .before .before .before .held2 in
+    let is-x = looks l r (z .t1) (z .a) (p .before .before .before .before .before .before .before .before .place-of .result) _ (x .result) n (p .before .before .before .before .before .before .before .before .place-of .ensures .0) (x .ensures) in
+    let is-y = looks l r (z .t1) (z .b) (p .before .before .before .before .before .before .before .place-of2 .result) _ (y .result) n (p .before .before .before .before .before .before .before .place-of2 .ensures .0) (y .ensures) in
+    let q = c .before .before .takes in
+    let i = c .before .before .before .if1 in
+    ⊎-elim
+    (λ w. join-right l r (z .a) (z .b) (z .t1) (x .result) (y .result) is-x is-y (p .before .before .term-of .result) (p .before .term-of2 .result) (p .before .before .term-of .ensures) (p .before .term-of2 .ensures) (p .same-atom .result) (p .same-atom .ensures) (q .result) (q .ensures) (i .left) (w .1 .result) (w .1 .ensures) (w .0 .taken) (c .replace .result) _ _ (w .2 .left) (w .3) (w .4) (c .replace .ensures))
+    (λ w. join-left l r (z .a) (z .b) (z .t1) (x .result) (y .result) is-x is-y (p .before .before .term-of .result) (p .before .term-of2 .result) (p .before .before .term-of .ensures) (p .before .term-of2 .ensures) (p .same-atom .result) (p .same-atom .ensures) (q .result) (q .ensures) (i .left) (c .replace .result) _ _ (w .0 .left) (w .1) (w .2) (c .replace .ensures))
+    (c .before .if2 .came)
+
+pub join-spec : {M : Type 1} → statement M
+join-spec =
+    tie.close
+    (tie.spec
+    place-of-requires
+    place-of-requires-2
+    mul-held
+    element-copy-out-held
+    held-requires
+    mul-held-2
+    element-copy-out-held-2
+    held-requires-2
+    term-of-requires
+    term-of-requires-2
+    same-atom-requires
+    returns
+    takes-requires
+    takes-requires-2
+    returns-2
+    replace-requires
+    returns-3)
