@@ -1,7 +1,7 @@
 // Entries of the overlap list as values, before the renumbering.
 // In a term there, an atom variable of the right rule has 16 more than its number, and a list variable has the place of its field.
 ghost use mathlib.Core.Path.{_≡_};
-ghost use Rattle.entries.specs.Values.{blankWide, blankEntry, pushed};
+ghost use Rattle.entries.specs.Values.{blankWide, pushed};
 use terms::Term;
 
 // A field of an entry: up to 31 terms.
