@@ -4,7 +4,7 @@ ghost use mathlib.Core.Path.{_≡_};
 ghost use lib.ListN.{length};
 ghost use Rattle.text.specs.Plain.{plain};
 ghost use Rattle.accepted.specs.Accepted.{countedRule};
-ghost use Rattle.writing.specs.Answers.{writtenOf, after};
+ghost use Rattle.writing.specs.Answers.{Writes};
 ghost use Rattle.text.specs.Ascii.{ascii, newline};
 ghost use Rattle.pieces.specs.Placed.{Placed};
 ghost use Rattle.answers.specs.Texts.{ruleAnswer, slipAnswer, textsAnswer};
@@ -94,7 +94,7 @@ fn room() -> [u8; 1180]
 
 // The two lines that `texts` prints for a line.
 pub fn texts_answer(line: &[u8], out: &mut [u8]) -> Written
-    ensures { λ w. ⌜ (w ≡ writtenOf (textsAnswer (now (line .entry))) (now (out .entry))) × (now (out .exit) ≡ after (textsAnswer (now (line .entry))) (now (out .entry))) ⌝ }
+    ensures { λ w. ⌜ Writes (textsAnswer (now (line .entry))) (now (out .entry)) w (now (out .exit)) ⌝ }
 {
     let mut text = room();
     let a = put_rule_answer(line, &mut text, 0);

@@ -1,19 +1,15 @@
 -- Laws of pieces of a known bound, put one behind the other. Assumes nothing.
 use mathlib.Core.Path.{_≡_, refl, sym, ap, _∙_}
-use mathlib.Core.Bool.{Bool, true, false, cond}
+use mathlib.Core.Bool.{Bool, cond}
 use mathlib.Core.List.{List, [], _∷_, _++_}
 use Prim.Native.Nat.{ℕ, _+_, _≤_}
 use native.Mathlib.Nat.{zero-add}
 use native.Mathlib.Omega.{arith}
-use lib.Dec.{leb}
 use lib.ListN.{length, drop, length-append}
 use lib.Seq.{sets-eq}
 use borrow.Author.Tests.{le-leb}
-use Rattle.writing.specs.declared.Written.{Written}
-use Rattle.writing.specs.declared.Written.the-variants.{Bytes, TooSmall}
-use Rattle.writing.specs.Answers.{writtenOf, after}
+use Rattle.writing.specs.Answers.{after}
 use Rattle.pieces.specs.Placed.{Placed}
-use Rattle.pieces.specs.Sizes.{sizeOf}
 use Rattle.pieces.proofs.Pieces.{sets-out, placed-as, placed-next}
 
 abbrev pub Piece : ℕ → List ℕ → ℕ → List ℕ → ℕ → List ℕ → Type 0
@@ -32,14 +28,6 @@ piece-byte b at l q = (q, omega arith)
 -- a byte beyond the end is not put
 pub placed-out : (b at : ℕ) (l : List ℕ) → length l ≤ at → Placed (b ∷ []) at l at l
 placed-out b at l h = (omega arith, sym (sets-out (b ∷ []) l at h))
-
--- a writer's answer says the text's size either way
-pub size-either : (t l : List ℕ) {n : ℕ} {w : Written} → n ≡ sizeOf w → w ≡ writtenOf t l → n ≡ length t
-size-either t l e h = e ∙ ap sizeOf h ∙ go (leb (length t) (length l))
-  where
-    go : (b : Bool) → sizeOf (cond b (Bytes (length t)) (TooSmall (length t))) ≡ length t
-    go true = refl
-    go false = refl
 
 -- what is put at the start of a buffer that has room for it is the front, and behind it are the old bytes
 pub front-after : (t l : List ℕ) → length t ≤ length l → {p : ℕ} {m : List ℕ} → Placed t 0 l p m → (p ≡ length t) × (m ≡ after t l)

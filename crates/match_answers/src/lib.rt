@@ -2,7 +2,7 @@
 // It is put together piece behind piece in room that is known to be enough, and then given whole or not at all.
 ghost use mathlib.Core.Path.{_≡_};
 ghost use lib.ListN.{length};
-ghost use Rattle.writing.specs.Answers.{writtenOf, after};
+ghost use Rattle.writing.specs.Answers.{Writes};
 ghost use Rattle.pieces.specs.Placed.{Placed};
 ghost use Rattle.match_answers.specs.Matches.{lineText, matchAnswer};
 ghost use Rattle.match_answers.specs.Values.{saidSlip, saidReads};
@@ -74,7 +74,7 @@ fn room() -> [u8; 19583]
 
 // The two lines that `matches` prints for line number k.
 pub fn match_answer(k: u64, line: &[u8], out: &mut [u8]) -> Written
-    ensures { λ w. ⌜ (w ≡ writtenOf (matchAnswer k (now (line .entry))) (now (out .entry))) × (now (out .exit) ≡ after (matchAnswer k (now (line .entry))) (now (out .entry))) ⌝ }
+    ensures { λ w. ⌜ Writes (matchAnswer k (now (line .entry))) (now (out .entry)) w (now (out .exit)) ⌝ }
 {
     let mut text = room();
     let a = line_pieces::put_title(b"match ", k, &mut text, 0);

@@ -4,7 +4,7 @@
 ghost use mathlib.Core.Path.{_≡_};
 ghost use Prim.Native.Nat.{_+_, _≤_};
 ghost use lib.ListN.{length};
-ghost use Rattle.writing.specs.Answers.{writtenOf, after};
+ghost use Rattle.writing.specs.Answers.{Writes};
 ghost use Rattle.pieces.specs.Placed.{Placed};
 ghost use Rattle.overlap_text.specs.Texts.{mostBytes};
 ghost use Rattle.pair_answers.specs.Pairs.{lineText, longestAnswer, pairAnswer};
@@ -46,7 +46,7 @@ fn longest() -> [u8; 65562]
 
 // The lines that `pairs` prints for line number k. A room of 65,536 bytes saves making the list twice.
 pub fn answer_with(k: u64, line: &[u8], room: &mut [u8], out: &mut [u8]) -> Written
-    ensures { λ w. ⌜ (w ≡ writtenOf (pairAnswer k (now (line .entry))) (now (out .entry))) × (now (out .exit) ≡ after (pairAnswer k (now (line .entry))) (now (out .entry))) ⌝ }
+    ensures { λ w. ⌜ Writes (pairAnswer k (now (line .entry))) (now (out .entry)) w (now (out .exit)) ⌝ }
     ensures { λ _. ⌜ length (pairAnswer k (now (line .entry))) ≤ longestAnswer ⌝ }
 {
     if 65562 <= out.len() {
@@ -59,7 +59,7 @@ pub fn answer_with(k: u64, line: &[u8], room: &mut [u8], out: &mut [u8]) -> Writ
 
 // The same with no room but the lent bytes.
 pub fn pair_answer(k: u64, line: &[u8], out: &mut [u8]) -> Written
-    ensures { λ w. ⌜ (w ≡ writtenOf (pairAnswer k (now (line .entry))) (now (out .entry))) × (now (out .exit) ≡ after (pairAnswer k (now (line .entry))) (now (out .entry))) ⌝ }
+    ensures { λ w. ⌜ Writes (pairAnswer k (now (line .entry))) (now (out .entry)) w (now (out .exit)) ⌝ }
     ensures { λ _. ⌜ length (pairAnswer k (now (line .entry))) ≤ longestAnswer ⌝ }
 {
     let mut room = [0u8; 1];

@@ -11,10 +11,12 @@ use lib.Dec.{leb}
 use lib.ListN.{length, take, drop, getD, set, length-append}
 use lib.Seq.{sets, sets-eq, length-sets, set-out, take-at, take-length, drop-cons}
 use borrow.Author.Tests.{le-leb, leb-true}
+use Rattle.text.specs.Told.{Told, byRoom}
+use Rattle.text.proofs.Told.{fits-iff}
 use Rattle.writing.specs.declared.Written.{Written}
 use Rattle.writing.specs.declared.Written.the-variants.{Bytes, TooSmall}
 use Rattle.writing.specs.Room.{Room, Put}
-use Rattle.writing.specs.Answers.{writtenOf, after}
+use Rattle.writing.specs.Answers.{told, Writes}
 use Rattle.writing.proofs.Stores.{sets-append}
 use Rattle.pieces.specs.Sizes.{sizeOf}
 use Rattle.pieces.specs.Placed.{placed, placeBehind, Placed}
@@ -102,13 +104,21 @@ module _ (t l : List ℕ) (room : length t ≤ length l) {p : ℕ} {m : List ℕ
   pub front-size : p ≡ length (take p m)
   front-size = omega (arith, put .0, ap length front-is)
 
+-- a writer's answer says the text's size either way
+pub size-told : {t l : List ℕ} {w : Written} {m : List ℕ} → Writes t l w m → sizeOf w ≡ length t
+size-told {t} {l} {w} {m} put = go w (ap (λ (a : Told). a .values) (put .answer))
+  where
+    go : (w : Written) → told w .values ≡ length t ∷ [] → sizeOf w ≡ length t
+    go (Bytes n) e = cc
+    go (TooSmall n) e = cc
+
 -- a writer's text
-module _ (t l : List ℕ) (room : length t ≤ length l) {n : ℕ} {w : Written} {m : List ℕ} (size : n ≡ sizeOf w) (put : (w ≡ writtenOf t l) × (m ≡ after t l)) where
+module _ (t l : List ℕ) (room : length t ≤ length l) {n : ℕ} {w : Written} {m : List ℕ} (size : n ≡ sizeOf w) (put : Writes t l w m) where
   written-size : n ≡ length t
-  written-size = size ∙ ap sizeOf (put .0) ∙ rw (le-leb (length t) (length l) room)
+  written-size = size ∙ size-told put
 
   written-bytes : m ≡ t ++ drop (length t) l
-  written-bytes = put .1 ∙ rw (le-leb (length t) (length l) room)
+  written-bytes = put .bytes ∙ rw (le-leb (length t) (length l) room)
 
   pub written-front : take n m ≡ t
   written-front = ap₂ take written-size written-bytes ∙ take-at t (drop (length t) l) (length t) refl
@@ -120,12 +130,12 @@ module _ (t l : List ℕ) (room : length t ≤ length l) {n : ℕ} {w : Written}
   written-count = omega (arith, written-size, ap length written-front)
 
 -- what a writer says that it wrote is in the buffer
-pub written-in : (t l : List ℕ) {n : ℕ} {w : Written} → w ≡ writtenOf t l → w ≡ Bytes n → n ≤ length l
-written-in t l {n} {w} e h = go (leb (length t) (length l)) refl
-  where
-    go : (b : Bool) → leb (length t) (length l) ≡ b → n ≤ length l
-    go true q = let z : Bytes n ≡ Bytes (length t) = sym h ∙ e ∙ rw q in let k : n ≡ length t = cc in omega (arith, leb-true (length t) (length l) q)
-    go false q = let z : Bytes n ≡ TooSmall (length t) = sym h ∙ e ∙ rw q in let k : _≡_ {A = ℕ} 0 1 = cc in absurd (omega arith)
+pub written-in : (t l : List ℕ) {n : ℕ} {w : Written} {m : List ℕ} → Writes t l w m → w ≡ Bytes n → n ≤ length l
+written-in t l {n} {w} put h =
+    let e : told (Bytes n) ≡ byRoom (length t) (length l) (length t ∷ []) = ap told (sym h) ∙ put .answer in
+    let room = fits-iff (length t) (length l) (length t ∷ []) .0 (sym (ap (λ (a : Told). a .number) e)) in
+    let size : n ≡ length t = cc (ap (λ (a : Told). a .values) e) in
+    omega arith
 
 pub copied : (t l : List ℕ) {m : List ℕ} → length t ≤ length l → m ≡ take (length t) t ++ drop (length t) l → m ≡ sets l 0 t
 copied t l h e = e ∙ ap (λ (r : List ℕ). r ++ drop (length t) l) (take-length t) ∙ ap (λ (k : ℕ). t ++ drop k l) (sym (zero-add (length t))) ∙ sym (sets-eq t l 0 (omega arith))

@@ -5,7 +5,7 @@ ghost use lib.ListN.{length};
 ghost use Rattle.text.specs.Numbers.{digitsOf};
 ghost use Rattle.text.specs.Plain.{termText};
 ghost use Rattle.terms.specs.Values.{viewTerm};
-ghost use Rattle.writing.specs.Answers.{writtenOf, after};
+ghost use Rattle.writing.specs.Answers.{Writes};
 ghost use Rattle.bytes.specs.Bytes.{indexOf};
 ghost use Rattle.pieces.specs.Refusals.{numberAt};
 ghost use Rattle.pieces.specs.Sizes.{sizeOf};
@@ -77,7 +77,7 @@ pub fn tab_place(line: &[u8]) -> usize
 
 // The text into the lent bytes, or its size where they are too few.
 pub fn give(text: &[u8], out: &mut [u8]) -> Written
-    ensures { λ w. ⌜ (w ≡ writtenOf (now (text .entry)) (now (out .entry))) × (now (out .exit) ≡ after (now (text .entry)) (now (out .entry))) ⌝ }
+    ensures { λ w. ⌜ Writes (now (text .entry)) (now (out .entry)) w (now (out .exit)) ⌝ }
 {
     if out.len() < text.len() {
         return Written::TooSmall(text.len());

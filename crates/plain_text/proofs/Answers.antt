@@ -10,12 +10,13 @@ use Rattle.terms.specs.Values.{viewRule}
 use Rattle.accepted.specs.Accepted.{acceptedRule, countedRule}
 use Rattle.writing.specs.declared.Written.{Written}
 use Rattle.writing.specs.declared.Written.the-variants.{Bytes}
-use Rattle.writing.proofs.Answers.{Answers, wrote}
+use Rattle.writing.specs.Answers.{Writes}
+use Rattle.writing.proofs.Answers.{wrote}
 
 module _ (r : Rule) where
   -- a value that no reading returns has no bytes, and is never refused
-  pub of-none : (l : List ℕ) → acceptedRule r ≡ false → Answers (plain (countedRule r)) l (Bytes 0) l
+  pub of-none : (l : List ℕ) → acceptedRule r ≡ false → Writes (plain (countedRule r)) l (Bytes 0) l
   of-none l e = rw e (wrote [] l (omega arith) refl refl)
 
-  pub of-rule : (l : List ℕ) {w : Written} {m : List ℕ} → acceptedRule r ≡ true → Answers (plain (viewRule r)) l w m → Answers (plain (countedRule r)) l w m
+  pub of-rule : (l : List ℕ) {w : Written} {m : List ℕ} → acceptedRule r ≡ true → Writes (plain (viewRule r)) l w m → Writes (plain (countedRule r)) l w m
   of-rule l e h = rw e h

@@ -8,7 +8,7 @@ ghost use Rattle.text.specs.Plain.{fieldText, plain};
 ghost use Rattle.terms.specs.Values.{viewField, viewRule};
 ghost use Rattle.accepted.specs.Accepted.{countedRule, countedField};
 ghost use Rattle.writing.specs.Room.{Room, Put};
-ghost use Rattle.writing.specs.Answers.{writtenOf, after};
+ghost use Rattle.writing.specs.Answers.{Writes};
 use terms::Field;
 use terms::Rule;
 use writing::Written;
@@ -98,7 +98,7 @@ fn put_rule(r: Rule, out: &mut [u8], at: usize) -> usize
 
 // A rule's plain text. Document 01: a value that no reading can return "counts there as one with no fields; writing such a rule gives no bytes".
 pub fn write_rule(r: Rule, out: &mut [u8]) -> Written
-    ensures { λ w. ⌜ (w ≡ writtenOf (plain (countedRule r)) (now (out .entry))) × (now (out .exit) ≡ after (plain (countedRule r)) (now (out .entry))) ⌝ }
+    ensures { λ w. ⌜ Writes (plain (countedRule r)) (now (out .entry)) w (now (out .exit)) ⌝ }
 {
     if !accepted::is_rule(r) {
         return Written::Bytes(0);
@@ -113,7 +113,7 @@ pub fn write_rule(r: Rule, out: &mut [u8]) -> Written
 
 // A field's text is that of the rule that has just this field.
 pub fn write_field(f: Field, out: &mut [u8]) -> Written
-    ensures { λ w. ⌜ (w ≡ writtenOf (plain (countedField f)) (now (out .entry))) × (now (out .exit) ≡ after (plain (countedField f)) (now (out .entry))) ⌝ }
+    ensures { λ w. ⌜ Writes (plain (countedField f)) (now (out .entry)) w (now (out .exit)) ⌝ }
 {
     write_rule(terms::one_field(f), out)
 }

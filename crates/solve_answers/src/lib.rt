@@ -6,7 +6,7 @@ ghost use Prim.Native.Nat.{_≤_};
 ghost use lib.ListN.{length};
 ghost use Rattle.text.specs.Read.{readRule};
 ghost use Rattle.accepted.specs.Accepted.{countedField};
-ghost use Rattle.writing.specs.Answers.{writtenOf, after};
+ghost use Rattle.writing.specs.Answers.{Writes};
 ghost use Rattle.pieces.specs.Placed.{Placed};
 ghost use Rattle.search_text.specs.Found.{mostRecords, longestBody};
 ghost use Rattle.solve_answers.specs.Solve.{fieldIn, lineText, longestAnswer, solveAnswer};
@@ -116,7 +116,7 @@ fn room() -> [u8; 131164]
 
 // The lines that `solve` prints for line number k.
 pub fn solve_answer(k: u64, line: &[u8], out: &mut [u8]) -> Written
-    ensures { λ w. ⌜ (w ≡ writtenOf (solveAnswer k (now (line .entry))) (now (out .entry))) × (now (out .exit) ≡ after (solveAnswer k (now (line .entry))) (now (out .entry))) ⌝ }
+    ensures { λ w. ⌜ Writes (solveAnswer k (now (line .entry))) (now (out .entry)) w (now (out .exit)) ⌝ }
     ensures { λ _. ⌜ length (solveAnswer k (now (line .entry))) ≤ longestAnswer ⌝ }
 {
     let mut text = room();

@@ -13,3 +13,4 @@ pub mod Lengths
 pub mod Theorems
 pub mod Examples
 pub mod Walk
+pub mod Told

@@ -12,3 +12,4 @@ pub mod Read
 pub mod Plain
 pub mod Limits
 pub mod Walk
+pub mod Told

@@ -10,7 +10,7 @@ ghost use Rattle.text.specs.Numbers.{digitsOf};
 ghost use Rattle.text.specs.Plain.{termText};
 ghost use Rattle.terms.specs.Values.{viewTerm};
 ghost use Rattle.writing.specs.Room.{Room, Put};
-ghost use Rattle.writing.specs.Answers.{writtenOf, after};
+ghost use Rattle.writing.specs.Answers.{Writes};
 use order::Kind;
 use terms::Form;
 use terms::Term;
@@ -129,7 +129,7 @@ fn put_term(t: Term, out: &mut [u8], at: usize) -> usize
 
 // A term's text, which has at most 17 bytes.
 pub fn write_term(t: Term, out: &mut [u8]) -> Written
-    ensures { λ w. ⌜ (w ≡ writtenOf (termText (viewTerm t)) (now (out .entry))) × (now (out .exit) ≡ after (termText (viewTerm t)) (now (out .entry))) ⌝ }
+    ensures { λ w. ⌜ Writes (termText (viewTerm t)) (now (out .entry)) w (now (out .exit)) ⌝ }
     ensures { λ _. ⌜ length (termText (viewTerm t)) ≤ 17 ⌝ }
 {
     let long = term_size(t);
@@ -141,7 +141,7 @@ pub fn write_term(t: Term, out: &mut [u8]) -> Written
 
 // A number's digits, without leading zeros.
 pub fn write_number(n: u64, out: &mut [u8]) -> Written
-    ensures { λ w. ⌜ (w ≡ writtenOf (digitsOf n) (now (out .entry))) × (now (out .exit) ≡ after (digitsOf n) (now (out .entry))) ⌝ }
+    ensures { λ w. ⌜ Writes (digitsOf n) (now (out .entry)) w (now (out .exit)) ⌝ }
 {
     let size = digits_size(n);
     if out.len() < size {

@@ -7,7 +7,7 @@ use lib.ListN.{length, take, drop, length-drop}
 use lib.Seq.{take-all}
 use Rattle.writing.specs.Answers.{after}
 use Rattle.answer_lines.specs.Answers.{withoutBlank}
-use Rattle.entry_parts.proofs.Pieces.{size-either}
+use Rattle.pieces.proofs.Pieces.{size-told}
 use Rattle.answer_lines.proofs.Parts.{before-small}
 use borrow.Author.Needs.{needs}
 use Rattle.answer_lines.proofs.give_line.Statement.{statement}
@@ -43,7 +43,7 @@ returns c =
     let T = z .text .now in
     let line : take (length T - B .result) (drop (B .result) T) ≡ withoutBlank T = take-all (length T - B .result) (drop (B .result) T) (omega (arith, length-drop (B .result) T)) ∙ ap (λ (k : ℕ). drop k T) (B .ensures) in
     subst (λ (l : List ℕ). (S .result ≡ length l) × (G .last .1 .0 ≡ after l (z .out .now))) line
-    (size-either (take (length T - B .result) (drop (B .result) T)) (z .out .now) (S .ensures) (G .ensures .0), G .ensures .1)
+    (S .ensures ∙ size-told (G .ensures), G .ensures .bytes)
 
 pub give-line-spec : {M : Type 1} → statement M
 give-line-spec =

@@ -4,7 +4,7 @@ use mathlib.Core.List.{List}
 use Prim.Native.Nat.{ℕ}
 use native.Mathlib.Omega.{arith}
 use borrow.Author.Needs.{needs}
-use Rattle.writing.proofs.Answers.{Answers}
+use Rattle.writing.specs.Answers.{Writes}
 use Rattle.pieces.proofs.Pieces.{placed-next, front-is, front-size}
 use Rattle.answers.specs.Texts.{ruleAnswer, slipAnswer, textsAnswer}
 use Rattle.answers.proofs.Lengths.{texts-short}
@@ -48,7 +48,7 @@ returns c =
     let z = c .before .before .before .before .before .before .before .before .before .before .before .before .before .before .args in
     let l = c .before .before .before .before .before .before .before .before .before .before .before .room .result in
     let G = c .before .before .give in
-    subst (λ (t : List ℕ). Answers t (z .out .now) (G .result) (G .last .1 .0)) (front-is (textsAnswer (z .line .now)) l (omega (arith, texts-short (z .line .now), c .before .before .before .before .before .before .before .before .before .before .before .room .ensures)) (placed-next (ruleAnswer (z .line .now)) (slipAnswer (z .line .now)) 0 l (c .before .before .before .before .before .before .before .before .before .put-rule-answer .ensures) (c .before .before .before .before .before .before .put-slip-answer .ensures))) (G .ensures)
+    subst (λ (t : List ℕ). Writes t (z .out .now) (G .result) (G .last .1 .0)) (front-is (textsAnswer (z .line .now)) l (omega (arith, texts-short (z .line .now), c .before .before .before .before .before .before .before .before .before .before .before .room .ensures)) (placed-next (ruleAnswer (z .line .now)) (slipAnswer (z .line .now)) 0 l (c .before .before .before .before .before .before .before .before .before .put-rule-answer .ensures) (c .before .before .before .before .before .before .put-slip-answer .ensures))) (G .ensures)
 
 pub texts-answer-spec : {M : Type 1} → statement M
 texts-answer-spec =

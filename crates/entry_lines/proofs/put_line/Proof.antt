@@ -1,16 +1,16 @@
 -- `entry_lines::put_line` meets its contract: the line is put at the front of the lent bytes, or at the front of the room, and the front is given. Assumes nothing.
-use mathlib.Core.Path.{_≡_, subst}
+use mathlib.Core.Path.{_≡_, _∙_, subst}
 use mathlib.Core.List.{List}
 use Prim.Native.Nat.{ℕ}
 use native.Mathlib.Omega.{arith}
 use lib.ListN.{length, take}
 use borrow.Author.Needs.{needs}
 use Rattle.writing.specs.Answers.{after}
-use Rattle.pieces.proofs.Pieces.{front-is, front-size}
+use Rattle.pieces.proofs.Pieces.{front-is, front-size, size-told}
 use Rattle.token_entries.specs.Entries.{entryOf}
 use Rattle.token_shown.specs.Shown.{shownOf}
 use Rattle.entry_lines.specs.Lines.{lineValue}
-use Rattle.entry_parts.proofs.Pieces.{front-after, size-either}
+use Rattle.entry_parts.proofs.Pieces.{front-after}
 use Rattle.entry_lines.proofs.put_line.Statement.{statement}
 use Rattle.entry_lines.proofs.put_line.Tie as tie
 
@@ -65,7 +65,7 @@ returns-2 c =
     let G = c .before .before .before .give in
     let S = c .size-of in (
       subst (λ (t : List ℕ). (S .result ≡ length t) × (G .last .1 .0 ≡ after t (z .out .now))) (front-is v (R .result) (omega (arith, P .ensures .1, R .ensures)) (P .ensures .0))
-          (size-either (take (P .result) (P .last .1 .1 .1 .1 .1 .0)) (z .out .now) (S .ensures) (G .ensures .0), G .ensures .1),
+          (S .ensures ∙ size-told (G .ensures), G .ensures .bytes),
       P .ensures .1,
     )
 

@@ -4,7 +4,7 @@ use mathlib.Core.List.{List}
 use Prim.Native.Nat.{ℕ}
 use native.Mathlib.Omega.{arith}
 use Rattle.text.specs.Ascii.{newline}
-use Rattle.writing.proofs.Answers.{Answers}
+use Rattle.writing.specs.Answers.{Writes}
 use Rattle.pieces.proofs.Pieces.{placed-three, front-is, front-size}
 use Rattle.match_answers.specs.Matches.{titleText, lineText, matchAnswer}
 use Rattle.match_answers.proofs.Lengths.{answer-short}
@@ -61,7 +61,7 @@ returns c =
     let z = c .before .before .before .before .before .before .before .before .before .before .before .before .before .before .before .before .before .before .before .args in
     let l = c .before .before .before .before .before .before .before .before .before .before .before .before .before .before .before .before .room .result in
     let G = c .before .before .give in
-    subst (λ (t : List ℕ). Answers t (z .out .now) (G .result) (G .last .1 .0)) (front-is (matchAnswer (z .k) (z .line .now)) l (omega (arith, answer-short (z .k) (z .line .now) (search needs), c .before .before .before .before .before .before .before .before .before .before .before .before .before .before .before .before .room .ensures)) (placed-three (titleText (z .k)) (lineText (z .line .now)) newline 0 l (c .before .before .before .before .before .before .before .before .before .before .before .before .before .put-title .ensures) (c .before .before .before .before .before .before .before .before .before .before .put-line .ensures) (c .before .before .before .before .before .before .put-bytes .ensures))) (G .ensures)
+    subst (λ (t : List ℕ). Writes t (z .out .now) (G .result) (G .last .1 .0)) (front-is (matchAnswer (z .k) (z .line .now)) l (omega (arith, answer-short (z .k) (z .line .now) (search needs), c .before .before .before .before .before .before .before .before .before .before .before .before .before .before .before .before .room .ensures)) (placed-three (titleText (z .k)) (lineText (z .line .now)) newline 0 l (c .before .before .before .before .before .before .before .before .before .before .before .before .before .put-title .ensures) (c .before .before .before .before .before .before .before .before .before .before .put-line .ensures) (c .before .before .before .before .before .before .put-bytes .ensures))) (G .ensures)
 
 pub match-answer-spec : {M : Type 1} → statement M
 match-answer-spec =

@@ -1,14 +1,12 @@
 -- `pair_answers::answer_with` meets its contract: the answer is put at the front of the lent bytes, or at the front of bytes of its own, and the front is given. Assumes nothing.
-use mathlib.Core.Path.{_∙_, ap, subst}
+use mathlib.Core.Path.{subst}
 use mathlib.Core.List.{List}
 use Prim.Native.Nat.{ℕ, _≤_}
 use native.Mathlib.Omega.{arith}
-use borrow.Author.Tests.{le-leb}
 use lib.ListN.{length}
-use Rattle.writing.specs.declared.Written.the-variants.{Bytes}
-use Rattle.writing.proofs.Answers.{Answers}
+use Rattle.writing.specs.Answers.{Writes}
+use Rattle.writing.proofs.Answers.{wrote}
 use Rattle.pieces.proofs.Pieces.{front-is, front-size}
-use Rattle.entry_parts.proofs.Pieces.{front-after}
 use Rattle.pair_answers.specs.Pairs.{pairAnswer}
 use borrow.Author.Needs.{needs}
 use Rattle.pair_answers.proofs.answer_with.Statement.{statement}
@@ -29,8 +27,7 @@ returns c =
     let P = c .before .before .before .before .put-answer in
     let t = pairAnswer (z .k) (z .line .now) in
     let h : length t ≤ length (z .out .now) = omega (arith, P .ensures .1, c .before .before .before .before .before .before .before .if1 .taken) in
-    let f = front-after t (z .out .now) h (P .ensures .0) in
-    ((ap Bytes (f .0) ∙ rw (le-leb (length t) (length (z .out .now)) h), f .1), P .ensures .1)
+    (wrote t (z .out .now) h (omega (arith, P .ensures .0 .0)) (P .ensures .0 .1), P .ensures .1)
 
 longest-requires : tie.Need-longest-requires
 longest-requires c κs = search needs
@@ -66,7 +63,7 @@ returns-2 c =
     let l = c .before .before .before .before .before .before .before .before .before .before .before .longest in
     let P = c .before .before .before .before .before .before .before .before .put-answer2 .ensures in
     let G = c .before .before .give in
-    (subst (λ (t : List ℕ). Answers t (z .out .now) (G .result) (G .last .1 .0)) (front-is (pairAnswer (z .k) (z .line .now)) (l .result) (omega (arith, P .1, l .ensures)) (P .0)) (G .ensures), P .1)
+    (subst (λ (t : List ℕ). Writes t (z .out .now) (G .result) (G .last .1 .0)) (front-is (pairAnswer (z .k) (z .line .now)) (l .result) (omega (arith, P .1, l .ensures)) (P .0)) (G .ensures), P .1)
 
 pub answer-with-spec : {M : Type 1} → statement M
 answer-with-spec =

@@ -18,13 +18,13 @@ slice-reshare-prefix-put : tie.Need-slice-reshare-prefix-put
 slice-reshare-prefix-put c =
     let W = c .before .before .before .before .before .before .before .answer-with in
     let z = c .before .before .before .before .before .before .before .before .before .before .before .before .before .before .args in
-    omega (arith, written-in (pairAnswer (z .k) (z .line .now)) (z .text .now) (W .ensures .0 .0) (c .before .n .given .1), W .kept)
+    omega (arith, written-in (pairAnswer (z .k) (z .line .now)) (z .text .now) (W .ensures .0) (c .before .n .given .1), W .kept)
 
 slice-aggregate-put : tie.Need-slice-aggregate-put
 slice-aggregate-put c =
     let W = c .before .before .before .before .before .before .before .before .answer-with in
     let z = c .before .before .before .before .before .before .before .before .before .before .before .before .before .before .before .args in
-    sym (length-take-le _ _ (omega (arith, written-in (pairAnswer (z .k) (z .line .now)) (z .text .now) (W .ensures .0 .0) (c .before .before .n .given .1), W .kept)))
+    sym (length-take-le _ _ (omega (arith, written-in (pairAnswer (z .k) (z .line .now)) (z .text .now) (W .ensures .0) (c .before .before .n .given .1), W .kept)))
 
 put-requires : tie.Need-put-requires
 put-requires c κs = search needs

@@ -4,7 +4,7 @@ use borrow.Author.Needs.{needs}
 use Rattle.text.specs.Plain.{plain}
 use Rattle.terms.specs.declared.Rule.{Rule}
 use Rattle.accepted.specs.Accepted.{countedRule}
-use Rattle.writing.proofs.Answers.{Answers}
+use Rattle.writing.specs.Answers.{Writes}
 use Rattle.plain_text.proofs.write_field.Statement.{statement}
 use Rattle.plain_text.proofs.write_field.Tie as tie
 
@@ -21,7 +21,7 @@ returns : tie.Need-returns
 returns c =
     let z = c .before .before .before .before .before .before .args in
     let W = c .before .before .write-rule in
-    subst (λ (r : Rule). Answers (plain (countedRule r)) (z .out .now) (W .result) (W .last .1 .0)) (c .before .before .before .before .one-field .ensures) (W .ensures)
+    subst (λ (r : Rule). Writes (plain (countedRule r)) (z .out .now) (W .result) (W .last .1 .0)) (c .before .before .before .before .one-field .ensures) (W .ensures)
 
 pub write-field-spec : {M : Type 1} → statement M
 write-field-spec = tie.close (tie.spec one-field-requires write-rule-requires same-length returns)

@@ -3,7 +3,7 @@ use mathlib.Core.Path.{subst}
 use mathlib.Core.List.{List}
 use Prim.Native.Nat.{ℕ}
 use native.Mathlib.Omega.{arith}
-use Rattle.writing.proofs.Answers.{Answers}
+use Rattle.writing.specs.Answers.{Writes}
 use Rattle.pieces.proofs.Pieces.{placed-next, front-is, front-size}
 use Rattle.solve_answers.specs.Solve.{titleText, lineText, solveAnswer}
 use Rattle.solve_answers.proofs.Lengths.{answer-short}
@@ -54,7 +54,7 @@ returns c =
     let L = c .before .before .before .before .before .before .put-line .ensures in
     let G = c .before .before .give in
     let h = answer-short (z .k) (z .line .now) (search needs) (L .1) in
-    (subst (λ (t : List ℕ). Answers t (z .out .now) (G .result) (G .last .1 .0)) (front-is (solveAnswer (z .k) (z .line .now)) (l .result) (omega (arith, h, l .ensures)) (placed-next (titleText (z .k)) (lineText (z .line .now)) 0 (l .result) (c .before .before .before .before .before .before .before .before .before .put-title .ensures) (L .0))) (G .ensures), h)
+    (subst (λ (t : List ℕ). Writes t (z .out .now) (G .result) (G .last .1 .0)) (front-is (solveAnswer (z .k) (z .line .now)) (l .result) (omega (arith, h, l .ensures)) (placed-next (titleText (z .k)) (lineText (z .line .now)) 0 (l .result) (c .before .before .before .before .before .before .before .before .before .put-title .ensures) (L .0))) (G .ensures), h)
 
 pub solve-answer-spec : {M : Type 1} → statement M
 solve-answer-spec =

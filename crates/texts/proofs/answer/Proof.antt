@@ -25,14 +25,14 @@ array-share-prefix-text c =
     let W = c .before .before .before .before .texts-answer in
     let t = c .before .before .before .before .before .before .before .before .before .args .line .now in
     let l = c .before .before .before .before .before .before .buffer .result in
-    omega (arith, written-in (textsAnswer t) l (W .ensures .0) (c .before .n .given .1), W .kept .1 .0)
+    omega (arith, written-in (textsAnswer t) l (W .ensures) (c .before .n .given .1), W .kept .1 .0)
 
 slice-aggregate-put : tie.Need-slice-aggregate-put
 slice-aggregate-put c =
     let W = c .before .before .before .before .before .texts-answer in
     let t = c .before .before .before .before .before .before .before .before .before .before .args .line .now in
     let l = c .before .before .before .before .before .before .before .buffer .result in
-    sym (length-take-le _ _ (omega (arith, written-in (textsAnswer t) l (W .ensures .0) (c .before .before .n .given .1), W .kept .1 .0)))
+    sym (length-take-le _ _ (omega (arith, written-in (textsAnswer t) l (W .ensures) (c .before .before .n .given .1), W .kept .1 .0)))
 
 put-requires : tie.Need-put-requires
 put-requires c κs = search needs
