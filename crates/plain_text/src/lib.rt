@@ -1,4 +1,4 @@
-// Plain text: a rule's and a field's one text, into lent bytes.
+// Plain text: a rule's one text, into lent bytes.
 // Document 01: "Writing a rule gives its one plain text: no `empty` unless the field has no terms, integers without leading zeros."
 // The bytes are counted first, so that a buffer that is too small keeps its old bytes (refusal 8); then they are written into room that is known.
 ghost use mathlib.Core.Path.{_≡_};
@@ -6,7 +6,7 @@ ghost use Prim.Native.Nat.{_≤_, min};
 ghost use lib.ListN.{length};
 ghost use Rattle.text.specs.Plain.{fieldText, plain};
 ghost use Rattle.terms.specs.Values.{viewField, viewRule};
-ghost use Rattle.accepted.specs.Accepted.{countedRule, countedField};
+ghost use Rattle.accepted.specs.Accepted.{countedRule};
 ghost use Rattle.writing.specs.Room.{Room, Put};
 ghost use Rattle.writing.specs.Answers.{Writes};
 use terms::Field;
@@ -109,11 +109,4 @@ pub fn write_rule(r: Rule, out: &mut [u8]) -> Written
         return Written::TooSmall(need);
     }
     Written::Bytes(put_rule(r, out, 0))
-}
-
-// A field's text is that of the rule that has just this field.
-pub fn write_field(f: Field, out: &mut [u8]) -> Written
-    ensures { λ w. ⌜ Writes (plain (countedField f)) (now (out .entry)) w (now (out .exit)) ⌝ }
-{
-    write_rule(terms::one_field(f), out)
 }
