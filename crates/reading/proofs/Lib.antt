@@ -1,9 +1,2 @@
-pub mod Places
-pub mod Build
 pub mod Verdicts
 pub mod Tokens
-pub mod Loops
-pub mod Terms
-pub mod Held
-pub mod Calls
-pub mod Building

@@ -30,12 +30,14 @@ use Rattle.scanning.specs.Places.{foundOf}
 use Rattle.verdicts.specs.declared.Verdict.{Verdict}
 use Rattle.verdicts.specs.declared.Verdict.the-variants.{Accepted, Refused}
 use Rattle.refusals.specs.declared.Survey.{Survey}
-use Rattle.reading.specs.Build.{builtRule, builtSlip}
+use Rattle.text_passes.specs.Build.{builtRule, builtSlip}
+use Rattle.text_passes.specs.Passes.{surveyIn, ruleIn, slipIn}
 use Rattle.verdicts.specs.Verdicts.{sortOf, reasonFrom, verdictOf, reasons, refusedAt}
 use Rattle.refusals.specs.Refusals.{surveyMark, nothingYet, told}
 use Rattle.refusals.proofs.Refusals.{tellAll, survey-is}
 use Rattle.reading.specs.Answers.{ruleRead, slipRead}
-use Rattle.reading.proofs.Build.{Fits, rule-built, slip-built}
+use Rattle.text_passes.proofs.Build.{Fits, rule-built, slip-built}
+use Rattle.text_passes.proofs.Passes.{is-short}
 
 -- ---- the verdict, refusal by refusal
 
@@ -145,7 +147,7 @@ found-none : (o : Option ℕ) (f : Found) → f ≡ foundOf o → f ≡ found.No
 found-none none f e q = refl
 found-none (some n) f e q = let z : _≡_ {A = ℕ} 0 1 = cc in absurd (omega arith)
 
-pub bytes-small : (s : Bool) → (sortOf s) .bytes ≤ 8192
+pub bytes-small : (s : Bool) → (sortOf s) .bytes ≤ slip .bytes
 bytes-small true = omega arith
 bytes-small false = omega arith
 
@@ -157,29 +159,34 @@ module _ (s : Bool) (t : List ℕ) (b : ℕ) (is-b : b ≡ (sortOf s) .bytes) wh
   judged-grammar f p h e q = ap verdictOf (sym (read-grammar s t p (omega arith) (found-at (place2 t) f p e q)))
 
   pub judged-survey : (f : Found) (y : Survey) (v : Verdict) → length t ≤ b → f ≡ foundOf (place2 t) → f ≡ found.Nothing
-      → y ≡ foldl (surveyMark s ((sortOf s) .width)) nothingYet (walked t) → v ≡ verdictOf (told s y (accepted [])) → v ≡ verdictOf (read (sortOf s) t)
+      → y ≡ surveyIn s t → v ≡ verdictOf (told s y (accepted [])) → v ≡ verdictOf (read (sortOf s) t)
   judged-survey f y v h e q is-y is-v =
+      let whole : y ≡ foldl (surveyMark s ((sortOf s) .width)) nothingYet (walked t) = is-y ∙ rw (is-short t (let m = bytes-small s in omega arith)) in
       is-v
       ∙ verdict-same (reasons s) (y .reason - 3) (y .place) [] (fieldsOf (said t))
-      ∙ ap (λ (x : Survey). verdictOf (told s x (accepted (fieldsOf (said t))))) is-y
+      ∙ ap (λ (x : Survey). verdictOf (told s x (accepted (fieldsOf (said t))))) whole
       ∙ ap verdictOf (sym (read-survey s t (omega arith) (found-none (place2 t) f e q)))
 
-pub accepted-short : (s : Bool) (t : List ℕ) (v : Verdict) → v ≡ verdictOf (read (sortOf s) t) → v ≡ Accepted → length t ≤ 8192
+pub accepted-short : (s : Bool) (t : List ℕ) (v : Verdict) → v ≡ verdictOf (read (sortOf s) t) → v ≡ Accepted → length t ≤ slip .bytes
 accepted-short s t v e q = go (decLt ((sortOf s) .bytes) (length t))
   where
-    go : Dec ((sortOf s) .bytes < length t) → length t ≤ 8192
+    go : Dec ((sortOf s) .bytes < length t) → length t ≤ slip .bytes
     go (yes h) = let z = e ∙ ap verdictOf (read-long s t h) in let o : _≡_ {A = ℕ} 0 1 = cc in absurd (omega arith)
     go (no n) = let b = bytes-small s in omega arith
 
 -- the answers
-pub rule-yes : (t : List ℕ) (v : Verdict) (r : Rule) → v ≡ verdictOf (readRule t) → v ≡ Accepted → r ≡ builtRule (walked t) → record { verdict = v; rule = r } ≡ ruleRead (readRule t)
-rule-yes t v r e q b = ap₂ (λ (x : Verdict) (y : Rule). record { verdict = x; rule = y }) q b ∙ rule-accepted t (sym q ∙ e)
+pub rule-yes : (t : List ℕ) (v : Verdict) (r : Rule) → v ≡ verdictOf (readRule t) → v ≡ Accepted → r ≡ ruleIn t → record { verdict = v; rule = r } ≡ ruleRead (readRule t)
+rule-yes t v r e q b =
+    ap₂ (λ (x : Verdict) (y : Rule). record { verdict = x; rule = y }) q (b ∙ rw (is-short t (accepted-short false t v e q)))
+    ∙ rule-accepted t (sym q ∙ e)
 
 pub rule-no : (t : List ℕ) (v : Verdict) (r : Rule) (k : _) (p : ℕ) → v ≡ verdictOf (readRule t) → v ≡ Refused k p → r ≡ blankRule → record { verdict = v; rule = r } ≡ ruleRead (readRule t)
 rule-no t v r k p e q b = ap (λ (y : Rule). record { verdict = v; rule = y }) b ∙ sym (rule-refused (readRule t) v k p e q)
 
-pub slip-yes : (t : List ℕ) (v : Verdict) (r : Slip) → v ≡ verdictOf (readSlip t) → v ≡ Accepted → r ≡ builtSlip (walked t) → record { verdict = v; slip = r } ≡ slipRead (readSlip t)
-slip-yes t v r e q b = ap₂ (λ (x : Verdict) (y : Slip). record { verdict = x; slip = y }) q b ∙ slip-accepted t (sym q ∙ e)
+pub slip-yes : (t : List ℕ) (v : Verdict) (r : Slip) → v ≡ verdictOf (readSlip t) → v ≡ Accepted → r ≡ slipIn t → record { verdict = v; slip = r } ≡ slipRead (readSlip t)
+slip-yes t v r e q b =
+    ap₂ (λ (x : Verdict) (y : Slip). record { verdict = x; slip = y }) q (b ∙ rw (is-short t (accepted-short true t v e q)))
+    ∙ slip-accepted t (sym q ∙ e)
 
 pub slip-no : (t : List ℕ) (v : Verdict) (r : Slip) (k : _) (p : ℕ) → v ≡ verdictOf (readSlip t) → v ≡ Refused k p → r ≡ blankSlip → record { verdict = v; slip = r } ≡ slipRead (readSlip t)
 slip-no t v r k p e q b = ap (λ (y : Slip). record { verdict = v; slip = y }) b ∙ sym (slip-refused (readSlip t) v k p e q)

@@ -1,4 +1,1 @@
-pub mod Places
-pub mod Build
-pub mod Tokens
 pub mod Answers

@@ -1,6 +1,6 @@
 -- `reading::judge` meets its contract.
 use native.Mathlib.Omega.{arith}
-use Rattle.reading.proofs.Verdicts.{bytes-small, judged-long, judged-grammar, judged-survey}
+use Rattle.reading.proofs.Verdicts.{judged-long, judged-grammar, judged-survey}
 use borrow.Author.Needs.{needs}
 use Rattle.reading.proofs.judge.Statement.{statement}
 use Rattle.reading.proofs.judge.Tie as tie
@@ -20,13 +20,8 @@ enum-known-p c = search needs
 enum-told : tie.Need-enum-told
 enum-told c = search needs
 
-survey-of-requires : tie.Need-survey-of-requires
-survey-of-requires c κs =
-    let l = c .before .before .before in
-    let e = l .before .bytes-of .ensures in
-    let h = l .if1 .left in
-    let b = bytes-small (l .before .before .before .args .slip) in
-    omega arith
+survey-requires : tie.Need-survey-requires
+survey-requires c κs = search needs
 
 verdict-of-requires : tie.Need-verdict-of-requires
 verdict-of-requires c κs = search needs
@@ -40,8 +35,8 @@ returns-3 c =
     let l = f .before in
     let b = l .before in
     let a = b .before .before .args in
-    judged-survey (a .slip) (a .text .now) (b .bytes-of .result) (b .bytes-of .ensures) (f .grammar-place .result) (c .before .survey-of .result) (c .verdict-of .result)
-    (l .if1 .left) (f .grammar-place .ensures) (c .before .before .enum-told .given .1) (c .before .survey-of .ensures) (c .verdict-of .ensures)
+    judged-survey (a .slip) (a .text .now) (b .bytes-of .result) (b .bytes-of .ensures) (f .grammar-place .result) (c .before .survey .result) (c .verdict-of .result)
+    (l .if1 .left) (f .grammar-place .ensures) (c .before .before .enum-told .given .1) (c .before .survey .ensures) (c .verdict-of .ensures)
 
 pub judge-spec : {M : Type 1} → statement M
 judge-spec =
@@ -52,7 +47,7 @@ judge-spec =
     grammar-place-requires
     enum-known-p
     enum-told
-    survey-of-requires
+    survey-requires
     verdict-of-requires
     returns-2
     returns-3)

@@ -1,6 +1,6 @@
 -- `reading::read_rule` meets its contract.
 use mathlib.Core.Bool.{false}
-use Rattle.reading.proofs.Verdicts.{accepted-short, rule-yes, rule-no}
+use Rattle.reading.proofs.Verdicts.{rule-yes, rule-no}
 use borrow.Author.Needs.{needs}
 use Rattle.reading.proofs.read_rule.Statement.{statement}
 use Rattle.reading.proofs.read_rule.Tie as tie
@@ -11,8 +11,8 @@ judge-requires c κs = search needs
 enum-told : tie.Need-enum-told
 enum-told c = search needs
 
-build-rule-requires : tie.Need-build-rule-requires
-build-rule-requires c κs = accepted-short false (c .before .before .before .before .args .text .now) (c .before .before .judge .result) (c .before .before .judge .ensures) (c .enum-told .given .1)
+rule-in-requires : tie.Need-rule-in-requires
+rule-in-requires c κs = search needs
 
 enum-told-2 : tie.Need-enum-told-2
 enum-told-2 c = search needs
@@ -21,7 +21,7 @@ blank-rule-requires : tie.Need-blank-rule-requires
 blank-rule-requires c κs = search needs
 
 returns : tie.Need-returns
-returns c = rule-yes (c .before .before .before .before .before .args .text .now) (c .before .before .before .judge .result) (c .build-rule .result) (c .before .before .before .judge .ensures) (c .before .enum-told .given .1) (c .build-rule .ensures)
+returns c = rule-yes (c .before .before .before .before .before .args .text .now) (c .before .before .before .judge .result) (c .rule-in .result) (c .before .before .before .judge .ensures) (c .before .enum-told .given .1) (c .rule-in .ensures)
 
 returns-2 : tie.Need-returns-2
 returns-2 c = rule-no (c .before .before .before .before .before .args .text .now) (c .before .before .before .judge .result) (c .blank-rule .result) _ _ (c .before .before .before .judge .ensures) (c .before .enum-told2 .given .1) (c .blank-rule .ensures)
@@ -32,7 +32,7 @@ read-rule-spec =
     (tie.spec
     judge-requires
     enum-told
-    build-rule-requires
+    rule-in-requires
     enum-told-2
     blank-rule-requires
     returns

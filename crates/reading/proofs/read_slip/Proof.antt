@@ -1,6 +1,6 @@
 -- `reading::read_slip` meets its contract.
 use mathlib.Core.Bool.{true}
-use Rattle.reading.proofs.Verdicts.{accepted-short, slip-yes, slip-no}
+use Rattle.reading.proofs.Verdicts.{slip-yes, slip-no}
 use borrow.Author.Needs.{needs}
 use Rattle.reading.proofs.read_slip.Statement.{statement}
 use Rattle.reading.proofs.read_slip.Tie as tie
@@ -11,8 +11,8 @@ judge-requires c κs = search needs
 enum-told : tie.Need-enum-told
 enum-told c = search needs
 
-build-slip-requires : tie.Need-build-slip-requires
-build-slip-requires c κs = accepted-short true (c .before .before .before .before .args .text .now) (c .before .before .judge .result) (c .before .before .judge .ensures) (c .enum-told .given .1)
+slip-in-requires : tie.Need-slip-in-requires
+slip-in-requires c κs = search needs
 
 enum-told-2 : tie.Need-enum-told-2
 enum-told-2 c = search needs
@@ -21,7 +21,7 @@ blank-slip-requires : tie.Need-blank-slip-requires
 blank-slip-requires c κs = search needs
 
 returns : tie.Need-returns
-returns c = slip-yes (c .before .before .before .before .before .args .text .now) (c .before .before .before .judge .result) (c .build-slip .result) (c .before .before .before .judge .ensures) (c .before .enum-told .given .1) (c .build-slip .ensures)
+returns c = slip-yes (c .before .before .before .before .before .args .text .now) (c .before .before .before .judge .result) (c .slip-in .result) (c .before .before .before .judge .ensures) (c .before .enum-told .given .1) (c .slip-in .ensures)
 
 returns-2 : tie.Need-returns-2
 returns-2 c = slip-no (c .before .before .before .before .before .args .text .now) (c .before .before .before .judge .result) (c .blank-slip .result) _ _ (c .before .before .before .judge .ensures) (c .before .enum-told2 .given .1) (c .blank-slip .ensures)
@@ -32,7 +32,7 @@ read-slip-spec =
     (tie.spec
     judge-requires
     enum-told
-    build-slip-requires
+    slip-in-requires
     enum-told-2
     blank-slip-requires
     returns

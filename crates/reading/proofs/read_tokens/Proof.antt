@@ -1,6 +1,5 @@
 -- `reading::read_tokens` meets its contract.
 use mathlib.Core.Bool.{false}
-use Rattle.reading.proofs.Verdicts.{accepted-short}
 use Rattle.reading.proofs.Tokens.{tokens-yes, tokens-no}
 use borrow.Author.Needs.{needs}
 use Rattle.reading.proofs.read_tokens.Statement.{statement}
@@ -12,9 +11,8 @@ judge-requires c κs = search needs
 enum-told : tie.Need-enum-told
 enum-told c = search needs
 
-build-tokens-requires : tie.Need-build-tokens-requires
-build-tokens-requires c κs =
-    accepted-short false (c .before .before .before .before .args .text .now) (c .before .before .judge .result) (c .before .before .judge .ensures) (c .enum-told .given .1)
+tokens-in-requires : tie.Need-tokens-in-requires
+tokens-in-requires c κs = search needs
 
 enum-told-2 : tie.Need-enum-told-2
 enum-told-2 c = search needs
@@ -26,7 +24,7 @@ returns : tie.Need-returns
 returns c =
     let z = c .before .before .before .before .before .args in
     let v = c .before .before .before .judge in
-    tokens-yes (z .right) (z .text .now) (v .result) (c .build-tokens .result) (v .ensures) (c .before .enum-told .given .1) (c .build-tokens .ensures)
+    tokens-yes (z .right) (z .text .now) (v .result) (c .tokens-in .result) (v .ensures) (c .before .enum-told .given .1) (c .tokens-in .ensures)
 
 returns-2 : tie.Need-returns-2
 returns-2 c =
@@ -40,7 +38,7 @@ read-tokens-spec =
     (tie.spec
     judge-requires
     enum-told
-    build-tokens-requires
+    tokens-in-requires
     enum-told-2
     blank-token-rule-requires
     returns

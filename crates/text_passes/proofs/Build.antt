@@ -1,0 +1,196 @@
+-- Of a text without refusals, the terms put one by one into fields and the fields into the whole make the one value of what the text says.
+use mathlib.Core.Path.{_≡_, refl, sym, _∙_, ap, ap₂}
+use mathlib.Core.Logic.{_≢_, inr}
+use mathlib.Core.Bool.{Bool, true, false, _&&_}
+use mathlib.Core.List.{List, [], _∷_, _++_, map, foldl, append-nil, append-assoc, map-append}
+use mathlib.Core.List.{foldl-append}
+use Prim.Native.Nat.{ℕ, suc, _+_, _%_, _<_, _≤_, min}
+use native.Mathlib.Omega.{arith}
+use borrow.Author.Tests.{lt-ltb, ne-eqb}
+use lib.Dec.{ltb}
+use lib.ListN.{length, set, replicate, length-append, length-map}
+use lib.Seq.{take-all}
+use Rattle.lists.specs.Seqs.{All}
+use Rattle.order.specs.Values.{kindFrom}
+use Rattle.text.specs.Sizes.{largestInteger, longestString, largestNumber, mostFields}
+use Rattle.text.specs.Grammar.{Raw, raw-int, raw-str, raw-var, raw-empty, spell, spellF, FieldOk, TextOk}
+use Rattle.text.specs.Numbers.{value}
+use Rattle.text.specs.Marks.{Mark, marks, marksF, marksT, Over}
+use Rattle.text.specs.Terms.{OurTerm, termOf, fieldOf, fieldsOf}
+use Rattle.text.specs.Read.{rule, slip}
+use Rattle.terms.specs.declared.Term.{Term}
+use Rattle.terms.specs.declared.Form.the-variants.{Int, Str, Var}
+use Rattle.terms.specs.declared.Field.{Field}
+use Rattle.terms.specs.declared.SlipField.{SlipField}
+use Rattle.terms.specs.Values.{pad, blankTerm, blankField, blankSlipField, encodeTerm, encodeField, encodeRule, encodeSlipField, encodeSlip}
+use Rattle.scanning.specs.Pieces.{capped}
+use Rattle.text_terms.specs.Terms.{termFrom}
+use Rattle.text_terms.proofs.Copies.{pad-set}
+use Rattle.text_passes.specs.Build.{isEmpty, addRaw, pushField, addItem, pushSlipField, turns, ofRaw, turned, put, whole, builtRule, builtSlip}
+
+-- one more in the place behind the used ones, of what a list of A is encoded as
+module _ {A B : Type 0} (enc : A → B) (d : B) (w : ℕ) (s : List A) (a : A) (h : length s < w) where
+  pub stored : set (pad w d (map enc s)) (length s) (enc a) ≡ pad w d (map enc (s ++ a ∷ []))
+  stored =
+      ap (λ (n : ℕ). set (pad w d (map enc s)) n (enc a)) (sym (length-map s enc))
+      ∙ pad-set w d (map enc s) (enc a) (omega (arith, length-map s enc))
+      ∙ ap (pad w d) (sym (map-append enc s (a ∷ [])))
+
+  pub counted : length s + 1 ≡ length (s ++ a ∷ [])
+  counted = omega (arith, length-append s (a ∷ []))
+
+-- a written term within its limits becomes the one value of what it stands for
+int-is : (v : ℕ) → v ≤ largestInteger → capped v ≡ v
+int-is v h = omega arith
+
+var-is : (v : ℕ) → v ≤ largestNumber → capped v % 256 ≡ v
+var-is v h = omega arith
+
+module _ {F R : Type 0} (encF : List OurTerm → F) (encR : List (List OurTerm) → R) (blank : F) (add : F → Raw → F) (push : R → F → R) (w : ℕ)
+    (blank-is : encF [] ≡ blank)
+    (add-is : (ts : List OurTerm) (r : Raw) → (Over r → ⊥) → length ts < w → add (encF ts) r ≡ encF (ts ++ termOf r))
+    (push-is : (fs : List (List OurTerm)) (f : List OurTerm) → length fs < mostFields → push (encR fs) (encF f) ≡ encR (fs ++ f ∷ [])) where
+  abbrev Fine : List Raw → Type 0
+  Fine rs = All (λ r. Over r → ⊥) rs × (length rs ≤ w)
+
+  term-few : (r : Raw) → length (termOf r) ≤ 1
+  term-few (raw-int ds) = omega arith
+  term-few (raw-str s) = omega arith
+  term-few (raw-var k ds) = omega arith
+  term-few raw-empty = omega arith
+
+  adds : (rs : List Raw) (ts : List OurTerm) → All (λ r. Over r → ⊥) rs → length ts + length rs ≤ w → foldl add (encF ts) rs ≡ encF (ts ++ fieldOf rs)
+  adds [] ts o h = ap encF (sym (append-nil ts))
+  adds (r ∷ rs) ts o h =
+      ap (λ (f : F). foldl add f rs) (add-is ts r (o .0) (omega arith))
+      ∙ adds rs (ts ++ termOf r) (o .1) (omega (arith, length-append ts (termOf r), term-few r))
+      ∙ ap encF (append-assoc ts (termOf r) (fieldOf rs))
+
+  turns-not : (n i : ℕ) → i ≢ 1 → turns n i ≡ false
+  turns-not n i h = rw (ne-eqb i 1 h) (go (ltb 1 n))
+    where
+      go : (b : Bool) → (b && false) ≡ false
+      go true = refl
+      go false = refl
+
+  -- the further terms of a field
+  more : (rs : List Raw) (p n i : ℕ) (b : R × F) → foldl (put blank (ofRaw add) push) b (marksF p n (suc (suc i)) rs) ≡ (b .0, foldl add (b .1) rs)
+  more [] p n i b = refl
+  more (r ∷ rs) p n i b =
+      ap (λ (c : Bool). foldl (put blank (ofRaw add) push) (turned blank (ofRaw add) push c b .0, add (turned blank (ofRaw add) push c b .1) r) (marksF (suc (p + length (spell r))) n (suc (suc (suc i))) rs)) (turns-not n (suc (suc i)) (λ e. omega arith))
+      ∙ more rs (suc (p + length (spell r))) n (suc i) (b .0, add (b .1) r)
+
+  turns-yes : (n : ℕ) → turns (suc (suc n)) 1 ≡ true
+  turns-yes n = ap (λ (c : Bool). c && true) (lt-ltb 1 (suc (suc n)) (omega arith))
+
+  -- the fields behind the first, which is cur
+  later : (x : List (List Raw)) (p n : ℕ) (done : List (List OurTerm)) (cur : List OurTerm) → All FieldOk x → All Fine x → length done + length x < mostFields
+      → whole blank (ofRaw add) push (foldl (put blank (ofRaw add) push) (encR done, encF cur) (marksT p (suc (suc n)) x)) ≡ encR (done ++ cur ∷ fieldsOf x)
+  later [] p n done cur g o h = push-is done cur (omega arith)
+  later ([] ∷ fs) p n done cur g o h = absurd (g .0 .0)
+  later ((r ∷ rs) ∷ fs) p n done cur g o h =
+      let q = suc (p + length (spellF (r ∷ rs))) in
+      let field = r ∷ rs in
+      ap (whole blank (ofRaw add) push) (foldl-append (put blank (ofRaw add) push) (encR done, encF cur) (marksF p (suc (suc n)) 1 field) (marksT q (suc (suc (suc n))) fs)
+      ∙ ap (λ (b : R × F). foldl (put blank (ofRaw add) push) b (marksT q (suc (suc (suc n))) fs))
+      (ap (λ (c : Bool). foldl (put blank (ofRaw add) push) (turned blank (ofRaw add) push c (encR done, encF cur) .0, add (turned blank (ofRaw add) push c (encR done, encF cur) .1) r) (marksF (suc (p + length (spell r))) (suc (suc n)) 2 rs)) (turns-yes n)
+      ∙ more rs (suc (p + length (spell r))) (suc (suc n)) 0 (push (encR done) (encF cur), add blank r)
+      ∙ ap₂ (λ (a : R) (c : F). (a, c)) (push-is done cur (omega arith)) (ap (λ (f : F). foldl add f field) (sym blank-is) ∙ adds field [] (o .0 .0) (omega (arith, o .0 .1)))))
+      ∙ later fs q (suc n) (done ++ cur ∷ []) (fieldOf field) (g .1) (o .1) (omega (arith, length-append done (cur ∷ [])))
+      ∙ ap encR (append-assoc done (cur ∷ []) (fieldOf field ∷ fieldsOf fs))
+
+  -- THE WHOLE
+  pub built-is : (x : List (List Raw)) → TextOk x → All Fine x → length x ≤ mostFields
+      → whole blank (ofRaw add) push (foldl (put blank (ofRaw add) push) (encR [], blank) (marks x)) ≡ encR (fieldsOf x)
+  built-is [] g o h = absurd (g .0)
+  built-is ([] ∷ fs) g o h = absurd (g .1 .0 .0)
+  built-is ((r ∷ rs) ∷ fs) g o h =
+      let q = suc (0 + length (spellF (r ∷ rs))) in
+      let field = r ∷ rs in
+      ap (whole blank (ofRaw add) push) (foldl-append (put blank (ofRaw add) push) (encR [], blank) (marksF 0 1 1 field) (marksT q 2 fs)
+      ∙ ap (λ (c : R × F). foldl (put blank (ofRaw add) push) c (marksT q 2 fs))
+      (more rs (suc (0 + length (spell r))) 1 0 (encR [], add blank r)
+      ∙ ap (λ (c : F). (encR [], c)) (ap (λ (f : F). foldl add f field) (sym blank-is) ∙ adds field [] (o .0 .0) (omega (arith, o .0 .1)))))
+      ∙ later fs q 0 [] (fieldOf field) (g .1 .1) (o .1) (omega arith)
+
+-- one term put, as code does it: whether a field is complete, then the term
+module _ {F R : Type 0} (blank : F) (add : F → Mark → F) (push : R → F → R) where
+  pub turned-yes : (c : Bool) (b : R × F) (r : R) (f : F) → c ≡ true → r ≡ push (b .0) (b .1) → f ≡ blank → (r, f) ≡ turned blank add push c b
+  turned-yes c b r f e p q = ap₂ (λ (x : R) (y : F). (x, y)) p q ∙ ap (λ (d : Bool). turned blank add push d b) (sym e)
+
+  pub turned-no : (c : Bool) (b : R × F) (r : R) (f : F) → c ≡ false → r ≡ b .0 → f ≡ b .1 → (r, f) ≡ turned blank add push c b
+  turned-no c b r f e p q = ap₂ (λ (x : R) (y : F). (x, y)) p q ∙ ap (λ (d : Bool). turned blank add push d b) (sym e)
+
+  pub put-is : (b j : R × F) (m : Mark) (g : F) → j ≡ turned blank add push (turns (m .inField) (m .index)) b → g ≡ add (j .1) m → (j .0, g) ≡ put blank add push b m
+  put-is b j m g e q = ap (λ (y : F). (j .0, y)) q ∙ ap (λ (i : R × F). (i .0, add (i .1) m)) e
+
+-- ---- the two instances
+
+-- what a written term adds to a field's places and its count
+module _ (w : ℕ) (ts : List OurTerm) (h : length ts < w) where
+  abbrev Held : Type 0
+  Held = ℕ × List Term
+
+  abbrev held : List OurTerm → Held
+  held us = (length us, pad w blankTerm (map encodeTerm us))
+
+  -- the term stored at the count
+  abbrev with : Term → Held
+  with t = (length ts + 1, set (pad w blankTerm (map encodeTerm ts)) (length ts) t)
+
+  with-one : (u : OurTerm) (t : Term) → t ≡ encodeTerm u → with t ≡ held (ts ++ u ∷ [])
+  with-one u t e = ap₂ (λ (n : ℕ) (l : List Term). (n, l)) (counted encodeTerm blankTerm w ts u h) (ap (set (pad w blankTerm (map encodeTerm ts)) (length ts)) e ∙ stored encodeTerm blankTerm w ts u h)
+
+  -- the field that has them, over any record of a count and places
+  module _ {F : Type 0} (make : Held → F) (add : F → Raw → F)
+      (add-empty : add (make (held ts)) raw-empty ≡ make (held ts))
+      (add-other : (r : Raw) → isEmpty r ≡ false → add (make (held ts)) r ≡ make (with (termFrom r))) where
+    pub adds-one : (r : Raw) → (Over r → ⊥) → add (make (held ts)) r ≡ make (held (ts ++ termOf r))
+    adds-one (raw-int ds) o = add-other (raw-int ds) refl ∙ ap make (with-one _ (termFrom (raw-int ds)) (ap (λ (n : ℕ). record { form = Int n; text = replicate longestString 0 }) (int-is (value ds) (fits (λ k. o (inr k))))))
+      where
+        fits : (largestInteger < value ds → ⊥) → value ds ≤ largestInteger
+        fits k = omega arith
+    adds-one (raw-str s) o =
+        let l : length s ≤ longestString = omega arith in
+        let e : min (length s) longestString ≡ length s = omega arith in
+        add-other (raw-str s) refl ∙ ap make (with-one _ (termFrom (raw-str s)) (ap₂ (λ (n : ℕ) (z : List ℕ). record { form = Str n; text = pad longestString 0 z }) e (take-all longestString s l)))
+    adds-one (raw-var k ds) o = add-other (raw-var k ds) refl ∙ ap make (with-one _ (termFrom (raw-var k ds)) (ap (λ (n : ℕ). record { form = Var (kindFrom k) n; text = replicate longestString 0 }) (var-is (value ds) (omega arith))))
+    adds-one raw-empty o = add-empty ∙ ap (λ (us : List OurTerm). make (held us)) (sym (append-nil ts))
+
+abbrev ruleField : ℕ × List Term → Field
+ruleField h = record { n = h .0; terms = h .1 }
+
+add-rule : (ts : List OurTerm) (r : Raw) → (Over r → ⊥) → length ts < rule .width → addRaw (encodeField ts) r ≡ encodeField (ts ++ termOf r)
+add-rule ts r o h = adds-one (rule .width) ts h ruleField addRaw refl other r o
+  where
+    other : (r : Raw) → isEmpty r ≡ false → addRaw (encodeField ts) r ≡ ruleField (with (rule .width) ts h (termFrom r))
+    other r e = rw (e, lt-ltb (length ts) (rule .width) h)
+
+push-rule : (fs : List (List OurTerm)) (f : List OurTerm) → length fs < mostFields → pushField (encodeRule fs) (encodeField f) ≡ encodeRule (fs ++ f ∷ [])
+push-rule fs f h =
+    rw (lt-ltb (length fs) mostFields h)
+    (ap₂ (λ (n : ℕ) (l : List Field). record { n = n; fields = l }) (counted encodeField blankField mostFields fs f h) (stored encodeField blankField mostFields fs f h))
+
+abbrev slipField : ℕ × List Term → SlipField
+slipField h = record { n = h .0; terms = h .1 }
+
+add-slip : (ts : List OurTerm) (r : Raw) → (Over r → ⊥) → length ts < slip .width → addItem (encodeSlipField ts) r ≡ encodeSlipField (ts ++ termOf r)
+add-slip ts r o h = adds-one (slip .width) ts h slipField addItem refl other r o
+  where
+    other : (r : Raw) → isEmpty r ≡ false → addItem (encodeSlipField ts) r ≡ slipField (with (slip .width) ts h (termFrom r))
+    other r e = rw (e, lt-ltb (length ts) (slip .width) h)
+
+push-slip : (fs : List (List OurTerm)) (f : List OurTerm) → length fs < mostFields → pushSlipField (encodeSlip fs) (encodeSlipField f) ≡ encodeSlip (fs ++ f ∷ [])
+push-slip fs f h =
+    rw (lt-ltb (length fs) mostFields h)
+    (ap₂ (λ (n : ℕ) (l : List SlipField). record { n = n; fields = l }) (counted encodeSlipField blankSlipField mostFields fs f h) (stored encodeSlipField blankSlipField mostFields fs f h))
+
+-- no term is over its limits, no field too wide, and there are not too many
+abbrev pub Fits : ℕ → List (List Raw) → Type 0
+Fits w x = All (λ rs. All (λ r. Over r → ⊥) rs × (length rs ≤ w)) x × (length x ≤ mostFields)
+
+pub rule-built : (x : List (List Raw)) → TextOk x → Fits (rule .width) x → builtRule (marks x) ≡ encodeRule (fieldsOf x)
+rule-built x g f = built-is encodeField encodeRule blankField addRaw pushField (rule .width) refl add-rule push-rule x g (f .0) (f .1)
+
+pub slip-built : (x : List (List Raw)) → TextOk x → Fits (slip .width) x → builtSlip (marks x) ≡ encodeSlip (fieldsOf x)
+slip-built x g f = built-is encodeSlipField encodeSlip blankSlipField addItem pushSlipField (slip .width) refl add-slip push-slip x g (f .0) (f .1)

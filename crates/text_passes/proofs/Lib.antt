@@ -1,0 +1,9 @@
+pub mod Places
+pub mod Build
+pub mod Tokens
+pub mod Loops
+pub mod Terms
+pub mod Held
+pub mod Calls
+pub mod Building
+pub mod Passes

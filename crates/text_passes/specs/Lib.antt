@@ -1,0 +1,4 @@
+pub mod Places
+pub mod Build
+pub mod Tokens
+pub mod Passes

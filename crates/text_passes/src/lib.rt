@@ -1,0 +1,437 @@
+// Going through the terms of a text: all refusals from 3 on in one pass, and the value or the tokens that a text without refusals says.
+// The passes move a reader from term to term. They are proved by hand; the public functions over them have plain parameters.
+ghost use mathlib.Core.Path.{_≡_};
+ghost use mathlib.Core.List.{foldl};
+ghost use Prim.Native.Nat.{_+_, _≤_, _<_};
+ghost use lib.Dec.{ltb};
+ghost use lib.ListN.{length, drop};
+ghost use Rattle.text.specs.Walk.{front, walked};
+ghost use Rattle.scanning.specs.Pieces.{pieceOf};
+ghost use Rattle.verdicts.specs.Verdicts.{sortOf};
+ghost use Rattle.refusals.specs.Refusals.{surveyMark, nothingYet};
+ghost use Rattle.text_passes.specs.Places.{spelled, colonAt, behind, termAt, started, passed};
+ghost use Rattle.text_passes.specs.Build.{emptyBy, pushTerm, addRaw, pushField, pushItem, addItem, pushSlipField, turns, builtRule, builtSlip};
+ghost use Rattle.tokens.specs.Tokens.{blankTokens, blankTokenRule};
+ghost use Rattle.text_passes.specs.Tokens.{numberOn, tokenAt, pushToken, withToken, pushTokens, builtTokens};
+ghost use Rattle.text_passes.specs.Passes.{surveyIn, ruleIn, slipIn, tokensIn};
+use linearity::Lists;
+use order::Kind;
+use refusals::At;
+use refusals::Survey;
+use scanning::Piece;
+use scanning::Spelled;
+use terms::Field;
+use terms::Rule;
+use terms::Slip;
+use terms::SlipField;
+use terms::Term;
+use tokens::Token;
+use tokens::TokenField;
+use tokens::TokenRule;
+use tokens::What;
+
+// A text with the place where it is read. Document 01: "the reading place travels together with the text it reads".
+struct Reader<'a> {
+    text: &'a [u8],
+    at: At,
+}
+
+// The number of bytes of a written term.
+fn spelled(p: Piece) -> usize
+    requires { ⌜ p .size ≤ 8192 ⌝ }
+    ensures { λ r. ⌜ r ≡ spelled p ⌝ }
+{
+    let what = p.what;
+    let n = p.size;
+    match what {
+        Spelled::Int => n,
+        Spelled::Str => n + 2,
+        Spelled::Var(_) => n + 1,
+        Spelled::Empty => 5,
+    }
+}
+
+fn colon_at(text: &[u8], e: usize) -> bool
+    ensures { λ r. ⌜ r ≡ colonAt (now (text .entry)) e ⌝ }
+{
+    if text.len() <= e {
+        return false;
+    }
+    text[e] == 58
+}
+
+// Where the term behind this one stands: behind `:` in the same field, behind `|` in the next.
+fn behind(text: &[u8], a: At, p: Piece) -> At
+    requires { ⌜ (a .place ≤ 8192) × (a .field ≤ a .place + 1) × (a .index ≤ a .place + 1) × (p .size ≤ 8192) ⌝ }
+    ensures { λ r. ⌜ r ≡ behind (now (text .entry)) a (a .place + spelled p) ⌝ }
+{
+    let end = a.place + spelled(p);
+    if colon_at(text, end) {
+        return At {
+            place: end + 1,
+            field: a.field,
+            index: a.index + 1,
+        };
+    }
+    At {
+        place: end + 1,
+        field: a.field + 1,
+        index: 1,
+    }
+}
+
+// A text at its first term.
+fn start<'a>(text: &'a [u8]) -> Reader<'a>
+    ensures { λ r. ⌜ r ≡ started (text .entry) ⌝ }
+{
+    Reader {
+        text,
+        at: At {
+            place: 0,
+            field: 1,
+            index: 1,
+        },
+    }
+}
+
+// Whether a term stands at the reader's place: past the last one there is none.
+fn has_term<'a>(r: Reader<'a>) -> bool
+    ensures { λ b. ⌜ b ≡ ltb (r .entry .at .place) (length (now (r .entry .text))) ⌝ }
+{
+    r.at.place < r.text.len()
+}
+
+// The term at the reader's place.
+fn term<'a>(r: Reader<'a>) -> Piece
+    ensures { λ p. ⌜ p ≡ pieceOf (termAt (now (r .entry .text)) (r .entry .at)) ⌝ }
+{
+    scanning::piece_at(r.text, r.at.place)
+}
+
+// The reader moved behind the term p, which stands at its place.
+fn passed<'a>(r: Reader<'a>, p: Piece) -> Reader<'a>
+    requires { ⌜ (r .at .place ≤ 8192) × (r .at .field ≤ r .at .place + 1) × (r .at .index ≤ r .at .place + 1) × (p .size ≤ 8192) ⌝ }
+    ensures { λ q. ⌜ q ≡ passed (r .entry) p ⌝ }
+{
+    let at = behind(r.text, r.at, p);
+    Reader { text: r.text, at }
+}
+
+// The survey before the first term.
+fn nothing_yet() -> Survey
+    ensures { λ r. ⌜ r ≡ nothingYet ⌝ }
+{
+    Survey {
+        reason: 7,
+        place: 0,
+        lists: Lists::none(),
+    }
+}
+
+// All refusals from 3 on, in one pass over the terms.
+fn survey_of(text: &[u8], slip: bool) -> Survey
+    requires { ⌜ length (now text) ≤ 8192 ⌝ }
+    ensures { λ r. ⌜ r ≡ foldl (surveyMark slip ((sortOf slip) .width)) nothingYet (walked (now (text .entry))) ⌝ }
+{
+    let mut s = nothing_yet();
+    let mut r = start(text);
+    while has_term(r) {
+        let p = term(r);
+        let t = refusals::note(s, slip, r.at, p);
+        let q = passed(r, p);
+        s = t;
+        r = q;
+    }
+    s
+}
+
+fn is_empty(p: Piece) -> bool
+    ensures { λ r. ⌜ r ≡ emptyBy (p .what) ⌝ }
+{
+    let what = p.what;
+    match what {
+        Spelled::Int => false,
+        Spelled::Str => false,
+        Spelled::Var(_) => false,
+        Spelled::Empty => true,
+    }
+}
+
+// The field with the term p behind its others; `empty` adds none.
+fn with_term(f: Field, text: &[u8], place: usize, p: Piece) -> Field
+    requires { ⌜ (place < length (now text)) × (p ≡ pieceOf (front (drop place (now text)))) ⌝ }
+    ensures { λ r. ⌜ r ≡ addRaw f (front (drop place (now (text .entry)))) ⌝ }
+{
+    if is_empty(p) {
+        return f;
+    }
+    let t = text_terms::term_at(text, place);
+    push_term(f, t)
+}
+
+fn push_term(f: Field, t: Term) -> Field
+    ensures { λ r. ⌜ r ≡ pushTerm f t ⌝ }
+{
+    let n = f.n;
+    if 16 <= n {
+        return f;
+    }
+    let mut g = f;
+    g.terms[n] = t;
+    g.n = n + 1;
+    g
+}
+
+fn push_field(r: Rule, f: Field) -> Rule
+    ensures { λ s. ⌜ s ≡ pushField r f ⌝ }
+{
+    let n = r.n;
+    if 4 <= n {
+        return r;
+    }
+    let mut s = r;
+    s.fields[n] = f;
+    s.n = n + 1;
+    s
+}
+
+fn with_item(f: SlipField, text: &[u8], place: usize, p: Piece) -> SlipField
+    requires { ⌜ (place < length (now text)) × (p ≡ pieceOf (front (drop place (now text)))) ⌝ }
+    ensures { λ r. ⌜ r ≡ addItem f (front (drop place (now (text .entry)))) ⌝ }
+{
+    if is_empty(p) {
+        return f;
+    }
+    let t = text_terms::term_at(text, place);
+    push_item(f, t)
+}
+
+fn push_item(f: SlipField, t: Term) -> SlipField
+    ensures { λ r. ⌜ r ≡ pushItem f t ⌝ }
+{
+    let n = f.n;
+    if 64 <= n {
+        return f;
+    }
+    let mut g = f;
+    g.terms[n] = t;
+    g.n = n + 1;
+    g
+}
+
+fn push_slip_field(s: Slip, f: SlipField) -> Slip
+    ensures { λ r. ⌜ r ≡ pushSlipField s f ⌝ }
+{
+    let n = s.n;
+    if 4 <= n {
+        return s;
+    }
+    let mut r = s;
+    r.fields[n] = f;
+    r.n = n + 1;
+    r
+}
+
+// Whether a field behind the first begins, so that the one before it is complete.
+fn is_turn(a: At) -> bool
+    ensures { λ r. ⌜ r ≡ turns (a .field) (a .index) ⌝ }
+{
+    if a.field <= 1 {
+        return false;
+    }
+    a.index == 1
+}
+
+// The rule that a text without refusals says.
+fn build_rule(text: &[u8]) -> Rule
+    requires { ⌜ length (now text) ≤ 8192 ⌝ }
+    ensures { λ r. ⌜ r ≡ builtRule (walked (now (text .entry))) ⌝ }
+{
+    let mut rule = terms::blank_rule();
+    let mut field = terms::blank_field();
+    let mut r = start(text);
+    while has_term(r) {
+        let p = term(r);
+        if is_turn(r.at) {
+            rule = push_field(rule, field);
+            let next = terms::blank_field();
+            field = next;
+        }
+        field = with_term(field, r.text, r.at.place, p);
+        let q = passed(r, p);
+        r = q;
+    }
+    push_field(rule, field)
+}
+
+// The slip that a text without refusals says.
+fn build_slip(text: &[u8]) -> Slip
+    requires { ⌜ length (now text) ≤ 8192 ⌝ }
+    ensures { λ r. ⌜ r ≡ builtSlip (walked (now (text .entry))) ⌝ }
+{
+    let mut slip = terms::blank_slip();
+    let mut field = terms::blank_slip_field();
+    let mut r = start(text);
+    while has_term(r) {
+        let p = term(r);
+        if is_turn(r.at) {
+            slip = push_slip_field(slip, field);
+            let next = terms::blank_slip_field();
+            field = next;
+        }
+        field = with_item(field, r.text, r.at.place, p);
+        let q = passed(r, p);
+        r = q;
+    }
+    push_slip_field(slip, field)
+}
+
+// The tokens of a field with no terms.
+fn blank_tokens() -> TokenField
+    ensures { λ r. ⌜ r ≡ blankTokens ⌝ }
+{
+    let t = tokens::blank_token();
+    TokenField {
+        n: 0,
+        tokens: [t; 16],
+    }
+}
+
+// The tokens of a rule with no fields.
+pub fn blank_token_rule() -> TokenRule
+    ensures { λ r. ⌜ r ≡ blankTokenRule ⌝ }
+{
+    let f = blank_tokens();
+    TokenRule {
+        n: 0,
+        fields: [f; 4],
+    }
+}
+
+// A variable's number on its side: the right rule's atom variables have numbers 16 higher.
+fn number_on(right: bool, k: Kind, n: u8) -> u8
+    ensures { λ r. ⌜ r ≡ numberOn right k n ⌝ }
+{
+    if !right {
+        return n;
+    }
+    sides::right_number(k, n)
+}
+
+// The token of the term p, which stands at a place of the right text or the left.
+fn token_at(p: Piece, place: usize, right: bool) -> Token
+    requires { ⌜ place ≤ 8192 ⌝ }
+    ensures { λ r. ⌜ r ≡ tokenAt right place p ⌝ }
+{
+    let here = Token {
+        what: What::Text(right, place as u16),
+    };
+    let what = p.what;
+    match what {
+        Spelled::Int => here,
+        Spelled::Str => here,
+        Spelled::Var(k) => tokens::variable(k, number_on(right, k, (p.value % 256) as u8)),
+        Spelled::Empty => tokens::blank_token(),
+    }
+}
+
+fn push_token(f: TokenField, t: Token) -> TokenField
+    ensures { λ r. ⌜ r ≡ pushToken f t ⌝ }
+{
+    let n = f.n;
+    if 16 <= n {
+        return f;
+    }
+    let mut g = f;
+    g.tokens[n] = t;
+    g.n = n + 1;
+    g
+}
+
+// The field with the token of the term p behind its others; `empty` adds none.
+fn with_token(f: TokenField, place: usize, p: Piece, right: bool) -> TokenField
+    requires { ⌜ place ≤ 8192 ⌝ }
+    ensures { λ r. ⌜ r ≡ withToken right f place p ⌝ }
+{
+    if is_empty(p) {
+        return f;
+    }
+    push_token(f, token_at(p, place, right))
+}
+
+fn push_tokens(r: TokenRule, f: TokenField) -> TokenRule
+    ensures { λ s. ⌜ s ≡ pushTokens r f ⌝ }
+{
+    let n = r.n;
+    if 4 <= n {
+        return r;
+    }
+    let mut s = r;
+    s.fields[n] = f;
+    s.n = n + 1;
+    s
+}
+
+// The tokens of the rule that a text without refusals says.
+fn build_tokens(text: &[u8], right: bool) -> TokenRule
+    requires { ⌜ length (now text) ≤ 8192 ⌝ }
+    ensures { λ r. ⌜ r ≡ builtTokens right (walked (now (text .entry))) ⌝ }
+{
+    let mut rule = blank_token_rule();
+    let mut field = blank_tokens();
+    let mut r = start(text);
+    while has_term(r) {
+        let p = term(r);
+        if is_turn(r.at) {
+            rule = push_tokens(rule, field);
+            let next = blank_tokens();
+            field = next;
+        }
+        field = with_token(field, r.at.place, p, right);
+        let q = passed(r, p);
+        r = q;
+    }
+    push_tokens(rule, field)
+}
+
+// ---- the public functions: a text of more than 8,192 bytes, which is no rule and no slip, is not gone through
+
+// All refusals from 3 on.
+pub fn survey(text: &[u8], slip: bool) -> Survey
+    ensures { λ r. ⌜ r ≡ surveyIn slip (now (text .entry)) ⌝ }
+{
+    if 8192 < text.len() {
+        return nothing_yet();
+    }
+    survey_of(text, slip)
+}
+
+// The rule that a text without refusals says.
+pub fn rule_in(text: &[u8]) -> Rule
+    ensures { λ r. ⌜ r ≡ ruleIn (now (text .entry)) ⌝ }
+{
+    if 8192 < text.len() {
+        return terms::blank_rule();
+    }
+    build_rule(text)
+}
+
+// The slip.
+pub fn slip_in(text: &[u8]) -> Slip
+    ensures { λ r. ⌜ r ≡ slipIn (now (text .entry)) ⌝ }
+{
+    if 8192 < text.len() {
+        return terms::blank_slip();
+    }
+    build_slip(text)
+}
+
+// The rule's tokens, as the right one of a pair or the left one.
+pub fn tokens_in(text: &[u8], right: bool) -> TokenRule
+    ensures { λ r. ⌜ r ≡ tokensIn right (now (text .entry)) ⌝ }
+{
+    if 8192 < text.len() {
+        return blank_token_rule();
+    }
+    build_tokens(text, right)
+}
