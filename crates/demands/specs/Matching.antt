@@ -8,21 +8,21 @@ use mathlib.Core.Bool.{true, false, false≢true}
 use mathlib.Core.Option.{Option, none, some, IsSome}
 use mathlib.Core.List.{List, [], _∷_, map}
 use Prim.Native.Nat.{ℕ}
-use Rattle.lists.specs.Seqs.{Any}
+use Rattle.lists.specs.Seqs.{All, Any}
 use Rattle.order.specs.Types.{Kind, basics}
 use Rattle.theory.specs.Fillings.{Filling, Typed, fill, Occurs}
 use Rattle.theory.specs.Matching.{MatchesByLaws}
 use Rattle.theory.specs.Matcher.{complete}
 use Rattle.text.specs.Grammar.{Raw, Says}
 use Rattle.text.specs.Terms.{Con, OurTerm, fieldsOf}
-use Rattle.text.specs.Limits.{IsRule}
+use Rattle.text.specs.Limits.{IsCon, IsRule}
 use Rattle.text.specs.Read.{accepted, readRule, readSlip}
 use Rattle.text.proofs.Parse.{says-one}
 use Rattle.text.proofs.Accepted.{rule-read, slip-read}
 use Rattle.text.proofs.Theorems.{rule-accepted, slip-accepted}
 use Rattle.instance.specs.Constants.{consts}
 use Rattle.instance.specs.Matching.{constants, Matches, matcher}
-use Rattle.instance.specs.Written.{writtenField, writtenItems}
+use Rattle.instance.specs.Written.{writtenField}
 use Rattle.instance.proofs.Written.{written-matches}
 use Rattle.instance.proofs.Matching.{match-iff, match-is, match-yes, match-blank}
 use Rattle.terms.specs.declared.Rule.{Rule}
@@ -65,15 +65,15 @@ module _ (t u : List ℕ) (v : Rule) (w : Slip) (reads : readRule t ≡ accepted
   -- THE SENTENCE: t says x and u says y, as GP 2's expressions; the answer is yes exactly when some filling of the rule's variables,
   -- each by its type, makes the two equal under the laws
   pub matches-exactly : (x y : List (List Raw)) → Says t x → Says u y
-      → (matchOf rule (countedSlip w) .yes ≡ true) ↔ MatchesByLaws basics consts (map writtenField x) (map writtenItems y)
+      → (matchOf rule (countedSlip w) .yes ≡ true) ↔ MatchesByLaws basics consts (map writtenField x) (map writtenField y)
   matches-exactly x y says says-slip =
       let a = rule-accepted t rule .0 reads .1 in
       let b = slip-accepted u (countedSlip w) .0 reads-slip .1 in
       let ex = ap fieldsOf (says-one t x (a .0) says (a .1)) ∙ a .2 in
       let ey = ap fieldsOf (says-one u y (b .0) says-slip (b .1)) ∙ b .2 in
-      let h = written-matches x y in
-      let k = subst (λ (r : List (List OurTerm)). MatchesByLaws basics consts (map writtenField x) (map writtenItems y) ↔ Matches r (map constants (fieldsOf y))) ex h in
-      let l = subst (λ (s : List (List OurTerm)). MatchesByLaws basics consts (map writtenField x) (map writtenItems y) ↔ Matches rule (map constants s)) ey k in
+      let h = written-matches x y (subst (All (All IsCon)) (sym ey) (slip-read u (countedSlip w) reads-slip .1)) in
+      let k = subst (λ (r : List (List OurTerm)). MatchesByLaws basics consts (map writtenField x) (map writtenField y) ↔ Matches r (map constants (fieldsOf y))) ex h in
+      let l = subst (λ (s : List (List OurTerm)). MatchesByLaws basics consts (map writtenField x) (map writtenField y) ↔ Matches rule (map constants s)) ey k in
       Iff·trans yes-iff (l .1, l .0)
 
   -- what holds of the filling φ that an answer shows

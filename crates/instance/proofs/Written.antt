@@ -2,17 +2,18 @@
 use mathlib.Core.Path.{_≡_, refl, sym, _∙_, ap, ap₂, subst}
 use mathlib.Core.Logic.{_↔_}
 use mathlib.Core.List.{List, [], _∷_, _++_, map, append-nil}
+use Rattle.lists.specs.Seqs.{All}
 use Rattle.order.specs.Types.{basics}
 use Rattle.theory.specs.Terms.{con, var}
-use Rattle.theory.specs.Seqs.{concat-map}
 use Rattle.theory.specs.Laws.{flat}
 use Rattle.theory.specs.Matching.{MatchesByLaws}
-use Rattle.theory.proofs.Laws.{flat-replace, matches-laws}
+use Rattle.theory.proofs.Laws.{matches-laws}
 use Rattle.text.specs.Grammar.{Raw, raw-int, raw-str, raw-var, raw-empty}
-use Rattle.text.specs.Terms.{Con, OurTerm, termOf, fieldOf, fieldsOf}
+use Rattle.text.specs.Terms.{OurTerm, termOf, fieldOf, fieldsOf}
+use Rattle.text.specs.Limits.{IsCon}
 use Rattle.instance.specs.Constants.{consts}
 use Rattle.instance.specs.Matching.{constants, Matches}
-use Rattle.instance.specs.Written.{writtenTerm, writtenField, writtenItems}
+use Rattle.instance.specs.Written.{writtenTerm, writtenField}
 
 flat-term : (r : Raw) → flat (writtenTerm r) ≡ termOf r
 flat-term (raw-int ds) = refl
@@ -25,23 +26,26 @@ flat-field [] = refl
 flat-field (r ∷ []) = flat-term r ∙ sym (append-nil (termOf r))
 flat-field (r ∷ (s ∷ rs)) = ap₂ (λ (x y : List OurTerm). x ++ y) (flat-term r) (flat-field (s ∷ rs))
 
-items-are : (f : List OurTerm) → concat-map (λ t. constants (t ∷ [])) f ≡ constants f
-items-are [] = refl
-items-are (con c ∷ f) = ap (λ (l : List Con). c ∷ l) (items-are f)
-items-are (var k a ∷ f) = items-are f
+-- the terms of a slip's field, which has no variables, are its constants
+pub items-again : (f : List OurTerm) → All IsCon f → f ≡ map con (constants f)
+items-again [] i = refl
+items-again (con c ∷ f) i = ap (λ (l : List OurTerm). con c ∷ l) (items-again f (i .1))
+items-again (var k a ∷ f) i = absurd (i .0)
 
-flat-items : (f : List Raw) → flat (writtenItems f) ≡ constants (fieldOf f)
-flat-items f = flat-replace (λ t. constants (t ∷ [])) (writtenField f) ∙ ap (concat-map (λ t. constants (t ∷ []))) (flat-field f) ∙ items-are (fieldOf f)
+fields-again : (s : List (List OurTerm)) → All (All IsCon) s → s ≡ map (map con) (map constants s)
+fields-again [] i = refl
+fields-again (f ∷ s) i = ap₂ (λ (l : List OurTerm) (ls : List (List OurTerm)). l ∷ ls) (items-again f (i .0)) (fields-again s (i .1))
 
 map-same : {X Y Z : Type 0} (f : Y → Z) (g : X → Y) (h : X → Z) → ((x : X) → f (g x) ≡ h x) → (l : List X) → map f (map g l) ≡ map h l
 map-same f g h e [] = refl
 map-same {Z = Z} f g h e (x ∷ l) = ap₂ (λ (z : Z) (r : List Z). z ∷ r) (e x) (map-same f g h e l)
 
--- a rule's text that says x and a slip's text that says y
-pub written-matches : (x y : List (List Raw)) → MatchesByLaws basics consts (map writtenField x) (map writtenItems y) ↔ Matches (fieldsOf x) (map constants (fieldsOf y))
-written-matches x y =
-    let e = map-same flat writtenField fieldOf flat-field x in
-    let d = map-same flat writtenItems (λ f. constants (fieldOf f)) flat-items y ∙ sym (map-same constants fieldOf (λ f. constants (fieldOf f)) (λ f. refl) y) in
-    subst (λ (r : List (List OurTerm)). MatchesByLaws basics consts (map writtenField x) (map writtenItems y) ↔ Matches r (map constants (fieldsOf y))) e
-    (subst (λ (s : List (List Con)). MatchesByLaws basics consts (map writtenField x) (map writtenItems y) ↔ Matches (map flat (map writtenField x)) s) d
-    (matches-laws basics consts (map writtenField x) (map writtenItems y)))
+flat-fields : (x : List (List Raw)) → map flat (map writtenField x) ≡ fieldsOf x
+flat-fields x = map-same flat writtenField fieldOf flat-field x
+
+-- a rule's text that says x, and a slip's text that says y, which has no variables
+pub written-matches : (x y : List (List Raw)) → All (All IsCon) (fieldsOf y)
+    → MatchesByLaws basics consts (map writtenField x) (map writtenField y) ↔ Matches (fieldsOf x) (map constants (fieldsOf y))
+written-matches x y plain =
+    subst (λ (r : List (List OurTerm)). MatchesByLaws basics consts (map writtenField x) (map writtenField y) ↔ Matches r (map constants (fieldsOf y))) (flat-fields x)
+    (matches-laws basics consts (map writtenField x) (map writtenField y) (map constants (fieldsOf y)) (flat-fields y ∙ fields-again (fieldsOf y) plain))
