@@ -9,13 +9,14 @@ use lib.ListN.{length, length-append}
 use Rattle.text.specs.Grammar.{spell}
 use Rattle.text.specs.Read.{Reason, long, grammar, fields, terms, limits, linear, variable, number, Sort, rule, slip, FirstBad, Refuses, FirstReason, refused, read, readRule, readSlip}
 use Rattle.text.proofs.Read.{read-refused}
-use Rattle.text.proofs.Sharp.{bad-stands}
+use Rattle.text.proofs.Sharp.{first-bad}
 
 -- a term that is refused stands in the text
 bad-in : (w : ℕ) (r : Reason) (t : List ℕ) (p : ℕ) → FirstBad w r t p → p ≤ length t
 bad-in w r t p f =
-    let s = bad-stands w r t p f in
-    omega (arith, ap length (s .3), length-append (s .0) (spell (s .2) ++ s .1), s .4)
+    let b = first-bad w r t p .0 f in
+    let s = b .stands in
+    omega (arith, ap length (s .there), length-append (s .before) (spell (b .mark .raw) ++ s .after), s .from, b .place)
 
 place-in : (S : Sort) (t : List ℕ) (r : Reason) (p : ℕ) → Refuses S t r p → p ≤ length t
 place-in S t long p h = omega (arith, h .0, h .1)

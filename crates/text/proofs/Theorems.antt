@@ -1,5 +1,5 @@
 -- The statements about reading and plain text. What a rule or slip within the limits is: specs/Limits; the refusals: specs/Read.
--- See also: `rule-iff`, `slip-iff`, `rule-plain` (Accepted), `leftmost-place`, `fifth-field`, `term-past` (Sharp), `rule-bytes`, `slip-bytes` (Lengths).
+-- See also: `rule-iff`, `slip-iff`, `rule-plain` (Accepted), `first-bad` (Sharp), `rule-bytes`, `slip-bytes` (Lengths).
 use mathlib.Core.Path.{_≡_, refl, sym, _∙_, ap, subst}
 use mathlib.Core.Logic.{_≢_, _↔_, inl, inr, Iff·trans}
 use mathlib.Core.List.{List, [], _∷_, _++_}
