@@ -14,6 +14,7 @@ use Rattle.text.specs.Limits.{IsCon}
 use Rattle.instance.specs.Constants.{consts}
 use Rattle.instance.specs.Matching.{constants, Matches}
 use Rattle.instance.specs.Written.{writtenTerm, writtenField}
+use Rattle.instance.proofs.Matching.{constants-are}
 
 flat-term : (r : Raw) → flat (writtenTerm r) ≡ termOf r
 flat-term (raw-int ds) = refl
@@ -26,15 +27,10 @@ flat-field [] = refl
 flat-field (r ∷ []) = flat-term r ∙ sym (append-nil (termOf r))
 flat-field (r ∷ (s ∷ rs)) = ap₂ (λ (x y : List OurTerm). x ++ y) (flat-term r) (flat-field (s ∷ rs))
 
--- the terms of a slip's field, which has no variables, are its constants
-pub items-again : (f : List OurTerm) → All IsCon f → f ≡ map con (constants f)
-items-again [] i = refl
-items-again (con c ∷ f) i = ap (λ (l : List OurTerm). con c ∷ l) (items-again f (i .1))
-items-again (var k a ∷ f) i = absurd (i .0)
-
+-- the terms of a slip's fields, which have no variables, are their constants
 fields-again : (s : List (List OurTerm)) → All (All IsCon) s → s ≡ map (map con) (map constants s)
 fields-again [] i = refl
-fields-again (f ∷ s) i = ap₂ (λ (l : List OurTerm) (ls : List (List OurTerm)). l ∷ ls) (items-again f (i .0)) (fields-again s (i .1))
+fields-again (f ∷ s) i = ap₂ (λ (l : List OurTerm) (ls : List (List OurTerm)). l ∷ ls) (sym (constants-are f (i .0))) (fields-again s (i .1))
 
 map-same : {X Y Z : Type 0} (f : Y → Z) (g : X → Y) (h : X → Z) → ((x : X) → f (g x) ≡ h x) → (l : List X) → map f (map g l) ≡ map h l
 map-same f g h e [] = refl

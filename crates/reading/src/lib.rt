@@ -5,7 +5,7 @@ ghost use mathlib.Core.List.{List, foldl};
 ghost use Prim.Native.Nat.{ℕ, _+_, _≤_, _<_};
 ghost use lib.Dec.{ltb};
 ghost use lib.ListN.{length, drop};
-ghost use Rattle.text.specs.Read.{read, readRule, readSlip};
+ghost use Rattle.text.specs.Read.{read, readRule};
 ghost use Rattle.text.specs.Walk.{front, walked};
 ghost use Rattle.scanning.specs.Pieces.{pieceOf};
 ghost use Rattle.verdicts.specs.Verdicts.{sortOf, verdictOf};
@@ -14,7 +14,7 @@ ghost use Rattle.reading.specs.Places.{spelled, colonAt, behind, termAt,
 ghost use Rattle.reading.specs.Build.{emptyBy, pushTerm, addRaw, pushField, pushItem, addItem, pushSlipField, turns, builtRule, builtSlip};
 ghost use Rattle.tokens.specs.Tokens.{blankTokens, blankTokenRule, ruleOf};
 ghost use Rattle.reading.specs.Tokens.{onSide, numberOn, tokenAt, pushToken, withToken, pushTokens, builtTokens};
-ghost use Rattle.reading.specs.Answers.{ruleRead, slipRead};
+ghost use Rattle.reading.specs.Answers.{ruleRead, ReadsRule, ReadsSlip};
 use linearity::Lists;
 use order::Kind;
 use refusals::At;
@@ -438,7 +438,7 @@ fn judge(text: &[u8], slip: bool) -> Verdict
 
 // Reads a rule: the rule, or why and where the text is refused with the rule that has no fields.
 pub fn read_rule(text: &[u8]) -> RuleRead
-    ensures { λ r. ⌜ r ≡ ruleRead (readRule (now (text .entry))) ⌝ }
+    ensures { λ r. ⌜ ReadsRule (now (text .entry)) r ⌝ }
 {
     let verdict = judge(text, false);
     match verdict {
@@ -455,7 +455,7 @@ pub fn read_rule(text: &[u8]) -> RuleRead
 
 // Reads a slip: the slip, or why and where the text is refused with the slip that has no fields.
 pub fn read_slip(text: &[u8]) -> SlipRead
-    ensures { λ r. ⌜ r ≡ slipRead (readSlip (now (text .entry))) ⌝ }
+    ensures { λ r. ⌜ ReadsSlip (now (text .entry)) r ⌝ }
 {
     let verdict = judge(text, true);
     match verdict {
