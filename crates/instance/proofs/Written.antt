@@ -5,9 +5,9 @@ use mathlib.Core.List.{List, [], _∷_, _++_, map, append-nil}
 use Rattle.lists.specs.Seqs.{All}
 use Rattle.order.specs.Types.{basics}
 use Rattle.theory.specs.Terms.{con, var}
-use Rattle.theory.specs.Laws.{flat}
+use Rattle.theory.specs.Laws.{Expr, flat, expr}
 use Rattle.theory.specs.Matching.{MatchesByLaws}
-use Rattle.theory.proofs.Laws.{matches-laws}
+use Rattle.theory.proofs.Laws.{flat-expr, matches-laws}
 use Rattle.text.specs.Grammar.{Raw, raw-int, raw-str, raw-var, raw-empty}
 use Rattle.text.specs.Terms.{OurTerm, termOf, fieldOf, fieldsOf}
 use Rattle.text.specs.Limits.{IsCon}
@@ -39,9 +39,25 @@ map-same {Z = Z} f g h e (x ∷ l) = ap₂ (λ (z : Z) (r : List Z). z ∷ r) (e
 flat-fields : (x : List (List Raw)) → map flat (map writtenField x) ≡ fieldsOf x
 flat-fields x = map-same flat writtenField fieldOf flat-field x
 
+flat-exprs : (r : List (List OurTerm)) → map flat (map expr r) ≡ r
+flat-exprs r = map-same flat expr (λ f. f) flat-expr r ∙ map-id r
+  where
+    map-id : (r : List (List OurTerm)) → map (λ f. f) r ≡ r
+    map-id [] = refl
+    map-id (f ∷ r) = ap (λ (l : List (List OurTerm)). f ∷ l) (map-id r)
+
+-- by the laws, of expressions with the terms r and, without variables, s
+same-terms : (es fs : List (Expr OurTerm)) (r s : List (List OurTerm)) → map flat es ≡ r → map flat fs ≡ s → All (All IsCon) s
+    → MatchesByLaws basics consts es fs ↔ Matches r (map constants s)
+same-terms es fs r s is-r is-s plain =
+    subst (λ (r : List (List OurTerm)). MatchesByLaws basics consts es fs ↔ Matches r (map constants s)) is-r
+    (matches-laws basics consts es fs (map constants s) (is-s ∙ fields-again s plain))
+
 -- a rule's text that says x, and a slip's text that says y, which has no variables
 pub written-matches : (x y : List (List Raw)) → All (All IsCon) (fieldsOf y)
     → MatchesByLaws basics consts (map writtenField x) (map writtenField y) ↔ Matches (fieldsOf x) (map constants (fieldsOf y))
-written-matches x y plain =
-    subst (λ (r : List (List OurTerm)). MatchesByLaws basics consts (map writtenField x) (map writtenField y) ↔ Matches r (map constants (fieldsOf y))) (flat-fields x)
-    (matches-laws basics consts (map writtenField x) (map writtenField y) (map constants (fieldsOf y)) (flat-fields y ∙ fields-again (fieldsOf y) plain))
+written-matches x y plain = same-terms (map writtenField x) (map writtenField y) (fieldsOf x) (fieldsOf y) (flat-fields x) (flat-fields y) plain
+
+-- a rule's and a slip's terms, as one writes them
+pub terms-matches : (r s : List (List OurTerm)) → All (All IsCon) s → MatchesByLaws basics consts (map expr r) (map expr s) ↔ Matches r (map constants s)
+terms-matches r s plain = same-terms (map expr r) (map expr s) r s (flat-exprs r) (flat-exprs s) plain
