@@ -4,7 +4,7 @@ use mathlib.Core.Logic.{_↔_}
 use mathlib.Core.List.{List, [], _∷_, _++_, map, append-nil}
 use Rattle.lists.specs.Seqs.{All}
 use Rattle.order.specs.Types.{basics}
-use Rattle.theory.specs.Terms.{con, var}
+use Rattle.theory.specs.Terms.{con}
 use Rattle.theory.specs.Laws.{Expr, flat, expr}
 use Rattle.theory.specs.Matching.{MatchesByLaws}
 use Rattle.theory.proofs.Laws.{flat-expr, matches-laws}
