@@ -7,7 +7,6 @@ use Prim.Native.Nat.{_-_, _≤_}
 use native.Mathlib.Omega.{arith}
 use lib.ListN.{length, take, length-map}
 use Rattle.lists.specs.Seqs.{All, IsCons, all-map}
-use Rattle.theory.specs.Terms.{con, var}
 use Rattle.theory.specs.Linear.{OneList}
 use Rattle.text.specs.Sizes.{mostFields}
 use Rattle.text.specs.Terms.{Con, OurTerm}
