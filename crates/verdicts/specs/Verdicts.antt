@@ -40,6 +40,13 @@ abbrev pub told : Verdict → Told
 told Accepted = record { number = none; values = [] }
 told (Refused r p) = record { number = some (numberOf r); values = p ∷ [] }
 
+-- refused by the number of r, at p; and not refused
+abbrev pub refusal : read.Reason → ℕ → Told
+refusal r p = record { number = some (read.number r); values = p ∷ [] }
+
+abbrev pub noRefusal : Told
+noRefusal = record { number = none; values = [] }
+
 abbrev pub verdictOf : Outcome → Verdict
 verdictOf (refused r p) = Refused (reasonFrom r) p
 verdictOf (accepted x) = Accepted
