@@ -66,8 +66,8 @@ module _ (slip : List (List Con)) (ψ : Filling Con Kind ℕ) (n : ℕ) where
   abbrev Good : List Run → Type 0
   Good rs = GoodRun (getD rs n blankRun)
 
-  field-good : (j gap i : ℕ) (w : List Con) (f : List OurTerm) (rs : List Run) → getD slip j [] ≡ w → j < length slip → n < length rs → OneList f → i + atoms f + gap ≤ length w → Slices ψ gap w f i
-      → Good rs ⊎ Occurs list n f → Good (runsField j gap i f rs)
+  field-good : (j gap i : ℕ) (w : List Con) (f : List OurTerm) (rs : List Run) → getD slip j [] ≡ w → j < length slip → n < length rs → OneList f
+      → i + atoms f + gap ≤ length w → Slices ψ gap w f i → Good rs ⊎ Occurs list n f → Good (runsField j gap i f rs)
   field-good j gap i w [] rs e b l o m s (inl g) = g
   field-good j gap i w [] rs e b l o m s (inr x) = absurd x
   field-good j gap i w (con c ∷ f) rs e b l o m s g = field-good j gap (i + 1) w f rs e b l o (omega arith) (s .1) g
@@ -133,7 +133,8 @@ field-kept j gap i n (var list a ∷ f) rs o =
     field-kept j gap (i + 1) n f (set rs a (record { field = j; start = i; count = gap })) (λ x. o (inr x))
     ∙ getD-set-other rs a n (record { field = j; start = i; count = gap }) blankRun (λ p. o (inl (refl, p)))
 
-fields-kept : (j n : ℕ) (fs : List (List OurTerm)) (ws : List (List Con)) (rs : List Run) → (Any (Occurs list n) fs → ⊥) → getD (runsFrom j fs ws rs) n blankRun ≡ getD rs n blankRun
+fields-kept : (j n : ℕ) (fs : List (List OurTerm)) (ws : List (List Con)) (rs : List Run) → (Any (Occurs list n) fs → ⊥)
+    → getD (runsFrom j fs ws rs) n blankRun ≡ getD rs n blankRun
 fields-kept j n [] ws rs o = refl
 fields-kept j n (f ∷ fs) [] rs o = refl
 fields-kept j n (f ∷ fs) (w ∷ ws) rs o =
@@ -224,7 +225,11 @@ module _ (rule : List (List OurTerm)) (linear : Linear rule) (slip : List (List 
   completed = match-is rule linear slip φ yes-φ ψ typed .0 filled
 
   good : (n : ℕ) → n ≤ 15 → Any (Occurs list n) rule → GoodRun slip ψ n (getD (runsOf rule slip) n blankRun)
-  good n h o = fields-good slip ψ n (λ k a. ap length (typed (basic k) a .1)) 0 rule slip (replicate 16 blankRun) filled refl (omega arith) (left-linear rule linear .1) (inr o)
+  good n h o =
+      fields-good slip ψ n (λ k a. ap length (typed (basic k) a .1)) 0 rule slip (replicate 16 blankRun) filled refl
+      (omega arith)
+      (left-linear rule linear .1)
+      (inr o)
 
   -- THE RUN of a list variable has exactly the items of its value
   pub run-items : (n : ℕ) → n ≤ 15 → Any (Occurs list n) rule → itemsAt slip (getD (runsOf rule slip) n blankRun) ≡ φ list n

@@ -17,7 +17,10 @@ shift-length pre w c p e = simp (length-append, length-append) (omega arith)
 
 stands-f : (t : List ℕ) (rs : List Raw) (p n i : ℕ) (pre post : List ℕ) → t ≡ pre ++ (spellF rs ++ post) → length pre ≡ p → All (Stands t) (marksF p n i rs)
 stands-f t [] p n i pre post e l = tt
-stands-f t (r ∷ []) p n i pre post e l = (record { before = pre; after = post; there = e ∙ ap (λ (x : List ℕ). pre ++ (x ++ post)) (append-nil (spell r)); from = l }, tt)
+stands-f t (r ∷ []) p n i pre post e l = (
+  record { before = pre; after = post; there = e ∙ ap (λ (x : List ℕ). pre ++ (x ++ post)) (append-nil (spell r)); from = l },
+  tt,
+)
 stands-f t (r ∷ (s ∷ rs)) p n i pre post e l = (
   record { before = pre; after = colons (s ∷ rs) ++ post; there = e ∙ ap (λ (x : List ℕ). pre ++ x) (append-assoc (spell r) (colons (s ∷ rs)) post); from = l },
   stands-f t (s ∷ rs) (suc (p + length (spell r))) n (suc i) (pre ++ (spell r ++ 58 ∷ [])) post

@@ -85,7 +85,8 @@ five (y ∷ ys) zs before n i m h s k b =
     five ys zs (before ++ y ∷ []) (y .inField) (y .index) m (omega arith) (s .1) (k .1) b
 
 -- the first term past the limit is the one just past it
-past : (w : ℕ) (ys zs : List Mark) (before : List Mark) (n i : ℕ) (m : Mark) → i ≤ w → Steps n i (ys ++ m ∷ zs) → NoneOf (λ b k. TooMany w k) before ys → TooMany w m → m .index ≡ suc w
+past : (w : ℕ) (ys zs : List Mark) (before : List Mark) (n i : ℕ) (m : Mark) → i ≤ w → Steps n i (ys ++ m ∷ zs) → NoneOf (λ b k. TooMany w k) before ys
+    → TooMany w m → m .index ≡ suc w
 past w [] zs before n i m h s k b = go (s .0)
   where
     go : Next n i m → m .index ≡ suc w
@@ -106,7 +107,8 @@ behind-one us a vs = sym (append-assoc us (a ∷ []) vs)
 one-longer : {A : Type 0} (us : List A) (a : A) (n : ℕ) → length us ≡ n → length (us ++ a ∷ []) ≡ suc n
 one-longer us a n e = omega (arith, length-append us (a ∷ []), e)
 
-numbered-f : (x : List (List Raw)) (f rs us : List Raw) (p n i : ℕ) → f ≡ us ++ rs → length us ≡ i → getElem? x n ≡ some f → All (Numbered x) (marksF p (suc n) (suc i) rs)
+numbered-f : (x : List (List Raw)) (f rs us : List Raw) (p n i : ℕ) → f ≡ us ++ rs → length us ≡ i → getElem? x n ≡ some f
+    → All (Numbered x) (marksF p (suc n) (suc i) rs)
 numbered-f x f [] us p n i e l is = tt
 numbered-f x f (r ∷ rs) us p n i e l is = (
   record { i = n; j = i; field = f; in-field = refl; is-field = is; index = refl; is-term = rw (e, ← l) (at-middle us r rs) },

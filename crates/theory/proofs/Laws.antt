@@ -94,8 +94,7 @@ module _ {C K A : Type 0} where
   pub laws-rule : (φ : Filling C K A) (rule slip : List (Expr (Term C K A))) (ws : List (List C)) → map flat slip ≡ map (map con) ws
       → EachEqual (map (fillExpr φ) rule) slip ↔ (map (fill φ) (map flat rule) ≡ ws)
   laws-rule φ rule slip ws is =
-      let l = laws-fields (map (fillExpr φ) rule) slip in
-      (
+      let l = laws-fields (map (fillExpr φ) rule) slip in (
         λ h. fields-once (map (fill φ) (map flat rule)) ws (sym (flat-fills φ rule) ∙ l .0 h ∙ is),
         λ p. l .1 (flat-fills φ rule ∙ ap (map (map con)) p ∙ sym is),
       )
