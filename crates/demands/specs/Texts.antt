@@ -14,7 +14,7 @@ use lib.Dec.{leb}
 use lib.ListN.{length, take, drop}
 use lib.Seq.{take-at, drop-at}
 use borrow.Author.Tests.{le-leb, lt-leb}
-use Rattle.text.specs.Told.{Told, byRoom}
+use Rattle.text.specs.Told.{Told}
 use Rattle.text.specs.Grammar.{Raw, Says}
 use Rattle.text.specs.Terms.{OurTerm, fieldsOf}
 use Rattle.text.specs.Read.{Reason, long, grammar, fields, terms, limits, linear, variable, number, Sort, rule, slip}
@@ -26,7 +26,6 @@ use Rattle.text.proofs.Sharp.{first-bad}
 use Rattle.text.proofs.Told.{eight-iff, fits-iff}
 use Rattle.text.proofs.Theorems.{earlier, rule-refused, slip-refused, rule-never, slip-never, rule-accepted, slip-accepted, plain-injective}
 use Rattle.terms.specs.declared.Rule.{Rule}
-use Rattle.terms.specs.declared.Slip.{Slip}
 use Rattle.terms.specs.Values.{viewRule, blankRule, blankSlip, encodeRule, encodeSlip}
 use Rattle.accepted.specs.Accepted.{acceptedRule, countedRule}
 use Rattle.accepted.proofs.Accepted.{accepted-rule, encode-accepted-rule, view-encode-rule}
