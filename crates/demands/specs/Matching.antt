@@ -1,105 +1,250 @@
 -- DEMAND 2, its first sentence: "A rule matches a slip exactly when some filling of its variables, each by its type, makes the two equal
 -- under GP 2's associativity and unit laws."
--- Over the definition that the contract cites:
---     matching::match_rule   answers `matchOf (countedRule rule) (countedSlip slip)`
-use mathlib.Core.Path.{_≡_, refl, sym, _∙_, ap, subst}
-use mathlib.Core.Logic.{_↔_, Iff·trans}
-use mathlib.Core.Bool.{true, false, false≢true}
+-- Over the definition that the contract cites, for a rule value v and a slip value w:
+--     matching::match_rule   answers `matchOf (countedRule v) (countedSlip w)`
+use mathlib.Core.Path.{_≡_, refl, sym, _∙_, ap, ap₂, subst}
+use mathlib.Core.Logic.{_↔_, Iff·trans, inl, inr}
+use mathlib.Core.Bool.{Bool, true, false, cond, false≢true}
 use mathlib.Core.Option.{Option, none, some, IsSome}
 use mathlib.Core.List.{List, [], _∷_, map}
-use Prim.Native.Nat.{ℕ}
-use Rattle.lists.specs.Seqs.{Any}
-use Rattle.order.specs.Types.{Kind, basics}
+use Prim.Native.Nat.{ℕ, _≤_}
+use native.Mathlib.Omega.{arith}
+use lib.ListN.{getD}
+use Rattle.lists.specs.Seqs.{All, Any}
+use Rattle.order.specs.Order.{basic, list}
+use Rattle.order.specs.Types.{Basic, Kind, basics}
+use Rattle.theory.specs.Terms.{con, var}
 use Rattle.theory.specs.Fillings.{Filling, Typed, fill, Occurs}
+use Rattle.theory.specs.Laws.{expr}
 use Rattle.theory.specs.Matching.{MatchesByLaws}
 use Rattle.theory.specs.Matcher.{complete}
 use Rattle.text.specs.Grammar.{Raw, Says}
+use Rattle.text.specs.Sizes.{largestNumber}
 use Rattle.text.specs.Terms.{Con, OurTerm, fieldsOf}
-use Rattle.text.specs.Limits.{IsRule}
-use Rattle.text.specs.Read.{accepted, readRule, readSlip}
+use Rattle.text.specs.Limits.{TermIn, IsCon, IsRule, IsSlip}
+use Rattle.text.specs.Read.{Outcome, refused, accepted, readRule, readSlip}
 use Rattle.text.proofs.Parse.{says-one}
 use Rattle.text.proofs.Accepted.{rule-read, slip-read}
 use Rattle.text.proofs.Theorems.{rule-accepted, slip-accepted}
 use Rattle.instance.specs.Constants.{consts}
 use Rattle.instance.specs.Matching.{constants, Matches, matcher}
-use Rattle.instance.specs.Written.{writtenField, writtenItems}
-use Rattle.instance.proofs.Written.{written-matches}
+use Rattle.instance.specs.Written.{writtenField}
+use Rattle.instance.proofs.Written.{written-matches, terms-matches}
 use Rattle.instance.proofs.Matching.{match-iff, match-is, match-yes, match-blank}
 use Rattle.terms.specs.declared.Rule.{Rule}
 use Rattle.terms.specs.declared.Slip.{Slip}
+use Rattle.terms.specs.Values.{blankTerm, encodeTerm, encodeRule, encodeSlip, viewRule, viewSlip}
 use Rattle.accepted.specs.Accepted.{acceptedRule, countedRule}
 use Rattle.accepted_slips.specs.Slips.{acceptedSlip, countedSlip}
-use Rattle.accepted.proofs.Accepted.{rule-is}
-use Rattle.accepted_slips.proofs.Slips.{slip-is}
+use Rattle.accepted.proofs.Accepted.{rule-is, accepted-rule, encode-accepted-rule, view-encode-rule}
+use Rattle.accepted_slips.proofs.Slips.{slip-is, accepted-slip, encode-accepted-slip, view-encode-slip}
+use Rattle.verdicts.specs.declared.Verdict.the-variants.{Accepted, Refused}
+use Rattle.verdicts.specs.Verdicts.{reasonFrom}
+use Rattle.reading.specs.declared.RuleRead.{RuleRead}
+use Rattle.reading.specs.declared.SlipRead.{SlipRead}
+use Rattle.reading.specs.Answers.{ruleRead, slipRead, ReadsRule, ReadsSlip}
 use Rattle.bindings.specs.declared.Filling.{Filling as FillingValue}
-use Rattle.matching.specs.Answers.{encodeValues, runsOf, noMatch, found, matchOf}
+use Rattle.bindings.specs.Values.{slot, atomOf, blankRun, runOf}
+use Rattle.matching.specs.declared.Match.{Match}
+use Rattle.matching.specs.Answers.{isKnown, valueTerm, encodeValues, runsOf, itemsAt, LiesIn, noMatch, found, matchOf}
 use Rattle.matching.proofs.Accept.{with-fields, not-rule, not-slip}
+use Rattle.matching.proofs.Runs.{atom-at, known-at, run-blank, run-items, run-lies, atom-value}
 
--- ---- the answer, where both have fields
+-- ---- the answer's filling
+
+-- WHAT AN ANSWER SHOWS of a rule's fields and a slip's constants: its value, as the filling φ
+pub record Shows (rule : List (List OurTerm)) (slip : List (List Con)) (value : FillingValue) (φ : Filling Con Kind ℕ) : Type 0 where
+  -- φ makes the two equal, each variable by its type; any constants complete it for the variables that the rule lacks
+  pub typed : Typed basics consts (complete basics consts φ)
+  pub fills : map (fill (complete basics consts φ)) rule ≡ slip
+  -- "There is never more than one filling, and that is to be shown": those that make the two equal give the rule's variables φ's values
+  pub one : (θ : Filling Con Kind ℕ) → Typed basics consts θ
+      → (map (fill θ) rule ≡ slip) ↔ ((k : Kind) (n : ℕ) → Any (Occurs k n) rule → θ k n ≡ φ k n)
+  -- "yes with the value of every variable": an atom variable of the rule is known, and its term is the constant that φ gives
+  pub atoms : (k : Basic) (n : ℕ) → Any (Occurs (basic k) n) rule
+      → (c : Con) × (φ (basic k) n ≡ c ∷ []) × (getD (value .values .known) (slot (basic k) n) false ≡ true)
+      × (atomOf (value .values) (basic k) n ≡ encodeTerm (con c))
+  -- "a list variable's value is a run of the slip's terms": the items there are the value that φ gives, and it lies within its field
+  pub runs : (n : ℕ) → Any (Occurs list n) rule → (itemsAt slip (runOf value n) ≡ φ list n) × LiesIn slip (runOf value n)
+  -- "blank for those the rule lacks", "every number zero": in φ, and in the value
+  pub lacking : (k : Kind) (n : ℕ) → (Any (Occurs k n) rule → ⊥) → φ k n ≡ []
+  pub blank-atoms : (k : Basic) (n : ℕ) → n ≤ largestNumber → (Any (Occurs (basic k) n) rule → ⊥)
+      → (getD (value .values .known) (slot (basic k) n) false ≡ false) × (atomOf (value .values) (basic k) n ≡ blankTerm)
+  pub blank-runs : (n : ℕ) → (Any (Occurs list n) rule → ⊥) → runOf value n ≡ blankRun
+  -- so the value is that of φ
+  pub settled : value ≡ record { values = encodeValues φ; runs = runsOf rule slip }
+
+-- a variable of a rule has a number from 0 to 15
+occurs-in : (k : Kind) (n : ℕ) (f : List OurTerm) → All TermIn f → Occurs k n f → n ≤ largestNumber
+occurs-in k n [] i o = absurd o
+occurs-in k n (con c ∷ f) i o = occurs-in k n f (i .1) o
+occurs-in k n (var j m ∷ f) i (inl p) = omega (arith, i .0, p .1)
+occurs-in k n (var j m ∷ f) i (inr o) = occurs-in k n f (i .1) o
+
+number-in : (k : Kind) (n : ℕ) (r : List (List OurTerm)) → All (All TermIn) r → Any (Occurs k n) r → n ≤ largestNumber
+number-in k n [] i o = absurd o
+number-in k n (f ∷ r) i (inl o) = occurs-in k n f (i .0) o
+number-in k n (f ∷ r) i (inr o) = number-in k n r (i .1) o
+
+module _ (rule : List (List OurTerm)) (is-rule : IsRule rule) (slip : List (List Con)) (φ : Filling Con Kind ℕ)
+    (yes-φ : matcher rule slip ≡ some φ)
+  where
+    abbrev shown : FillingValue
+    shown = record { values = encodeValues φ; runs = runsOf rule slip }
+
+    blank-of : (k : Kind) (n : ℕ) → (Any (Occurs k n) rule → ⊥) → φ k n ≡ []
+    blank-of = match-blank rule (is-rule .1) slip φ yes-φ
+
+    number-of : (k : Kind) (n : ℕ) → Any (Occurs k n) rule → n ≤ 15
+    number-of k n o = number-in k n rule (is-rule .0 .3) o
+
+    shows : Shows rule slip shown φ
+    shows = record {
+      typed = match-yes rule (is-rule .1) slip φ yes-φ .0;
+      fills = match-yes rule (is-rule .1) slip φ yes-φ .1;
+      one = match-is rule (is-rule .1) slip φ yes-φ;
+      atoms = λ k n o. let c = atom-value rule (is-rule .1) slip φ yes-φ k n o in (
+        c .0,
+        c .1,
+        known-at φ k n (number-of (basic k) n o) ∙ ap isKnown (c .1),
+        atom-at φ k n (number-of (basic k) n o) ∙ ap valueTerm (c .1),
+      );
+      runs = λ n o. (
+        run-items rule (is-rule .1) slip φ yes-φ n (number-of list n o) o,
+        run-lies rule (is-rule .1) slip φ yes-φ n (number-of list n o) o,
+      );
+      lacking = blank-of;
+      blank-atoms = λ k n h o. (
+        known-at φ k n h ∙ ap isKnown (blank-of (basic k) n o),
+        atom-at φ k n h ∙ ap valueTerm (blank-of (basic k) n o),
+      );
+      blank-runs = λ n o. run-blank rule slip n o;
+      settled = refl;
+    }
+
+-- ---- the answer
+
+-- the text t is read as the rule value v, the text u as the slip value w
+abbrev pub ReadAsRule : List ℕ → Rule → Type 0
+ReadAsRule t v = ReadsRule t (record { verdict = Accepted; rule = v })
+
+abbrev pub ReadAsSlip : List ℕ → Slip → Type 0
+ReadAsSlip u w = ReadsSlip u (record { verdict = Accepted; slip = w })
+
+-- WHAT MATCHING ANSWERS of a rule value v and a slip value w
+pub record Matching (v : Rule) (w : Slip) (m : Match) : Type 0 where
+  -- DEMAND 2's sentence, of values that reading returns: their fields as one writes them, equal by the laws
+  pub exactly : acceptedRule v ≡ true → acceptedSlip w ≡ true
+      → (m .yes ≡ true) ↔ MatchesByLaws basics consts (map expr (viewRule v)) (map expr (viewSlip w))
+  -- the same as they are written: whatever texts t and u are read as the two, which say x and y
+  pub as-written : (t u : List ℕ) → ReadAsRule t v → ReadAsSlip u w → (x y : List (List Raw)) → Says t x → Says u y
+      → (m .yes ≡ true) ↔ MatchesByLaws basics consts (map writtenField x) (map writtenField y)
+  -- and of the rule's terms and the slip's constants: some filling, each variable by its type, fills the one to the other
+  pub on-terms : acceptedRule v ≡ true → acceptedSlip w ≡ true → (m .yes ≡ true) ↔ Matches (viewRule v) (map constants (viewSlip w))
+  -- the one filling, where the answer is yes
+  pub filling : acceptedRule v ≡ true → acceptedSlip w ≡ true → m .yes ≡ true
+      → (φ : Filling Con Kind ℕ) × Shows (viewRule v) (map constants (viewSlip w)) (m .filling) φ
+  -- "no with the blank filling (every number zero)"
+  pub no-blank : m .yes ≡ false → m ≡ noMatch
+  -- "A rule or slip with no fields gives no", and so does a value that no reading returns
+  pub unread-rule : acceptedRule v ≡ false → m ≡ noMatch
+  pub unread-slip : acceptedSlip w ≡ false → m ≡ noMatch
 
 found-yes : (r : List (List OurTerm)) (ws : List (List Con)) (m : Option (Filling Con Kind ℕ)) → (found r ws m .yes ≡ true) ↔ IsSome m
 found-yes r ws none = (λ e. absurd (false≢true e), λ h. absurd h)
 found-yes r ws (some φ) = (λ e. tt, λ h. refl)
 
--- A text t that is read as the fields of a rule value v, and a text u that is read as those of a slip value w.
-module _ (t u : List ℕ) (v : Rule) (w : Slip) (reads : readRule t ≡ accepted (countedRule v)) (reads-slip : readSlip u ≡ accepted (countedSlip w)) where
+-- accepted values
+module _ (v : Rule) (w : Slip) (accepted-v : acceptedRule v ≡ true) (accepted-w : acceptedSlip w ≡ true) where
   abbrev rule : List (List OurTerm)
-  rule = countedRule v
+  rule = viewRule v
 
   abbrev slip : List (List Con)
-  slip = map constants (countedSlip w)
+  slip = map constants (viewSlip w)
 
   is-rule : IsRule rule
-  is-rule = rule-read t rule reads
+  is-rule = accepted-rule v accepted-v .0
 
-  answer-is : matchOf rule (countedSlip w) ≡ found rule slip (matcher rule slip)
-  answer-is = with-fields rule (countedSlip w) (rule-is rule .0 is-rule .0) (slip-is (countedSlip w) .0 (slip-read u (countedSlip w) reads-slip) .0)
+  is-slip : IsSlip (viewSlip w)
+  is-slip = accepted-slip w accepted-w .0
 
-  -- yes exactly when some filling matches, fields as lists of terms
-  pub yes-iff : (matchOf rule (countedSlip w) .yes ≡ true) ↔ Matches rule slip
+  abbrev answer : Match
+  answer = matchOf (countedRule v) (countedSlip w)
+
+  answer-is : answer ≡ found rule slip (matcher rule slip)
+  answer-is =
+      ap₂ (λ (a b : Bool). matchOf (cond a rule []) (cond b (viewSlip w) [])) accepted-v accepted-w
+      ∙ with-fields rule (viewSlip w) (rule-is rule .0 is-rule .0) (slip-is (viewSlip w) .0 is-slip .0)
+
+  yes-iff : (answer .yes ≡ true) ↔ Matches rule slip
   yes-iff =
       let f = found-yes rule slip (matcher rule slip) in
       let m = match-iff rule (is-rule .1) slip in
       (λ e. m .1 (f .0 (sym (ap (λ a. a .yes) answer-is) ∙ e)), λ h. ap (λ a. a .yes) answer-is ∙ f .1 (m .0 h))
 
-  -- THE SENTENCE: t says x and u says y, as GP 2's expressions; the answer is yes exactly when some filling of the rule's variables,
-  -- each by its type, makes the two equal under the laws
-  pub matches-exactly : (x y : List (List Raw)) → Says t x → Says u y
-      → (matchOf rule (countedSlip w) .yes ≡ true) ↔ MatchesByLaws basics consts (map writtenField x) (map writtenItems y)
-  matches-exactly x y says says-slip =
-      let a = rule-accepted t rule .0 reads .1 in
-      let b = slip-accepted u (countedSlip w) .0 reads-slip .1 in
-      let ex = ap fieldsOf (says-one t x (a .0) says (a .1)) ∙ a .2 in
-      let ey = ap fieldsOf (says-one u y (b .0) says-slip (b .1)) ∙ b .2 in
-      let h = written-matches x y in
-      let k = subst (λ (r : List (List OurTerm)). MatchesByLaws basics consts (map writtenField x) (map writtenItems y) ↔ Matches r (map constants (fieldsOf y))) ex h in
-      let l = subst (λ (s : List (List OurTerm)). MatchesByLaws basics consts (map writtenField x) (map writtenItems y) ↔ Matches rule (map constants s)) ey k in
+  yes-laws : (answer .yes ≡ true) ↔ MatchesByLaws basics consts (map expr rule) (map expr (viewSlip w))
+  yes-laws = let l = terms-matches rule (viewSlip w) (is-slip .1) in Iff·trans yes-iff (l .1, l .0)
+
+  abbrev ByLaws : List (List Raw) → List (List Raw) → Type 0
+  ByLaws x y = MatchesByLaws basics consts (map writtenField x) (map writtenField y)
+
+  yes-written : (x y : List (List Raw)) → fieldsOf x ≡ rule → fieldsOf y ≡ viewSlip w → (answer .yes ≡ true) ↔ ByLaws x y
+  yes-written x y ex ey =
+      let h = written-matches x y (subst (All (All IsCon)) (sym ey) (is-slip .1)) in
+      let k = subst (λ (r : List (List OurTerm)). ByLaws x y ↔ Matches r (map constants (fieldsOf y))) ex h in
+      let l = subst (λ (s : List (List OurTerm)). ByLaws x y ↔ Matches rule (map constants s)) ey k in
       Iff·trans yes-iff (l .1, l .0)
 
-  -- what holds of the filling φ that an answer shows
-  abbrev pub Shows : FillingValue → Filling Con Kind ℕ → Type 0
-  Shows value φ =
-      (value ≡ record { values = encodeValues φ; runs = runsOf rule slip })
-      × Typed basics consts (complete basics consts φ)
-      × (map (fill (complete basics consts φ)) rule ≡ slip)
-      × ((θ : Filling Con Kind ℕ) → Typed basics consts θ → (map (fill θ) rule ≡ slip) ↔ ((k : Kind) (a : ℕ) → Any (Occurs k a) rule → θ k a ≡ φ k a))
-      × ((k : Kind) (a : ℕ) → (Any (Occurs k a) rule → ⊥) → φ k a ≡ [])
-
-  -- THE ONE FILLING. Document 01: "yes with the value of every variable, blank for those the rule lacks"; "There is never more than one filling".
-  -- Any values for the variables that the rule lacks complete it; what fills gives the rule's variables these values, and conversely.
-  pub the-filling : matchOf rule (countedSlip w) .yes ≡ true → (φ : Filling Con Kind ℕ) × Shows (matchOf rule (countedSlip w) .filling) φ
+  the-filling : answer .yes ≡ true → (φ : Filling Con Kind ℕ) × Shows rule slip (answer .filling) φ
   the-filling e = go (matcher rule slip) refl (sym (ap (λ a. a .yes) answer-is) ∙ e)
     where
-      go : (m : Option (Filling Con Kind ℕ)) → matcher rule slip ≡ m → found rule slip (matcher rule slip) .yes ≡ true → (φ : Filling Con Kind ℕ) × Shows (matchOf rule (countedSlip w) .filling) φ
+      go : (m : Option (Filling Con Kind ℕ)) → matcher rule slip ≡ m → found rule slip (matcher rule slip) .yes ≡ true
+          → (φ : Filling Con Kind ℕ) × Shows rule slip (answer .filling) φ
       go none is y = absurd (false≢true (sym (ap (λ m. found rule slip m .yes) is) ∙ y))
       go (some φ) is y =
-          let f = match-yes rule (is-rule .1) slip φ is in
-          (φ, (ap (λ a. a .filling) (answer-is ∙ ap (found rule slip) is), f .0, f .1, match-is rule (is-rule .1) slip φ is, match-blank rule (is-rule .1) slip φ is))
+          let same = ap (λ a. a .filling) (answer-is ∙ ap (found rule slip) is) in
+          (φ, subst (λ (x : FillingValue). Shows rule slip x φ) (sym same) (shows rule is-rule slip φ is))
 
--- ---- without a match
+-- a text that is read as a value says its fields
+abbrev SaysFields : List ℕ → List (List OurTerm) → Type 0
+SaysFields t r = (x : List (List Raw)) → Says t x → fieldsOf x ≡ r
+
+read-rule : (t : List ℕ) (v : Rule) → ReadAsRule t v → (acceptedRule v ≡ true) × SaysFields t (viewRule v)
+read-rule t v reads = go (readRule t) refl reads
+  where
+    go : (a : Outcome) → readRule t ≡ a → record { verdict = Accepted; rule = v } ≡ ruleRead a
+        → (acceptedRule v ≡ true) × SaysFields t (viewRule v)
+    go (refused o p) is e =
+        let d : Accepted ≡ Refused (reasonFrom o) p = ap (λ (r : RuleRead). r .verdict) e in
+        let z : _≡_ {A = ℕ} 0 1 = cc in
+        absurd (omega arith)
+    go (accepted r) is e =
+        let h = rule-read t r is in
+        let held : v ≡ encodeRule r = ap (λ (x : RuleRead). x .rule) e in
+        let said = rule-accepted t r .0 is .1 in (
+          ap acceptedRule held ∙ encode-accepted-rule r h,
+          λ x says. ap fieldsOf (says-one t x (said .0) says (said .1)) ∙ said .2 ∙ sym (ap viewRule held ∙ view-encode-rule r h),
+        )
+
+read-slip : (u : List ℕ) (w : Slip) → ReadAsSlip u w → (acceptedSlip w ≡ true) × SaysFields u (viewSlip w)
+read-slip u w reads = go (readSlip u) refl reads
+  where
+    go : (a : Outcome) → readSlip u ≡ a → record { verdict = Accepted; slip = w } ≡ slipRead a
+        → (acceptedSlip w ≡ true) × SaysFields u (viewSlip w)
+    go (refused o p) is e =
+        let d : Accepted ≡ Refused (reasonFrom o) p = ap (λ (r : SlipRead). r .verdict) e in
+        let z : _≡_ {A = ℕ} 0 1 = cc in
+        absurd (omega arith)
+    go (accepted r) is e =
+        let h = slip-read u r is in
+        let held : w ≡ encodeSlip r = ap (λ (x : SlipRead). x .slip) e in
+        let said = slip-accepted u r .0 is .1 in (
+          ap acceptedSlip held ∙ encode-accepted-slip r h,
+          λ y says. ap fieldsOf (says-one u y (said .0) says (said .1)) ∙ said .2 ∙ sym (ap viewSlip held ∙ view-encode-slip r h),
+        )
 
 -- document 01: "no with the blank filling (every number zero)"
-pub no-is-blank : (r s : List (List OurTerm)) → matchOf r s .yes ≡ false → matchOf r s ≡ noMatch
+no-is-blank : (r s : List (List OurTerm)) → matchOf r s .yes ≡ false → matchOf r s ≡ noMatch
 no-is-blank [] s e = refl
 no-is-blank (f ∷ r) [] e = refl
 no-is-blank (f ∷ r) (w ∷ s) e = go (matcher (f ∷ r) (map constants (w ∷ s))) e
@@ -108,9 +253,20 @@ no-is-blank (f ∷ r) (w ∷ s) e = go (matcher (f ∷ r) (map constants (w ∷ 
     go none y = refl
     go (some φ) y = absurd (false≢true (sym y))
 
--- document 01: "A rule or slip with no fields gives no"; and so does a value that no reading returns
-pub unread-rule : (v : Rule) (w : Slip) → acceptedRule v ≡ false → matchOf (countedRule v) (countedSlip w) ≡ noMatch
-unread-rule v w e = sym (not-rule v w e)
-
-pub unread-slip : (v : Rule) (w : Slip) → acceptedSlip w ≡ false → matchOf (countedRule v) (countedSlip w) ≡ noMatch
-unread-slip v w e = sym (not-slip v w e)
+-- MATCHING, of what the contract answers
+pub matching : (v : Rule) (w : Slip) (m : Match) → m ≡ matchOf (countedRule v) (countedSlip w) → Matching v w m
+matching v w m is = subst (Matching v w) (sym is) of-answer
+  where
+    of-answer : Matching v w (matchOf (countedRule v) (countedSlip w))
+    of-answer = record {
+      exactly = yes-laws v w;
+      as-written = λ t u reads reads-slip x y says says-slip.
+          let a = read-rule t v reads in
+          let b = read-slip u w reads-slip in
+          yes-written v w (a .0) (b .0) x y (a .1 x says) (b .1 y says-slip);
+      on-terms = yes-iff v w;
+      filling = the-filling v w;
+      no-blank = no-is-blank (countedRule v) (countedSlip w);
+      unread-rule = λ e. sym (not-rule v w e);
+      unread-slip = λ e. sym (not-slip v w e);
+    }

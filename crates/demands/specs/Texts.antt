@@ -1,78 +1,164 @@
--- What is promised of reading and writing rules and slips, over the definitions that the contracts cite:
---     reading::read_rule       answers `ruleRead (readRule t)`
---     reading::read_slip       answers `slipRead (readSlip t)`
---     plain_text::write_rule   writes `plain (countedRule v)`, in front of the old bytes, or refuses by 8 and leaves all of them
-use mathlib.Core.Path.{_≡_, refl, sym, _∙_, ap}
+-- What is promised of reading and writing rules and slips, over the relations that the contracts cite:
+--     reading::read_rule       returns r with `ReadsRule t r`
+--     reading::read_slip       returns r with `ReadsSlip t r`
+--     plain_text::write_rule   answers r and leaves `new` with `Writes (plain (countedRule v)) old r new`
+use mathlib.Core.Path.{_≡_, refl, sym, _∙_, ap, subst}
 use mathlib.Core.Logic.{_≢_, _↔_, Iff·trans}
 use mathlib.Core.Bool.{Bool, true, false, cond}
-use mathlib.Core.List.{List, []}
-use Prim.Native.Nat.{ℕ}
+use mathlib.Core.Option.{Option, none, some, IsSome}
+use mathlib.Core.List.{List, [], _∷_, _++_}
+use Prim.Native.Nat.{ℕ, _≤_, _<_}
 use native.Mathlib.Omega.{arith}
-use Rattle.text.specs.Terms.{OurTerm}
-use Rattle.text.specs.Read.{Outcome, refused, accepted, readRule, readSlip, Refuses, NoReason, rule, slip}
-use Rattle.text.specs.Read as read
+use native.Mathlib.Decide.{ℕ-discrete}
+use lib.Dec.{leb}
+use lib.ListN.{length, take, drop}
+use lib.Seq.{take-at, drop-at}
+use borrow.Author.Tests.{le-leb, lt-leb}
+use Rattle.text.specs.Told.{Told}
+use Rattle.text.specs.Grammar.{Raw, Says}
+use Rattle.text.specs.Terms.{OurTerm, fieldsOf}
+use Rattle.text.specs.Read.{Reason, long, grammar, fields, terms, limits, linear, variable, number, Sort, rule, slip}
+use Rattle.text.specs.Read.{Outcome, refused, accepted, read, readRule, readSlip, Refuses, NoReason}
+use Rattle.text.specs.Sharp.{FirstBadMark}
 use Rattle.text.specs.Plain.{plain}
 use Rattle.text.proofs.Accepted.{rule-read, rule-plain}
-use Rattle.text.proofs.Theorems.{earlier, rule-refused, slip-refused, plain-injective}
+use Rattle.text.proofs.Sharp.{first-bad}
+use Rattle.text.proofs.Told.{eight-iff, fits-iff}
+use Rattle.text.proofs.Theorems.{earlier, rule-refused, slip-refused, rule-never, slip-never, rule-accepted, slip-accepted, plain-injective}
 use Rattle.terms.specs.declared.Rule.{Rule}
-use Rattle.terms.specs.Values.{viewRule, encodeRule}
+use Rattle.terms.specs.Values.{viewRule, blankRule, blankSlip, encodeRule, encodeSlip}
 use Rattle.accepted.specs.Accepted.{acceptedRule, countedRule}
 use Rattle.accepted.proofs.Accepted.{accepted-rule, encode-accepted-rule, view-encode-rule}
-use Rattle.verdicts.specs.declared.Reason.{Reason}
-use Rattle.verdicts.specs.declared.Reason.the-variants.{Long, Grammar, Fields, Terms, Limits, Linear, Variable}
-use Rattle.verdicts.specs.declared.Verdict.the-variants.{Accepted, Refused}
-use Rattle.verdicts.specs.Verdicts.{reasonFrom, numberOf, verdictOf}
-use Rattle.reading.specs.Answers.{ruleRead}
+use Rattle.verdicts.specs.declared.Verdict.{Verdict}
+use Rattle.verdicts.specs.declared.Verdict.the-variants.{Accepted}
+use Rattle.verdicts.specs.Verdicts.{verdictOf, told, refusal, noRefusal}
+use Rattle.verdicts.proofs.Verdicts.{told-refused, told-number}
+use Rattle.reading.specs.declared.RuleRead.{RuleRead}
+use Rattle.reading.specs.declared.SlipRead.{SlipRead}
+use Rattle.reading.specs.Answers.{ruleRead, slipRead, ReadsRule, ReadsSlip}
+use Rattle.writing.specs.declared.Written.{Written}
+use Rattle.writing.specs.Answers.{after, Writes}
+use Rattle.writing.specs.Answers as writing
 
--- ---- refusals
+-- ---- reading
 
-reason-to : Reason → read.Reason
-reason-to Long = read.long
-reason-to Grammar = read.grammar
-reason-to Fields = read.fields
-reason-to Terms = read.terms
-reason-to Limits = read.limits
-reason-to Linear = read.linear
-reason-to Variable = read.variable
+-- u holds the fields that t says
+abbrev pub Holds : {Value : Type 0} → (List (List OurTerm) → Value) → List ℕ → Value → Type 0
+Holds held t u = (x : List (List Raw)) × Says t x × (u ≡ held (fieldsOf x))
 
-reason-back : (r : read.Reason) → reason-to (reasonFrom r) ≡ r
-unfolding reason-to
-reason-back read.long = refl
-reason-back read.grammar = refl
-reason-back read.fields = refl
-reason-back read.terms = refl
-reason-back read.limits = refl
-reason-back read.linear = refl
-reason-back read.variable = refl
+-- WHAT READING RETURNS of a text t: a verdict, and a value v. Rules and slips differ in the sort S, in the refusal `other` that the other
+-- sort has, in the value with no fields, and in how a value holds fields.
+pub record Reading (S : Sort) (other : Reason) {Value : Type 0} (blank : Value) (held : List (List OurTerm) → Value)
+    (t : List ℕ) (verdict : Verdict) (v : Value) : Type 0 where
+  -- DEMAND 1, "each refusal comes in its stated case only": the number of o and the place p are told exactly when o applies at p and none
+  -- that is tried before it applies anywhere. What it is for a refusal to apply: `Refuses`, over the grammar.
+  pub refusals : (o : Reason) → o ≢ other → (p : ℕ)
+      → (told verdict ≡ refusal o p) ↔ (NoReason (Refuses S t) (earlier o) × Refuses S t o p)
+  -- a rule is never refused by 7, a slip never by 6
+  pub never : told verdict .number ≢ some (number other)
+  -- "A refusal returns its number, its place and the rule with no fields"
+  pub beside : told verdict .number ≢ none → v ≡ blank
+  -- nothing is told and the value is u, exactly when no refusal applies anywhere and u holds the fields that t says
+  pub accepts : (u : Value) → ((told verdict ≡ noRefusal) × (v ≡ u)) ↔ (NoReason (Refuses S t) (S .order) × Holds held t u)
+  -- 3 to 7 stand where they are told: "a fifth field, at its first byte", a term just past the limit, a size over its limit, a list
+  -- variable that may not stand there, a variable. Which term of the text it is: `FirstBadMark`.
+  pub places : (o : Reason) → 3 ≤ number o → (p : ℕ) → told verdict ≡ refusal o p → FirstBadMark (S .width) o t p
 
--- the numbers of the answer are document 01's
-pub numbers-are : (r : read.Reason) → numberOf (reasonFrom r) ≡ read.number r
-numbers-are read.long = refl
-numbers-are read.grammar = refl
-numbers-are read.fields = refl
-numbers-are read.terms = refl
-numbers-are read.limits = refl
-numbers-are read.linear = refl
-numbers-are read.variable = refl
+abbrev pub RuleReading : List ℕ → RuleRead → Type 0
+RuleReading t r = Reading rule variable blankRule encodeRule t (r .verdict) (r .rule)
 
-verdict-refused : (o : Outcome) (r : read.Reason) (p : ℕ) → (verdictOf o ≡ Refused (reasonFrom r) p) ↔ (o ≡ refused r p)
-verdict-refused (refused s q) r p = (to, λ e. ap verdictOf e)
+abbrev pub SlipReading : List ℕ → SlipRead → Type 0
+SlipReading t r = Reading slip linear blankSlip encodeSlip t (r .verdict) (r .slip)
+
+-- "the rule with no fields", "The slip with no fields"
+pub blank-rule : blankRule .n ≡ 0
+blank-rule = refl
+
+pub blank-slip : blankSlip .n ≡ 0
+blank-slip = refl
+
+some≢none : {a : ℕ} → _≡_ {A = Option ℕ} (some a) none → ⊥
+some≢none e = subst IsSome e tt
+
+module _ (S : Sort) (other : Reason) {Value : Type 0} (blank : Value) (held : List (List OurTerm) → Value) where
+  abbrev valueOf : Outcome → Value
+  valueOf (refused o p) = blank
+  valueOf (accepted x) = held x
+
+  module _ (t : List ℕ)
+      (law : (o : Reason) → o ≢ other → (p : ℕ) → (read S t ≡ refused o p) ↔ (NoReason (Refuses S t) (earlier o) × Refuses S t o p))
+      (not-other : (p : ℕ) → read S t ≢ refused other p)
+      (law-accepted : (r : List (List OurTerm))
+      → (read S t ≡ accepted r) ↔ (NoReason (Refuses S t) (S .order) × ((x : List (List Raw)) × Says t x × (fieldsOf x ≡ r))))
+    where
+      -- a refusal from 3 on is one of a term
+      of-term : (o : Reason) → 3 ≤ number o → (p : ℕ) → Refuses S t o p → FirstBadMark (S .width) o t p
+      of-term long h p r = absurd (omega (arith, h))
+      of-term grammar h p r = absurd (omega (arith, h))
+      of-term fields h p r = first-bad (S .width) fields t p .0 r
+      of-term terms h p r = first-bad (S .width) terms t p .0 r
+      of-term limits h p r = first-bad (S .width) limits t p .0 r
+      of-term linear h p r = first-bad (S .width) linear t p .0 r
+      of-term variable h p r = first-bad (S .width) variable t p .0 r
+
+      never-told : (a : Outcome) → read S t ≡ a → told (verdictOf a) .number ≢ some (number other)
+      never-told (refused o p) is e = not-other p (is ∙ ap (λ (s : Reason). refused s p) (told-number o other p e))
+      never-told (accepted x) is e = some≢none (sym e)
+
+      is-blank : (a : Outcome) → told (verdictOf a) .number ≢ none → valueOf a ≡ blank
+      is-blank (refused o p) n = refl
+      is-blank (accepted x) n = absurd (n refl)
+
+      accepts-to : (a : Outcome) → read S t ≡ a → (u : Value) → told (verdictOf a) ≡ noRefusal → valueOf a ≡ u
+          → NoReason (Refuses S t) (S .order) × Holds held t u
+      accepts-to (refused o p) is u e h = absurd (some≢none (ap (λ (x : Told). x .number) e))
+      accepts-to (accepted r) is u e h = let k = law-accepted r .0 is in (k .0, (k .1 .0, k .1 .1, sym h ∙ ap held (sym (k .1 .2))))
+
+      reading-of : Reading S other blank held t (verdictOf (read S t)) (valueOf (read S t))
+      reading-of = record {
+        refusals = λ o n p. Iff·trans (told-refused o p (read S t)) (law o n p);
+        never = never-told (read S t) refl;
+        beside = is-blank (read S t);
+        accepts = λ u. (λ h. accepts-to (read S t) refl u (h .0) (h .1), λ h. accepts-from u h);
+        places = place-of;
+      }
+        where
+          accepts-from : (u : Value) → NoReason (Refuses S t) (S .order) × Holds held t u
+              → (told (verdictOf (read S t)) ≡ noRefusal) × (valueOf (read S t) ≡ u)
+          accepts-from u h =
+              let is = law-accepted (fieldsOf (h .1 .0)) .1 (h .0, (h .1 .0, h .1 .1, refl)) in
+              (ap (λ (a : Outcome). told (verdictOf a)) is, ap valueOf is ∙ sym (h .1 .2))
+
+          place-of : (o : Reason) → 3 ≤ number o → (p : ℕ) → told (verdictOf (read S t)) ≡ refusal o p → FirstBadMark (S .width) o t p
+          place-of o h p e = go (ℕ-discrete (number o) (number other))
+            where
+              go : Dec (number o ≡ number other) → FirstBadMark (S .width) o t p
+              go (yes same) = absurd (never-told (read S t) refl (ap (λ (x : Told). x .number) e ∙ ap some same))
+              go (no n) = of-term o h p (law o (λ same. n (ap number same)) p .0 (told-refused o p (read S t) .0 e) .1)
+
+-- READING A RULE
+pub rule-reading : (t : List ℕ) (r : RuleRead) → ReadsRule t r → RuleReading t r
+rule-reading t r reads = subst (RuleReading t) (sym reads) (go (readRule t) of-text)
   where
-    to : Refused (reasonFrom s) q ≡ Refused (reasonFrom r) p → refused s q ≡ refused r p
-    to e =
-        let a : reasonFrom s ≡ reasonFrom r = cc in
-        let b : s ≡ r = sym (reason-back s) ∙ ap reason-to a ∙ reason-back r in
-        let c : q ≡ p = cc in
-        cc
-verdict-refused (accepted x) r p = (λ e. let z : _≡_ {A = ℕ} 0 1 = cc in absurd (omega arith), λ e. ap verdictOf e)
+    of-text : let a = readRule t in Reading rule variable blankRule encodeRule t (verdictOf a) (valueOf rule variable blankRule encodeRule a)
+    of-text = reading-of rule variable blankRule encodeRule t (λ o n p. rule-refused o n t p) (rule-never t) (rule-accepted t)
 
--- DEMAND 1, "each refusal comes in its stated case only": a rule's text is refused for r at p exactly when r applies there
--- and none that is tried before it applies anywhere. What it is for a reason to apply: `Refuses`, over the grammar.
-pub rule-refusals : (t : List ℕ) (r : read.Reason) (p : ℕ) → r ≢ read.variable → (verdictOf (readRule t) ≡ Refused (reasonFrom r) p) ↔ (NoReason (Refuses rule t) (earlier r) × Refuses rule t r p)
-rule-refusals t r p n = Iff·trans (verdict-refused (readRule t) r p) (rule-refused r n t p)
+    go : (a : Outcome) → Reading rule variable blankRule encodeRule t (verdictOf a) (valueOf rule variable blankRule encodeRule a)
+        → RuleReading t (ruleRead a)
+    go (refused o p) h = h
+    go (accepted x) h = h
 
-pub slip-refusals : (t : List ℕ) (r : read.Reason) (p : ℕ) → r ≢ read.linear → (verdictOf (readSlip t) ≡ Refused (reasonFrom r) p) ↔ (NoReason (Refuses slip t) (earlier r) × Refuses slip t r p)
-slip-refusals t r p n = Iff·trans (verdict-refused (readSlip t) r p) (slip-refused r n t p)
+-- READING A SLIP
+pub slip-reading : (t : List ℕ) (r : SlipRead) → ReadsSlip t r → SlipReading t r
+slip-reading t r reads = subst (SlipReading t) (sym reads) (go (readSlip t) of-text)
+  where
+    of-text : let a = readSlip t in Reading slip linear blankSlip encodeSlip t (verdictOf a) (valueOf slip linear blankSlip encodeSlip a)
+    of-text = reading-of slip linear blankSlip encodeSlip t (λ o n p. slip-refused o n t p) (slip-never t) (slip-accepted t)
+
+    go : (a : Outcome) → Reading slip linear blankSlip encodeSlip t (verdictOf a) (valueOf slip linear blankSlip encodeSlip a)
+        → SlipReading t (slipRead a)
+    go (refused o p) h = h
+    go (accepted x) h = h
 
 -- ---- plain text
 
@@ -105,3 +191,62 @@ written-injective v w h k e =
 -- A VALUE THAT NO READING RETURNS writes no bytes
 pub unread-nothing : (v : Rule) → acceptedRule v ≡ false → plain (countedRule v) ≡ []
 unread-nothing v h = ap (λ (b : Bool). plain (cond b (viewRule v) [])) h
+
+-- ---- writing
+
+-- WHAT WRITING LEAVES of a text in the lent bytes: `old` before the call, `new` after it
+pub record Writing (text old : List ℕ) (r : Written) (new : List ℕ) : Type 0 where
+  -- "8: the lines need more bytes than the output buffer has": in that case only, and else nothing is refused
+  pub eight : (writing.told r .number ≡ some 8) ↔ (length old < length text)
+  pub fits : (writing.told r .number ≡ none) ↔ (length text ≤ length old)
+  -- "the needed byte count", either way
+  pub count : writing.told r .values ≡ length text ∷ []
+  -- demand 1: "on a refusal the output buffer's old bytes"; else the text, and "the bytes behind them untouched"
+  pub refused-old : length old < length text → new ≡ old
+  pub front : length text ≤ length old → take (length text) new ≡ text
+  pub behind : length text ≤ length old → drop (length text) new ≡ drop (length text) old
+
+pub text-writing : (text old : List ℕ) (r : Written) (new : List ℕ) → Writes text old r new → Writing text old r new
+text-writing text old r new w =
+    record {
+      eight = rw (w .answer) (eight-iff (length text) (length old) (length text ∷ []));
+      fits = rw (w .answer) (fits-iff (length text) (length old) (length text ∷ []));
+      count = ap (λ (x : Told). x .values) (w .answer);
+      refused-old = λ h. w .bytes ∙ by (lt-leb (length text) (length old) h);
+      front = λ h. ap (take (length text)) (left h) ∙ take-at text (drop (length text) old) (length text) refl;
+      behind = λ h. ap (drop (length text)) (left h) ∙ drop-at text (drop (length text) old) (length text) refl;
+    }
+  where
+    by : {b : Bool} → leb (length text) (length old) ≡ b → after text old ≡ cond b (text ++ drop (length text) old) old
+    by e = ap (λ (c : Bool). cond c (text ++ drop (length text) old) old) e
+
+    left : length text ≤ length old → new ≡ text ++ drop (length text) old
+    left h = w .bytes ∙ by (le-leb (length text) (length old) h)
+
+-- WRITING A RULE, and reading what was written: "Reading that text returns the rule"
+pub record RuleWriting (v : Rule) (old : List ℕ) (r : Written) (new : List ℕ) : Type 0 where
+  pub written : Writing (plain (countedRule v)) old r new
+  pub again : acceptedRule v ≡ true → length (plain (countedRule v)) ≤ length old
+      → (a : RuleRead) → ReadsRule (take (length (plain (countedRule v))) new) a → (told (a .verdict) ≡ noRefusal) × (a .rule ≡ v)
+  -- "A rule .. that no reading can return counts there as one with no fields; writing such a rule gives no bytes"
+  pub unread : acceptedRule v ≡ false → (plain (countedRule v) ≡ []) × (new ≡ old)
+
+pub rule-writing : (v : Rule) (old : List ℕ) (r : Written) (new : List ℕ) → Writes (plain (countedRule v)) old r new
+    → RuleWriting v old r new
+rule-writing v old r new w =
+    record {
+      written = x;
+      again = reads-back;
+      unread = λ h.
+          let e = unread-nothing v h in
+          (e, w .bytes ∙ ap (λ (t : List ℕ). after t old) e ∙ ap (λ (c : Bool). cond c old old) (le-leb 0 (length old) (omega arith)));
+    }
+  where
+    x : Writing (plain (countedRule v)) old r new
+    x = text-writing (plain (countedRule v)) old r new w
+
+    reads-back : acceptedRule v ≡ true → length (plain (countedRule v)) ≤ length old
+        → (a : RuleRead) → ReadsRule (take (length (plain (countedRule v))) new) a → (told (a .verdict) ≡ noRefusal) × (a .rule ≡ v)
+    reads-back h room a reads =
+        let e = reads ∙ ap (λ (t : List ℕ). ruleRead (readRule t)) (x .front room) ∙ read-written v h in
+        (ap (λ (b : RuleRead). told (b .verdict)) e, ap (λ (b : RuleRead). b .rule) e)

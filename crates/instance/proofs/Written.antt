@@ -2,17 +2,19 @@
 use mathlib.Core.Path.{_≡_, refl, sym, _∙_, ap, ap₂, subst}
 use mathlib.Core.Logic.{_↔_}
 use mathlib.Core.List.{List, [], _∷_, _++_, map, append-nil}
+use Rattle.lists.specs.Seqs.{All}
 use Rattle.order.specs.Types.{basics}
-use Rattle.theory.specs.Terms.{con, var}
-use Rattle.theory.specs.Seqs.{concat-map}
-use Rattle.theory.specs.Laws.{flat}
+use Rattle.theory.specs.Terms.{con}
+use Rattle.theory.specs.Laws.{Expr, flat, expr}
 use Rattle.theory.specs.Matching.{MatchesByLaws}
-use Rattle.theory.proofs.Laws.{flat-replace, matches-laws}
+use Rattle.theory.proofs.Laws.{flat-expr, matches-laws}
 use Rattle.text.specs.Grammar.{Raw, raw-int, raw-str, raw-var, raw-empty}
-use Rattle.text.specs.Terms.{Con, OurTerm, termOf, fieldOf, fieldsOf}
+use Rattle.text.specs.Terms.{OurTerm, termOf, fieldOf, fieldsOf}
+use Rattle.text.specs.Limits.{IsCon}
 use Rattle.instance.specs.Constants.{consts}
 use Rattle.instance.specs.Matching.{constants, Matches}
-use Rattle.instance.specs.Written.{writtenTerm, writtenField, writtenItems}
+use Rattle.instance.specs.Written.{writtenTerm, writtenField}
+use Rattle.instance.proofs.Matching.{constants-are}
 
 flat-term : (r : Raw) → flat (writtenTerm r) ≡ termOf r
 flat-term (raw-int ds) = refl
@@ -25,23 +27,37 @@ flat-field [] = refl
 flat-field (r ∷ []) = flat-term r ∙ sym (append-nil (termOf r))
 flat-field (r ∷ (s ∷ rs)) = ap₂ (λ (x y : List OurTerm). x ++ y) (flat-term r) (flat-field (s ∷ rs))
 
-items-are : (f : List OurTerm) → concat-map (λ t. constants (t ∷ [])) f ≡ constants f
-items-are [] = refl
-items-are (con c ∷ f) = ap (λ (l : List Con). c ∷ l) (items-are f)
-items-are (var k a ∷ f) = items-are f
-
-flat-items : (f : List Raw) → flat (writtenItems f) ≡ constants (fieldOf f)
-flat-items f = flat-replace (λ t. constants (t ∷ [])) (writtenField f) ∙ ap (concat-map (λ t. constants (t ∷ []))) (flat-field f) ∙ items-are (fieldOf f)
+-- the terms of a slip's fields, which have no variables, are their constants
+fields-again : (s : List (List OurTerm)) → All (All IsCon) s → s ≡ map (map con) (map constants s)
+fields-again [] i = refl
+fields-again (f ∷ s) i = ap₂ (λ (l : List OurTerm) (ls : List (List OurTerm)). l ∷ ls) (sym (constants-are f (i .0))) (fields-again s (i .1))
 
 map-same : {X Y Z : Type 0} (f : Y → Z) (g : X → Y) (h : X → Z) → ((x : X) → f (g x) ≡ h x) → (l : List X) → map f (map g l) ≡ map h l
 map-same f g h e [] = refl
 map-same {Z = Z} f g h e (x ∷ l) = ap₂ (λ (z : Z) (r : List Z). z ∷ r) (e x) (map-same f g h e l)
 
--- a rule's text that says x and a slip's text that says y
-pub written-matches : (x y : List (List Raw)) → MatchesByLaws basics consts (map writtenField x) (map writtenItems y) ↔ Matches (fieldsOf x) (map constants (fieldsOf y))
-written-matches x y =
-    let e = map-same flat writtenField fieldOf flat-field x in
-    let d = map-same flat writtenItems (λ f. constants (fieldOf f)) flat-items y ∙ sym (map-same constants fieldOf (λ f. constants (fieldOf f)) (λ f. refl) y) in
-    subst (λ (r : List (List OurTerm)). MatchesByLaws basics consts (map writtenField x) (map writtenItems y) ↔ Matches r (map constants (fieldsOf y))) e
-    (subst (λ (s : List (List Con)). MatchesByLaws basics consts (map writtenField x) (map writtenItems y) ↔ Matches (map flat (map writtenField x)) s) d
-    (matches-laws basics consts (map writtenField x) (map writtenItems y)))
+flat-fields : (x : List (List Raw)) → map flat (map writtenField x) ≡ fieldsOf x
+flat-fields x = map-same flat writtenField fieldOf flat-field x
+
+flat-exprs : (r : List (List OurTerm)) → map flat (map expr r) ≡ r
+flat-exprs r = map-same flat expr (λ f. f) flat-expr r ∙ map-id r
+  where
+    map-id : (r : List (List OurTerm)) → map (λ f. f) r ≡ r
+    map-id [] = refl
+    map-id (f ∷ r) = ap (λ (l : List (List OurTerm)). f ∷ l) (map-id r)
+
+-- by the laws, of expressions with the terms r and, without variables, s
+same-terms : (es fs : List (Expr OurTerm)) (r s : List (List OurTerm)) → map flat es ≡ r → map flat fs ≡ s → All (All IsCon) s
+    → MatchesByLaws basics consts es fs ↔ Matches r (map constants s)
+same-terms es fs r s is-r is-s plain =
+    subst (λ (r : List (List OurTerm)). MatchesByLaws basics consts es fs ↔ Matches r (map constants s)) is-r
+    (matches-laws basics consts es fs (map constants s) (is-s ∙ fields-again s plain))
+
+-- a rule's text that says x, and a slip's text that says y, which has no variables
+pub written-matches : (x y : List (List Raw)) → All (All IsCon) (fieldsOf y)
+    → MatchesByLaws basics consts (map writtenField x) (map writtenField y) ↔ Matches (fieldsOf x) (map constants (fieldsOf y))
+written-matches x y plain = same-terms (map writtenField x) (map writtenField y) (fieldsOf x) (fieldsOf y) (flat-fields x) (flat-fields y) plain
+
+-- a rule's and a slip's terms, as one writes them
+pub terms-matches : (r s : List (List OurTerm)) → All (All IsCon) s → MatchesByLaws basics consts (map expr r) (map expr s) ↔ Matches r (map constants s)
+terms-matches r s plain = same-terms (map expr r) (map expr s) r s (flat-exprs r) (flat-exprs s) plain

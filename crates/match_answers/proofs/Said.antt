@@ -32,13 +32,13 @@ use Rattle.accepted_slips.specs.Slips.{countedSlip}
 use Rattle.accepted.proofs.Accepted.{view-encode-term, view-encode-rule, encode-accepted-rule}
 use Rattle.accepted_slips.proofs.Slips.{view-encode-slip, encode-accepted-slip}
 use Rattle.bindings.specs.declared.Filling.{Filling as FillingValue}
-use Rattle.matching.specs.Answers.{valueTerm, encodeValues, runsOf, found, matchOf}
+use Rattle.matching.specs.Answers.{valueTerm, encodeValues, runsOf, found, matchOf, itemsAt}
 use Rattle.bindings.specs.Values.{atomOf, runOf}
 use Rattle.bindings.specs.declared.Run.{Run}
 use Rattle.field_match.specs.Fields.{itemsOf}
 use Rattle.matching.proofs.Agree.{enc, unpadded}
 use Rattle.matching.proofs.Accept.{with-fields}
-use Rattle.matching.proofs.Runs.{itemsAt, run-items, atom-at, atom-value, value-all}
+use Rattle.matching.proofs.Runs.{run-items, atom-at, atom-value, value-all}
 use Rattle.reading.specs.declared.RuleRead.{RuleRead}
 use Rattle.reading.specs.declared.SlipRead.{SlipRead}
 use Rattle.reading.specs.Answers.{ruleRead, slipRead}

@@ -7,13 +7,13 @@ use Prim.Native.Nat.{_-_, _≤_}
 use native.Mathlib.Omega.{arith}
 use lib.ListN.{length, take, length-map}
 use Rattle.lists.specs.Seqs.{All, IsCons, all-map}
-use Rattle.theory.specs.Terms.{con, var}
 use Rattle.theory.specs.Linear.{OneList}
 use Rattle.text.specs.Sizes.{mostFields}
 use Rattle.text.specs.Terms.{Con, OurTerm}
 use Rattle.text.specs.Limits.{TermIn, IsCon}
 use Rattle.instance.specs.Matching.{constants, matcher}
 use Rattle.instance.proofs.Linear.{left-linear}
+use Rattle.instance.proofs.Matching.{constants-are}
 use Rattle.terms.specs.declared.Field.{Field}
 use Rattle.terms.specs.declared.SlipField.{SlipField}
 use Rattle.terms.specs.declared.Rule.{Rule}
@@ -37,14 +37,9 @@ fields-of r = unpadded mostFields blankField encodeField r
 slip-fields-of : (s : List (List OurTerm)) → take (length s) ((encodeSlip s) .fields) ≡ map encodeSlipField s
 slip-fields-of s = unpadded mostFields blankSlipField encodeSlipField s
 
-items-again : (f : List OurTerm) → All IsCon f → map con (constants f) ≡ f
-items-again [] i = refl
-items-again (con c ∷ f) i = ap (λ (t : List OurTerm). con c ∷ t) (items-again f (i .1))
-items-again (var k a ∷ f) i = absurd (i .0)
-
 fields-again : (s : List (List OurTerm)) → All (All IsCon) s → map encodeSlipField s ≡ map encodeItems (map constants s)
 fields-again [] i = refl
-fields-again (f ∷ s) i = ap₂ (λ (w : SlipField) (ws : List SlipField). w ∷ ws) (ap encodeSlipField (sym (items-again f (i .0)))) (fields-again s (i .1))
+fields-again (f ∷ s) i = ap₂ (λ (w : SlipField) (ws : List SlipField). w ∷ ws) (ap encodeSlipField (sym (constants-are f (i .0)))) (fields-again s (i .1))
 
 -- ---- what is not accepted has no fields
 

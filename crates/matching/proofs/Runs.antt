@@ -1,19 +1,21 @@
 -- What an answer of yes holds: a list variable's run has the items of its value, and an atom variable's place has its constant.
 use mathlib.Core.Path.{_≡_, refl, sym, _∙_, ap, ap₂, subst}
 use mathlib.Core.Logic.{_⊎_, inl, inr}
+use mathlib.Core.Bool.{true, false}
 use mathlib.Core.Option.{some}
 use mathlib.Core.List.{List, [], _∷_, _++_, map, cons≢nil, head-eq-of-cons-eq, tail-eq-of-cons-eq}
 use Prim.Native.Nat.{ℕ, zero, suc, _+_, _-_, _*_, _/_, _%_, _<_, _≤_}
 use native.Mathlib.Omega.{arith}
 use native.Mathlib.Decide.{ℕ-discrete}
-use lib.ListN.{length, getD, set, take, drop, replicate, length-set, length-append}
+use lib.ListN.{length, getD, set, take, drop, replicate, length-set, length-append, length-drop}
+use borrow.Author.Tests.{leb-true, eqb-true}
 use lib.Seq.{getD-set-same, getD-set-other, getD-drop, drop-drop}
 use Rattle.lists.specs.Seqs.{All, Any, all-left, all-right, tabulate}
 use Rattle.order.specs.Order.{basic, list}
 use Rattle.order.specs.Types.{Basic, integer, string, atom, Kind, basics}
 use Rattle.theory.specs.Terms.{con, var}
 use Rattle.theory.specs.Fillings.{Filling, Typed, fill, Occurs}
-use Rattle.theory.specs.Matcher.{atoms, complete}
+use Rattle.theory.specs.Matcher.{atoms, complete, room, hasRoom}
 use Rattle.theory.specs.Linear.{lists, OneList}
 use Rattle.theory.proofs.Slices.{Slices, field-iff}
 use Rattle.text.specs.Terms.{Con, OurTerm}
@@ -22,11 +24,10 @@ use Rattle.instance.specs.Constants.{consts}
 use Rattle.instance.specs.Matching.{matcher}
 use Rattle.instance.proofs.Linear.{left-linear}
 use Rattle.instance.proofs.Matching.{match-yes, match-is}
-use Rattle.terms.specs.declared.Term.{Term as TermValue}
 use Rattle.terms.specs.Values.{blankTerm}
 use Rattle.bindings.specs.declared.Run.{Run}
 use Rattle.bindings.specs.Values.{slot, blankRun}
-use Rattle.matching.specs.Answers.{kindAt, valueTerm, encodeValues, runsField, runsFrom, runsOf}
+use Rattle.matching.specs.Answers.{kindAt, isKnown, valueTerm, encodeValues, runsField, runsFrom, runsOf, itemsAt, LiesIn}
 use Rattle.matching.proofs.Found.{none-set}
 
 -- ---- runs of a field
@@ -51,41 +52,48 @@ no-more : {A : Type 0} (a : A) (l : List A) → length (a ∷ l) ≤ 1 → l ≡
 no-more a [] h = refl
 no-more a (b ∷ l) h = absurd (omega arith)
 
--- the items that a run names
-abbrev pub itemsAt : List (List Con) → Run → List Con
-itemsAt slip r = take (r .count) (drop (r .start) (getD slip (r .field) []))
+-- a field that has room has as many items as atoms at least
+room-least : {A : Type 0} (l : List A) (h n : ℕ) → room l h n ≡ true → h ≤ n
+room-least [] h n e = omega (arith, eqb-true h n e)
+room-least (a ∷ l) h n e = leb-true h n e
 
--- each term's value is its part of the slip's field: so a run that is set has the items of its variable's value, and others are kept
+-- each term's value is its part of the slip's field: so a run that is set lies there and has the items of its variable's value, and others
+-- are kept
 module _ (slip : List (List Con)) (ψ : Filling Con Kind ℕ) (n : ℕ) where
-  abbrev Good : List Run → Type 0
-  Good rs = itemsAt slip (getD rs n blankRun) ≡ ψ list n
+  abbrev GoodRun : Run → Type 0
+  GoodRun r = (itemsAt slip r ≡ ψ list n) × LiesIn slip r
 
-  field-good : (j gap i : ℕ) (w : List Con) (f : List OurTerm) (rs : List Run) → getD slip j [] ≡ w → n < length rs → OneList f → Slices ψ gap w f i
-      → Good rs ⊎ Occurs list n f → Good (runsField j gap i f rs)
-  field-good j gap i w [] rs e l o s (inl g) = g
-  field-good j gap i w [] rs e l o s (inr x) = absurd x
-  field-good j gap i w (con c ∷ f) rs e l o s g = field-good j gap (i + 1) w f rs e l o (s .1) g
-  field-good j gap i w (var (basic k) m ∷ f) rs e l o s (inl g) = field-good j gap (i + 1) w f rs e l o (s .1) (inl g)
-  field-good j gap i w (var (basic k) m ∷ f) rs e l o s (inr (inl p)) = absurd (list≢basic k (p .0))
-  field-good j gap i w (var (basic k) m ∷ f) rs e l o s (inr (inr x)) = field-good j gap (i + 1) w f rs e l o (s .1) (inr x)
-  field-good j gap i w (var list m ∷ f) rs e l o s g =
-      subst Good (sym (none-set j gap (i + 1) f (set rs m run) (no-more m (lists f) o))) (go (ℕ-discrete n m))
+  abbrev Good : List Run → Type 0
+  Good rs = GoodRun (getD rs n blankRun)
+
+  field-good : (j gap i : ℕ) (w : List Con) (f : List OurTerm) (rs : List Run) → getD slip j [] ≡ w → j < length slip → n < length rs → OneList f
+      → i + atoms f + gap ≤ length w → Slices ψ gap w f i → Good rs ⊎ Occurs list n f → Good (runsField j gap i f rs)
+  field-good j gap i w [] rs e b l o m s (inl g) = g
+  field-good j gap i w [] rs e b l o m s (inr x) = absurd x
+  field-good j gap i w (con c ∷ f) rs e b l o m s g = field-good j gap (i + 1) w f rs e b l o (omega arith) (s .1) g
+  field-good j gap i w (var (basic k) a ∷ f) rs e b l o m s (inl g) = field-good j gap (i + 1) w f rs e b l o (omega arith) (s .1) (inl g)
+  field-good j gap i w (var (basic k) a ∷ f) rs e b l o m s (inr (inl p)) = absurd (list≢basic k (p .0))
+  field-good j gap i w (var (basic k) a ∷ f) rs e b l o m s (inr (inr x)) = field-good j gap (i + 1) w f rs e b l o (omega arith) (s .1) (inr x)
+  field-good j gap i w (var list a ∷ f) rs e b l o m s g =
+      subst Good (sym (none-set j gap (i + 1) f (set rs a run) (no-more a (lists f) o))) (go (ℕ-discrete n a))
     where
       run : Run
       run = record { field = j; start = i; count = gap }
 
-      go : Dec (n ≡ m) → Good (set rs m run)
+      lies : LiesIn slip run
+      lies = record { there = b; whole = omega (arith, ap length e) }
+
+      go : Dec (n ≡ a) → Good (set rs a run)
       go (yes p) =
-          ap (λ (r : Run). itemsAt slip r) (ap (λ (a : ℕ). getD (set rs m run) a blankRun) p ∙ getD-set-same rs m run blankRun (omega arith))
-          ∙ ap (λ (v : List Con). take gap (drop i v)) e
-          ∙ sym (s .0)
-          ∙ ap (ψ list) (sym p)
-      go (no ne) = ap (λ (r : Run). itemsAt slip r) (getD-set-other rs m n run blankRun ne) ∙ kept g
+          let q : getD (set rs a run) n blankRun ≡ run = ap (λ (x : ℕ). getD (set rs a run) x blankRun) p ∙ getD-set-same rs a run blankRun (omega arith) in
+          let is : itemsAt slip run ≡ ψ list n = ap (λ (v : List Con). take gap (drop i v)) e ∙ sym (s .0) ∙ ap (ψ list) (sym p) in
+          subst GoodRun (sym q) (is, lies)
+      go (no ne) = subst GoodRun (sym (getD-set-other rs a n run blankRun ne)) (kept g)
         where
-          kept : Good rs ⊎ Occurs list n (var list m ∷ f) → Good rs
-          kept (inl a) = a
+          kept : Good rs ⊎ Occurs list n (var list a ∷ f) → Good rs
+          kept (inl h) = h
           kept (inr (inl p)) = absurd (ne (p .1))
-          kept (inr (inr x)) = absurd (none-occurs n f (no-more m (lists f) o) x)
+          kept (inr (inr x)) = absurd (none-occurs n f (no-more a (lists f) o) x)
 
   module _ (one : (k : Basic) (a : ℕ) → length (ψ (basic k) a) ≡ 1) where
     fields-good : (j : ℕ) (fs : List (List OurTerm)) (ws : List (List Con)) (rs : List Run) → map (fill ψ) fs ≡ ws → drop j slip ≡ ws → n < length rs → All OneList fs
@@ -102,13 +110,44 @@ module _ (slip : List (List Con)) (ψ : Filling Con Kind ℕ) (n : ℕ) where
         at-j : getD slip j [] ≡ w
         at-j = ap (λ (a : ℕ). getD slip a []) (let z : j ≡ j + 0 = omega arith in z) ∙ sym (getD-drop j slip 0 []) ∙ ap (λ (v : List (List Con)). getD v 0 []) d
 
+        below : j < length slip
+        below = omega (arith, length-drop j slip, ap length d)
+
+        parts : (hasRoom f (length w) ≡ true) × Slices ψ gap w f 0
+        parts = field-iff ψ one f (o .0) w .0 (head-eq-of-cons-eq e)
+
         step : Good rs ⊎ Occurs list n f → Good (runsField j gap 0 f rs)
-        step = field-good j gap 0 w f rs at-j l (o .0) (field-iff ψ one f (o .0) w .0 (head-eq-of-cons-eq e) .1)
+        step = field-good j gap 0 w f rs at-j below l (o .0) (omega (arith, room-least (lists f) (atoms f) (length w) (parts .0))) (parts .1)
 
         here : Good rs ⊎ Any (Occurs list n) (f ∷ fs) → Good (runsField j gap 0 f rs) ⊎ Any (Occurs list n) fs
         here (inl a) = inl (step (inl a))
         here (inr (inl x)) = inl (step (inr x))
         here (inr (inr x)) = inr x
+
+-- a list variable that the rule lacks keeps its blank run
+field-kept : (j gap i n : ℕ) (f : List OurTerm) (rs : List Run) → (Occurs list n f → ⊥) → getD (runsField j gap i f rs) n blankRun ≡ getD rs n blankRun
+field-kept j gap i n [] rs o = refl
+field-kept j gap i n (con c ∷ f) rs o = field-kept j gap (i + 1) n f rs o
+field-kept j gap i n (var (basic k) a ∷ f) rs o = field-kept j gap (i + 1) n f rs (λ x. o (inr x))
+field-kept j gap i n (var list a ∷ f) rs o =
+    field-kept j gap (i + 1) n f (set rs a (record { field = j; start = i; count = gap })) (λ x. o (inr x))
+    ∙ getD-set-other rs a n (record { field = j; start = i; count = gap }) blankRun (λ p. o (inl (refl, p)))
+
+fields-kept : (j n : ℕ) (fs : List (List OurTerm)) (ws : List (List Con)) (rs : List Run) → (Any (Occurs list n) fs → ⊥)
+    → getD (runsFrom j fs ws rs) n blankRun ≡ getD rs n blankRun
+fields-kept j n [] ws rs o = refl
+fields-kept j n (f ∷ fs) [] rs o = refl
+fields-kept j n (f ∷ fs) (w ∷ ws) rs o =
+    fields-kept (j + 1) n fs ws (runsField j (length w - atoms f) 0 f rs) (λ x. o (inr x))
+    ∙ field-kept j (length w - atoms f) 0 n f rs (λ x. o (inl x))
+
+all-blank : (m n : ℕ) → getD (replicate m blankRun) n blankRun ≡ blankRun
+all-blank zero n = refl
+all-blank (suc m) zero = refl
+all-blank (suc m) (suc n) = all-blank m n
+
+pub run-blank : (rule : List (List OurTerm)) (slip : List (List Con)) (n : ℕ) → (Any (Occurs list n) rule → ⊥) → getD (runsOf rule slip) n blankRun ≡ blankRun
+run-blank rule slip n o = fields-kept 0 n rule slip (replicate 16 blankRun) o ∙ all-blank 16 n
 
 -- ---- values are parts of the slip's fields
 
@@ -144,21 +183,31 @@ tabulate-at zero f i d h = absurd (omega arith)
 tabulate-at (suc n) f zero d h = refl
 tabulate-at (suc n) f (suc i) d h = tabulate-at n (λ (j : ℕ). f (suc j)) i d (omega arith)
 
+module _ {A : Type 0} (of : List Con → A) (d : A) (φ : Filling Con Kind ℕ) (n : ℕ) (h : n ≤ 15) where
+  at : ℕ → A
+  at i = of (φ (kindAt (i / 16)) (i % 16))
+
+  at-slot : (k : Basic) → getD (tabulate 48 at) (slot (basic k) n) d ≡ of (φ (basic k) n)
+  unfolding at
+  at-slot k = go k
+    where
+      by : (q i : ℕ) → q ≤ 2 → i ≡ 16 * q + n → getD (tabulate 48 at) i d ≡ of (φ (kindAt q) n)
+      by q i l e =
+          tabulate-at 48 at i d (omega arith)
+          ∙ ap₂ (λ (a b : ℕ). of (φ (kindAt a) b)) (let z : i / 16 ≡ q = omega arith in z) (let z : i % 16 ≡ n = omega arith in z)
+
+      go : (k : Basic) → getD (tabulate 48 at) (slot (basic k) n) d ≡ of (φ (basic k) n)
+      go integer = by 0 (slot (basic integer) n) (omega arith) refl
+      go string = by 1 (slot (basic string) n) (omega arith) refl
+      go atom = by 2 (slot (basic atom) n) (omega arith) refl
+
 pub atom-at : (φ : Filling Con Kind ℕ) (k : Basic) (n : ℕ) → n ≤ 15 → getD ((encodeValues φ) .terms) (slot (basic k) n) blankTerm ≡ valueTerm (φ (basic k) n)
-atom-at φ k n h = go k
-  where
-    at : ℕ → TermValue
-    at i = valueTerm (φ (kindAt (i / 16)) (i % 16))
+unfolding at
+atom-at φ k n h = at-slot valueTerm blankTerm φ n h k
 
-    by : (q i : ℕ) → q ≤ 2 → i ≡ 16 * q + n → getD ((encodeValues φ) .terms) i blankTerm ≡ valueTerm (φ (kindAt q) n)
-    by q i l e =
-        tabulate-at 48 at i blankTerm (omega arith)
-        ∙ ap₂ (λ (a b : ℕ). valueTerm (φ (kindAt a) b)) (let z : i / 16 ≡ q = omega arith in z) (let z : i % 16 ≡ n = omega arith in z)
-
-    go : (k : Basic) → getD ((encodeValues φ) .terms) (slot (basic k) n) blankTerm ≡ valueTerm (φ (basic k) n)
-    go integer = by 0 (slot (basic integer) n) (omega arith) refl
-    go string = by 1 (slot (basic string) n) (omega arith) refl
-    go atom = by 2 (slot (basic atom) n) (omega arith) refl
+pub known-at : (φ : Filling Con Kind ℕ) (k : Basic) (n : ℕ) → n ≤ 15 → getD ((encodeValues φ) .known) (slot (basic k) n) false ≡ isKnown (φ (basic k) n)
+unfolding at
+known-at φ k n h = at-slot isKnown false φ n h k
 
 -- ---- an answer of yes
 
@@ -175,9 +224,20 @@ module _ (rule : List (List OurTerm)) (linear : Linear rule) (slip : List (List 
   completed : (k : Kind) (a : ℕ) → Any (Occurs k a) rule → ψ k a ≡ φ k a
   completed = match-is rule linear slip φ yes-φ ψ typed .0 filled
 
+  good : (n : ℕ) → n ≤ 15 → Any (Occurs list n) rule → GoodRun slip ψ n (getD (runsOf rule slip) n blankRun)
+  good n h o =
+      fields-good slip ψ n (λ k a. ap length (typed (basic k) a .1)) 0 rule slip (replicate 16 blankRun) filled refl
+      (omega arith)
+      (left-linear rule linear .1)
+      (inr o)
+
   -- THE RUN of a list variable has exactly the items of its value
   pub run-items : (n : ℕ) → n ≤ 15 → Any (Occurs list n) rule → itemsAt slip (getD (runsOf rule slip) n blankRun) ≡ φ list n
-  run-items n h o = fields-good slip ψ n (λ k a. ap length (typed (basic k) a .1)) 0 rule slip (replicate 16 blankRun) filled refl (omega arith) (left-linear rule linear .1) (inr o)
+  run-items n h o = good n h o .0
+
+  -- and lies within a field of the slip
+  pub run-lies : (n : ℕ) → n ≤ 15 → Any (Occurs list n) rule → LiesIn slip (getD (runsOf rule slip) n blankRun)
+  run-lies n h o = good n h o .1
 
   -- an atom variable's value is one constant
   pub atom-value : (k : Basic) (n : ℕ) → Any (Occurs (basic k) n) rule → (c : Con) × (φ (basic k) n ≡ c ∷ [])

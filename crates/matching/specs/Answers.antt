@@ -3,8 +3,8 @@
 use mathlib.Core.Bool.{Bool, true, false}
 use mathlib.Core.Option.{Option, none, some}
 use mathlib.Core.List.{List, [], _∷_, map}
-use Prim.Native.Nat.{ℕ, zero, suc, _+_, _-_, _/_, _%_}
-use lib.ListN.{length, set, replicate}
+use Prim.Native.Nat.{ℕ, zero, suc, _+_, _-_, _/_, _%_, _<_, _≤_}
+use lib.ListN.{length, getD, set, take, drop, replicate}
 use Rattle.lists.specs.Seqs.{tabulate}
 use Rattle.order.specs.Order.{basic, list}
 use Rattle.order.specs.Types.{integer, string, atom, Kind}
@@ -56,6 +56,15 @@ runsFrom j (f ∷ fs) (w ∷ ws) rs = runsFrom (j + 1) fs ws (runsField j (lengt
 
 abbrev pub runsOf : List (List OurTerm) → List (List Con) → List Run
 runsOf rule slip = runsFrom 0 rule slip (replicate 16 blankRun)
+
+-- the items that a run names
+abbrev pub itemsAt : List (List Con) → Run → List Con
+itemsAt slip r = take (r .count) (drop (r .start) (getD slip (r .field) []))
+
+-- a run lies within the field that it names
+pub record LiesIn (slip : List (List Con)) (r : Run) : Type 0 where
+  pub there : r .field < length slip
+  pub whole : r .start + r .count ≤ length (getD slip (r .field) [])
 
 -- ---- the answer
 

@@ -1,5 +1,8 @@
 -- What the reading functions answer, in document 01's numbers and values.
-use Rattle.text.specs.Read.{Outcome, refused, accepted}
+use mathlib.Core.Path.{_≡_}
+use mathlib.Core.List.{List}
+use Prim.Native.Nat.{ℕ}
+use Rattle.text.specs.Read.{Outcome, refused, accepted, readRule, readSlip}
 use Rattle.terms.specs.Values.{blankRule, blankSlip, encodeRule, encodeSlip}
 use Rattle.verdicts.specs.declared.Verdict.the-variants.{Accepted, Refused}
 use Rattle.verdicts.specs.Verdicts.{reasonFrom}
@@ -15,3 +18,10 @@ ruleRead (accepted x) = record { verdict = Accepted; rule = encodeRule x }
 abbrev pub slipRead : Outcome → SlipRead
 slipRead (refused r p) = record { verdict = Refused (reasonFrom r) p; slip = blankSlip }
 slipRead (accepted x) = record { verdict = Accepted; slip = encodeSlip x }
+
+-- WHAT READING PROMISES of a text t and what is returned of it. `demands/specs/Texts` says what follows from it.
+abbrev pub ReadsRule : List ℕ → RuleRead → Type 0
+ReadsRule t r = r ≡ ruleRead (readRule t)
+
+abbrev pub ReadsSlip : List ℕ → SlipRead → Type 0
+ReadsSlip t r = r ≡ slipRead (readSlip t)

@@ -3,11 +3,11 @@ ghost use mathlib.Core.Path.{_≡_};
 ghost use mathlib.Core.Bool.{cond};
 ghost use mathlib.Core.List.{List};
 ghost use Prim.Native.Nat.{ℕ};
-ghost use Rattle.text.specs.Read.{read, readRule, readSlip};
+ghost use Rattle.text.specs.Read.{read, readRule};
 ghost use Rattle.verdicts.specs.Verdicts.{sortOf, verdictOf};
 ghost use Rattle.tokens.specs.Tokens.{ruleOf};
 ghost use Rattle.text_passes.specs.Tokens.{onSide};
-ghost use Rattle.reading.specs.Answers.{ruleRead, slipRead};
+ghost use Rattle.reading.specs.Answers.{ruleRead, ReadsRule, ReadsSlip};
 use scanning::Found;
 use terms::Rule;
 use terms::Slip;
@@ -55,7 +55,7 @@ fn judge(text: &[u8], slip: bool) -> Verdict
 
 // Reads a rule: the rule, or why and where the text is refused with the rule that has no fields.
 pub fn read_rule(text: &[u8]) -> RuleRead
-    ensures { λ r. ⌜ r ≡ ruleRead (readRule (now (text .entry))) ⌝ }
+    ensures { λ r. ⌜ ReadsRule (now (text .entry)) r ⌝ }
 {
     let verdict = judge(text, false);
     match verdict {
@@ -72,7 +72,7 @@ pub fn read_rule(text: &[u8]) -> RuleRead
 
 // Reads a slip: the slip, or why and where the text is refused with the slip that has no fields.
 pub fn read_slip(text: &[u8]) -> SlipRead
-    ensures { λ r. ⌜ r ≡ slipRead (readSlip (now (text .entry))) ⌝ }
+    ensures { λ r. ⌜ ReadsSlip (now (text .entry)) r ⌝ }
 {
     let verdict = judge(text, true);
     match verdict {

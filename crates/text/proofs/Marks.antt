@@ -7,10 +7,7 @@ use lib.ListN.{length, length-append}
 use Rattle.lists.specs.Seqs.{All, all-append, all-map}
 use Rattle.text.specs.Grammar.{Raw, spell, colons, spellF, bars, spellT}
 use Rattle.text.specs.Marks.{Mark, marksF, marksT, marks}
-
--- the term of a mark stands in t at the mark's place
-abbrev pub Stands : List ℕ → Mark → Type 0
-Stands t m = (pre post : List ℕ) × (t ≡ pre ++ (spell (m .raw) ++ post)) × (length pre ≡ m .place)
+use Rattle.text.specs.Sharp.{Stands}
 
 shift-eq : (pre w rest : List ℕ) (c : ℕ) → pre ++ (w ++ (c ∷ rest)) ≡ (pre ++ (w ++ c ∷ [])) ++ rest
 shift-eq pre w rest c = simp append-assoc
@@ -20,9 +17,12 @@ shift-length pre w c p e = simp (length-append, length-append) (omega arith)
 
 stands-f : (t : List ℕ) (rs : List Raw) (p n i : ℕ) (pre post : List ℕ) → t ≡ pre ++ (spellF rs ++ post) → length pre ≡ p → All (Stands t) (marksF p n i rs)
 stands-f t [] p n i pre post e l = tt
-stands-f t (r ∷ []) p n i pre post e l = ((pre, post, e ∙ ap (λ (x : List ℕ). pre ++ (x ++ post)) (append-nil (spell r)), l), tt)
+stands-f t (r ∷ []) p n i pre post e l = (
+  record { before = pre; after = post; there = e ∙ ap (λ (x : List ℕ). pre ++ (x ++ post)) (append-nil (spell r)); from = l },
+  tt,
+)
 stands-f t (r ∷ (s ∷ rs)) p n i pre post e l = (
-  (pre, colons (s ∷ rs) ++ post, e ∙ ap (λ (x : List ℕ). pre ++ x) (append-assoc (spell r) (colons (s ∷ rs)) post), l),
+  record { before = pre; after = colons (s ∷ rs) ++ post; there = e ∙ ap (λ (x : List ℕ). pre ++ x) (append-assoc (spell r) (colons (s ∷ rs)) post); from = l },
   stands-f t (s ∷ rs) (suc (p + length (spell r))) n (suc i) (pre ++ (spell r ++ 58 ∷ [])) post
       (e ∙ ap (λ (x : List ℕ). pre ++ x) (append-assoc (spell r) (colons (s ∷ rs)) post) ∙ shift-eq pre (spell r) (spellF (s ∷ rs) ++ post) 58)
       (shift-length pre (spell r) 58 p l),
@@ -35,8 +35,8 @@ stands-t t (f ∷ (g ∷ fs)) p n pre e l =
     all-append (Stands t) (marksF p n 1 f) (marksT (suc (p + length (spellF f))) (suc n) (g ∷ fs)) (stands-f t f p n 1 pre (bars (g ∷ fs)) e l)
     (stands-t t (g ∷ fs) (suc (p + length (spellF f))) (suc n) (pre ++ (spellF f ++ 124 ∷ [])) (e ∙ shift-eq pre (spellF f) (spellT (g ∷ fs)) 124) (shift-length pre (spellF f) 124 p l))
 
-pub stands : (x : List (List Raw)) → All (Stands (spellT x)) (marks x)
-stands x = stands-t (spellT x) x 0 1 [] refl refl
+pub stands-in : (t : List ℕ) (x : List (List Raw)) → t ≡ spellT x → All (Stands t) (marks x)
+stands-in t x e = stands-t t x 0 1 [] e refl
 
 -- the places rise: the first mark with a property is the leftmost
 abbrev pub From : ℕ → Mark → Type 0

@@ -1,21 +1,22 @@
 -- Where a text is refused: in it or at its end, and never beyond the bytes that a text may have.
-use mathlib.Core.Path.{_≡_, refl, ap, subst}
+use mathlib.Core.Path.{_≡_, refl, sym, _∙_, ap, subst}
 use mathlib.Core.Logic.{_⊎_, inl, inr}
 use mathlib.Core.List.{List, [], _∷_, _++_}
-use Prim.Native.Nat.{ℕ, _≤_, _<_}
+use Prim.Native.Nat.{ℕ, zero, suc, _≤_, _<_}
 use native.Mathlib.Omega.{arith}
 use native.Mathlib.Decide.{decLt}
 use lib.ListN.{length, length-append}
 use Rattle.text.specs.Grammar.{spell}
 use Rattle.text.specs.Read.{Reason, long, grammar, fields, terms, limits, linear, variable, number, Sort, rule, slip, FirstBad, Refuses, FirstReason, refused, read, readRule, readSlip}
 use Rattle.text.proofs.Read.{read-refused}
-use Rattle.text.proofs.Sharp.{bad-stands}
+use Rattle.text.proofs.Sharp.{first-bad}
 
 -- a term that is refused stands in the text
 bad-in : (w : ℕ) (r : Reason) (t : List ℕ) (p : ℕ) → FirstBad w r t p → p ≤ length t
 bad-in w r t p f =
-    let s = bad-stands w r t p f in
-    omega (arith, ap length (s .3), length-append (s .0) (spell (s .2) ++ s .1), s .4)
+    let b = first-bad w r t p .0 f in
+    let s = b .stands in
+    omega (arith, ap length (s .there), length-append (s .before) (spell (b .mark .raw) ++ s .after), s .from, b .place)
 
 place-in : (S : Sort) (t : List ℕ) (r : Reason) (p : ℕ) → Refuses S t r p → p ≤ length t
 place-in S t long p h = omega (arith, h .0, h .1)
@@ -61,3 +62,27 @@ number-small terms = omega arith
 number-small limits = omega arith
 number-small linear = omega arith
 number-small variable = omega arith
+
+-- the numbers tell the reasons apart
+numbered : ℕ → Reason
+numbered zero = long
+numbered (suc zero) = long
+numbered (suc (suc zero)) = grammar
+numbered (suc (suc (suc zero))) = fields
+numbered (suc (suc (suc (suc zero)))) = terms
+numbered (suc (suc (suc (suc (suc zero))))) = limits
+numbered (suc (suc (suc (suc (suc (suc zero)))))) = linear
+numbered (suc (suc (suc (suc (suc (suc (suc n))))))) = variable
+
+number-back : (r : Reason) → numbered (number r) ≡ r
+unfolding numbered
+number-back long = refl
+number-back grammar = refl
+number-back fields = refl
+number-back terms = refl
+number-back limits = refl
+number-back linear = refl
+number-back variable = refl
+
+pub number-once : (r s : Reason) → number r ≡ number s → r ≡ s
+number-once r s e = sym (number-back r) ∙ ap numbered e ∙ number-back s

@@ -1,21 +1,20 @@
--- What the first bad term is: the leftmost place of all bad ones; the first byte of the fifth field; the term just past the limit.
+-- The first bad term stands at the place of the refusal; no bad one has a smaller place; it is the first of the fifth field, or the one just
+-- past the limit.
 use mathlib.Core.Path.{_≡_, refl, sym, _∙_, ap, subst}
-use mathlib.Core.Logic.{_⊎_, inl, inr}
+use mathlib.Core.Logic.{_⊎_, _↔_, inl, inr}
+use mathlib.Core.Option.{some}
 use mathlib.Core.List.{List, [], _∷_, _++_, append-assoc, head-eq-of-cons-eq, tail-eq-of-cons-eq}
 use mathlib.Core.List.{List·Memᴰ, List·Memᴰ·head, List·Memᴰ·tail, List·Memᴰ·cases-cons, List·Memᴰ·not-nil}
 use Prim.Native.Nat.{ℕ, suc, _+_, _≤_, _<_}
 use native.Mathlib.Omega.{arith}
-use lib.ListN.{length}
-use Rattle.lists.specs.Seqs.{All, all-right}
-use Rattle.text.specs.Grammar.{Raw, spell, spellF, spellT, Says, FieldOk}
+use lib.ListN.{length, getElem?, length-append}
+use Rattle.lists.specs.Seqs.{All, all-right, all-append}
+use Rattle.text.specs.Grammar.{Raw, spell, spellF, FieldOk}
 use Rattle.text.specs.Leftmost.{NoneOf, FirstOf}
 use Rattle.text.specs.Marks.{Mark, marks, marksF, marksT, FifthField, TooMany}
-use Rattle.text.specs.Read.{Reason, fields, terms, Bad, FirstBad}
-use Rattle.text.proofs.Marks.{From, Rising, rising, Stands, stands}
-
--- x stands in xs behind ys and has P there
-abbrev pub HasAt : {A : Type 0} → (List A → A → Type 0) → List A → A → Type 0
-HasAt {A} P xs x = (ys zs : List A) × (xs ≡ ys ++ x ∷ zs) × P ys x
+use Rattle.text.specs.Read.{Reason, long, grammar, fields, terms, limits, linear, variable, Bad, FirstBad}
+use Rattle.text.specs.Sharp.{Stands, Numbered, Stated, FirstBadMark}
+use Rattle.text.proofs.Marks.{From, Rising, rising, stands-in}
 
 rising-later : (ys zs : List Mark) (m k : Mark) → Rising (ys ++ m ∷ zs) → List·Memᴰ k zs → m .place < k .place
 rising-later [] zs m k r i = go zs (r .0) i
@@ -54,18 +53,7 @@ module _ (P : List Mark → Mark → Type 0) where
           go ys (ys ++ m ∷ f .1) (before ++ y ∷ []) ((subst Rising e₁ r) .1) refl (n .1) us (tail-eq-of-cons-eq (sym e₁ ∙ e₂))
           (subst (λ (l : List Mark). P l k) (ap (λ (z : Mark). before ++ z ∷ us) (sym same) ∙ sym (append-assoc before (y ∷ []) us)) p)
 
-pub leftmost-place : (w : ℕ) (o : Reason) (t : List ℕ) (p : ℕ) → FirstBad w o t p → (x : List (List Raw)) × Says t x × ((k : Mark) → HasAt (Bad w o) (marks x) k → p ≤ k .place)
-leftmost-place w o t p f = (f .0, f .1, λ k h. subst (λ (q : ℕ). q ≤ k .place) (sym (f .2 .2)) (first-least (Bad w o) (marks (f .0)) [] (f .2 .0) k (rising (f .0)) (f .2 .1) (h .0) (h .1) (h .2) (h .3)))
-
--- and at the place there stands the term
-pub bad-stands : (w : ℕ) (o : Reason) (t : List ℕ) (p : ℕ) → FirstBad w o t p → (pre post : List ℕ) × (r : Raw) × (t ≡ pre ++ (spell r ++ post)) × (length pre ≡ p)
-bad-stands w o t p f =
-    let m = f .2 .0 in
-    let s = pick (marks (f .0)) (stands (f .0)) (f .2 .1 .0) (f .2 .1 .1) m (f .2 .1 .2) in
-    (s .0, s .1, m .raw, f .1 .1 ∙ s .2, s .3 ∙ sym (f .2 .2))
-  where
-    pick : (ms : List Mark) → All (Stands (spellT (f .0))) ms → (ys zs : List Mark) (m : Mark) → ms ≡ ys ++ m ∷ zs → Stands (spellT (f .0)) m
-    pick ms a ys zs m e = (all-right (Stands (spellT (f .0))) ys (m ∷ zs) (subst (All (Stands (spellT (f .0)))) e a)) .0
+-- ---- the numbers of the marks
 
 -- numbers go up by one
 abbrev Next : ℕ → ℕ → Mark → Type 0
@@ -96,24 +84,84 @@ five (y ∷ ys) zs before n i m h s k b =
     let low : (5 ≤ y .inField) → ⊥ = k .0 in
     five ys zs (before ++ y ∷ []) (y .inField) (y .index) m (omega arith) (s .1) (k .1) b
 
-pub fifth-field : (w : ℕ) (t : List ℕ) (p : ℕ) → FirstBad w fields t p → (m : Mark) × (p ≡ m .place) × (m .inField ≡ 5) × (m .index ≡ 1)
-fifth-field w t p f =
-    let g = f .2 .1 in
-    let r = five (g .0) (g .1) [] 0 0 (f .2 .0) (omega arith) (subst (Steps 0 0) (g .2) (steps-t (f .0) 0 0 0 (f .1 .0 .1))) (g .4) (g .3) in
-    (f .2 .0, f .2 .2, r .0, r .1)
-
 -- the first term past the limit is the one just past it
-past : (w : ℕ) (ys zs : List Mark) (before : List Mark) (n i : ℕ) (m : Mark) → i ≤ suc w → Steps n i (ys ++ m ∷ zs) → NoneOf (λ b k. TooMany (suc w) k) before ys → TooMany (suc w) m → m .index ≡ suc (suc w)
+past : (w : ℕ) (ys zs : List Mark) (before : List Mark) (n i : ℕ) (m : Mark) → i ≤ w → Steps n i (ys ++ m ∷ zs) → NoneOf (λ b k. TooMany w k) before ys
+    → TooMany w m → m .index ≡ suc w
 past w [] zs before n i m h s k b = go (s .0)
   where
-    go : Next n i m → m .index ≡ suc (suc w)
+    go : Next n i m → m .index ≡ suc w
     go (inl e) = omega (arith, e .1)
-    go (inr e) = absurd (omega (arith, e .1))
+    go (inr e) = omega (arith, e .1)
 past w (y ∷ ys) zs before n i m h s k b =
-    let low : (suc w < y .index) → ⊥ = k .0 in
+    let low : (w < y .index) → ⊥ = k .0 in
     past w ys zs (before ++ y ∷ []) (y .inField) (y .index) m (omega arith) (s .1) (k .1) b
 
-pub term-past : (w : ℕ) (t : List ℕ) (p : ℕ) → FirstBad (suc w) terms t p → (m : Mark) × (p ≡ m .place) × (m .index ≡ suc (suc w))
-term-past w t p f =
-    let g = f .2 .1 in
-    (f .2 .0, f .2 .2, past w (g .0) (g .1) [] 0 0 (f .2 .0) (omega arith) (subst (Steps 0 0) (g .2) (steps-t (f .0) 0 0 0 (f .1 .0 .1))) (g .4) (g .3))
+-- each mark's numbers are those of its term
+at-middle : {A : Type 0} (us : List A) (a : A) (vs : List A) → getElem? (us ++ a ∷ vs) (length us) ≡ some a
+at-middle [] a vs = refl
+at-middle (u ∷ us) a vs = at-middle us a vs
+
+behind-one : {A : Type 0} (us : List A) (a : A) (vs : List A) → us ++ a ∷ vs ≡ (us ++ a ∷ []) ++ vs
+behind-one us a vs = sym (append-assoc us (a ∷ []) vs)
+
+one-longer : {A : Type 0} (us : List A) (a : A) (n : ℕ) → length us ≡ n → length (us ++ a ∷ []) ≡ suc n
+one-longer us a n e = omega (arith, length-append us (a ∷ []), e)
+
+numbered-f : (x : List (List Raw)) (f rs us : List Raw) (p n i : ℕ) → f ≡ us ++ rs → length us ≡ i → getElem? x n ≡ some f
+    → All (Numbered x) (marksF p (suc n) (suc i) rs)
+numbered-f x f [] us p n i e l is = tt
+numbered-f x f (r ∷ rs) us p n i e l is = (
+  record { i = n; j = i; field = f; in-field = refl; is-field = is; index = refl; is-term = rw (e, ← l) (at-middle us r rs) },
+  numbered-f x f rs (us ++ r ∷ []) (suc (p + length (spell r))) n (suc i) (e ∙ behind-one us r rs) (one-longer us r i l) is,
+)
+
+numbered-t : (x fs ys : List (List Raw)) (p n : ℕ) → x ≡ ys ++ fs → length ys ≡ n → All (Numbered x) (marksT p (suc n) fs)
+numbered-t x [] ys p n e l = tt
+numbered-t x (f ∷ fs) ys p n e l =
+    all-append (Numbered x) (marksF p (suc n) 1 f) (marksT (suc (p + length (spellF f))) (suc (suc n)) fs)
+    (numbered-f x f f [] p n 0 refl refl (rw (e, ← l) (at-middle ys f fs)))
+    (numbered-t x fs (ys ++ f ∷ []) (suc (p + length (spellF f))) (suc n) (e ∙ behind-one ys f fs) (one-longer ys f n l))
+
+-- ---- the first bad mark
+
+-- a mark's property, of the one in the middle
+pick : (P : Mark → Type 0) (ms ys zs : List Mark) (m : Mark) → All P ms → ms ≡ ys ++ m ∷ zs → P m
+pick P ms ys zs m a e = all-right P ys (m ∷ zs) (subst (All P) e a) .0
+
+module _ (w : ℕ) (x : List (List Raw)) (good : All FieldOk x) (m : Mark) (ys zs : List Mark) (split : marks x ≡ ys ++ m ∷ zs) where
+  steps-there : Steps 0 0 (ys ++ m ∷ zs)
+  steps-there = subst (Steps 0 0) split (steps-t x 0 0 0 good)
+
+  stated : (o : Reason) → Bad w o ys m → NoneOf (Bad w o) [] ys → Stated w o ys m
+  stated long b n = b
+  stated grammar b n = b
+  stated fields b n = five ys zs [] 0 0 m (omega arith) steps-there n b
+  stated terms b n = past w ys zs [] 0 0 m (omega arith) steps-there n b
+  stated limits b n = b
+  stated linear b n = b
+  stated variable b n = b
+
+-- WHAT STANDS AT THE PLACE of a refusal from 3 to 7
+pub first-bad : (w : ℕ) (o : Reason) (t : List ℕ) (p : ℕ) → FirstBad w o t p ↔ FirstBadMark w o t p
+first-bad w o t p = (to, λ h. (h .said, h .says, (h .mark, (h .earlier, h .later, h .split, h .bad, h .none-earlier), h .place)))
+  where
+    to : FirstBad w o t p → FirstBadMark w o t p
+    to f =
+        let x = f .0 in
+        let m = f .2 .0 in
+        let g = f .2 .1 in
+        record {
+          said = x;
+          says = f .1;
+          mark = m;
+          earlier = g .0;
+          later = g .1;
+          split = g .2;
+          bad = g .3;
+          none-earlier = g .4;
+          place = f .2 .2;
+          stands = pick (Stands t) (marks x) (g .0) (g .1) m (stands-in t x (f .1 .1)) (g .2);
+          leftmost = λ us vs k e b. subst (λ (q : ℕ). q ≤ k .place) (sym (f .2 .2)) (first-least (Bad w o) (marks x) [] m k (rising x) g us vs e b);
+          numbered = pick (Numbered x) (marks x) (g .0) (g .1) m (numbered-t x x [] 0 0 refl refl) (g .2);
+          stated = stated w x (f .1 .0 .1) m (g .0) (g .1) (g .2) o (g .3) (g .4);
+        }

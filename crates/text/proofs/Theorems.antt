@@ -1,5 +1,5 @@
 -- The statements about reading and plain text. What a rule or slip within the limits is: specs/Limits; the refusals: specs/Read.
--- See also: `rule-iff`, `slip-iff`, `rule-plain` (Accepted), `leftmost-place`, `fifth-field`, `term-past` (Sharp), `rule-bytes`, `slip-bytes` (Lengths).
+-- See also: `rule-iff`, `slip-iff`, `rule-plain` (Accepted), `first-bad` (Sharp), `rule-bytes`, `slip-bytes` (Lengths).
 use mathlib.Core.Path.{_≡_, refl, sym, _∙_, ap, subst}
 use mathlib.Core.Logic.{_≢_, _↔_, inl, inr, Iff·trans}
 use mathlib.Core.List.{List, [], _∷_, _++_}
@@ -29,17 +29,18 @@ module _ (R : Reason → ℕ → Type 0) (r : Reason) (p : ℕ) where
   abbrev Other : Reason → Type 0
   Other s = number s ≢ number r
 
-  not-later : (rs : List Reason) → All Other rs → FirstReason R rs r p → ⊥
-  not-later [] a h = h
-  not-later (s ∷ rs) a (inl h) = a .0 (ap number (h .0))
-  not-later (s ∷ rs) a (inr h) = not-later rs (a .1) (h .1)
+  -- a reason that is not among those tried is never the first
+  not-tried : (rs : List Reason) → All Other rs → FirstReason R rs r p → ⊥
+  not-tried [] a h = h
+  not-tried (s ∷ rs) a (inl h) = a .0 (ap number (h .0))
+  not-tried (s ∷ rs) a (inr h) = not-tried rs (a .1) (h .1)
 
   reason-iff : (pre post : List Reason) → All Other pre → All Other post → FirstReason R (pre ++ r ∷ post) r p ↔ (NoReason R pre × R r p)
   reason-iff [] post a b = (to, λ h. inl (refl, h .1))
     where
       to : FirstReason R (r ∷ post) r p → Unit {0} × R r p
       to (inl h) = (tt, h .1)
-      to (inr h) = absurd (not-later post b (h .1))
+      to (inr h) = absurd (not-tried post b (h .1))
   reason-iff (s ∷ pre) post a b = (to (λ h. reason-iff pre post (a .1) b .0 h), λ h. inr (h .0 .0, reason-iff pre post (a .1) b .1 (h .0 .1, h .1)))
     where
       to : (FirstReason R (pre ++ r ∷ post) r p → NoReason R pre × R r p) → FirstReason R (s ∷ (pre ++ r ∷ post)) r p → NoReason R (s ∷ pre) × R r p
@@ -64,6 +65,13 @@ slip-refused terms n t p = Iff·trans (read-refused slip t terms p) (reason-iff 
 slip-refused limits n t p = Iff·trans (read-refused slip t limits p) (reason-iff (Refuses slip t) limits p (long ∷ grammar ∷ fields ∷ terms ∷ []) (variable ∷ []) (omega arith) (omega arith))
 slip-refused linear n t p = absurd (n refl)
 slip-refused variable n t p = Iff·trans (read-refused slip t variable p) (reason-iff (Refuses slip t) variable p (long ∷ grammar ∷ fields ∷ terms ∷ limits ∷ []) [] (omega arith) (omega arith))
+
+-- a rule is never refused for a variable, a slip never for what is not linear
+pub rule-never : (t : List ℕ) (p : ℕ) → readRule t ≢ refused variable p
+rule-never t p e = not-tried (Refuses rule t) variable p (rule .order) (omega arith) (read-refused rule t variable p .0 e)
+
+pub slip-never : (t : List ℕ) (p : ℕ) → readSlip t ≢ refused linear p
+slip-never t p e = not-tried (Refuses slip t) linear p (slip .order) (omega arith) (read-refused slip t linear p .0 e)
 
 -- ACCEPTED: none applies, and the rule is what the text says
 module _ (S : Sort) (others : List Reason) (is : S .order ≡ long ∷ grammar ∷ others) where

@@ -9,6 +9,7 @@ pub mod Leftmost
 pub mod Marks
 pub mod Terms
 pub mod Read
+pub mod Sharp
 pub mod Plain
 pub mod Limits
 pub mod Walk

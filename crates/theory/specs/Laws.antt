@@ -1,7 +1,7 @@
 -- GP 2's list expressions and their laws: `:` is associative, and `empty` is its unit.
 -- `laws` of proofs/Laws says that two expressions are equal by the laws exactly when they have the same terms in the same order.
-use mathlib.Core.List.{List, [], _∷_, _++_}
-use Rattle.theory.specs.Terms.{Term}
+use mathlib.Core.List.{List, [], _∷_, _++_, map}
+use Rattle.theory.specs.Terms.{Term, con}
 use Rattle.theory.specs.Fillings.{Filling, value}
 
 -- document 001's lists, as they are written: `empty`, a term, or two lists joined by `:`
@@ -29,10 +29,11 @@ module _ {T : Type 0} where
   flat (term t) = t ∷ []
   flat (e ⦂ f) = flat e ++ flat f
 
-  -- an expression with these terms
+  -- the expression that one writes for these terms: `empty` for none, else the terms joined by `:`
   abbrev pub expr : List T → Expr T
   expr [] = empty
-  expr (t ∷ ts) = term t ⦂ expr ts
+  expr (t ∷ []) = term t
+  expr (t ∷ (u ∷ ts)) = term t ⦂ expr (u ∷ ts)
 
   -- field by field: as many, and each equal to its partner by the laws
   abbrev pub EachEqual : List (Expr T) → List (Expr T) → Type 0
@@ -49,6 +50,6 @@ module _ {T U : Type 0} where
   replace v (e ⦂ f) = replace v e ⦂ replace v f
 
 module _ {C K A : Type 0} where
-  -- a filling put into an expression
-  abbrev pub fillExpr : Filling C K A → Expr (Term C K A) → Expr C
-  fillExpr φ e = replace (value φ) e
+  -- a filling put into an expression: each variable replaced by its value, written as terms
+  abbrev pub fillExpr : Filling C K A → Expr (Term C K A) → Expr (Term C K A)
+  fillExpr φ e = replace (λ t. map con (value φ t)) e

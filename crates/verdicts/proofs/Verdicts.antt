@@ -1,13 +1,17 @@
 -- What the lowest refusal and its place say, case by case as code says it; and the number of each reason.
-use mathlib.Core.Path.{_≡_, refl, sym, _∙_, ap}
+use mathlib.Core.Path.{_≡_, refl, sym, _∙_, ap, ap₂, subst}
+use mathlib.Core.Logic.{_↔_}
 use mathlib.Core.Bool.{Bool}
-use mathlib.Core.List.{[]}
+use mathlib.Core.Option.{some, IsSome}
+use mathlib.Core.List.{[], _∷_, head-eq-of-cons-eq}
 use Prim.Native.Nat.{ℕ, suc, _-_, _<_, _≤_}
 use native.Mathlib.Omega.{arith}
-use Rattle.text.specs.Read.{Reason, long, grammar, fields, terms, limits, linear, variable, number, accepted}
+use Rattle.text.specs.Read.{Reason, long, grammar, fields, terms, limits, linear, variable, number, Outcome, refused, accepted}
+use Rattle.text.specs.Told.{Told}
+use Rattle.text.proofs.Refused.{number-once}
 use Rattle.verdicts.specs.declared.Verdict.{Verdict}
 use Rattle.verdicts.specs.declared.Verdict.the-variants.{Accepted, Refused}
-use Rattle.verdicts.specs.Verdicts.{reasonFrom, numberOf, verdictOf, lastReason, reasons, refusedAt}
+use Rattle.verdicts.specs.Verdicts.{reasonFrom, numberOf, told, refusal, verdictOf, lastReason, reasons, refusedAt}
 
 module _ (s : Bool) (k p : ℕ) where
   abbrev Says-so : Verdict → Type 0
@@ -40,3 +44,25 @@ number-is terms = refl
 number-is limits = refl
 number-is linear = refl
 number-is variable = refl
+
+-- ---- what is told of an outcome
+
+some-once : {a b : ℕ} → some a ≡ some b → a ≡ b
+some-once e = cc
+
+-- WHAT IS TOLD says which outcome it is of: a refusal's number and place, or nothing
+module _ (r : Reason) (p : ℕ) where
+  told-is : told (verdictOf (refused r p)) ≡ refusal r p
+  told-is = ap (λ (n : ℕ). record { number = some n; values = p ∷ [] }) (number-is r)
+
+  pub told-refused : (a : Outcome) → (told (verdictOf a) ≡ refusal r p) ↔ (a ≡ refused r p)
+  told-refused (refused s q) = (to, λ e. ap (λ (a : Outcome). told (verdictOf a)) e ∙ told-is)
+    where
+      to : told (verdictOf (refused s q)) ≡ refusal r p → refused s q ≡ refused r p
+      to e =
+          let n = some-once (ap (λ (x : Told). x .number) e) in
+          ap₂ refused (number-once s r (sym (number-is s) ∙ n)) (head-eq-of-cons-eq (ap (λ (x : Told). x .values) e))
+  told-refused (accepted x) = (λ e. absurd (subst IsSome (sym (ap (λ (x : Told). x .number) e)) tt), λ e. ap (λ (a : Outcome). told (verdictOf a)) e ∙ told-is)
+
+pub told-number : (r s : Reason) (p : ℕ) → told (verdictOf (refused r p)) .number ≡ some (number s) → r ≡ s
+told-number r s p e = number-once r s (sym (number-is r) ∙ some-once e)

@@ -2,6 +2,8 @@
 use Prim.Native.Nat.{ℕ, zero, suc, _-_}
 use mathlib.Core.Bool.{Bool, true, false}
 use mathlib.Core.List.{List, [], _∷_}
+use mathlib.Core.Option.{none, some}
+use Rattle.text.specs.Told.{Told}
 use Rattle.text.specs.Read.{Sort, rule, slip, Outcome, refused, accepted}
 use Rattle.text.specs.Read as read
 use Rattle.verdicts.specs.declared.Reason.{Reason}
@@ -32,6 +34,18 @@ numberOf Terms = 4
 numberOf Limits = 5
 numberOf Linear = 6
 numberOf Variable = 7
+
+-- what is told of a text, in document 01's number and values. "A refusal returns its number, its place"
+abbrev pub told : Verdict → Told
+told Accepted = record { number = none; values = [] }
+told (Refused r p) = record { number = some (numberOf r); values = p ∷ [] }
+
+-- refused by the number of r, at p; and not refused
+abbrev pub refusal : read.Reason → ℕ → Told
+refusal r p = record { number = some (read.number r); values = p ∷ [] }
+
+abbrev pub noRefusal : Told
+noRefusal = record { number = none; values = [] }
 
 abbrev pub verdictOf : Outcome → Verdict
 verdictOf (refused r p) = Refused (reasonFrom r) p
