@@ -9,6 +9,7 @@ use Rattle.text.specs.Numbers.{digitsOf}
 use Rattle.text.specs.Read.{number, Outcome, refused, accepted}
 use Rattle.listing.specs.Overlaps.{overlapText}
 use Rattle.pieces.specs.Refusals.{numberAt}
+use Rattle.overlaps.specs.Answers.{textsRoom}
 
 -- "`too long B` where B bytes exceed its 65,536"
 abbrev pub mostBytes : ℕ
@@ -27,3 +28,7 @@ readText (accepted left) (accepted right) = listedText (overlapText left right)
 -- the same where k bytes are left for it: with fewer than it may have nothing is said
 abbrev pub textsIn : ℕ → Outcome → Outcome → List ℕ
 textsIn k o p = cond (leb mostBytes k) (readText o p) []
+
+-- the room that is lent for the lister's work where k bytes are left: as the list leaves it, and as it was where nothing is said
+abbrev pub roomIn : ℕ → List ℕ → List ℕ → List ℕ → List ℕ
+roomIn k t u room = cond (leb mostBytes k) (textsRoom t u room) room

@@ -8,7 +8,8 @@ ghost use Rattle.text.specs.Read.{readRule};
 ghost use Rattle.verdicts.specs.Verdicts.{numberOf};
 ghost use Rattle.pieces.specs.Refusals.{numberAt};
 ghost use Rattle.pieces.specs.Placed.{Placed};
-ghost use Rattle.overlap_text.specs.Texts.{mostBytes, readText, textsIn};
+ghost use Rattle.overlaps.specs.Answers.{textsRoom};
+ghost use Rattle.overlap_text.specs.Texts.{mostBytes, readText, textsIn, roomIn};
 use overlaps::Listed;
 use verdicts::Reason;
 use verdicts::Verdict;
@@ -33,6 +34,7 @@ fn put_read(left: &[u8], right: &[u8], room: &mut [u8], out: &mut [u8], at: usiz
     requires { ⌜ at + mostBytes ≤ length (now out) ⌝ }
     ensures { λ p. ⌜ Placed (readText (readRule (now (left .entry))) (readRule (now (right .entry)))) at (now (out .entry)) p (now (out .exit)) ⌝ }
     ensures { λ _. ⌜ length (readText (readRule (now (left .entry))) (readRule (now (right .entry)))) ≤ mostBytes ⌝ }
+    ensures { λ _. ⌜ now (room .exit) ≡ textsRoom (now (left .entry)) (now (right .entry)) (now (room .entry)) ⌝ }
 {
     let end = at + 65536;
     let said = overlaps::list_texts(left, right, room, &mut out[at..end]);
@@ -55,6 +57,7 @@ fn put_read(left: &[u8], right: &[u8], room: &mut [u8], out: &mut [u8], at: usiz
 pub fn put_texts(left: &[u8], right: &[u8], room: &mut [u8], out: &mut [u8], at: usize) -> usize
     ensures { λ p. ⌜ Placed (textsIn (length (now (out .entry)) - at) (readRule (now (left .entry))) (readRule (now (right .entry)))) at (now (out .entry)) p (now (out .exit)) ⌝ }
     ensures { λ _. ⌜ length (textsIn (length (now (out .entry)) - at) (readRule (now (left .entry))) (readRule (now (right .entry)))) ≤ mostBytes ⌝ }
+    ensures { λ _. ⌜ now (room .exit) ≡ roomIn (length (now (out .entry)) - at) (now (left .entry)) (now (right .entry)) (now (room .entry)) ⌝ }
 {
     if bytes_behind(at, out.len()) < 65536 {
         return at;

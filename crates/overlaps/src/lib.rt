@@ -5,16 +5,14 @@ ghost use mathlib.Core.List.{[], _∷_};
 ghost use Prim.Native.Nat.{_-_, _+_, _≤_, _<_, min};
 ghost use lib.ListN.{length};
 ghost use Rattle.writing.specs.Answers.{after};
-ghost use Rattle.text.specs.Read.{readRule};
 ghost use Rattle.token_fillings.specs.States.{fillingsOf};
 ghost use Rattle.accepted.specs.Accepted.{countedRule};
-ghost use Rattle.listing.specs.Overlaps.{linesOf, overlapText};
 ghost use Rattle.entry_lines.specs.Lines.{lineBound};
-ghost use Rattle.overlaps.specs.Pairs.{pairOf, saidRule, Said};
+ghost use Rattle.overlaps.specs.Pairs.{pairOf, Said};
 ghost use Rattle.overlaps.specs.Lines.{lineAt};
-ghost use Rattle.pieces.specs.Stored.{bytesOf, storeAll};
+ghost use Rattle.pieces.specs.Stored.{storeAll};
 ghost use Rattle.overlaps.specs.Listing.{spanAt, candidateOf, choiceLines, linesFrom, allLines, noTally, tallied, Moderate, Countable};
-ghost use Rattle.overlaps.specs.Answers.{answerOf, listedOf, ruleOf, textsListed};
+ghost use Rattle.overlaps.specs.Answers.{Lists, ListsLines, TextsList, SaidLists, roomAfter, textsRoom, saidRoom};
 use candidates::Span;
 use choices::Choice;
 use terms::Rule;
@@ -34,7 +32,7 @@ pub struct Tally {
     pub bytes: usize,
 }
 
-// The answer of a listing: the entry count and the byte count. `refusal` of specs/Answers has document 01's number of each.
+// The answer of a listing: the entry count and the byte count. `told` of specs/Answers has document 01's number of each.
 pub enum Listed {
     // the lines were written
     Lines(usize, usize),
@@ -208,7 +206,8 @@ fn all_lines(p: TokenPair, left: &[u8], right: &[u8], out: &mut [u8]) -> Tally
 // The lines go into the room first, so that a buffer that is too small keeps its old bytes; where the room is too small it has counted them.
 fn list_pair(p: TokenPair, left: &[u8], right: &[u8], room: &mut [u8], out: &mut [u8]) -> Listed
     requires { ⌜ p .left .n ≤ 4 ⌝ }
-    ensures { λ r. ⌜ (r ≡ answerOf (allLines (pairOf (now (left .entry)) (now (right .entry)) p)) (length (now (out .entry)))) × (now (out .exit) ≡ after (bytesOf (allLines (pairOf (now (left .entry)) (now (right .entry)) p))) (now (out .entry))) ⌝ }
+    ensures { λ r. ⌜ ListsLines (allLines (pairOf (now (left .entry)) (now (right .entry)) p)) (now (out .entry)) r (now (out .exit)) ⌝ }
+    ensures { λ _. ⌜ now (room .exit) ≡ storeAll (allLines (pairOf (now (left .entry)) (now (right .entry)) p)) 0 (now (room .entry)) ⌝ }
 {
     let t = all_lines(p, left, right, room);
     let n = t.bytes;
@@ -233,7 +232,8 @@ fn list_tokens(
     out: &mut [u8],
 ) -> Listed
     requires { ⌜ Said (now left) (now right) l r ⌝ }
-    ensures { λ x. ⌜ (x ≡ listedOf (linesOf (countedRule (saidRule (now (left .entry)))) (countedRule (saidRule (now (right .entry))))) (length (now (out .entry)))) × (now (out .exit) ≡ after (overlapText (countedRule (saidRule (now (left .entry)))) (countedRule (saidRule (now (right .entry))))) (now (out .entry))) ⌝ }
+    ensures { λ x. ⌜ SaidLists (now (left .entry)) (now (right .entry)) (now (out .entry)) x (now (out .exit)) ⌝ }
+    ensures { λ _. ⌜ now (room .exit) ≡ saidRoom (now (left .entry)) (now (right .entry)) (now (room .entry)) ⌝ }
 {
     if l.n == 0 {
         return Listed::Lines(0, 0);
@@ -247,10 +247,10 @@ fn list_tokens(
 
 // THE OVERLAP LIST of the rules that two texts say, and how each is read: every choice of one candidate a field that nothing kills, a line for each,
 // the first field slowest. Rules with different field counts have no entries, and a text that is refused says the rule with no fields, which has none.
-// The room is for the work, and what it holds afterwards is not said: one that has as many bytes as `out` saves making the list twice.
+// The room is for the work: one that has as many bytes as `out` saves making the list twice.
 pub fn list_texts(left: &[u8], right: &[u8], room: &mut [u8], out: &mut [u8]) -> TextsListed
-    ensures { λ r. ⌜ r ≡ textsListed (readRule (now (left .entry))) (readRule (now (right .entry))) (length (now (out .entry))) ⌝ }
-    ensures { λ _. ⌜ now (out .exit) ≡ after (overlapText (ruleOf (readRule (now (left .entry)))) (ruleOf (readRule (now (right .entry))))) (now (out .entry)) ⌝ }
+    ensures { λ r. ⌜ TextsList (now (left .entry)) (now (right .entry)) (now (out .entry)) r (now (out .exit)) ⌝ }
+    ensures { λ _. ⌜ now (room .exit) ≡ textsRoom (now (left .entry)) (now (right .entry)) (now (room .entry)) ⌝ }
 {
     let l = reading::read_tokens(left, false);
     let r = reading::read_tokens(right, true);
@@ -266,7 +266,8 @@ pub fn list_texts(left: &[u8], right: &[u8], room: &mut [u8], out: &mut [u8]) ->
 
 // The list of two rule values: that of their plain texts, which have at most 1,151 bytes. What no reading returns has no text, and so no overlaps.
 pub fn list_with(left: Rule, right: Rule, room: &mut [u8], out: &mut [u8]) -> Listed
-    ensures { λ r. ⌜ (r ≡ listedOf (linesOf (countedRule left) (countedRule right)) (length (now (out .entry)))) × (now (out .exit) ≡ after (overlapText (countedRule left) (countedRule right)) (now (out .entry))) ⌝ }
+    ensures { λ r. ⌜ Lists (countedRule left) (countedRule right) (now (out .entry)) r (now (out .exit)) ⌝ }
+    ensures { λ _. ⌜ now (room .exit) ≡ roomAfter (countedRule left) (countedRule right) (now (room .entry)) ⌝ }
 {
     let mut a = [0u8; 1151];
     let mut b = [0u8; 1151];
@@ -278,7 +279,7 @@ pub fn list_with(left: Rule, right: Rule, room: &mut [u8], out: &mut [u8]) -> Li
 
 // The same with no room but the lent bytes.
 pub fn list_overlaps(left: Rule, right: Rule, out: &mut [u8]) -> Listed
-    ensures { λ r. ⌜ (r ≡ listedOf (linesOf (countedRule left) (countedRule right)) (length (now (out .entry)))) × (now (out .exit) ≡ after (overlapText (countedRule left) (countedRule right)) (now (out .entry))) ⌝ }
+    ensures { λ r. ⌜ Lists (countedRule left) (countedRule right) (now (out .entry)) r (now (out .exit)) ⌝ }
 {
     let mut room = [0u8; 1];
     list_with(left, right, &mut room, out)
