@@ -15,16 +15,14 @@ use Rattle.text.specs.Limits.{IsRule}
 use Rattle.text.specs.Read.{Reason, long, grammar, fields, terms, limits, linear, variable, number, Outcome, refused, accepted, readRule, Refuses, NoReason, rule}
 use Rattle.text.proofs.Accepted.{rule-read}
 use Rattle.text.proofs.Theorems.{earlier, rule-refused}
-use Rattle.terms.specs.Values.{encodeRule}
-use Rattle.accepted.specs.Accepted.{countedRule}
-use Rattle.accepted.proofs.Accepted.{encode-accepted-rule, view-encode-rule}
 use Rattle.writing.specs.Answers.{after}
 use Rattle.listing.specs.Overlaps.{linesOf, overlapText}
 use Rattle.overlaps.proofs.Rules.{no-right, none-listed}
 use Rattle.yopobrush.specs.declared.Reading.{Reading}
-use Rattle.overlaps.specs.Answers.{ruleOf}
+use Rattle.overlaps.specs.declared.Listed.the-variants.{Lines}
+use Rattle.overlaps.specs.Answers.{Lists, ruleOf}
 use Rattle.yopobrush.specs.Answers.{readingOf, listingOf}
-use Rattle.demands.specs.Overlaps.{Demand3, demand-3}
+use Rattle.demands.specs.Overlaps.{Demand3, SharedSlips, rules-3}
 
 -- ---- reading
 
@@ -87,39 +85,30 @@ reading-accepted t = go (readRule t)
 
 -- ---- the overlap list
 
-counted-rule : (x : List (List OurTerm)) → IsRule x → countedRule (encodeRule x) ≡ x
-counted-rule x h = rw (encode-accepted-rule x h, view-encode-rule x h)
-
--- what the lent bytes hold behind a listing of the rules x and y
-abbrev Listed3 : List ℕ → List (List OurTerm) → List (List OurTerm) → Type 1
-Listed3 old x y =
-    Demand3 x y (length (linesOf x y)) (take (length (overlapText x y)) (after (overlapText x y) old))
-    × (drop (length (overlapText x y)) (after (overlapText x y) old) ≡ drop (length (overlapText x y)) old)
-
-listed-3 : (old : List ℕ) (x y : List (List OurTerm)) → IsRule x → IsRule y → length (overlapText x y) ≤ length old → Listed3 old x y
-listed-3 old x y a b room =
-    let e = counted-rule x a in
-    let f = counted-rule y b in
-    let fits : length (overlapText (countedRule (encodeRule x)) (countedRule (encodeRule y))) ≤ length old = rw (e, f) room in
-    let d = demand-3 (encodeRule x) (encodeRule y) (encode-accepted-rule x a) (encode-accepted-rule y b) old fits in
-    subst (Listed3 old x) f (subst (λ (r : List (List OurTerm)). Listed3 old r (countedRule (encodeRule y))) e (d .1, d .2))
+-- the list written into lent bytes that have room for it
+listed-3 : (B : Type 0) (old : List ℕ) (x y : List (List OurTerm)) → IsRule x → IsRule y → length (overlapText x y) ≤ length old
+    → SharedSlips B x y old (Lines (length (linesOf x y)) (length (overlapText x y))) (after (overlapText x y) old)
+listed-3 B old x y a b room = rules-3 lists B a b room
+  where
+    lists : Lists x y old (Lines (length (linesOf x y)) (length (overlapText x y))) (after (overlapText x y) old)
+    lists = record { answer = rw (le-leb (length (overlapText x y)) (length old) room); bytes = refl }
 
 -- what another program is answered of the outcomes o and p, which accept the rules x and y, and what it then has in the lent bytes
-abbrev pub Answered : List ℕ → List (List OurTerm) → List (List OurTerm) → Outcome → Outcome → Type 1
-Answered old x y o p =
+abbrev pub Answered : Type 0 → List ℕ → List (List OurTerm) → List (List OurTerm) → Outcome → Outcome → Type 0
+Answered B old x y o p =
     let size = length (overlapText x y) in
     let bytes = after (overlapText (ruleOf o) (ruleOf p)) old in
     (listingOf o p (length old) ≡ record { left = accepting; right = accepting; refusal = 0; entries = length (linesOf x y); bytes = size })
-    × Demand3 x y (length (linesOf x y)) (take size bytes)
+    × Demand3 B x y (length (linesOf x y)) (take size bytes)
     × (drop size bytes ≡ drop size old)
 
 -- DEMAND 3 OF THE LIBRARY, of texts t and u that are read as the rules x and y: nothing is refused, the counts are the list's, the first
 -- bytes, as many as are counted, are the list of demand 3, and the others are the old ones
-pub library-demand-3 : (t u old : List ℕ) (x y : List (List OurTerm)) → readRule t ≡ accepted x → readRule u ≡ accepted y → length (overlapText x y) ≤ length old
-    → Answered old x y (readRule t) (readRule u)
-library-demand-3 t u old x y reads-t reads-u room =
-    let l = listed-3 old x y (rule-read t x reads-t) (rule-read u y reads-u) room in
-    subst (Answered old x y (readRule t)) (sym reads-u) (subst (λ (o : Outcome). Answered old x y o (accepted y)) (sym reads-t) (is-listed, l .0, l .1))
+pub library-demand-3 : (B : Type 0) (t u old : List ℕ) (x y : List (List OurTerm)) → readRule t ≡ accepted x → readRule u ≡ accepted y
+    → length (overlapText x y) ≤ length old → Answered B old x y (readRule t) (readRule u)
+library-demand-3 B t u old x y reads-t reads-u room =
+    let l = listed-3 B old x y (rule-read t x reads-t) (rule-read u y reads-u) room in
+    subst (Answered B old x y (readRule t)) (sym reads-u) (subst (λ (o : Outcome). Answered B old x y o (accepted y)) (sym reads-t) (is-listed, l .list, l .behind))
   where
     is-listed : listingOf (accepted x) (accepted y) (length old) ≡ record { left = accepting; right = accepting; refusal = 0; entries = length (linesOf x y); bytes = length (overlapText x y) }
     is-listed = rw (le-leb (length (overlapText x y)) (length old) room)
@@ -132,7 +121,7 @@ Unlisted old o p =
     × (after (overlapText (ruleOf o) (ruleOf p)) old ≡ old)
 
 unlisted : (old : List ℕ) (o p : Outcome) → linesOf (ruleOf o) (ruleOf p) ≡ [] → Unlisted old o p
-unlisted old o p e = (rw (e, le-leb 0 (length old) (omega arith)), sym (none-listed (linesOf (ruleOf o) (ruleOf p)) old e .1))
+unlisted old o p e = (rw (e, le-leb 0 (length old) (omega arith)), sym (none-listed (ruleOf o) (ruleOf p) e old .bytes))
 
 pub left-refused : (t u old : List ℕ) (r : Reason) (p : ℕ) → readRule t ≡ refused r p → Unlisted old (readRule t) (readRule u)
 left-refused t u old r p e = unlisted old (readRule t) (readRule u) (ap (λ (o : Outcome). linesOf (ruleOf o) (ruleOf (readRule u))) e)

@@ -77,7 +77,7 @@ listed-none none p h = refl
 listed-none (some Ss) none h = refl
 listed-none (some Ss) (some Ts) h = ap (map (shown basics consts ℕ-discrete Ss Ts)) (raw-none Ss Ts (start basics consts names) (h Ss Ts refl refl))
 
-lines-none : (r₁ r₂ : List (List OurTerm)) → length r₁ ≢ length r₂ → linesOf r₁ r₂ ≡ []
+pub lines-none : (r₁ r₂ : List (List OurTerm)) → length r₁ ≢ length r₂ → linesOf r₁ r₂ ≡ []
 lines-none [] r₂ n = refl
 lines-none (f ∷ r₁) r₂ n = ap (map (lineOf (f ∷ r₁) r₂)) (listed-none (shapesOf left (f ∷ r₁)) (shapesOf right r₂)
     (λ Ss Ts a b e. n (sym (shapes-length left (f ∷ r₁) Ss a) ∙ e ∙ shapes-length right r₂ Ts b)))
