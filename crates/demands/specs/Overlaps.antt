@@ -23,7 +23,7 @@ use Rattle.order.specs.Types.{Kind, basics}
 use Rattle.theory.specs.Fillings.{Filling, Typed, fill}
 use Rattle.text.specs.Terms.{Con, OurTerm}
 use Rattle.text.specs.Limits.{IsRule}
-use Rattle.text.specs.Read.{Outcome, accepted, readRule}
+use Rattle.text.specs.Read.{Reason, Outcome, refused, accepted, readRule}
 use Rattle.text.proofs.Accepted.{rule-read}
 use Rattle.instance.specs.Constants.{consts}
 use Rattle.instance.specs.Matching.{Matches}
@@ -36,8 +36,8 @@ use Rattle.terms.specs.declared.Rule.{Rule}
 use Rattle.terms.specs.Values.{viewRule, encodeRule}
 use Rattle.accepted.specs.Accepted.{acceptedRule, countedRule}
 use Rattle.accepted.proofs.Accepted.{accepted-rule, encode-accepted-rule, view-encode-rule, rule-value-iff}
-use Rattle.verdicts.specs.declared.Verdict.the-variants.{Accepted}
-use Rattle.verdicts.specs.Verdicts.{verdictOf}
+use Rattle.verdicts.specs.declared.Verdict.the-variants.{Accepted, Refused}
+use Rattle.verdicts.specs.Verdicts.{reasonFrom, verdictOf}
 use Rattle.overlaps.specs.declared.Listed.{Listed}
 use Rattle.overlaps.specs.declared.TextsListed.{TextsListed}
 use Rattle.overlaps.specs.Answers.{told, Lists, TextsList, ruleOf}
@@ -241,6 +241,7 @@ pub record ListsSharedSlips (v w : Rule) (old : List ℕ) (r : Listed) (new : Li
   pub by-room : RefusedByRoom (countedRule v) (countedRule w) old r new
   pub left-none : acceptedRule v ≡ false → NoneListed old r new
   pub right-none : acceptedRule w ≡ false → NoneListed old r new
+  pub other-count : length (countedRule v) ≢ length (countedRule w) → NoneListed old r new
 
 pub lists-shared : (v w : Rule) {old : List ℕ} {r : Listed} {new : List ℕ} → Lists (countedRule v) (countedRule w) old r new
     → ListsSharedSlips v w old r new
@@ -250,10 +251,22 @@ lists-shared v w h =
       by-room = eight-demanded h;
       left-none = not-accepted-left v w h;
       right-none = not-accepted-right v w h;
+      other-count = counts-differ h;
     }
 
--- and of `list_texts`: of whatever two texts
-abbrev pub TextsSharedSlips : List ℕ → List ℕ → List ℕ → TextsListed → List ℕ → Type 0
-TextsSharedSlips t u old r new =
-    (x y : List (List OurTerm)) → readRule t ≡ accepted x → readRule u ≡ accepted y → length (overlapText x y) ≤ length old
-    → TextsShared ℕ x y old r new
+-- and of `list_texts`: of whatever two texts. "A refusal returns its number, its place and the rule with no fields", which has no entries
+pub record TextsSharedSlips (t u old : List ℕ) (r : TextsListed) (new : List ℕ) : Type 0 where
+  pub shared : (x y : List (List OurTerm)) → readRule t ≡ accepted x → readRule u ≡ accepted y → length (overlapText x y) ≤ length old
+      → TextsShared ℕ x y old r new
+  pub by-room : RefusedByRoom (ruleOf (readRule t)) (ruleOf (readRule u)) old (r .listed) new
+  pub left-refused : (s : Reason) (p : ℕ) → readRule t ≡ refused s p → (r .left ≡ Refused (reasonFrom s) p) × NoneListed old (r .listed) new
+  pub right-refused : (s : Reason) (p : ℕ) → readRule u ≡ refused s p → (r .right ≡ Refused (reasonFrom s) p) × NoneListed old (r .listed) new
+
+pub texts-shared : (t u : List ℕ) {old : List ℕ} {r : TextsListed} {new : List ℕ} → TextsList t u old r new → TextsSharedSlips t u old r new
+texts-shared t u h =
+    record {
+      shared = texts-demand-3 t u h ℕ;
+      by-room = eight-demanded (h .listed);
+      left-refused = λ s p e. (h .left ∙ ap verdictOf e, no-fields-left (h .listed) (ap ruleOf e));
+      right-refused = λ s p e. (h .right ∙ ap verdictOf e, no-fields-right (h .listed) (ap ruleOf e));
+    }

@@ -121,8 +121,27 @@ module _ (k : ℕ) (t : List ℕ) {old : List ℕ} {r : Written} {new : List ℕ
 
 -- ---- what src/ ensures
 
--- demand 3 of `pair_answer`, at the numbers as names
-abbrev pub PairSharedSlips : ℕ → List ℕ → List ℕ → Written → List ℕ → Type 0
-PairSharedSlips k t old r new =
-    (x y : List (List OurTerm)) → readRule (leftPart t) ≡ accepted x → readRule (rightPart t) ≡ accepted y
-    → length (overlapText x y) ≤ mostBytes → length (pairAnswer k t) ≤ length old → PrintsShared ℕ k x y old r new
+-- of `pair_answer`: of whatever line in lent bytes that have room for the answer, demand 3 at the numbers as names, or the line in its place
+pub record PairSharedSlips (k : ℕ) (t old : List ℕ) (r : Written) (new : List ℕ) : Type 0 where
+  pub shared : (x y : List (List OurTerm)) → readRule (leftPart t) ≡ accepted x → readRule (rightPart t) ≡ accepted y
+      → length (overlapText x y) ≤ mostBytes → PrintsShared ℕ k x y old r new
+  pub too-long : (x y : List (List OurTerm)) → readRule (leftPart t) ≡ accepted x → readRule (rightPart t) ≡ accepted y
+      → mostBytes < length (overlapText x y)
+      → Prints (titleText k ++ (ascii "too long " ++ digitsOf (length (overlapText x y)) ++ newline)) old r new
+  pub left-refused : (s : Reason) (p : ℕ) → length t ≤ longestLine → readRule (leftPart t) ≡ refused s p
+      → Prints (titleText k ++ (ascii "refused left " ++ numberAt (number s) p ++ newline)) old r new
+  pub right-refused : (x : List (List OurTerm)) (s : Reason) (p : ℕ) → length t ≤ longestLine → readRule (leftPart t) ≡ accepted x
+      → readRule (rightPart t) ≡ refused s p
+      → Prints (titleText k ++ (ascii "refused right " ++ numberAt (number s) p ++ newline)) old r new
+  pub line-long : longestLine < length t → Prints (titleText k ++ (ascii "line too long" ++ newline)) old r new
+
+pub pair-shared : (k : ℕ) (t : List ℕ) {old : List ℕ} {r : Written} {new : List ℕ} → Writes (pairAnswer k t) old r new
+    → length (pairAnswer k t) ≤ length old → PairSharedSlips k t old r new
+pair-shared k t is room =
+    record {
+      shared = pair-demand-3 k t is room ℕ;
+      too-long = pair-long k t is room;
+      left-refused = pair-left-refused k t is room;
+      right-refused = pair-right-refused k t is room;
+      line-long = pair-line-long k t is room;
+    }

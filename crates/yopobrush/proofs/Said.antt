@@ -16,8 +16,8 @@ use Rattle.overlaps.specs.declared.TextsListed.{TextsListed}
 use Rattle.overlaps.specs.Answers.{told, TextsList, ruleOf}
 use Rattle.yopobrush.specs.declared.Reading.{Reading}
 use Rattle.yopobrush.specs.declared.Listing.{Listing}
-use Rattle.yopobrush.specs.Answers.{readingOf, numbered, listingOf}
-use Rattle.yopobrush.specs.Values.{readingBy, listingBy}
+use Rattle.yopobrush.specs.Answers.{readingOf, listingOf}
+use Rattle.yopobrush.specs.Values.{readingBy, whole, listingBy}
 
 verdict-said : (o : Outcome) → readingBy (verdictOf o) ≡ readingOf o
 verdict-said (refused r p) = ap (λ (n : ℕ). record { refusal = n; place = p }) (number-is r)
@@ -35,17 +35,14 @@ module _ (l r : Reading) (needed lent n b : ℕ) where
   abbrev counted : Told
   counted = byRoom needed lent (n ∷ b ∷ [])
 
-  abbrev whole : ℕ → ℕ → ℕ → Listing
-  whole refusal entries bytes = record { left = l; right = r; refusal = refusal; entries = entries; bytes = bytes }
-
-  told-whole : (x : Listed) (m c : ℕ) → told x ≡ counted → told x .values ≡ m ∷ c ∷ [] → whole (numbered (told x .number)) m c ≡ whole (numbered (counted .number)) n b
+  told-whole : (x : Listed) (m c : ℕ) → told x ≡ counted → told x .values ≡ m ∷ c ∷ [] → whole l r (told x) m c ≡ whole l r counted n b
   told-whole x m c h k =
       let values : m ∷ c ∷ [] ≡ n ∷ b ∷ [] = sym k ∙ ap (λ (a : Told). a .values) h in
       let is-n : m ≡ n = cc in
       let is-b : c ≡ b = cc in
-      ap₂ (whole (numbered (told x .number))) is-n is-b ∙ ap (λ (a : Told). whole (numbered (a .number)) n b) h
+      ap₂ (whole l r (told x)) is-n is-b ∙ ap (λ (a : Told). whole l r a n b) h
 
-  listed-said : (x : Listed) → told x ≡ counted → listingBy l r x ≡ whole (numbered (counted .number)) n b
+  listed-said : (x : Listed) → told x ≡ counted → listingBy l r x ≡ whole l r counted n b
   listed-said (Lines m c) h = told-whole (Lines m c) m c h refl
   listed-said (TooSmall m c) h = told-whole (TooSmall m c) m c h refl
 

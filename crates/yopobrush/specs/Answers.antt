@@ -1,10 +1,12 @@
 -- What the library's functions answer, in document 01's numbers and values: of how a text is read, and of the overlaps that two texts have.
-use mathlib.Core.List.{[], _∷_}
+use mathlib.Core.Path.{_≡_}
+use mathlib.Core.List.{List, [], _∷_}
 use mathlib.Core.Option.{Option, none, some}
 use Prim.Native.Nat.{ℕ}
 use lib.ListN.{length}
 use Rattle.text.specs.Told.{byRoom}
-use Rattle.text.specs.Read.{number, Outcome, refused, accepted}
+use Rattle.text.specs.Read.{number, Outcome, refused, accepted, readRule}
+use Rattle.writing.specs.Answers.{after}
 use Rattle.listing.specs.Overlaps.{linesOf, overlapText}
 use Rattle.overlaps.specs.Answers.{ruleOf}
 use Rattle.yopobrush.specs.declared.Reading.{Reading}
@@ -33,3 +35,8 @@ listingOf left right room =
       entries = entries;
       bytes = bytes;
     }
+
+-- WHAT THE LIBRARY PROMISES of the texts t and u and the lent bytes `old`: the answer, and what the bytes are afterwards
+pub record LibraryLists (t u old : List ℕ) (r : Listing) (new : List ℕ) : Type 0 where
+  pub answer : r ≡ listingOf (readRule t) (readRule u) (length old)
+  pub bytes : new ≡ after (overlapText (ruleOf (readRule t)) (ruleOf (readRule u))) old

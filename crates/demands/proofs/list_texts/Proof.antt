@@ -1,7 +1,6 @@
 -- `demands::list_texts` meets its contract: demand 3 of what the lister promises of texts. Assumes nothing.
 use borrow.Author.Needs.{needs}
-use Prim.Native.Nat.{ℕ}
-use Rattle.demands.specs.Overlaps.{texts-demand-3}
+use Rattle.demands.specs.Overlaps.{texts-shared}
 use Rattle.demands.proofs.list_texts.Statement.{statement}
 use Rattle.demands.proofs.list_texts.Tie as tie
 
@@ -17,7 +16,7 @@ same-length-2 c = search needs
 returns : tie.Need-returns
 returns c =
     let z = c .before .before .before .before .before .before .before .before .before .before .before .args in
-    λ x y. texts-demand-3 (z .left .now) (z .right .now) (c .before .before .before .before .list-texts .ensures .0) ℕ x y
+    texts-shared (z .left .now) (z .right .now) (c .before .before .before .before .list-texts .ensures .0)
 
 pub list-texts-spec : {M : Type 1} → statement M
 list-texts-spec = tie.close (tie.spec list-texts-requires same-length same-length-2 returns)

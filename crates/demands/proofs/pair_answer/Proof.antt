@@ -1,7 +1,7 @@
 -- `demands::pair_answer` meets its contract: demand 3 of what `pairs` prints for a line. Assumes nothing.
 use borrow.Author.Needs.{needs}
-use Prim.Native.Nat.{ℕ}
-use Rattle.demands.specs.Pairs.{pair-demand-3}
+use native.Mathlib.Omega.{arith}
+use Rattle.demands.specs.Pairs.{pair-shared}
 use Rattle.demands.proofs.pair_answer.Statement.{statement}
 use Rattle.demands.proofs.pair_answer.Tie as tie
 
@@ -14,7 +14,8 @@ same-length c = search needs
 returns : tie.Need-returns
 returns c =
     let z = c .before .before .before .before .before .before .args in
-    λ x y e f fits room. pair-demand-3 (z .k) (z .line .now) (c .before .before .pair-answer .ensures .0) room ℕ x y e f fits
+    let e = c .before .before .pair-answer .ensures in
+    λ room. pair-shared (z .k) (z .line .now) (e .0) (omega (arith, e .1))
 
 pub pair-answer-spec : {M : Type 1} → statement M
 pair-answer-spec = tie.close (tie.spec pair-answer-requires same-length returns)
