@@ -1,4 +1,4 @@
--- THE STATIC LIBRARY: what is promised of reading and of the overlap list holds of what another program is answered and lent, said of texts.
+-- THE STATIC LIBRARY: what is promised of reading and of the overlap list holds of what another program is answered and lent, of texts.
 -- Over what the contracts cite, for texts t and u, the lent bytes `old`, the answer r and the bytes `new` afterwards:
 --     yopobrush::yopobrush_read_rule       answers `readingOf (readRule t)`
 --     yopobrush::yopobrush_list_overlaps   `LibraryLists t u old r new`
@@ -154,15 +154,15 @@ module _ {t u old : List ℕ} {r : Listing} {new : List ℕ} (is : LibraryLists 
       let fits : size ≤ length old = rw (reads-t, reads-u) room in
       let l = rules-3 (lists fits) B (subst IsRule (sym e) (rule-read t x reads-t)) (subst IsRule (sym f) (rule-read u y reads-u)) fits in
       subst₂ (λ (a b : List (List OurTerm)). LibraryShared B a b old r new) e f (
-        record {
-          left = ap (λ (a : Listing). a .left) (is .answer) ∙ ap readingOf reads-t;
-          right = ap (λ (a : Listing). a .right) (is .answer) ∙ ap readingOf reads-u;
-          refusal = refusal-is ∙ ap (λ (g : Bool). numbered (cond g none (some 8))) (le-leb size (length old) fits);
-          entries = ap (λ (a : Listing). a .entries) (is .answer);
-          bytes = ap (λ (a : Listing). a .bytes) (is .answer);
-          list = l .list;
-          behind = l .behind;
-        })
+      record {
+        left = ap (λ (a : Listing). a .left) (is .answer) ∙ ap readingOf reads-t;
+        right = ap (λ (a : Listing). a .right) (is .answer) ∙ ap readingOf reads-u;
+        refusal = refusal-is ∙ ap (λ (g : Bool). numbered (cond g none (some 8))) (le-leb size (length old) fits);
+        entries = ap (λ (a : Listing). a .entries) (is .answer);
+        bytes = ap (λ (a : Listing). a .bytes) (is .answer);
+        list = l .list;
+        behind = l .behind;
+      })
 
   none-left : linesOf x₀ y₀ ≡ [] → LibraryNone t u old r new
   none-left e =

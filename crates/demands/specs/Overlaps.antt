@@ -1,15 +1,15 @@
--- DEMAND 3: "Whatever two accepted rules a listing is given, and whatever slip of any length comes, the slip fits an entry of the list written
--- exactly when both rules match it; it then fits that entry only, and both match it with the fillings that the entry shows. Every entry has a
--- slip. No list of solutions, written with our terms, that covers all shared slips has fewer solutions than the returned entry count.
--- The only premise is that the lent buffer has room for the whole list."
+-- DEMAND 3: "Whatever two accepted rules a listing is given, and whatever slip of any length comes, the slip fits an entry of the list
+-- written exactly when both rules match it; it then fits that entry only, and both match it with the fillings that the entry shows. Every
+-- entry has a slip. No list of solutions, written with our terms, that covers all shared slips has fewer solutions than the returned entry
+-- count. The only premise is that the lent buffer has room for the whole list."
 -- Over the relations that the contracts cite, for the lent bytes `old`, the answer r and the bytes `new` afterwards:
 --     overlaps::list_overlaps   of rule values v and w   `Lists (countedRule v) (countedRule w) old r new`
 --     overlaps::list_texts      of texts t and u         `TextsList t u old r new`
 -- src/ has functions that call these and ensure what is said here.
-use mathlib.Core.Path.{_≡_, refl, sym, _∙_, ap, subst}
+use mathlib.Core.Path.{_≡_, refl, sym, _∙_, ap, ap₂, subst}
 use mathlib.Core.Logic.{_↔_, _⊎_, inl, inr, _≢_}
 use mathlib.Core.Bool.{Bool, true, false, cond}
-use mathlib.Core.Option.{none, some}
+use mathlib.Core.Option.{Option, none, some}
 use mathlib.Core.List.{List, [], _∷_, map, _++_, List·Memᴰ}
 use Prim.Native.Nat.{ℕ, _≤_, _<_}
 use native.Mathlib.Omega.{arith}
@@ -21,6 +21,7 @@ use borrow.Author.Tests.{le-leb}
 use Rattle.lists.specs.Seqs.{All}
 use Rattle.order.specs.Types.{Kind, basics}
 use Rattle.theory.specs.Fillings.{Filling, Typed, fill}
+use Rattle.text.specs.Told.{Told}
 use Rattle.text.specs.Terms.{Con, OurTerm}
 use Rattle.text.specs.Limits.{IsRule}
 use Rattle.text.specs.Read.{Reason, Outcome, refused, accepted, readRule}
@@ -39,6 +40,7 @@ use Rattle.accepted.proofs.Accepted.{accepted-rule, encode-accepted-rule, view-
 use Rattle.verdicts.specs.declared.Verdict.the-variants.{Accepted, Refused}
 use Rattle.verdicts.specs.Verdicts.{reasonFrom, verdictOf}
 use Rattle.overlaps.specs.declared.Listed.{Listed}
+use Rattle.overlaps.specs.declared.Listed.the-variants.{Lines, TooSmall}
 use Rattle.overlaps.specs.declared.TextsListed.{TextsListed}
 use Rattle.overlaps.specs.Answers.{told, Lists, TextsList, ruleOf}
 use Rattle.overlaps.proofs.Answers.{eight-iff, fits-iff, counts-are, written, kept}
@@ -71,7 +73,8 @@ pub record Demand3 (B : Type 0) (r₁ r₂ : List (List OurTerm)) (count : ℕ) 
   -- "No list of solutions, written with our terms, that covers all shared slips has fewer solutions than the returned entry count":
   -- the shared slips that must be covered are those of document 01's constants
   pub least : (xs : List (Solution r₁ r₂ B))
-      → ((w : List (List Con)) → OurSlip w → Matches r₁ w → Matches r₂ w → (x : Solution r₁ r₂ B) × List·Memᴰ x xs × Covers r₁ r₂ B x w)
+      → ((w : List (List Con)) → OurSlip w → Matches r₁ w → Matches r₂ w
+      → (x : Solution r₁ r₂ B) × List·Memᴰ x xs × Covers r₁ r₂ B x w)
       → count ≤ length xs
 
 -- WHAT A LISTING ANSWERS AND LEAVES where the lent bytes `old` have room for the whole list: the two counts, and no refusal; the first
@@ -143,6 +146,27 @@ module _ {x y : List (List OurTerm)} {old : List ℕ} {r : Listed} {new : List �
       besides : Dec (length text ≤ length old) → (told r .number ≡ none) ⊎ (told r .number ≡ some 8)
       besides (yes h) = inl (fits-iff lists .1 h)
       besides (no h) = inr (eight-iff lists .1 (omega arith))
+
+-- the number and the values settle the answer
+pub told-once : (r s : Listed) → told r ≡ told s → r ≡ s
+told-once (Lines n b) (Lines m c) e =
+    let v : n ∷ b ∷ [] ≡ m ∷ c ∷ [] = ap (λ (a : Told). a .values) e in
+    let p : n ≡ m = cc in
+    let q : b ≡ c = cc in
+    ap₂ Lines p q
+told-once (Lines n b) (TooSmall m c) e =
+    let v : _≡_ {A = Option ℕ} none (some 8) = ap (λ (a : Told). a .number) e in
+    let z : _≡_ {A = ℕ} 0 1 = cc in
+    absurd (omega arith)
+told-once (TooSmall n b) (Lines m c) e =
+    let v : _≡_ {A = Option ℕ} (some 8) none = ap (λ (a : Told). a .number) e in
+    let z : _≡_ {A = ℕ} 0 1 = cc in
+    absurd (omega arith)
+told-once (TooSmall n b) (TooSmall m c) e =
+    let v : n ∷ b ∷ [] ≡ m ∷ c ∷ [] = ap (λ (a : Told). a .values) e in
+    let p : n ≡ m = cc in
+    let q : b ≡ c = cc in
+    ap₂ TooSmall p q
 
 -- ---- no entries: counts of 0, no refusal, the old bytes
 
@@ -259,10 +283,13 @@ pub record TextsSharedSlips (t u old : List ℕ) (r : TextsListed) (new : List �
   pub shared : (x y : List (List OurTerm)) → readRule t ≡ accepted x → readRule u ≡ accepted y → length (overlapText x y) ≤ length old
       → TextsShared ℕ x y old r new
   pub by-room : RefusedByRoom (ruleOf (readRule t)) (ruleOf (readRule u)) old (r .listed) new
-  pub left-refused : (s : Reason) (p : ℕ) → readRule t ≡ refused s p → (r .left ≡ Refused (reasonFrom s) p) × NoneListed old (r .listed) new
-  pub right-refused : (s : Reason) (p : ℕ) → readRule u ≡ refused s p → (r .right ≡ Refused (reasonFrom s) p) × NoneListed old (r .listed) new
+  pub left-refused : (s : Reason) (p : ℕ) → readRule t ≡ refused s p
+      → (r .left ≡ Refused (reasonFrom s) p) × NoneListed old (r .listed) new
+  pub right-refused : (s : Reason) (p : ℕ) → readRule u ≡ refused s p
+      → (r .right ≡ Refused (reasonFrom s) p) × NoneListed old (r .listed) new
 
-pub texts-shared : (t u : List ℕ) {old : List ℕ} {r : TextsListed} {new : List ℕ} → TextsList t u old r new → TextsSharedSlips t u old r new
+pub texts-shared : (t u : List ℕ) {old : List ℕ} {r : TextsListed} {new : List ℕ} → TextsList t u old r new
+    → TextsSharedSlips t u old r new
 texts-shared t u h =
     record {
       shared = texts-demand-3 t u h ℕ;

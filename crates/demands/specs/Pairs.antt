@@ -24,7 +24,7 @@ use Rattle.writing.specs.Answers.{told, Writes}
 use Rattle.pieces.specs.Refusals.{numberAt}
 use Rattle.listing.specs.Overlaps.{linesOf, overlapText}
 use Rattle.overlap_text.specs.Texts.{mostBytes, listedText, readText}
-use Rattle.pair_answers.specs.Pairs.{longestLine, tab, leftPart, rightPart, lineText, titleText, pairAnswer}
+use Rattle.pair_answers.specs.Pairs.{longestLine, tab, leftPart, rightPart, lineText, titleText, longestAnswer, pairAnswer}
 use Rattle.pair_answers.proofs.Lengths.{line-long}
 use Rattle.demands.specs.Overlaps.{Demand3, of-rules}
 
@@ -34,7 +34,8 @@ pub record Prints (text old : List ℕ) (r : Written) (new : List ℕ) : Type 0 
   pub front : take (length text) new ≡ text
   pub behind : drop (length text) new ≡ drop (length text) old
 
-prints : {text old : List ℕ} {r : Written} {new : List ℕ} → Writes text old r new → length text ≤ length old → Prints text old r new
+prints : {text old : List ℕ} {r : Written} {new : List ℕ} → Writes text old r new → length text ≤ length old
+    → Prints text old r new
 prints {text} {old} {r} {new} is room =
     record {
       answer = is .answer ∙ ap (λ (b : Bool). record { number = cond b none (some 8); values = length text ∷ [] }) fits;
@@ -90,8 +91,9 @@ module _ (k : ℕ) (t : List ℕ) {old : List ℕ} {r : Written} {new : List ℕ
   said e = subst (λ (l : List ℕ). Prints (titleText k ++ l) old r new) e (prints is room)
 
   -- of a line whose two parts are read as the rules x and y, with a list of at most 65,536 bytes
-  pub pair-demand-3 : (B : Type 0) (x y : List (List OurTerm)) → readRule (leftPart t) ≡ accepted x → readRule (rightPart t) ≡ accepted y
-      → length (overlapText x y) ≤ mostBytes → PrintsShared B k x y old r new
+  pub pair-demand-3 : (B : Type 0) (x y : List (List OurTerm))
+      → readRule (leftPart t) ≡ accepted x → readRule (rightPart t) ≡ accepted y → length (overlapText x y) ≤ mostBytes
+      → PrintsShared B k x y old r new
   pair-demand-3 B x y e f fits =
       record {
         list = overlapText x y;
@@ -110,8 +112,8 @@ module _ (k : ℕ) (t : List ℕ) {old : List ℕ} {r : Written} {new : List ℕ
       → Prints (titleText k ++ (ascii "refused left " ++ numberAt (number s) p ++ newline)) old r new
   pair-left-refused s p h e = said (short-said t h ∙ ap (λ (o : Outcome). readText o (readRule (rightPart t))) e)
 
-  pub pair-right-refused : (x : List (List OurTerm)) (s : Reason) (p : ℕ) → length t ≤ longestLine → readRule (leftPart t) ≡ accepted x
-      → readRule (rightPart t) ≡ refused s p
+  pub pair-right-refused : (x : List (List OurTerm)) (s : Reason) (p : ℕ) → length t ≤ longestLine
+      → readRule (leftPart t) ≡ accepted x → readRule (rightPart t) ≡ refused s p
       → Prints (titleText k ++ (ascii "refused right " ++ numberAt (number s) p ++ newline)) old r new
   pair-right-refused x s p h e f = said (short-said t h ∙ ap₂ readText e f)
 
@@ -121,8 +123,8 @@ module _ (k : ℕ) (t : List ℕ) {old : List ℕ} {r : Written} {new : List ℕ
 
 -- ---- what src/ ensures
 
--- of `pair_answer`: of whatever line in lent bytes that have room for the answer, demand 3 at the numbers as names, or the line in its place
-pub record PairSharedSlips (k : ℕ) (t old : List ℕ) (r : Written) (new : List ℕ) : Type 0 where
+-- of `pair_answer`: of whatever line, demand 3 at the numbers as names, or the line in the list's place
+pub record PairSaid (k : ℕ) (t old : List ℕ) (r : Written) (new : List ℕ) : Type 0 where
   pub shared : (x y : List (List OurTerm)) → readRule (leftPart t) ≡ accepted x → readRule (rightPart t) ≡ accepted y
       → length (overlapText x y) ≤ mostBytes → PrintsShared ℕ k x y old r new
   pub too-long : (x y : List (List OurTerm)) → readRule (leftPart t) ≡ accepted x → readRule (rightPart t) ≡ accepted y
@@ -130,14 +132,14 @@ pub record PairSharedSlips (k : ℕ) (t old : List ℕ) (r : Written) (new : Lis
       → Prints (titleText k ++ (ascii "too long " ++ digitsOf (length (overlapText x y)) ++ newline)) old r new
   pub left-refused : (s : Reason) (p : ℕ) → length t ≤ longestLine → readRule (leftPart t) ≡ refused s p
       → Prints (titleText k ++ (ascii "refused left " ++ numberAt (number s) p ++ newline)) old r new
-  pub right-refused : (x : List (List OurTerm)) (s : Reason) (p : ℕ) → length t ≤ longestLine → readRule (leftPart t) ≡ accepted x
-      → readRule (rightPart t) ≡ refused s p
+  pub right-refused : (x : List (List OurTerm)) (s : Reason) (p : ℕ) → length t ≤ longestLine
+      → readRule (leftPart t) ≡ accepted x → readRule (rightPart t) ≡ refused s p
       → Prints (titleText k ++ (ascii "refused right " ++ numberAt (number s) p ++ newline)) old r new
   pub line-long : longestLine < length t → Prints (titleText k ++ (ascii "line too long" ++ newline)) old r new
 
-pub pair-shared : (k : ℕ) (t : List ℕ) {old : List ℕ} {r : Written} {new : List ℕ} → Writes (pairAnswer k t) old r new
-    → length (pairAnswer k t) ≤ length old → PairSharedSlips k t old r new
-pair-shared k t is room =
+pair-said : (k : ℕ) (t : List ℕ) {old : List ℕ} {r : Written} {new : List ℕ} → Writes (pairAnswer k t) old r new
+    → length (pairAnswer k t) ≤ length old → PairSaid k t old r new
+pair-said k t is room =
     record {
       shared = pair-demand-3 k t is room ℕ;
       too-long = pair-long k t is room;
@@ -145,3 +147,11 @@ pair-shared k t is room =
       right-refused = pair-right-refused k t is room;
       line-long = pair-line-long k t is room;
     }
+
+-- with the 65,562 bytes that no answer exceeds, all of it is said
+abbrev pub PairSharedSlips : ℕ → List ℕ → List ℕ → Written → List ℕ → Type 0
+PairSharedSlips k t old r new = longestAnswer ≤ length old → PairSaid k t old r new
+
+pub pair-shared : (k : ℕ) (t : List ℕ) {old : List ℕ} {r : Written} {new : List ℕ} → Writes (pairAnswer k t) old r new
+    → length (pairAnswer k t) ≤ longestAnswer → PairSharedSlips k t old r new
+pair-shared k t is short enough = pair-said k t is (omega arith)

@@ -1,9 +1,6 @@
 // The demands as theorems, in specs/, over what the public functions' contracts cite; and as promises of compiled functions:
 // each function below calls one of the product's and ensures what a demand says of its answer and of the lent bytes. So a contract
 // of the product that says less does not pass. Nothing calls these functions.
-ghost use Prim.Native.Nat.{_≤_};
-ghost use lib.ListN.{length};
-ghost use Rattle.pair_answers.specs.Pairs.{longestAnswer};
 ghost use Rattle.demands.specs.Overlaps.{ListsSharedSlips, TextsSharedSlips};
 ghost use Rattle.demands.specs.Pairs.{PairSharedSlips};
 ghost use Rattle.demands.specs.Library.{LibrarySharedSlips};
@@ -29,9 +26,9 @@ pub fn list_texts(left: &[u8], right: &[u8], room: &mut [u8], out: &mut [u8]) ->
     overlaps::list_texts(left, right, room, out)
 }
 
-// What `pairs` prints for a line: the lent bytes have room for any answer.
+// What `pairs` prints for a line.
 pub fn pair_answer(k: u64, line: &[u8], out: &mut [u8]) -> Written
-    ensures { λ r. ⌜ (longestAnswer ≤ length (now (out .entry)) → PairSharedSlips k (now (line .entry)) (now (out .entry)) r (now (out .exit))) ⌝ }
+    ensures { λ r. ⌜ PairSharedSlips k (now (line .entry)) (now (out .entry)) r (now (out .exit)) ⌝ }
 {
     pair_answers::pair_answer(k, line, out)
 }

@@ -42,7 +42,8 @@ module _ (s u : List ℕ) (old : List ℕ) (at n : ℕ) (is-n : n ≡ mostBytes)
       left-refused h q =
           let v = sym (is .left) ∙ h in
           let text = ascii "refused left " ++ numberAt (numberOf r) i ++ newline in
-          let there = subst (λ (l : List ℕ). Placed text at l e new) (none-put (ruleOf o) (ruleOf p) old at n is-n room (is .listed .bytes) (no-lines-left o p r i v)) q in
+          let untouched = none-put (ruleOf o) (ruleOf p) old at n is-n room (is .listed .bytes) (no-lines-left o p r i v) in
+          let there = subst (λ (l : List ℕ). Placed text at l e new) untouched q in
           piece-as mostBytes at old (left-said o p r i v) (there, refusal-short (ascii "refused left ") r i (omega arith) small)
 
       pub right-refused : t .left ≡ Accepted → t .right ≡ Refused r i
@@ -50,7 +51,8 @@ module _ (s u : List ℕ) (old : List ℕ) (at n : ℕ) (is-n : n ≡ mostBytes)
       right-refused a h q =
           let v = sym (is .right) ∙ h in
           let text = ascii "refused right " ++ numberAt (numberOf r) i ++ newline in
-          let there = subst (λ (l : List ℕ). Placed text at l e new) (none-put (ruleOf o) (ruleOf p) old at n is-n room (is .listed .bytes) (no-lines-right o p r i v)) q in
+          let untouched = none-put (ruleOf o) (ruleOf p) old at n is-n room (is .listed .bytes) (no-lines-right o p r i v) in
+          let there = subst (λ (l : List ℕ). Placed text at l e new) untouched q in
           piece-as mostBytes at old (right-said o p r i (sym (is .left) ∙ a) v) (there, refusal-short (ascii "refused right ") r i (omega arith) small)
 
     pub texts-in : (e b : ℕ) → t .listed ≡ Lines e b → at + b ≤ length old
@@ -58,7 +60,9 @@ module _ (s u : List ℕ) (old : List ℕ) (at n : ℕ) (is-n : n ≡ mostBytes)
 
     module _ (a : t .left ≡ Accepted) (c : t .right ≡ Accepted) (e b : ℕ) where
       pub texts-put : t .listed ≡ Lines e b → Piece mostBytes (readText o p) at old (at + b) (whole m)
-      texts-put h = piece-as mostBytes at old (both-said o p (sym (is .left) ∙ a) (sym (is .right) ∙ c)) (list-put (ruleOf o) (ruleOf p) old at n is-n room (is .listed) e b h)
+      texts-put h =
+          piece-as mostBytes at old (both-said o p (sym (is .left) ∙ a) (sym (is .right) ∙ c))
+          (list-put (ruleOf o) (ruleOf p) old at n is-n room (is .listed) e b h)
 
       pub texts-long : t .listed ≡ TooSmall e b → b < 18446744073709551616 → {k : ℕ} {new : List ℕ}
           → Placed (ascii "too long " ++ digitsOf b ++ newline) at (whole m) k new → Piece mostBytes (readText o p) at old k new

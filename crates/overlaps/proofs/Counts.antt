@@ -23,9 +23,9 @@ use Rattle.overlaps.specs.declared.Candidate.{Candidate}
 use Rattle.overlaps.specs.declared.Listed.the-variants.{Lines, TooSmall}
 use Rattle.overlaps.specs.Answers.{ListsLines}
 use Rattle.pieces.specs.Stored.{bytesOf, storeAll}
-use Rattle.overlaps.specs.Listing.{leftAt, rightAt, spanAt, candidateOf, afterJoin, candidateLines, choiceLines, linesFrom, allLines, noTally, tallied, mostEntries, Countable}
+use Rattle.overlaps.specs.Listing.{leftAt, rightAt, spanAt, candidateOf, afterJoin, candidateLines, choiceLines, linesFrom, allLines}
+use Rattle.overlaps.specs.Listing.{noTally, tallied, Stores, mostEntries, Countable}
 use Rattle.overlaps.proofs.Spans.{few-left}
-use Rattle.overlaps.proofs.Laws.{Listed}
 
 -- ---- how many lines: no field pair has more than 17 candidates, of any values
 
@@ -83,7 +83,7 @@ module _ (p : Pair) (ch : Choice) (st : Fillings) (t : Tally) (is-ch : ch ≡ no
   pub all-requires : p .left .n ≤ 4 → (p .left .n ≤ 4) × (0 ≤ p .left .n) × Countable t (linesFrom (p .left .n - 0) p 0 ch st)
   all-requires h = (h, omega arith, subst (Countable t) (sym all-are) (subst (λ (x : Tally). Countable x (allLines p)) (sym is-t) (countable-all p h)))
 
-  pub all-listed : (u : Tally) (old new : List ℕ) → Listed (linesFrom (p .left .n - 0) p 0 ch st) t old u new → (u ≡ tallied noTally (allLines p)) × (new ≡ storeAll (allLines p) 0 old)
+  pub all-listed : (u : Tally) (old new : List ℕ) → Stores (linesFrom (p .left .n - 0) p 0 ch st) t old u new → Stores (allLines p) noTally old u new
   all-listed u old new h = (
     h .0 ∙ ap₂ tallied is-t all-are,
     h .1 ∙ ap₂ (λ (ls : List (List ℕ)) (x : Tally). storeAll ls (x .bytes) old) all-are is-t,
@@ -122,4 +122,8 @@ module _ (ls : List (List ℕ)) (old : List ℕ) (t : Tally) (is-t : t ≡ talli
       let f : take (t .bytes) room' ≡ bytesOf ls =
       ap₂ take bytes-are (is-room ∙ stored ls room (omega (arith, bytes-are)) ∙ rw (le-leb (length (bytesOf ls)) (length room) (omega (arith, bytes-are))))
       ∙ take-at (bytesOf ls) (drop (length (bytesOf ls)) room) (length (bytesOf ls)) refl in
-      in-front h (is-new ∙ ap (λ (b : List ℕ). take (length b) b ++ drop (length b) old) f ∙ ap (λ (b : List ℕ). b ++ drop (length (bytesOf ls)) old) (take-length (bytesOf ls)))
+      in-front h (
+      is-new
+      ∙ ap (λ (b : List ℕ). take (length b) b ++ drop (length b) old) f
+      ∙ ap (λ (b : List ℕ). b ++ drop (length (bytesOf ls)) old) (take-length (bytesOf ls))
+      )

@@ -1,6 +1,6 @@
 -- What listing overlaps answers, and what it leaves in the lent bytes and in the room. Document 01: "The lines written are those of the
--- entries, in their order. The entry count, which is their number, and the byte count, which is the length of all their lines, are returned.
--- 8: as in searching, with the entry count and the needed byte count, the old bytes left."
+-- entries, in their order. The entry count, which is their number, and the byte count, which is the length of all their lines, are
+-- returned. 8: as in searching, with the entry count and the needed byte count, the old bytes left."
 use mathlib.Core.Path.{_≡_}
 use mathlib.Core.List.{List, [], _∷_, map}
 use mathlib.Core.Option.{none, some}

@@ -12,7 +12,7 @@ use Rattle.bytes.specs.Bytes.{indexOf}
 use Rattle.text.specs.Ascii.{ascii, newline}
 use Rattle.text.specs.Read.{readRule}
 use Rattle.overlaps.specs.Answers.{textsRoom}
-use Rattle.overlap_text.specs.Texts.{mostBytes, readText, textsIn, roomIn}
+use Rattle.overlap_text.specs.Texts.{mostBytes, readText, textsIn, roomBy}
 use Rattle.overlap_text.proofs.Said.{in-room}
 use Rattle.pair_answers.specs.Pairs.{longestLine, leftPart, rightPart, lineText, lineRoom}
 
@@ -34,7 +34,8 @@ module _ (t : List ℕ) (tab rest : ℕ) (is-tab : tab ≡ indexOf 9 t) (is-rest
       ∙ sym (in-room k (readRule (take tab t)) (readRule (take (length t - rest) (drop rest t))) room)
 
   -- what the lister leaves in the room
-  pub line-room : (k : ℕ) (room : List ℕ) → length t ≤ longestLine → mostBytes ≤ k → roomIn k (take tab t) (take (length t - rest) (drop rest t)) room ≡ lineRoom t room
+  pub line-room : (k : ℕ) (room : List ℕ) → length t ≤ longestLine → mostBytes ≤ k
+      → roomBy k (take tab t) (take (length t - rest) (drop rest t)) room ≡ lineRoom t room
   unfolding lineRoom
   line-room k room h enough =
       ap (λ (b : Bool). cond b (textsRoom (take tab t) (take (length t - rest) (drop rest t)) room) room) (le-leb mostBytes k enough)

@@ -1,5 +1,6 @@
 // The text that `pairs` prints for one line, into lent bytes: the overlaps of the line's two rules.
-// It is put together piece behind piece where the room is known to be enough: in the lent bytes, or else in bytes of its own that are then given whole or not at all.
+// It is put together piece behind piece where the room is known to be enough: in the lent bytes, or else in bytes of its own that are then
+// given whole or not at all.
 // The room that is handed on is for the lister's work.
 ghost use mathlib.Core.Path.{_≡_};
 ghost use Prim.Native.Nat.{_+_, _≤_};

@@ -58,6 +58,7 @@ texts-said t u {old} {said} a b answer is is-a is-b is-answer =
     let r = is-b ∙ ap readingBy (is .right) ∙ verdict-said (readRule u) in
     let x = ruleOf (readRule t) in
     let y = ruleOf (readRule u) in
+    let n = length (overlapText x y) in
     is-answer
     ∙ ap₂ (λ (x y : Reading). listingBy x y (said .listed)) l r
-    ∙ listed-said (readingOf (readRule t)) (readingOf (readRule u)) (length (overlapText x y)) (length old) (length (linesOf x y)) (length (overlapText x y)) (said .listed) (is .listed .answer)
+    ∙ listed-said (readingOf (readRule t)) (readingOf (readRule u)) n (length old) (length (linesOf x y)) n (said .listed) (is .listed .answer)

@@ -1,4 +1,4 @@
--- The same answers, from the values that reading and listing return. `text-said` and `texts-said` of proofs/Said say that they are the same.
+-- The same answers, from what reading and listing return: `text-said` and `texts-said` of proofs/Said say that they are the same.
 use Prim.Native.Nat.{ℕ}
 use Rattle.text.specs.Told.{Told}
 use Rattle.verdicts.specs.declared.Verdict.{Verdict}

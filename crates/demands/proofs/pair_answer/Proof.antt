@@ -1,6 +1,5 @@
 -- `demands::pair_answer` meets its contract: demand 3 of what `pairs` prints for a line. Assumes nothing.
 use borrow.Author.Needs.{needs}
-use native.Mathlib.Omega.{arith}
 use Rattle.demands.specs.Pairs.{pair-shared}
 use Rattle.demands.proofs.pair_answer.Statement.{statement}
 use Rattle.demands.proofs.pair_answer.Tie as tie
@@ -15,7 +14,7 @@ returns : tie.Need-returns
 returns c =
     let z = c .before .before .before .before .before .before .args in
     let e = c .before .before .pair-answer .ensures in
-    λ room. pair-shared (z .k) (z .line .now) (e .0) (omega (arith, e .1))
+    pair-shared (z .k) (z .line .now) (e .0) (e .1)
 
 pub pair-answer-spec : {M : Type 1} → statement M
 pair-answer-spec = tie.close (tie.spec pair-answer-requires same-length returns)

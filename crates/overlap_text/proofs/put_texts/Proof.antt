@@ -20,7 +20,8 @@ returns c =
     let a = c .before .before .before .before .before .before .args in
     let k = length (a .out .now) - a .at in
     let few : k < mostBytes = omega (arith, c .if1 .taken, c .before .bytes-behind .ensures) in
-    let q = piece-as mostBytes (a .at) (a .out .now) (no-room k (readRule (a .left .now)) (readRule (a .right .now)) few) (placed-none (a .at) (a .out .now), omega arith) in
+    let none = no-room k (readRule (a .left .now)) (readRule (a .right .now)) few in
+    let q = piece-as mostBytes (a .at) (a .out .now) none (placed-none (a .at) (a .out .now), omega arith) in
     (q .0, (q .1, rw (lt-leb mostBytes k few)))
 
 put-read-requires : tie.Need-put-read-requires

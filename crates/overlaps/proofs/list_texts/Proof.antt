@@ -27,8 +27,10 @@ returns c =
     let z = c .before .before .before .before .before .before .before .before .before .before .before .before .before .args in
     let l = c .before .before .before .before .before .before .before .before .read-tokens in
     let r = c .before .before .before .before .before .before .before .read-tokens2 in
-    let o = c .before .before .before .before .list-tokens in
-    (texts-listed (z .left .now) (z .right .now) (l .ensures .0) (r .ensures .0) (o .ensures .0), o .ensures .1 ∙ texts-stored (z .left .now) (z .right .now) (z .room .now))
+    let o = c .before .before .before .before .list-tokens in (
+      texts-listed (z .left .now) (z .right .now) (l .ensures .0) (r .ensures .0) (o .ensures .0),
+      o .ensures .1 ∙ texts-stored (z .left .now) (z .right .now) (z .room .now),
+    )
 
 pub list-texts-spec : {M : Type 1} → statement M
 list-texts-spec =

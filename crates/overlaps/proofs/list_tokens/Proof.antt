@@ -14,7 +14,9 @@ returns c =
     let l = z .args .left .now in
     let r = z .args .right .now in
     let e = said-none l r (z .args .l) (z .args .r) (z .pre) (c .if1 .taken) in
-    (none-listed (countedRule (saidRule l)) (countedRule (saidRule r)) e (z .args .out .now), none-stored (countedRule (saidRule l)) (countedRule (saidRule r)) e (z .args .room .now))
+    let x = countedRule (saidRule l) in
+    let y = countedRule (saidRule r) in
+    (none-listed x y e (z .args .out .now), none-stored x y e (z .args .room .now))
 
 returns-2 : tie.Need-returns-2
 returns-2 c =
@@ -22,7 +24,9 @@ returns-2 c =
     let l = z .args .left .now in
     let r = z .args .right .now in
     let e = said-differ l r (z .args .l) (z .args .r) (z .pre) (both-read l r) (c .before .before .before .if1 .left) (c .if2 .taken) in
-    (none-listed (countedRule (saidRule l)) (countedRule (saidRule r)) e (z .args .out .now), none-stored (countedRule (saidRule l)) (countedRule (saidRule r)) e (z .args .room .now))
+    let x = countedRule (saidRule l) in
+    let y = countedRule (saidRule r) in
+    (none-listed x y e (z .args .out .now), none-stored x y e (z .args .room .now))
 
 list-pair-requires : tie.Need-list-pair-requires
 list-pair-requires c κs =

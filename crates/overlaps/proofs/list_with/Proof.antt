@@ -53,8 +53,12 @@ returns : tie.Need-returns
 returns c =
     let z = c .before .before .before .before .before .before .before .before .before .before .before .before .before .before .before .before .before .before .before .args in
     let o = c .before .before .before .before .list-texts in
-    let a = written-front (plain (countedRule (z .left))) (replicate 1151 0) (plain-short (z .left)) (c .before .before .before .before .before .before .before .before .before .before .before .before .before .size-of .ensures) (c .before .before .before .before .before .before .before .before .before .before .before .before .before .before .before .write-rule .ensures) in
-    let b = written-front (plain (countedRule (z .right))) (replicate 1151 0) (plain-short (z .right)) (c .before .before .before .before .before .before .before .before .before .size-of2 .ensures) (c .before .before .before .before .before .before .before .before .before .before .before .write-rule2 .ensures) in
+    let s = c .before .before .before .before .before .before .before .before .before .before .before .before .before .size-of .ensures in
+    let t = c .before .before .before .before .before .before .before .before .before .size-of2 .ensures in
+    let v = c .before .before .before .before .before .before .before .before .before .before .before .before .before .before .before .write-rule .ensures in
+    let w = c .before .before .before .before .before .before .before .before .before .before .before .write-rule2 .ensures in
+    let a = written-front (plain (countedRule (z .left))) (replicate 1151 0) (plain-short (z .left)) s v in
+    let b = written-front (plain (countedRule (z .right))) (replicate 1151 0) (plain-short (z .right)) t w in
     (values-listed (z .left) (z .right) a b (o .ensures .0), o .ensures .1 ∙ values-stored (z .left) (z .right) a b (z .room .now))
 
 pub list-with-spec : {M : Type 1} → statement M

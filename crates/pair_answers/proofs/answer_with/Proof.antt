@@ -63,7 +63,9 @@ returns-2 c =
     let l = c .before .before .before .before .before .before .before .before .before .before .before .longest in
     let P = c .before .before .before .before .before .before .before .before .put-answer2 .ensures in
     let G = c .before .before .give in
-    (subst (λ (t : List ℕ). Writes t (z .out .now) (G .result) (G .last .1 .0)) (front-is (pairAnswer (z .k) (z .line .now)) (l .result) (omega (arith, P .1 .0, l .ensures)) (P .0)) (G .ensures), P .1)
+    let t = pairAnswer (z .k) (z .line .now) in
+    let front = front-is t (l .result) (omega (arith, P .1 .0, l .ensures)) (P .0) in
+    (subst (λ (u : List ℕ). Writes u (z .out .now) (G .result) (G .last .1 .0)) front (G .ensures), P .1)
 
 pub answer-with-spec : {M : Type 1} → statement M
 answer-with-spec =
