@@ -1,5 +1,7 @@
 pub mod Texts
 pub mod Matching
 pub mod Searching
+pub mod Entries
 pub mod Overlaps
+pub mod Pairs
 pub mod Library

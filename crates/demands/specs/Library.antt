@@ -1,30 +1,31 @@
--- THE STATIC LIBRARY: what is promised of reading and of the overlap list holds of what another program is answered and lent, said of texts.
--- Over the definitions that the contracts cite, for texts t and u and the lent bytes `old`:
+-- THE STATIC LIBRARY: what is promised of reading and of the overlap list holds of what another program is answered and lent, of texts.
+-- Over what the contracts cite, for texts t and u, the lent bytes `old`, the answer r and the bytes `new` afterwards:
 --     yopobrush::yopobrush_read_rule       answers `readingOf (readRule t)`
---     yopobrush::yopobrush_list_overlaps   answers `listingOf (readRule t) (readRule u) (length old)`, and leaves
---                                          `after (overlapText (ruleOf (readRule t)) (ruleOf (readRule u))) old`
-use mathlib.Core.Path.{_≡_, refl, sym, _∙_, ap, subst}
+--     yopobrush::yopobrush_list_overlaps   `LibraryLists t u old r new`
+use mathlib.Core.Path.{_≡_, refl, sym, _∙_, ap, subst, subst₂}
 use mathlib.Core.Logic.{_≢_, _↔_, Iff·trans}
-use mathlib.Core.List.{List, []}
-use Prim.Native.Nat.{ℕ, zero, suc, _≤_}
+use mathlib.Core.Bool.{Bool, true, false, cond, false≢true}
+use mathlib.Core.Option.{none, some}
+use mathlib.Core.List.{List, [], _++_}
+use Prim.Native.Nat.{ℕ, zero, suc, _≤_, _<_}
 use native.Mathlib.Omega.{arith}
+use lib.Dec.{leb}
 use lib.ListN.{length, take, drop}
-use borrow.Author.Tests.{le-leb}
+use borrow.Author.Tests.{le-leb, lt-leb, leb-false}
 use Rattle.text.specs.Terms.{OurTerm}
 use Rattle.text.specs.Limits.{IsRule}
-use Rattle.text.specs.Read.{Reason, long, grammar, fields, terms, limits, linear, variable, number, Outcome, refused, accepted, readRule, Refuses, NoReason, rule}
+use Rattle.text.specs.Read.{Reason, long, grammar, fields, terms, limits, linear, variable, number, Outcome, refused, accepted, readRule}
+use Rattle.text.specs.Read.{Refuses, NoReason, rule}
 use Rattle.text.proofs.Accepted.{rule-read}
 use Rattle.text.proofs.Theorems.{earlier, rule-refused}
-use Rattle.terms.specs.Values.{encodeRule}
-use Rattle.accepted.specs.Accepted.{countedRule}
-use Rattle.accepted.proofs.Accepted.{encode-accepted-rule, view-encode-rule}
-use Rattle.writing.specs.Answers.{after}
 use Rattle.listing.specs.Overlaps.{linesOf, overlapText}
 use Rattle.overlaps.proofs.Rules.{no-right, none-listed}
 use Rattle.yopobrush.specs.declared.Reading.{Reading}
-use Rattle.overlaps.specs.Answers.{ruleOf}
-use Rattle.yopobrush.specs.Answers.{readingOf, listingOf}
-use Rattle.demands.specs.Overlaps.{Demand3, demand-3}
+use Rattle.overlaps.specs.declared.Listed.the-variants.{Lines}
+use Rattle.overlaps.specs.Answers.{Lists, ruleOf}
+use Rattle.yopobrush.specs.declared.Listing.{Listing}
+use Rattle.yopobrush.specs.Answers.{readingOf, numbered, LibraryLists}
+use Rattle.demands.specs.Overlaps.{Demand3, rules-3}
 
 -- ---- reading
 
@@ -87,56 +88,95 @@ reading-accepted t = go (readRule t)
 
 -- ---- the overlap list
 
-counted-rule : (x : List (List OurTerm)) → IsRule x → countedRule (encodeRule x) ≡ x
-counted-rule x h = rw (encode-accepted-rule x h, view-encode-rule x h)
-
--- what the lent bytes hold behind a listing of the rules x and y
-abbrev Listed3 : List ℕ → List (List OurTerm) → List (List OurTerm) → Type 1
-Listed3 old x y =
-    Demand3 x y (length (linesOf x y)) (take (length (overlapText x y)) (after (overlapText x y) old))
-    × (drop (length (overlapText x y)) (after (overlapText x y) old) ≡ drop (length (overlapText x y)) old)
-
-listed-3 : (old : List ℕ) (x y : List (List OurTerm)) → IsRule x → IsRule y → length (overlapText x y) ≤ length old → Listed3 old x y
-listed-3 old x y a b room =
-    let e = counted-rule x a in
-    let f = counted-rule y b in
-    let fits : length (overlapText (countedRule (encodeRule x)) (countedRule (encodeRule y))) ≤ length old = rw (e, f) room in
-    let d = demand-3 (encodeRule x) (encodeRule y) (encode-accepted-rule x a) (encode-accepted-rule y b) old fits in
-    subst (Listed3 old x) f (subst (λ (r : List (List OurTerm)). Listed3 old r (countedRule (encodeRule y))) e (d .1, d .2))
-
--- what another program is answered of the outcomes o and p, which accept the rules x and y, and what it then has in the lent bytes
-abbrev pub Answered : List ℕ → List (List OurTerm) → List (List OurTerm) → Outcome → Outcome → Type 1
-Answered old x y o p =
-    let size = length (overlapText x y) in
-    let bytes = after (overlapText (ruleOf o) (ruleOf p)) old in
-    (listingOf o p (length old) ≡ record { left = accepting; right = accepting; refusal = 0; entries = length (linesOf x y); bytes = size })
-    × Demand3 x y (length (linesOf x y)) (take size bytes)
-    × (drop size bytes ≡ drop size old)
-
--- DEMAND 3 OF THE LIBRARY, of texts t and u that are read as the rules x and y: nothing is refused, the counts are the list's, the first
--- bytes, as many as are counted, are the list of demand 3, and the others are the old ones
-pub library-demand-3 : (t u old : List ℕ) (x y : List (List OurTerm)) → readRule t ≡ accepted x → readRule u ≡ accepted y → length (overlapText x y) ≤ length old
-    → Answered old x y (readRule t) (readRule u)
-library-demand-3 t u old x y reads-t reads-u room =
-    let l = listed-3 old x y (rule-read t x reads-t) (rule-read u y reads-u) room in
-    subst (Answered old x y (readRule t)) (sym reads-u) (subst (λ (o : Outcome). Answered old x y o (accepted y)) (sym reads-t) (is-listed, l .0, l .1))
-  where
-    is-listed : listingOf (accepted x) (accepted y) (length old) ≡ record { left = accepting; right = accepting; refusal = 0; entries = length (linesOf x y); bytes = length (overlapText x y) }
-    is-listed = rw (le-leb (length (overlapText x y)) (length old) room)
+-- DEMAND 3 OF THE LIBRARY, of texts that are read as the rules x and y, in lent bytes that have room for the list: nothing is refused, the
+-- counts are the list's, the first bytes, as many as are counted, are the list of demand 3, and the others are the old ones
+pub record LibraryShared (B : Type 0) (x y : List (List OurTerm)) (old : List ℕ) (r : Listing) (new : List ℕ) : Type 0 where
+  pub left : r .left ≡ accepting
+  pub right : r .right ≡ accepting
+  pub refusal : r .refusal ≡ 0
+  pub entries : r .entries ≡ length (linesOf x y)
+  pub bytes : r .bytes ≡ length (overlapText x y)
+  pub list : Demand3 B x y (length (linesOf x y)) (take (length (overlapText x y)) new)
+  pub behind : drop (length (overlapText x y)) new ≡ drop (length (overlapText x y)) old
 
 -- document 01: "A refusal returns its number, its place and the rule with no fields", "A rule with no fields counts as having no entries":
 -- where a text is refused, the list has no entries and no bytes and is not refused itself, and the lent bytes stay
-abbrev pub Unlisted : List ℕ → Outcome → Outcome → Type 0
-Unlisted old o p =
-    (listingOf o p (length old) ≡ record { left = readingOf o; right = readingOf p; refusal = 0; entries = 0; bytes = 0 })
-    × (after (overlapText (ruleOf o) (ruleOf p)) old ≡ old)
+pub record LibraryNone (t u old : List ℕ) (r : Listing) (new : List ℕ) : Type 0 where
+  pub answer : r ≡ record { left = readingOf (readRule t); right = readingOf (readRule u); refusal = 0; entries = 0; bytes = 0 }
+  pub bytes : new ≡ old
 
-unlisted : (old : List ℕ) (o p : Outcome) → linesOf (ruleOf o) (ruleOf p) ≡ [] → Unlisted old o p
-unlisted old o p e = (rw (e, le-leb 0 (length old) (omega arith)), sym (none-listed (linesOf (ruleOf o) (ruleOf p)) old e .1))
+-- what is promised of the texts t and u
+pub record LibrarySharedSlips (t u old : List ℕ) (r : Listing) (new : List ℕ) : Type 0 where
+  pub shared : (x y : List (List OurTerm)) → readRule t ≡ accepted x → readRule u ≡ accepted y → length (overlapText x y) ≤ length old
+      → LibraryShared ℕ x y old r new
+  -- "8: as in searching": exactly where more bytes are needed than lent, with the old bytes left
+  pub eight-only : (r .refusal ≡ 8) ↔ (length old < length (overlapText (ruleOf (readRule t)) (ruleOf (readRule u))))
+  pub refused-old : r .refusal ≡ 8 → new ≡ old
+  pub left-none : (s : Reason) (p : ℕ) → readRule t ≡ refused s p → LibraryNone t u old r new
+  pub right-none : (s : Reason) (p : ℕ) → readRule u ≡ refused s p → LibraryNone t u old r new
 
-pub left-refused : (t u old : List ℕ) (r : Reason) (p : ℕ) → readRule t ≡ refused r p → Unlisted old (readRule t) (readRule u)
-left-refused t u old r p e = unlisted old (readRule t) (readRule u) (ap (λ (o : Outcome). linesOf (ruleOf o) (ruleOf (readRule u))) e)
+-- the number told of a list is 8 where it has no room
+eight-numbered : (f : Bool) → (numbered (cond f none (some 8)) ≡ 8) ↔ (f ≡ false)
+eight-numbered true = (λ e. absurd (omega (arith, e)), λ e. absurd (false≢true (sym e)))
+eight-numbered false = (λ e. refl, λ e. refl)
 
-pub right-refused : (t u old : List ℕ) (r : Reason) (p : ℕ) → readRule u ≡ refused r p → Unlisted old (readRule t) (readRule u)
-right-refused t u old r p e =
-    unlisted old (readRule t) (readRule u) (ap (λ (o : Outcome). linesOf (ruleOf (readRule t)) (ruleOf o)) e ∙ no-right (ruleOf (readRule t)))
+module _ {t u old : List ℕ} {r : Listing} {new : List ℕ} (is : LibraryLists t u old r new) where
+  abbrev x₀ : List (List OurTerm)
+  x₀ = ruleOf (readRule t)
+
+  abbrev y₀ : List (List OurTerm)
+  y₀ = ruleOf (readRule u)
+
+  abbrev size : ℕ
+  size = length (overlapText x₀ y₀)
+
+  refusal-is : r .refusal ≡ numbered (cond (leb size (length old)) none (some 8))
+  refusal-is = ap (λ (a : Listing). a .refusal) (is .answer)
+
+  too-few : (r .refusal ≡ 8) ↔ (length old < size)
+  too-few = (
+    λ e. leb-false size (length old) (eight-numbered (leb size (length old)) .0 (sym refusal-is ∙ e)),
+    λ h. refusal-is ∙ eight-numbered (leb size (length old)) .1 (lt-leb size (length old) h),
+  )
+
+  stays : length old < size → new ≡ old
+  stays h = is .bytes ∙ ap (λ (f : Bool). cond f (overlapText x₀ y₀ ++ drop size old) old) (lt-leb size (length old) h)
+
+  -- the list as the lister has it, where there is room
+  lists : size ≤ length old → Lists x₀ y₀ old (Lines (length (linesOf x₀ y₀)) size) new
+  lists room = record { answer = rw (le-leb size (length old) room); bytes = is .bytes }
+
+  pub library-demand-3 : (B : Type 0) (x y : List (List OurTerm)) → readRule t ≡ accepted x → readRule u ≡ accepted y
+      → length (overlapText x y) ≤ length old → LibraryShared B x y old r new
+  library-demand-3 B x y reads-t reads-u room =
+      let e : x₀ ≡ x = ap ruleOf reads-t in
+      let f : y₀ ≡ y = ap ruleOf reads-u in
+      let fits : size ≤ length old = rw (reads-t, reads-u) room in
+      let l = rules-3 (lists fits) B (subst IsRule (sym e) (rule-read t x reads-t)) (subst IsRule (sym f) (rule-read u y reads-u)) fits in
+      subst₂ (λ (a b : List (List OurTerm)). LibraryShared B a b old r new) e f (
+      record {
+        left = ap (λ (a : Listing). a .left) (is .answer) ∙ ap readingOf reads-t;
+        right = ap (λ (a : Listing). a .right) (is .answer) ∙ ap readingOf reads-u;
+        refusal = refusal-is ∙ ap (λ (g : Bool). numbered (cond g none (some 8))) (le-leb size (length old) fits);
+        entries = ap (λ (a : Listing). a .entries) (is .answer);
+        bytes = ap (λ (a : Listing). a .bytes) (is .answer);
+        list = l .list;
+        behind = l .behind;
+      })
+
+  none-left : linesOf x₀ y₀ ≡ [] → LibraryNone t u old r new
+  none-left e =
+      record {
+        answer = is .answer ∙ rw (e, le-leb 0 (length old) (omega arith));
+        bytes = is .bytes ∙ sym (none-listed x₀ y₀ e old .bytes);
+      }
+
+  pub library-shared : LibrarySharedSlips t u old r new
+  library-shared =
+      record {
+        shared = library-demand-3 ℕ;
+        eight-only = too-few;
+        refused-old = λ e. stays (too-few .0 e);
+        left-none = λ s p e. none-left (ap (λ (o : Outcome). linesOf (ruleOf o) y₀) e);
+        right-none = λ s p e. none-left (ap (λ (o : Outcome). linesOf x₀ (ruleOf o)) e ∙ no-right x₀);
+      }

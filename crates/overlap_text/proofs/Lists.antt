@@ -1,22 +1,22 @@
 -- What the lister leaves in the part of the room that is lent to it, by its answer. Assumes nothing.
 use mathlib.Core.Path.{_≡_, refl, sym, ap, _∙_, subst}
-use mathlib.Core.Bool.{Bool, true, false, cond}
 use mathlib.Core.List.{List, [], _++_, append-assoc}
 use Prim.Native.Nat.{ℕ, _+_, _≤_, _<_}
 use native.Mathlib.Omega.{arith}
-use lib.Dec.{leb}
 use lib.ListN.{length, take, drop, length-append, length-drop, take-append-drop}
 use lib.Seq.{sets, sets-eq, length-take-le, drop-append-le, drop-drop}
-use borrow.Author.Tests.{le-leb, lt-leb, leb-true, leb-false}
+use borrow.Author.Tests.{le-leb, lt-leb}
+use Rattle.text.specs.Terms.{OurTerm}
 use Rattle.text.specs.Ascii.{ascii, newline}
 use Rattle.text.specs.Numbers.{digitsOf}
 use Rattle.writing.specs.Answers.{after}
 use Rattle.writing.proofs.Digits.{digits-64}
-use Rattle.listing.specs.Lines.{Line, listText}
+use Rattle.listing.specs.Overlaps.{linesOf, overlapText}
 use Rattle.overlaps.specs.declared.Listed.{Listed}
 use Rattle.overlaps.specs.declared.Listed.the-variants.{Lines, TooSmall}
-use Rattle.overlaps.specs.Answers.{listedOf}
+use Rattle.overlaps.specs.Answers.{Lists}
 use Rattle.overlaps.proofs.Rules.{none-listed}
+use Rattle.overlaps.proofs.Answers.{written, kept, lines-told, small-told}
 use Rattle.pieces.specs.Placed.{Placed}
 use Rattle.pieces.proofs.Pieces.{placed-as}
 use Rattle.entry_parts.proofs.Pieces.{Piece, piece-as}
@@ -43,9 +43,9 @@ part-stored t old at n h k =
 long-short : (b : ℕ) → b < 18446744073709551616 → length (ascii "too long " ++ digitsOf b ++ newline) ≤ mostBytes
 long-short b h = omega (arith, length-append (ascii "too long " ++ digitsOf b) newline, length-append (ascii "too long ") (digitsOf b), digits-64 b h)
 
-module _ (ls : List Line) (old : List ℕ) (at n : ℕ) (is-n : n ≡ mostBytes) (room : at + mostBytes ≤ length old) where
+module _ (x y : List (List OurTerm)) (old : List ℕ) (at n : ℕ) (is-n : n ≡ mostBytes) (room : at + mostBytes ≤ length old) where
   abbrev text : List ℕ
-  text = listText ls
+  text = overlapText x y
 
   -- the bytes that are lent
   abbrev part : List ℕ
@@ -59,26 +59,18 @@ module _ (ls : List Line) (old : List ℕ) (at n : ℕ) (is-n : n ≡ mostBytes)
   roomWith m = take at old ++ (m ++ drop n (drop at old))
 
   -- where there are no lines the bytes are as they were
-  pub none-put : {m : List ℕ} → m ≡ after text part → ls ≡ [] → roomWith m ≡ old
+  pub none-put : {m : List ℕ} → m ≡ after text part → linesOf x y ≡ [] → roomWith m ≡ old
   none-put is h =
-      ap roomWith (is ∙ ap (λ (l : List Line). after (listText l) part) h ∙ sym (none-listed [] part refl .1))
+      ap roomWith (is ∙ sym (none-listed x y h part .bytes))
       ∙ ap (λ (l : List ℕ). take at old ++ l) (take-append-drop n (drop at old))
       ∙ take-append-drop at old
 
-  module _ {r : Listed} {m : List ℕ} (is : (r ≡ listedOf ls (length part)) × (m ≡ after text part)) (e b : ℕ) where
+  module _ {r : Listed} {m : List ℕ} (is : Lists x y part r m) (e b : ℕ) where
     lines-fit : r ≡ Lines e b → (b ≡ length text) × (length text ≤ mostBytes)
-    lines-fit h = go (leb (length text) (length part)) refl
-      where
-        go : (x : Bool) → leb (length text) (length part) ≡ x → (b ≡ length text) × (length text ≤ mostBytes)
-        go true q = let z : Lines e b ≡ Lines (length ls) (length text) = sym h ∙ is .0 ∙ rw q in let k : b ≡ length text = cc in (k, omega (arith, leb-true (length text) (length part) q, part-long))
-        go false q = let z : Lines e b ≡ TooSmall (length ls) (length text) = sym h ∙ is .0 ∙ rw q in let k : _≡_ {A = ℕ} 0 1 = cc in absurd (omega arith)
+    lines-fit h = let f = lines-told is e b h in (f .0, omega (arith, f .1, part-long))
 
     too-many : r ≡ TooSmall e b → (b ≡ length text) × (mostBytes < length text)
-    too-many h = go (leb (length text) (length part)) refl
-      where
-        go : (x : Bool) → leb (length text) (length part) ≡ x → (b ≡ length text) × (mostBytes < length text)
-        go true q = let z : TooSmall e b ≡ Lines (length ls) (length text) = sym h ∙ is .0 ∙ rw q in let k : _≡_ {A = ℕ} 0 1 = cc in absurd (omega arith)
-        go false q = let z : TooSmall e b ≡ TooSmall (length ls) (length text) = sym h ∙ is .0 ∙ rw q in let k : b ≡ length text = cc in (k, omega (arith, leb-false (length text) (length part) q, part-long))
+    too-many h = let f = small-told is e b h in (f .0, omega (arith, f .1, part-long))
 
     -- the list was written
     pub list-in : r ≡ Lines e b → at + b ≤ length old
@@ -87,11 +79,10 @@ module _ (ls : List Line) (old : List ℕ) (at n : ℕ) (is-n : n ≡ mostBytes)
     pub list-put : r ≡ Lines e b → Piece mostBytes (listedText text) at old (at + b) (roomWith m)
     list-put h =
         let f = lines-fit h in
-        let whole : listedText text ≡ text = rw (le-leb (length text) mostBytes (f .1)) in
-        let fits = le-leb (length text) (length part) (omega (arith, f .1, part-long)) in (
+        let whole : listedText text ≡ text = rw (le-leb (length text) mostBytes (f .1)) in (
           placed-as at old whole (
             omega (arith, f .0, f .1),
-            ap roomWith (is .1 ∙ ap (λ (x : Bool). cond x (text ++ drop (length text) part) part) fits) ∙ part-stored text old at n (omega (arith, f .1)) (omega arith),
+            ap roomWith (written is (omega (arith, f .1, part-long))) ∙ part-stored text old at n (omega (arith, f .1)) (omega arith),
           ),
           omega (arith, ap length whole, f .1),
         )
@@ -100,7 +91,7 @@ module _ (ls : List Line) (old : List ℕ) (at n : ℕ) (is-n : n ≡ mostBytes)
     list-left : r ≡ TooSmall e b → roomWith m ≡ old
     list-left h =
         let f = too-many h in
-        ap roomWith (is .1 ∙ ap (λ (x : Bool). cond x (text ++ drop (length text) part) part) (lt-leb (length text) (length part) (omega (arith, f .1, part-long))))
+        ap roomWith (kept is (omega (arith, f .1, part-long)))
         ∙ ap (λ (l : List ℕ). take at old ++ l) (take-append-drop n (drop at old))
         ∙ take-append-drop at old
 

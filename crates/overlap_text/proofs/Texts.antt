@@ -1,21 +1,18 @@
 -- What is said of two texts, from what the lister answers of them and leaves in the part of the room that is lent to it. Assumes nothing.
-use mathlib.Core.Path.{_≡_, sym, ap, _∙_, subst}
+use mathlib.Core.Path.{_≡_, sym, _∙_, subst}
 use mathlib.Core.List.{List, _++_}
 use Prim.Native.Nat.{ℕ, _+_, _≤_, _<_}
 use native.Mathlib.Omega.{arith}
 use lib.ListN.{length, take, drop}
 use Rattle.text.specs.Ascii.{ascii, newline}
 use Rattle.text.specs.Numbers.{digitsOf}
-use Rattle.text.specs.Read.{Outcome}
+use Rattle.text.specs.Read.{Outcome, readRule}
 use Rattle.verdicts.specs.declared.Reason.{Reason}
 use Rattle.verdicts.specs.declared.Verdict.the-variants.{Accepted, Refused}
 use Rattle.verdicts.specs.Verdicts.{numberOf, verdictOf}
-use Rattle.writing.specs.Answers.{after}
-use Rattle.listing.specs.Lines.{Line}
-use Rattle.listing.specs.Overlaps.{linesOf, overlapText}
 use Rattle.overlaps.specs.declared.Listed.the-variants.{Lines, TooSmall}
 use Rattle.overlaps.specs.declared.TextsListed.{TextsListed}
-use Rattle.overlaps.specs.Answers.{listedOf, ruleOf, textsListed}
+use Rattle.overlaps.specs.Answers.{TextsList, ruleOf}
 use Rattle.pieces.specs.Placed.{Placed}
 use Rattle.pieces.specs.Refusals.{numberAt}
 use Rattle.entry_parts.proofs.Pieces.{Piece, piece-as}
@@ -24,53 +21,51 @@ use Rattle.overlap_text.proofs.Lists.{roomWith, none-put, list-in, list
 use Rattle.overlap_text.proofs.Said.{left-said, right-said, both-said, no-lines-left, no-lines-right}
 use Rattle.overlap_text.proofs.Values.{refusal-short}
 
-module _ (o p : Outcome) (old : List ℕ) (at n : ℕ) (is-n : n ≡ mostBytes) (room : at + mostBytes ≤ length old) where
-  abbrev ls : List Line
-  ls = linesOf (ruleOf o) (ruleOf p)
+module _ (s u : List ℕ) (old : List ℕ) (at n : ℕ) (is-n : n ≡ mostBytes) (room : at + mostBytes ≤ length old) where
+  abbrev o : Outcome
+  o = readRule s
+
+  abbrev p : Outcome
+  p = readRule u
 
   -- the bytes that are lent, and the whole room with m in their place
   abbrev part : List ℕ
   part = take n (drop at old)
 
   abbrev whole : List ℕ → List ℕ
-  whole m = roomWith ls old at n is-n room m
+  whole m = roomWith (ruleOf o) (ruleOf p) old at n is-n room m
 
-  module _ {t : TextsListed} {m : List ℕ} (is : (t ≡ textsListed o p (length part)) × (m ≡ after (overlapText (ruleOf o) (ruleOf p)) part)) where
-    left-is : t .left ≡ verdictOf o
-    left-is = ap (λ (x : TextsListed). x .left) (is .0)
-
-    right-is : t .right ≡ verdictOf p
-    right-is = ap (λ (x : TextsListed). x .right) (is .0)
-
-    listed-is : (t .listed ≡ listedOf ls (length part)) × (m ≡ after (overlapText (ruleOf o) (ruleOf p)) part)
-    listed-is = (ap (λ (x : TextsListed). x .listed) (is .0), is .1)
-
+  module _ {t : TextsListed} {m : List ℕ} (is : TextsList s u part t m) where
     module _ (r : Reason) (i : ℕ) (small : i < 18446744073709551616) {e : ℕ} {new : List ℕ} where
       pub left-refused : t .left ≡ Refused r i
           → Placed (ascii "refused left " ++ numberAt (numberOf r) i ++ newline) at (whole m) e new → Piece mostBytes (readText o p) at old e new
       left-refused h q =
-          let v = sym left-is ∙ h in
+          let v = sym (is .left) ∙ h in
           let text = ascii "refused left " ++ numberAt (numberOf r) i ++ newline in
-          let there = subst (λ (l : List ℕ). Placed text at l e new) (none-put ls old at n is-n room (is .1) (no-lines-left o p r i v)) q in
+          let untouched = none-put (ruleOf o) (ruleOf p) old at n is-n room (is .listed .bytes) (no-lines-left o p r i v) in
+          let there = subst (λ (l : List ℕ). Placed text at l e new) untouched q in
           piece-as mostBytes at old (left-said o p r i v) (there, refusal-short (ascii "refused left ") r i (omega arith) small)
 
       pub right-refused : t .left ≡ Accepted → t .right ≡ Refused r i
           → Placed (ascii "refused right " ++ numberAt (numberOf r) i ++ newline) at (whole m) e new → Piece mostBytes (readText o p) at old e new
       right-refused a h q =
-          let v = sym right-is ∙ h in
+          let v = sym (is .right) ∙ h in
           let text = ascii "refused right " ++ numberAt (numberOf r) i ++ newline in
-          let there = subst (λ (l : List ℕ). Placed text at l e new) (none-put ls old at n is-n room (is .1) (no-lines-right o p r i v)) q in
-          piece-as mostBytes at old (right-said o p r i (sym left-is ∙ a) v) (there, refusal-short (ascii "refused right ") r i (omega arith) small)
+          let untouched = none-put (ruleOf o) (ruleOf p) old at n is-n room (is .listed .bytes) (no-lines-right o p r i v) in
+          let there = subst (λ (l : List ℕ). Placed text at l e new) untouched q in
+          piece-as mostBytes at old (right-said o p r i (sym (is .left) ∙ a) v) (there, refusal-short (ascii "refused right ") r i (omega arith) small)
 
     pub texts-in : (e b : ℕ) → t .listed ≡ Lines e b → at + b ≤ length old
-    texts-in e b h = list-in ls old at n is-n room listed-is e b h
+    texts-in e b h = list-in (ruleOf o) (ruleOf p) old at n is-n room (is .listed) e b h
 
     module _ (a : t .left ≡ Accepted) (c : t .right ≡ Accepted) (e b : ℕ) where
       pub texts-put : t .listed ≡ Lines e b → Piece mostBytes (readText o p) at old (at + b) (whole m)
-      texts-put h = piece-as mostBytes at old (both-said o p (sym left-is ∙ a) (sym right-is ∙ c)) (list-put ls old at n is-n room listed-is e b h)
+      texts-put h =
+          piece-as mostBytes at old (both-said o p (sym (is .left) ∙ a) (sym (is .right) ∙ c))
+          (list-put (ruleOf o) (ruleOf p) old at n is-n room (is .listed) e b h)
 
       pub texts-long : t .listed ≡ TooSmall e b → b < 18446744073709551616 → {k : ℕ} {new : List ℕ}
           → Placed (ascii "too long " ++ digitsOf b ++ newline) at (whole m) k new → Piece mostBytes (readText o p) at old k new
       texts-long h small q =
-          piece-as mostBytes at old (both-said o p (sym left-is ∙ a) (sym right-is ∙ c))
-          (list-refused ls old at n is-n room listed-is e b h small q)
+          piece-as mostBytes at old (both-said o p (sym (is .left) ∙ a) (sym (is .right) ∙ c))
+          (list-refused (ruleOf o) (ruleOf p) old at n is-n room (is .listed) e b h small q)

@@ -1,14 +1,15 @@
 -- What is said of two texts that are to be rules: a refusal, their overlaps, or how long these are. Document 01, "The program".
 use mathlib.Core.Bool.{cond}
 use mathlib.Core.List.{List, [], _++_}
-use Prim.Native.Nat.{ℕ}
+use Prim.Native.Nat.{ℕ, _-_}
 use lib.Dec.{leb}
 use lib.ListN.{length}
 use Rattle.text.specs.Ascii.{ascii, newline}
 use Rattle.text.specs.Numbers.{digitsOf}
-use Rattle.text.specs.Read.{number, Outcome, refused, accepted}
+use Rattle.text.specs.Read.{number, Outcome, refused, accepted, readRule}
 use Rattle.listing.specs.Overlaps.{overlapText}
 use Rattle.pieces.specs.Refusals.{numberAt}
+use Rattle.overlaps.specs.Answers.{textsRoom}
 
 -- "`too long B` where B bytes exceed its 65,536"
 abbrev pub mostBytes : ℕ
@@ -27,3 +28,18 @@ readText (accepted left) (accepted right) = listedText (overlapText left right)
 -- the same where k bytes are left for it: with fewer than it may have nothing is said
 abbrev pub textsIn : ℕ → Outcome → Outcome → List ℕ
 textsIn k o p = cond (leb mostBytes k) (readText o p) []
+
+-- the room that is lent for the lister's work where k bytes are left: as the list leaves it, and as it was where nothing is said
+abbrev pub roomBy : ℕ → List ℕ → List ℕ → List ℕ → List ℕ
+roomBy k t u room = cond (leb mostBytes k) (textsRoom t u room) room
+
+-- ---- of texts, and of the bytes from a place on
+
+abbrev pub saidOf : List ℕ → List ℕ → List ℕ
+saidOf t u = readText (readRule t) (readRule u)
+
+abbrev pub saidIn : List ℕ → ℕ → List ℕ → List ℕ → List ℕ
+saidIn old at t u = textsIn (length old - at) (readRule t) (readRule u)
+
+abbrev pub roomIn : List ℕ → ℕ → List ℕ → List ℕ → List ℕ → List ℕ
+roomIn old at t u room = roomBy (length old - at) t u room

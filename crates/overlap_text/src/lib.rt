@@ -4,11 +4,11 @@ ghost use mathlib.Core.List.{_++_};
 ghost use Prim.Native.Nat.{_+_, _-_, _≤_};
 ghost use lib.ListN.{length};
 ghost use Rattle.text.specs.Ascii.{newline};
-ghost use Rattle.text.specs.Read.{readRule};
 ghost use Rattle.verdicts.specs.Verdicts.{numberOf};
 ghost use Rattle.pieces.specs.Refusals.{numberAt};
 ghost use Rattle.pieces.specs.Placed.{Placed};
-ghost use Rattle.overlap_text.specs.Texts.{mostBytes, readText, textsIn};
+ghost use Rattle.overlaps.specs.Answers.{textsRoom};
+ghost use Rattle.overlap_text.specs.Texts.{mostBytes, saidOf, saidIn, roomIn};
 use overlaps::Listed;
 use verdicts::Reason;
 use verdicts::Verdict;
@@ -31,8 +31,9 @@ fn bytes_behind(at: usize, n: usize) -> usize
 // The list is lent no more than the 65,536 bytes that it may have, so that the lister itself tells a list that is too long.
 fn put_read(left: &[u8], right: &[u8], room: &mut [u8], out: &mut [u8], at: usize) -> usize
     requires { ⌜ at + mostBytes ≤ length (now out) ⌝ }
-    ensures { λ p. ⌜ Placed (readText (readRule (now (left .entry))) (readRule (now (right .entry)))) at (now (out .entry)) p (now (out .exit)) ⌝ }
-    ensures { λ _. ⌜ length (readText (readRule (now (left .entry))) (readRule (now (right .entry)))) ≤ mostBytes ⌝ }
+    ensures { λ p. ⌜ Placed (saidOf (now (left .entry)) (now (right .entry))) at (now (out .entry)) p (now (out .exit)) ⌝ }
+    ensures { λ _. ⌜ length (saidOf (now (left .entry)) (now (right .entry))) ≤ mostBytes ⌝ }
+    ensures { λ _. ⌜ now (room .exit) ≡ textsRoom (now (left .entry)) (now (right .entry)) (now (room .entry)) ⌝ }
 {
     let end = at + 65536;
     let said = overlaps::list_texts(left, right, room, &mut out[at..end]);
@@ -53,8 +54,9 @@ fn put_read(left: &[u8], right: &[u8], room: &mut [u8], out: &mut [u8], at: usiz
 
 // The same behind a place with room for the longest list; with less nothing is put.
 pub fn put_texts(left: &[u8], right: &[u8], room: &mut [u8], out: &mut [u8], at: usize) -> usize
-    ensures { λ p. ⌜ Placed (textsIn (length (now (out .entry)) - at) (readRule (now (left .entry))) (readRule (now (right .entry)))) at (now (out .entry)) p (now (out .exit)) ⌝ }
-    ensures { λ _. ⌜ length (textsIn (length (now (out .entry)) - at) (readRule (now (left .entry))) (readRule (now (right .entry)))) ≤ mostBytes ⌝ }
+    ensures { λ p. ⌜ Placed (saidIn (now (out .entry)) at (now (left .entry)) (now (right .entry))) at (now (out .entry)) p (now (out .exit)) ⌝ }
+    ensures { λ _. ⌜ length (saidIn (now (out .entry)) at (now (left .entry)) (now (right .entry))) ≤ mostBytes ⌝ }
+    ensures { λ _. ⌜ now (room .exit) ≡ roomIn (now (out .entry)) at (now (left .entry)) (now (right .entry)) (now (room .entry)) ⌝ }
 {
     if bytes_behind(at, out.len()) < 65536 {
         return at;

@@ -1,7 +1,8 @@
 -- The whole list: how many lines there can be, and what storing them leaves of a buffer that has room for them. Assumes nothing.
 use mathlib.Core.Path.{_≡_, refl, sym, _∙_, ap, ap₂, subst}
 use mathlib.Core.Bool.{Bool, true, false, cond}
-use mathlib.Core.List.{List, [], _++_}
+use mathlib.Core.List.{List, [], _∷_, _++_}
+use mathlib.Core.Option.{none, some}
 use Prim.Native.Nat.{ℕ, zero, suc, _+_, _-_, _*_, _≤_, _<_}
 use native.Mathlib.Nat.{zero-add, mul-le-mul-right}
 use native.Mathlib.Omega.{arith}
@@ -20,11 +21,11 @@ use Rattle.overlaps.specs.Pairs.{Pair}
 use Rattle.overlaps.specs.declared.Tally.{Tally}
 use Rattle.overlaps.specs.declared.Candidate.{Candidate}
 use Rattle.overlaps.specs.declared.Listed.the-variants.{Lines, TooSmall}
-use Rattle.overlaps.specs.Answers.{answerOf}
+use Rattle.overlaps.specs.Answers.{ListsLines}
 use Rattle.pieces.specs.Stored.{bytesOf, storeAll}
-use Rattle.overlaps.specs.Listing.{leftAt, rightAt, spanAt, candidateOf, afterJoin, candidateLines, choiceLines, linesFrom, allLines, noTally, tallied, mostEntries, Countable}
+use Rattle.overlaps.specs.Listing.{leftAt, rightAt, spanAt, candidateOf, afterJoin, candidateLines, choiceLines, linesFrom, allLines}
+use Rattle.overlaps.specs.Listing.{noTally, tallied, Stores, mostEntries, Countable}
 use Rattle.overlaps.proofs.Spans.{few-left}
-use Rattle.overlaps.proofs.Laws.{Listed}
 
 -- ---- how many lines: no field pair has more than 17 candidates, of any values
 
@@ -82,7 +83,7 @@ module _ (p : Pair) (ch : Choice) (st : Fillings) (t : Tally) (is-ch : ch ≡ no
   pub all-requires : p .left .n ≤ 4 → (p .left .n ≤ 4) × (0 ≤ p .left .n) × Countable t (linesFrom (p .left .n - 0) p 0 ch st)
   all-requires h = (h, omega arith, subst (Countable t) (sym all-are) (subst (λ (x : Tally). Countable x (allLines p)) (sym is-t) (countable-all p h)))
 
-  pub all-listed : (u : Tally) (old new : List ℕ) → Listed (linesFrom (p .left .n - 0) p 0 ch st) t old u new → (u ≡ tallied noTally (allLines p)) × (new ≡ storeAll (allLines p) 0 old)
+  pub all-listed : (u : Tally) (old new : List ℕ) → Stores (linesFrom (p .left .n - 0) p 0 ch st) t old u new → Stores (allLines p) noTally old u new
   all-listed u old new h = (
     h .0 ∙ ap₂ tallied is-t all-are,
     h .1 ∙ ap₂ (λ (ls : List (List ℕ)) (x : Tally). storeAll ls (x .bytes) old) all-are is-t,
@@ -97,29 +98,32 @@ module _ (ls : List (List ℕ)) (old : List ℕ) (t : Tally) (is-t : t ≡ talli
   bytes-are : t .bytes ≡ length (bytesOf ls)
   bytes-are = ap (λ (x : Tally). x .bytes) is-t ∙ zero-add (length (bytesOf ls))
 
-  pub too-small : length old < t .bytes → (TooSmall (t .entries) (t .bytes) ≡ answerOf ls (length old)) × (old ≡ after (bytesOf ls) old)
+  pub too-small : length old < t .bytes → ListsLines ls old (TooSmall (t .entries) (t .bytes)) old
   too-small h =
       let e = lt-leb (length (bytesOf ls)) (length old) (omega (arith, bytes-are)) in
-      (ap₂ TooSmall entries-are bytes-are ∙ rw e, rw e)
+      record { answer = rw e (ap₂ (λ (n b : ℕ). record { number = some 8; values = n ∷ b ∷ [] }) entries-are bytes-are); bytes = rw e }
 
-  pub room-enough : t .bytes ≤ length old → (u : Tally) (new : List ℕ) → (u ≡ tallied noTally ls) × (new ≡ storeAll ls 0 old)
-      → (Lines (u .entries) (u .bytes) ≡ answerOf ls (length old)) × (new ≡ after (bytesOf ls) old)
-  room-enough h u new k =
+  -- the list in front of the old bytes
+  in-front : t .bytes ≤ length old → {new : List ℕ} → new ≡ bytesOf ls ++ drop (length (bytesOf ls)) old → ListsLines ls old (Lines (t .entries) (t .bytes)) new
+  in-front h is-new =
+      let e = le-leb (length (bytesOf ls)) (length old) (omega (arith, bytes-are)) in
+      record { answer = rw e (ap₂ (λ (n b : ℕ). record { number = none; values = n ∷ b ∷ [] }) entries-are bytes-are); bytes = rw e is-new }
+
+  pub room-enough : t .bytes ≤ length old → {new : List ℕ} → new ≡ storeAll ls 0 old → ListsLines ls old (Lines (t .entries) (t .bytes)) new
+  room-enough h is-new =
       let r : length (bytesOf ls) ≤ length old = omega (arith, bytes-are) in
-      let e = le-leb (length (bytesOf ls)) (length old) r in (
-        ap (λ (x : Tally). Lines (x .entries) (x .bytes)) (k .0) ∙ ap₂ Lines (zero-add (length ls)) (zero-add (length (bytesOf ls))) ∙ rw e,
-        k .1 ∙ stored ls old r,
-      )
+      in-front h (is-new ∙ stored ls old r ∙ rw (le-leb (length (bytesOf ls)) (length old) r))
 
-  -- the list from the room in front of the old bytes
-  pub copied-in : t .bytes ≤ length old → (room room' new : List ℕ) → t .bytes ≤ length room → room' ≡ storeAll ls 0 room → new ≡ take (length (take (t .bytes) room')) (take (t .bytes) room') ++ drop (length (take (t .bytes) room')) old
-      → (Lines (t .entries) (t .bytes) ≡ answerOf ls (length old)) × (new ≡ after (bytesOf ls) old)
+  -- the list from the room
+  pub copied-in : t .bytes ≤ length old → (room room' new : List ℕ) → t .bytes ≤ length room → room' ≡ storeAll ls 0 room
+      → new ≡ take (length (take (t .bytes) room')) (take (t .bytes) room') ++ drop (length (take (t .bytes) room')) old
+      → ListsLines ls old (Lines (t .entries) (t .bytes)) new
   copied-in h room room' new k is-room is-new =
-      let r : length (bytesOf ls) ≤ length old = omega (arith, bytes-are) in
-      let e = le-leb (length (bytesOf ls)) (length old) r in
       let f : take (t .bytes) room' ≡ bytesOf ls =
       ap₂ take bytes-are (is-room ∙ stored ls room (omega (arith, bytes-are)) ∙ rw (le-leb (length (bytesOf ls)) (length room) (omega (arith, bytes-are))))
-      ∙ take-at (bytesOf ls) (drop (length (bytesOf ls)) room) (length (bytesOf ls)) refl in (
-        ap₂ Lines entries-are bytes-are ∙ rw e,
-        is-new ∙ ap (λ (b : List ℕ). take (length b) b ++ drop (length b) old) f ∙ ap (λ (b : List ℕ). b ++ drop (length (bytesOf ls)) old) (take-length (bytesOf ls)) ∙ rw e,
+      ∙ take-at (bytesOf ls) (drop (length (bytesOf ls)) room) (length (bytesOf ls)) refl in
+      in-front h (
+      is-new
+      ∙ ap (λ (b : List ℕ). take (length b) b ++ drop (length b) old) f
+      ∙ ap (λ (b : List ℕ). b ++ drop (length (bytesOf ls)) old) (take-length (bytesOf ls))
       )

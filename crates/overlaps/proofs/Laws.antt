@@ -23,7 +23,7 @@ use Rattle.overlaps.specs.declared.Candidate.{Candidate}
 use Rattle.rule_shown.specs.Plain.{plainRule}
 use Rattle.overlaps.specs.Lines.{lineAt}
 use Rattle.pieces.specs.Stored.{bytesOf, storeAll}
-use Rattle.overlaps.specs.Listing.{leftAt, rightAt, spanAt, candidateOf, candidateLines, choiceLines, linesFrom, tallied, Moderate, Countable}
+use Rattle.overlaps.specs.Listing.{leftAt, rightAt, spanAt, candidateOf, candidateLines, choiceLines, linesFrom, tallied, Stores, Moderate, Countable}
 
 -- ---- counts
 
@@ -92,15 +92,12 @@ module _ (next : Choice → Fillings → List (List ℕ)) (p : Pair) (j k : ℕ)
 
 -- ---- what a call leaves: the counts and the bytes of its lines, from a tally t and the bytes old
 
-abbrev pub Listed : List (List ℕ) → Tally → List ℕ → Tally → List ℕ → Type 0
-Listed ls t old u new = (u ≡ tallied t ls) × (new ≡ storeAll ls (t .bytes) old)
-
 module _ (t : Tally) (old : List ℕ) where
-  pub listed-as : (ls ms : List (List ℕ)) {u : Tally} {new : List ℕ} → ls ≡ ms → Listed ms t old u new → Listed ls t old u new
+  pub listed-as : (ls ms : List (List ℕ)) {u : Tally} {new : List ℕ} → ls ≡ ms → Stores ms t old u new → Stores ls t old u new
   listed-as ls ms e h = (h .0 ∙ ap (tallied t) (sym e), h .1 ∙ ap (λ (l : List (List ℕ)). storeAll l (t .bytes) old) (sym e))
 
   -- the bytes stay as many
-  pub listed-length : (ls : List (List ℕ)) {u : Tally} {new : List ℕ} → Listed ls t old u new → length new ≡ length old
+  pub listed-length : (ls : List (List ℕ)) {u : Tally} {new : List ℕ} → Stores ls t old u new → length new ≡ length old
   listed-length ls h = ap length (h .1) ∙ stores-length ls (t .bytes) old
 
 -- ---- the line of a whole choice
@@ -174,7 +171,7 @@ module _ (p : Pair) (j : ℕ) (ch : Choice) (st : Fillings) (t : Tally) (old : L
         pub choosing-first : Countable u here
         choosing-first = countable-first u here (rest (k - 1)) can-both
 
-        pub choosing-alive : (v : Tally) (m : List ℕ) → Listed here u out v m → Moderate v → Choosing s (k - 1) v m
+        pub choosing-alive : (v : Tally) (m : List ℕ) → Stores here u out v m → Moderate v → Choosing s (k - 1) v m
         choosing-alive v m l o =
             record {
               span-is = C .span-is;
@@ -190,7 +187,7 @@ module _ (p : Pair) (j : ℕ) (ch : Choice) (st : Fillings) (t : Tally) (old : L
               long = listed-length u out here l ∙ C .long;
             }
 
-    pub choosing-end : k ≤ 0 → Listed all t old u out × Moderate u
+    pub choosing-end : k ≤ 0 → Stores all t old u out × Moderate u
     choosing-end h =
         let e = choice-none next p j k ch st (omega arith) in
         ((sym (tally-none u) ∙ ap (tallied u) (sym e) ∙ C .counts, ap (λ (l : List (List ℕ)). storeAll l (u .bytes) out) (sym e) ∙ C .stores), C .can .0)

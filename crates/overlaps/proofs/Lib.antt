@@ -5,3 +5,4 @@ pub mod Entries
 pub mod Lines
 pub mod Rules
 pub mod Texts
+pub mod Answers

@@ -7,9 +7,10 @@ use mathlib.Core.List.{List, [], _∷_, _++_, map}
 use Prim.Native.Nat.{ℕ, suc, _≤_}
 use native.Mathlib.Omega.{arith}
 use native.Mathlib.Decide.{ℕ-discrete}
-use lib.ListN.{length, drop, length-map}
+use lib.ListN.{length, length-map}
 use borrow.Author.Tests.{le-leb}
 use Rattle.order.specs.Types.{basics}
+use Rattle.text.specs.Told.{byRoom}
 use Rattle.text.specs.Terms.{OurTerm}
 use Rattle.text.specs.Limits.{IsRule}
 use Rattle.instance.specs.Constants.{consts}
@@ -30,23 +31,29 @@ use Rattle.sides.proofs.Sides.{shapes-length}
 use Rattle.fillings.proofs.Agree.{names}
 use Rattle.writing.specs.Answers.{after}
 use Rattle.overlaps.specs.declared.Listed.{Listed}
-use Rattle.overlaps.specs.declared.Listed.the-variants.{Lines, TooSmall}
-use Rattle.pieces.specs.Stored.{bytesOf}
+use Rattle.overlaps.specs.declared.Listed.the-variants.{Lines}
+use Rattle.pieces.specs.Stored.{bytesOf, storeAll}
 use Rattle.overlaps.specs.Listing.{allLines, AsRead}
 use Rattle.tokens.specs.declared.TokenRule.{TokenRule}
 use Rattle.tokens.specs.Tokens.{ruleOf}
 use Rattle.overlaps.specs.Pairs.{saidRule, Said}
-use Rattle.overlaps.specs.Answers.{counted, listedOf, answerOf}
+use Rattle.overlaps.specs.Answers.{told, Lists, ListsLines, roomAfter}
 use Rattle.overlaps.proofs.Entries.{Raw, rawFrom}
 use Rattle.overlaps.proofs.Lines.{lines-are}
 
 -- ---- no lines
 
-pub none-listed : (ls : List Line) (old : List ℕ) → ls ≡ [] → (Lines 0 0 ≡ listedOf ls (length old)) × (old ≡ after (listText ls) old)
-none-listed ls old e =
-    let z = le-leb 0 (length old) (omega arith) in
-    subst (λ (l : List Line). (Lines 0 0 ≡ listedOf l (length old)) × (old ≡ after (listText l) old)) (sym e)
-    (sym (ap (λ (b : Bool). cond b (Lines 0 0) (TooSmall 0 0)) z), sym (ap (λ (b : Bool). cond b ([] ++ drop 0 old) old) z))
+module _ (x y : List (List OurTerm)) (e : linesOf x y ≡ []) where
+  pub none-listed : (old : List ℕ) → Lists x y old (Lines 0 0) old
+  none-listed old =
+      let z = le-leb 0 (length old) (omega arith) in
+      record {
+        answer = subst (λ (l : List Line). told (Lines 0 0) ≡ byRoom (length (listText l)) (length old) (length l ∷ length (listText l) ∷ [])) (sym e) (rw z);
+        bytes = subst (λ (l : List Line). old ≡ after (listText l) old) (sym e) (rw z);
+      }
+
+  pub none-stored : (room : List ℕ) → room ≡ roomAfter x y room
+  none-stored room = sym (ap (λ (l : List Line). storeAll (map lineText l) 0 room) e)
 
 -- ---- document 01: "Rules with different field counts have no entries."
 
@@ -70,7 +77,7 @@ listed-none none p h = refl
 listed-none (some Ss) none h = refl
 listed-none (some Ss) (some Ts) h = ap (map (shown basics consts ℕ-discrete Ss Ts)) (raw-none Ss Ts (start basics consts names) (h Ss Ts refl refl))
 
-lines-none : (r₁ r₂ : List (List OurTerm)) → length r₁ ≢ length r₂ → linesOf r₁ r₂ ≡ []
+pub lines-none : (r₁ r₂ : List (List OurTerm)) → length r₁ ≢ length r₂ → linesOf r₁ r₂ ≡ []
 lines-none [] r₂ n = refl
 lines-none (f ∷ r₁) r₂ n = ap (map (lineOf (f ∷ r₁) r₂)) (listed-none (shapesOf left (f ∷ r₁)) (shapesOf right r₂)
     (λ Ss Ts a b e. n (sym (shapes-length left (f ∷ r₁) Ss a) ∙ e ∙ shapes-length right r₂ Ts b)))
@@ -103,6 +110,24 @@ texts-are : (ls : List Line) → bytesOf (map lineText ls) ≡ listText ls
 texts-are [] = refl
 texts-are (l ∷ ls) = ap (λ (t : List ℕ). lineText l ++ t) (texts-are ls)
 
+-- lines as bytes that are the entries' lines
+module _ (x y : List (List OurTerm)) {ls : List (List ℕ)} (are : ls ≡ map lineText (linesOf x y)) where
+  bytes-are : bytesOf ls ≡ overlapText x y
+  bytes-are = ap bytesOf are ∙ texts-are (linesOf x y)
+
+  entries-are : length ls ≡ length (linesOf x y)
+  entries-are = ap length are ∙ length-map (linesOf x y) lineText
+
+  pub lines-list : {old : List ℕ} {r : Listed} {new : List ℕ} → ListsLines ls old r new → Lists x y old r new
+  lines-list {old} h =
+      record {
+        answer = h .answer ∙ ap₂ (λ (n m : ℕ). byRoom m (length old) (n ∷ m ∷ [])) entries-are (ap length bytes-are);
+        bytes = h .bytes ∙ ap (λ (t : List ℕ). after t old) bytes-are;
+      }
+
+  pub lines-stored : (room : List ℕ) → storeAll ls 0 room ≡ roomAfter x y room
+  lines-stored room = ap (λ (l : List (List ℕ)). storeAll l 0 room) are
+
 no-terms : (r : List (List OurTerm)) → length r ≡ 0 → r ≡ []
 no-terms [] e = refl
 no-terms (f ∷ r) e = absurd (omega (arith, e))
@@ -128,19 +153,6 @@ module _ (v w : Rule) (a : acceptedRule v ≡ true) (b : acceptedRule w ≡ true
         ap (λ (y : Rule). allLines (record { left = v; sided = y })) is-x
         ∙ ap₂ (λ (y z : Rule). allLines (record { left = y; sided = rightRule z })) (sym (value-is v a)) (sym (value-is w b))
         ∙ lines-are (countedRule v) (countedRule w) (is-rule v a) (is-rule w b) (sym (count-is v a) ∙ same ∙ count-is w b)
-
-    bytes : bytesOf (allLines (record { left = v; sided = x })) ≡ overlapText (countedRule v) (countedRule w)
-    bytes = ap bytesOf lines ∙ texts-are (linesOf (countedRule v) (countedRule w))
-
-    entries : length (allLines (record { left = v; sided = x })) ≡ length (linesOf (countedRule v) (countedRule w))
-    entries = ap length lines ∙ length-map (linesOf (countedRule v) (countedRule w)) lineText
-
-    pair-listed : (r : Listed) (old new : List ℕ) → (r ≡ answerOf (allLines (record { left = v; sided = x })) (length old)) × (new ≡ after (bytesOf (allLines (record { left = v; sided = x }))) old)
-        → (r ≡ listedOf (linesOf (countedRule v) (countedRule w)) (length old)) × (new ≡ after (overlapText (countedRule v) (countedRule w)) old)
-    pair-listed r old new h = (
-      h .0 ∙ ap₂ (λ (n m : ℕ). counted n m (length old)) entries (ap length bytes),
-      h .1 ∙ ap (λ (t : List ℕ). after t old) bytes,
-    )
 
 -- ---- values as reading returns them
 
@@ -176,11 +188,11 @@ module _ (l r : List ℕ) (x y : TokenRule) (said : Said l r x y) where
     pub said-differ : x .n ≢ y .n → linesOf (countedRule (saidRule l)) (countedRule (saidRule r)) ≡ []
     said-differ m = counts-differ (saidRule l) (saidRule r) read present (λ e. m (left-count ∙ e ∙ sym right-count))
 
-    module _ (same : x .n ≡ y .n) (o : Listed) (old new : List ℕ)
-        (h : (o ≡ answerOf (allLines (record { left = ruleOf l r x; sided = ruleOf l r y })) (length old)) × (new ≡ after (bytesOf (allLines (record { left = ruleOf l r x; sided = ruleOf l r y }))) old)) where
-      pub said-listed : (o ≡ listedOf (linesOf (countedRule (saidRule l)) (countedRule (saidRule r))) (length old)) × (new ≡ after (overlapText (countedRule (saidRule l)) (countedRule (saidRule r))) old)
-      said-listed =
-          let counts : saidRule l .n ≡ saidRule r .n = sym left-count ∙ same ∙ right-count in
-          let a = same-accepted (saidRule l) (saidRule r) read present counts in
-          pair-listed (saidRule l) (saidRule r) (a .0) (a .1) counts (ruleOf l r y) (said .1) o old new
-          (subst (λ (v : Rule). (o ≡ answerOf (allLines (record { left = v; sided = ruleOf l r y })) (length old)) × (new ≡ after (bytesOf (allLines (record { left = v; sided = ruleOf l r y }))) old)) (said .0) h)
+    -- the lines that are listed are those of the rules that the texts say
+    pub said-lines : x .n ≡ y .n
+        → allLines (record { left = ruleOf l r x; sided = ruleOf l r y }) ≡ map lineText (linesOf (countedRule (saidRule l)) (countedRule (saidRule r)))
+    said-lines same =
+        let counts : saidRule l .n ≡ saidRule r .n = sym left-count ∙ same ∙ right-count in
+        let a = same-accepted (saidRule l) (saidRule r) read present counts in
+        ap (λ (v : Rule). allLines (record { left = v; sided = ruleOf l r y })) (said .0)
+        ∙ lines (saidRule l) (saidRule r) (a .0) (a .1) counts (ruleOf l r y) (said .1)

@@ -1,43 +1,65 @@
--- What listing overlaps answers. Document 01: "The entry count, which is their number, and the byte count, which is the length of all
--- their lines, are returned. 8: as in searching, with the entry count and the needed byte count, the old bytes left."
-use mathlib.Core.Bool.{cond}
-use mathlib.Core.List.{List, []}
-use mathlib.Core.Option.{Option, none, some}
+-- What listing overlaps answers, and what it leaves in the lent bytes and in the room. Document 01: "The lines written are those of the
+-- entries, in their order. The entry count, which is their number, and the byte count, which is the length of all their lines, are
+-- returned. 8: as in searching, with the entry count and the needed byte count, the old bytes left."
+use mathlib.Core.Path.{_≡_}
+use mathlib.Core.List.{List, [], _∷_, map}
+use mathlib.Core.Option.{none, some}
 use Prim.Native.Nat.{ℕ}
-use lib.Dec.{leb}
 use lib.ListN.{length}
+use Rattle.text.specs.Told.{Told, byRoom}
 use Rattle.text.specs.Terms.{OurTerm}
-use Rattle.text.specs.Read.{Outcome, refused, accepted}
+use Rattle.text.specs.Read.{Outcome, refused, accepted, readRule}
 use Rattle.verdicts.specs.Verdicts.{verdictOf}
-use Rattle.listing.specs.Lines.{Line, listText}
-use Rattle.listing.specs.Overlaps.{linesOf}
+use Rattle.accepted.specs.Accepted.{countedRule}
+use Rattle.writing.specs.Answers.{after}
+use Rattle.pieces.specs.Stored.{bytesOf, storeAll}
+use Rattle.listing.specs.Lines.{lineText}
+use Rattle.listing.specs.Overlaps.{linesOf, overlapText}
+use Rattle.overlaps.specs.Pairs.{saidRule}
 use Rattle.overlaps.specs.declared.Listed.{Listed}
 use Rattle.overlaps.specs.declared.Listed.the-variants.{Lines, TooSmall}
 use Rattle.overlaps.specs.declared.TextsListed.{TextsListed}
-use Rattle.pieces.specs.Stored.{bytesOf}
 
--- the two counts, and whether so much room is enough
-abbrev pub counted : ℕ → ℕ → ℕ → Listed
-counted entries bytes room = cond (leb bytes room) (Lines entries bytes) (TooSmall entries bytes)
+-- document 01's number and values of each answer: "The entry count .. and the byte count .. are returned. 8: as in searching, with the
+-- entry count and the needed byte count"
+abbrev pub told : Listed → Told
+told (Lines n b) = record { number = none; values = n ∷ b ∷ [] }
+told (TooSmall n b) = record { number = some 8; values = n ∷ b ∷ [] }
 
--- THE ANSWER, of the lines and the room of the lent buffer
-abbrev pub listedOf : List Line → ℕ → Listed
-listedOf ls room = counted (length ls) (length (listText ls)) room
+-- WHAT LISTING PROMISES of the rules x and y and the lent bytes `old`: the answer, and what the bytes are afterwards
+pub record Lists (x y : List (List OurTerm)) (old : List ℕ) (r : Listed) (new : List ℕ) : Type 0 where
+  pub answer : told r ≡ byRoom (length (overlapText x y)) (length old) (length (linesOf x y) ∷ length (overlapText x y) ∷ [])
+  pub bytes : new ≡ after (overlapText x y) old
 
--- document 01's number of each answer
-abbrev pub refusal : Listed → Option ℕ
-refusal (Lines n b) = none
-refusal (TooSmall n b) = some 8
+-- the room that is lent for the work: the lines one behind the other, each where it has room there
+abbrev pub roomAfter : List (List OurTerm) → List (List OurTerm) → List ℕ → List ℕ
+roomAfter x y room = storeAll (map lineText (linesOf x y)) 0 room
+
+-- ---- of texts
 
 -- "A refusal returns its number, its place and the rule with no fields"
 abbrev pub ruleOf : Outcome → List (List OurTerm)
 ruleOf (refused r p) = []
 ruleOf (accepted x) = x
 
--- how two texts are read, and the answer of listing the rules that they say
-abbrev pub textsListed : Outcome → Outcome → ℕ → TextsListed
-textsListed left right room = record { left = verdictOf left; right = verdictOf right; listed = listedOf (linesOf (ruleOf left) (ruleOf right)) room }
+-- WHAT LISTING PROMISES of the texts t and u: how each is read, and the list of the rules that they say
+pub record TextsList (t u old : List ℕ) (r : TextsListed) (new : List ℕ) : Type 0 where
+  pub left : r .left ≡ verdictOf (readRule t)
+  pub right : r .right ≡ verdictOf (readRule u)
+  pub listed : Lists (ruleOf (readRule t)) (ruleOf (readRule u)) old (r .listed) new
 
--- the answer of lines as bytes
-abbrev pub answerOf : List (List ℕ) → ℕ → Listed
-answerOf ls room = counted (length ls) (length (bytesOf ls)) room
+abbrev pub textsRoom : List ℕ → List ℕ → List ℕ → List ℕ
+textsRoom t u room = roomAfter (ruleOf (readRule t)) (ruleOf (readRule u)) room
+
+-- the same of the values that the texts say
+abbrev pub SaidLists : List ℕ → List ℕ → List ℕ → Listed → List ℕ → Type 0
+SaidLists t u old r new = Lists (countedRule (saidRule t)) (countedRule (saidRule u)) old r new
+
+abbrev pub saidRoom : List ℕ → List ℕ → List ℕ → List ℕ
+saidRoom t u room = roomAfter (countedRule (saidRule t)) (countedRule (saidRule u)) room
+
+-- ---- of lines as bytes: `lines-list` of proofs/Rules says that they are listed as `Lists` has it
+
+pub record ListsLines (ls : List (List ℕ)) (old : List ℕ) (r : Listed) (new : List ℕ) : Type 0 where
+  pub answer : told r ≡ byRoom (length (bytesOf ls)) (length old) (length ls ∷ length (bytesOf ls) ∷ [])
+  pub bytes : new ≡ after (bytesOf ls) old

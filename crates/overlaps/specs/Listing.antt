@@ -1,5 +1,5 @@
--- Listing overlaps on values, as code does it: "Choosing a length for one field leads to the next field's choices; the first field varies slowest."
--- The theorems of proofs/Agree say that the lines are those of the overlap list.
+-- Listing overlaps on values, as code does it: "Choosing a length for one field leads to the next field's choices; the first field varies
+-- slowest." `said-lines` of proofs/Rules says that the lines are those of the overlap list.
 use mathlib.Core.Path.{_≡_}
 use mathlib.Core.Logic.{_≢_}
 use mathlib.Core.Bool.{true, cond, _&&_}
@@ -20,9 +20,12 @@ use Rattle.candidates.specs.Candidates.{spanValue}
 use Rattle.choices.specs.declared.Choice.{Choice}
 use Rattle.choices.specs.Choices.{chosenAt, noChoice}
 use Rattle.joins.specs.Joins.{joinFields}
-use Rattle.pieces.specs.Stored.{bytesOf}
+use Rattle.pieces.specs.Stored.{bytesOf, storeAll}
 use Rattle.entry_lines.specs.Lines.{lineBound}
-use Rattle.overlaps.specs.Pairs.{Pair}
+use Rattle.token_fillings.specs.declared.Fillings.{Fillings as TokenFillings}
+use Rattle.token_fillings.specs.States.{fillingsOf}
+use Rattle.overlaps.specs.declared.TokenPair.{TokenPair}
+use Rattle.overlaps.specs.Pairs.{Pair, pairOf}
 use Rattle.overlaps.specs.declared.Tally.{Tally}
 use Rattle.overlaps.specs.declared.Candidate.{Candidate}
 use Rattle.overlaps.specs.Lines.{lineAt}
@@ -50,7 +53,8 @@ afterJoin j next = cond (j .ok) (next (j .next)) []
 
 -- the lines of one candidate for field j; `next` lists what follows it
 abbrev pub candidateLines : (Choice → Fillings → List (List ℕ)) → Pair → ℕ → Candidate → Choice → Fillings → List (List ℕ)
-candidateLines next p j c ch st = afterJoin (joinFields (leftAt p j) (rightAt p j) (c .items) st) (next (chosenAt ch j (c .items) (c .long)))
+candidateLines next p j c ch st =
+    afterJoin (joinFields (leftAt p j) (rightAt p j) (c .items) st) (next (chosenAt ch j (c .items) (c .long)))
 
 -- k candidates are left for field j
 abbrev pub choiceLines : (Choice → Fillings → List (List ℕ)) → Pair → ℕ → ℕ → Choice → Fillings → List (List ℕ)
@@ -72,6 +76,28 @@ noTally = record { entries = 0; bytes = 0 }
 
 abbrev pub tallied : Tally → List (List ℕ) → Tally
 tallied t ls = record { entries = t .entries + length ls; bytes = t .bytes + length (bytesOf ls) }
+
+-- lines stored behind those before: what is counted, and the bytes
+abbrev pub Stores : List (List ℕ) → Tally → List ℕ → Tally → List ℕ → Type 0
+Stores ls t old u new = (u ≡ tallied t ls) × (new ≡ storeAll ls (t .bytes) old)
+
+-- ---- the same of tokens, which stand for what the left text l and the right text r say
+
+abbrev pub lineIn : List ℕ → List ℕ → TokenPair → Choice → TokenFillings → List ℕ
+lineIn l r p ch st = lineAt (pairOf l r p) ch (fillingsOf l r st)
+
+-- all fields from j on
+abbrev pub linesIn : List ℕ → List ℕ → TokenPair → ℕ → Choice → TokenFillings → List (List ℕ)
+linesIn l r p j ch st = linesFrom (p .left .n - j) (pairOf l r p) j ch (fillingsOf l r st)
+
+-- the candidates of field j, and what follows each
+abbrev pub choicesIn : List ℕ → List ℕ → TokenPair → ℕ → Choice → TokenFillings → List (List ℕ)
+choicesIn l r p j ch st =
+    let q = pairOf l r p in
+    choiceLines (linesFrom (p .left .n - (j + 1)) q (j + 1)) q j (spanAt q j .count) ch (fillingsOf l r st)
+
+abbrev pub allIn : List ℕ → List ℕ → TokenPair → List (List ℕ)
+allIn l r p = allLines (pairOf l r p)
 
 -- ---- the counts can be held: no field pair has more than 17 candidates, of any values, and no line more bytes than `lineBound`
 

@@ -1,20 +1,17 @@
 // Listing the overlaps of two rules: every choice of one candidate a field that nothing kills, the first field slowest.
-// The rules are worked on as tokens: a constant is a place of one of the two texts, which go along wherever constants are compared or written.
+// The rules are worked on as tokens: a constant is a place of one of the two texts, which go along wherever constants are compared
+// or written.
 ghost use mathlib.Core.Path.{_≡_};
 ghost use mathlib.Core.List.{[], _∷_};
 ghost use Prim.Native.Nat.{_-_, _+_, _≤_, _<_, min};
 ghost use lib.ListN.{length};
-ghost use Rattle.writing.specs.Answers.{after};
-ghost use Rattle.text.specs.Read.{readRule};
-ghost use Rattle.token_fillings.specs.States.{fillingsOf};
 ghost use Rattle.accepted.specs.Accepted.{countedRule};
-ghost use Rattle.listing.specs.Overlaps.{linesOf, overlapText};
 ghost use Rattle.entry_lines.specs.Lines.{lineBound};
-ghost use Rattle.overlaps.specs.Pairs.{pairOf, saidRule, Said};
-ghost use Rattle.overlaps.specs.Lines.{lineAt};
-ghost use Rattle.pieces.specs.Stored.{bytesOf, storeAll};
-ghost use Rattle.overlaps.specs.Listing.{spanAt, candidateOf, choiceLines, linesFrom, allLines, noTally, tallied, Moderate, Countable};
-ghost use Rattle.overlaps.specs.Answers.{answerOf, listedOf, ruleOf, textsListed};
+ghost use Rattle.overlaps.specs.Pairs.{Said};
+ghost use Rattle.pieces.specs.Stored.{storeAll};
+ghost use Rattle.overlaps.specs.Lines.{PutLine};
+ghost use Rattle.overlaps.specs.Listing.{candidateOf, noTally, Stores, lineIn, linesIn, choicesIn, allIn, Moderate, Countable};
+ghost use Rattle.overlaps.specs.Answers.{Lists, ListsLines, TextsList, SaidLists, roomAfter, textsRoom, saidRoom};
 use candidates::Span;
 use choices::Choice;
 use terms::Rule;
@@ -34,7 +31,7 @@ pub struct Tally {
     pub bytes: usize,
 }
 
-// The answer of a listing: the entry count and the byte count. `refusal` of specs/Answers has document 01's number of each.
+// The answer of a listing: the entry count and the byte count. `told` of specs/Answers has document 01's number of each.
 pub enum Listed {
     // the lines were written
     Lines(usize, usize),
@@ -64,8 +61,8 @@ fn line_into(
     right: &[u8],
     out: &mut [u8],
 ) -> usize
-    ensures { λ n. ⌜ (n ≡ length (lineAt (pairOf (now (left .entry)) (now (right .entry)) p) ch (fillingsOf (now (left .entry)) (now (right .entry)) st))) × (now (out .exit) ≡ after (lineAt (pairOf (now (left .entry)) (now (right .entry)) p) ch (fillingsOf (now (left .entry)) (now (right .entry)) st)) (now (out .entry))) ⌝ }
-    ensures { λ _. ⌜ length (lineAt (pairOf (now (left .entry)) (now (right .entry)) p) ch (fillingsOf (now (left .entry)) (now (right .entry)) st)) ≤ lineBound ⌝ }
+    ensures { λ n. ⌜ PutLine (lineIn (now (left .entry)) (now (right .entry)) p ch st) (now (out .entry)) n (now (out .exit)) ⌝ }
+    ensures { λ _. ⌜ length (lineIn (now (left .entry)) (now (right .entry)) p ch st) ≤ lineBound ⌝ }
 {
     let l = p.left;
     let r = p.right;
@@ -91,8 +88,8 @@ fn put_entry(
     out: &mut [u8],
     t: Tally,
 ) -> Tally
-    requires { ⌜ Countable t (lineAt (pairOf (now left) (now right) p) ch (fillingsOf (now left) (now right) st) ∷ []) ⌝ }
-    ensures { λ r. ⌜ (r ≡ tallied t (lineAt (pairOf (now (left .entry)) (now (right .entry)) p) ch (fillingsOf (now (left .entry)) (now (right .entry)) st) ∷ [])) × (now (out .exit) ≡ storeAll (lineAt (pairOf (now (left .entry)) (now (right .entry)) p) ch (fillingsOf (now (left .entry)) (now (right .entry)) st) ∷ []) (t .bytes) (now (out .entry))) ⌝ }
+    requires { ⌜ Countable t (lineIn (now left) (now right) p ch st ∷ []) ⌝ }
+    ensures { λ r. ⌜ Stores (lineIn (now (left .entry)) (now (right .entry)) p ch st ∷ []) t (now (out .entry)) r (now (out .exit)) ⌝ }
     ensures { λ r. ⌜ Moderate r ⌝ }
 {
     let at = at_most(t.bytes, out.len());
@@ -132,8 +129,8 @@ fn next_field(
     out: &mut [u8],
     t: Tally,
 ) -> Tally
-    requires { ⌜ (p .left .n ≤ 4) × (j ≤ p .left .n) × Countable t (linesFrom (p .left .n - j) (pairOf (now left) (now right) p) j ch (fillingsOf (now left) (now right) st)) ⌝ }
-    ensures { λ r. ⌜ (r ≡ tallied t (linesFrom (p .left .n - j) (pairOf (now (left .entry)) (now (right .entry)) p) j ch (fillingsOf (now (left .entry)) (now (right .entry)) st))) × (now (out .exit) ≡ storeAll (linesFrom (p .left .n - j) (pairOf (now (left .entry)) (now (right .entry)) p) j ch (fillingsOf (now (left .entry)) (now (right .entry)) st)) (t .bytes) (now (out .entry))) ⌝ }
+    requires { ⌜ (p .left .n ≤ 4) × (j ≤ p .left .n) × Countable t (linesIn (now left) (now right) p j ch st) ⌝ }
+    ensures { λ r. ⌜ Stores (linesIn (now (left .entry)) (now (right .entry)) p j ch st) t (now (out .entry)) r (now (out .exit)) ⌝ }
     ensures { λ r. ⌜ Moderate r ⌝ }
 {
     let l = p.left;
@@ -154,8 +151,8 @@ fn choose(
     out: &mut [u8],
     t: Tally,
 ) -> Tally
-    requires { ⌜ (p .left .n ≤ 4) × (j < p .left .n) × Countable t (choiceLines (linesFrom (p .left .n - (j + 1)) (pairOf (now left) (now right) p) (j + 1)) (pairOf (now left) (now right) p) j (spanAt (pairOf (now left) (now right) p) j .count) ch (fillingsOf (now left) (now right) st)) ⌝ }
-    ensures { λ r. ⌜ (r ≡ tallied t (choiceLines (linesFrom (p .left .n - (j + 1)) (pairOf (now (left .entry)) (now (right .entry)) p) (j + 1)) (pairOf (now (left .entry)) (now (right .entry)) p) j (spanAt (pairOf (now (left .entry)) (now (right .entry)) p) j .count) ch (fillingsOf (now (left .entry)) (now (right .entry)) st))) × (now (out .exit) ≡ storeAll (choiceLines (linesFrom (p .left .n - (j + 1)) (pairOf (now (left .entry)) (now (right .entry)) p) (j + 1)) (pairOf (now (left .entry)) (now (right .entry)) p) j (spanAt (pairOf (now (left .entry)) (now (right .entry)) p) j .count) ch (fillingsOf (now (left .entry)) (now (right .entry)) st)) (t .bytes) (now (out .entry))) ⌝ }
+    requires { ⌜ (p .left .n ≤ 4) × (j < p .left .n) × Countable t (choicesIn (now left) (now right) p j ch st) ⌝ }
+    ensures { λ r. ⌜ Stores (choicesIn (now (left .entry)) (now (right .entry)) p j ch st) t (now (out .entry)) r (now (out .exit)) ⌝ }
     ensures { λ r. ⌜ Moderate r ⌝ }
 {
     let l = p.left;
@@ -191,7 +188,7 @@ fn no_tally() -> Tally
 // Every choice from the first field on.
 fn all_lines(p: TokenPair, left: &[u8], right: &[u8], out: &mut [u8]) -> Tally
     requires { ⌜ p .left .n ≤ 4 ⌝ }
-    ensures { λ r. ⌜ (r ≡ tallied noTally (allLines (pairOf (now (left .entry)) (now (right .entry)) p))) × (now (out .exit) ≡ storeAll (allLines (pairOf (now (left .entry)) (now (right .entry)) p)) 0 (now (out .entry))) ⌝ }
+    ensures { λ r. ⌜ Stores (allIn (now (left .entry)) (now (right .entry)) p) noTally (now (out .entry)) r (now (out .exit)) ⌝ }
 {
     next_field(
         p,
@@ -205,10 +202,11 @@ fn all_lines(p: TokenPair, left: &[u8], right: &[u8], out: &mut [u8]) -> Tally
     )
 }
 
-// The lines go into the room first, so that a buffer that is too small keeps its old bytes; where the room is too small it has counted them.
+// The lines go into the room first, so that a buffer that is too small keeps its old bytes; a room that is too small has counted them.
 fn list_pair(p: TokenPair, left: &[u8], right: &[u8], room: &mut [u8], out: &mut [u8]) -> Listed
     requires { ⌜ p .left .n ≤ 4 ⌝ }
-    ensures { λ r. ⌜ (r ≡ answerOf (allLines (pairOf (now (left .entry)) (now (right .entry)) p)) (length (now (out .entry)))) × (now (out .exit) ≡ after (bytesOf (allLines (pairOf (now (left .entry)) (now (right .entry)) p))) (now (out .entry))) ⌝ }
+    ensures { λ r. ⌜ ListsLines (allIn (now (left .entry)) (now (right .entry)) p) (now (out .entry)) r (now (out .exit)) ⌝ }
+    ensures { λ _. ⌜ now (room .exit) ≡ storeAll (allIn (now (left .entry)) (now (right .entry)) p) 0 (now (room .entry)) ⌝ }
 {
     let t = all_lines(p, left, right, room);
     let n = t.bytes;
@@ -233,7 +231,8 @@ fn list_tokens(
     out: &mut [u8],
 ) -> Listed
     requires { ⌜ Said (now left) (now right) l r ⌝ }
-    ensures { λ x. ⌜ (x ≡ listedOf (linesOf (countedRule (saidRule (now (left .entry)))) (countedRule (saidRule (now (right .entry))))) (length (now (out .entry)))) × (now (out .exit) ≡ after (overlapText (countedRule (saidRule (now (left .entry)))) (countedRule (saidRule (now (right .entry))))) (now (out .entry))) ⌝ }
+    ensures { λ x. ⌜ SaidLists (now (left .entry)) (now (right .entry)) (now (out .entry)) x (now (out .exit)) ⌝ }
+    ensures { λ _. ⌜ now (room .exit) ≡ saidRoom (now (left .entry)) (now (right .entry)) (now (room .entry)) ⌝ }
 {
     if l.n == 0 {
         return Listed::Lines(0, 0);
@@ -245,12 +244,13 @@ fn list_tokens(
     list_pair(p, left, right, room, out)
 }
 
-// THE OVERLAP LIST of the rules that two texts say, and how each is read: every choice of one candidate a field that nothing kills, a line for each,
-// the first field slowest. Rules with different field counts have no entries, and a text that is refused says the rule with no fields, which has none.
-// The room is for the work, and what it holds afterwards is not said: one that has as many bytes as `out` saves making the list twice.
+// THE OVERLAP LIST of the rules that two texts say, and how each is read: every choice of one candidate a field that nothing kills,
+// a line for each, the first field slowest. Rules with different field counts have no entries, and a text that is refused says
+// the rule with no fields, which has none.
+// The room is for the work: one that has as many bytes as `out` saves making the list twice.
 pub fn list_texts(left: &[u8], right: &[u8], room: &mut [u8], out: &mut [u8]) -> TextsListed
-    ensures { λ r. ⌜ r ≡ textsListed (readRule (now (left .entry))) (readRule (now (right .entry))) (length (now (out .entry))) ⌝ }
-    ensures { λ _. ⌜ now (out .exit) ≡ after (overlapText (ruleOf (readRule (now (left .entry)))) (ruleOf (readRule (now (right .entry))))) (now (out .entry)) ⌝ }
+    ensures { λ r. ⌜ TextsList (now (left .entry)) (now (right .entry)) (now (out .entry)) r (now (out .exit)) ⌝ }
+    ensures { λ _. ⌜ now (room .exit) ≡ textsRoom (now (left .entry)) (now (right .entry)) (now (room .entry)) ⌝ }
 {
     let l = reading::read_tokens(left, false);
     let r = reading::read_tokens(right, true);
@@ -264,9 +264,11 @@ pub fn list_texts(left: &[u8], right: &[u8], room: &mut [u8], out: &mut [u8]) ->
     }
 }
 
-// The list of two rule values: that of their plain texts, which have at most 1,151 bytes. What no reading returns has no text, and so no overlaps.
+// The list of two rule values: that of their plain texts, which have at most 1,151 bytes. What no reading returns has no text,
+// and so no overlaps.
 pub fn list_with(left: Rule, right: Rule, room: &mut [u8], out: &mut [u8]) -> Listed
-    ensures { λ r. ⌜ (r ≡ listedOf (linesOf (countedRule left) (countedRule right)) (length (now (out .entry)))) × (now (out .exit) ≡ after (overlapText (countedRule left) (countedRule right)) (now (out .entry))) ⌝ }
+    ensures { λ r. ⌜ Lists (countedRule left) (countedRule right) (now (out .entry)) r (now (out .exit)) ⌝ }
+    ensures { λ _. ⌜ now (room .exit) ≡ roomAfter (countedRule left) (countedRule right) (now (room .entry)) ⌝ }
 {
     let mut a = [0u8; 1151];
     let mut b = [0u8; 1151];
@@ -278,7 +280,7 @@ pub fn list_with(left: Rule, right: Rule, room: &mut [u8], out: &mut [u8]) -> Li
 
 // The same with no room but the lent bytes.
 pub fn list_overlaps(left: Rule, right: Rule, out: &mut [u8]) -> Listed
-    ensures { λ r. ⌜ (r ≡ listedOf (linesOf (countedRule left) (countedRule right)) (length (now (out .entry)))) × (now (out .exit) ≡ after (overlapText (countedRule left) (countedRule right)) (now (out .entry))) ⌝ }
+    ensures { λ r. ⌜ Lists (countedRule left) (countedRule right) (now (out .entry)) r (now (out .exit)) ⌝ }
 {
     let mut room = [0u8; 1];
     list_with(left, right, &mut room, out)

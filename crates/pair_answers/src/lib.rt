@@ -1,13 +1,14 @@
 // The text that `pairs` prints for one line, into lent bytes: the overlaps of the line's two rules.
-// It is put together piece behind piece where the room is known to be enough: in the lent bytes, or else in bytes of its own that are then given whole or not at all.
-// The room that is handed on is for the lister's work, and what it holds afterwards is not said.
+// It is put together piece behind piece where the room is known to be enough: in the lent bytes, or else in bytes of its own that are then
+// given whole or not at all.
+// The room that is handed on is for the lister's work.
 ghost use mathlib.Core.Path.{_≡_};
 ghost use Prim.Native.Nat.{_+_, _≤_};
 ghost use lib.ListN.{length};
 ghost use Rattle.writing.specs.Answers.{Writes};
 ghost use Rattle.pieces.specs.Placed.{Placed};
 ghost use Rattle.overlap_text.specs.Texts.{mostBytes};
-ghost use Rattle.pair_answers.specs.Pairs.{lineText, longestAnswer, pairAnswer};
+ghost use Rattle.pair_answers.specs.Pairs.{lineText, lineRoom, longestAnswer, pairAnswer};
 use writing::Written;
 
 // ---- pieces: each is put at a place of the room, and returns the place behind it
@@ -17,6 +18,7 @@ fn put_line(line: &[u8], room: &mut [u8], out: &mut [u8], at: usize) -> usize
     requires { ⌜ at + mostBytes ≤ length (now out) ⌝ }
     ensures { λ r. ⌜ Placed (lineText (now (line .entry))) at (now (out .entry)) r (now (out .exit)) ⌝ }
     ensures { λ _. ⌜ length (lineText (now (line .entry))) ≤ mostBytes ⌝ }
+    ensures { λ _. ⌜ now (room .exit) ≡ lineRoom (now (line .entry)) (now (room .entry)) ⌝ }
 {
     let n = line.len();
     if 4097 < n {
@@ -32,6 +34,7 @@ fn put_answer(k: u64, line: &[u8], room: &mut [u8], out: &mut [u8]) -> usize
     requires { ⌜ longestAnswer ≤ length (now out) ⌝ }
     ensures { λ r. ⌜ Placed (pairAnswer k (now (line .entry))) 0 (now (out .entry)) r (now (out .exit)) ⌝ }
     ensures { λ _. ⌜ length (pairAnswer k (now (line .entry))) ≤ longestAnswer ⌝ }
+    ensures { λ _. ⌜ now (room .exit) ≡ lineRoom (now (line .entry)) (now (room .entry)) ⌝ }
 {
     let a = line_pieces::put_title(b"pair ", k, out, 0);
     put_line(line, room, out, a)
@@ -48,6 +51,7 @@ fn longest() -> [u8; 65562]
 pub fn answer_with(k: u64, line: &[u8], room: &mut [u8], out: &mut [u8]) -> Written
     ensures { λ w. ⌜ Writes (pairAnswer k (now (line .entry))) (now (out .entry)) w (now (out .exit)) ⌝ }
     ensures { λ _. ⌜ length (pairAnswer k (now (line .entry))) ≤ longestAnswer ⌝ }
+    ensures { λ _. ⌜ now (room .exit) ≡ lineRoom (now (line .entry)) (now (room .entry)) ⌝ }
 {
     if 65562 <= out.len() {
         return Written::Bytes(put_answer(k, line, room, out));

@@ -1,24 +1,23 @@
 -- What is said of the values that reading and listing return is what is said of the texts. Assumes nothing.
-use mathlib.Core.Path.{_≡_, refl, ap, ap₂, _∙_}
-use mathlib.Core.Bool.{Bool, true, false, cond}
-use mathlib.Core.List.{List}
+use mathlib.Core.Path.{_≡_, refl, sym, ap, ap₂, _∙_}
+use mathlib.Core.List.{List, [], _∷_}
 use Prim.Native.Nat.{ℕ}
-use lib.Dec.{leb}
 use lib.ListN.{length}
+use Rattle.text.specs.Told.{Told, byRoom}
 use Rattle.text.specs.Read.{Outcome, refused, accepted, readRule}
 use Rattle.reading.specs.declared.RuleRead.{RuleRead}
 use Rattle.verdicts.specs.Verdicts.{verdictOf}
 use Rattle.reading.specs.Answers.{ruleRead}
 use Rattle.verdicts.proofs.Verdicts.{number-is}
-use Rattle.listing.specs.Lines.{Line, listText}
-use Rattle.listing.specs.Overlaps.{linesOf}
+use Rattle.listing.specs.Overlaps.{linesOf, overlapText}
+use Rattle.overlaps.specs.declared.Listed.{Listed}
 use Rattle.overlaps.specs.declared.Listed.the-variants.{Lines, TooSmall}
 use Rattle.overlaps.specs.declared.TextsListed.{TextsListed}
-use Rattle.overlaps.specs.Answers.{listedOf, ruleOf, textsListed}
+use Rattle.overlaps.specs.Answers.{told, TextsList, ruleOf}
 use Rattle.yopobrush.specs.declared.Reading.{Reading}
 use Rattle.yopobrush.specs.declared.Listing.{Listing}
 use Rattle.yopobrush.specs.Answers.{readingOf, listingOf}
-use Rattle.yopobrush.specs.Values.{readingBy, listingBy}
+use Rattle.yopobrush.specs.Values.{readingBy, whole, listingBy}
 
 verdict-said : (o : Outcome) → readingBy (verdictOf o) ≡ readingOf o
 verdict-said (refused r p) = ap (λ (n : ℕ). record { refusal = n; place = p }) (number-is r)
@@ -31,29 +30,35 @@ reading-said (accepted x) = refl
 pub text-said : (t : List ℕ) (l : RuleRead) (a : Reading) → l ≡ ruleRead (readRule t) → a ≡ readingBy (l .verdict) → a ≡ readingOf (readRule t)
 text-said t l a is-l is-a = is-a ∙ ap (λ (v : RuleRead). readingBy (v .verdict)) is-l ∙ reading-said (readRule t)
 
--- the answer of the lines ls in so much room
-listed-said : (l r : Reading) (ls : List Line) (room : ℕ)
-    → listingBy l r (listedOf ls room)
-    ≡ record { left = l; right = r; refusal = cond (leb (length (listText ls)) room) 0 8; entries = length ls; bytes = length (listText ls) }
-listed-said l r ls room = go (leb (length (listText ls)) room)
-  where
-    go : (b : Bool)
-        → listingBy l r (cond b (Lines (length ls) (length (listText ls))) (TooSmall (length ls) (length (listText ls))))
-        ≡ record { left = l; right = r; refusal = cond b 0 8; entries = length ls; bytes = length (listText ls) }
-    go true = refl
-    go false = refl
+-- the answer that tells so many bytes needed, of so many lent, with the two counts
+module _ (l r : Reading) (needed lent n b : ℕ) where
+  abbrev counted : Told
+  counted = byRoom needed lent (n ∷ b ∷ [])
+
+  told-whole : (x : Listed) (m c : ℕ) → told x ≡ counted → told x .values ≡ m ∷ c ∷ [] → whole l r (told x) m c ≡ whole l r counted n b
+  told-whole x m c h k =
+      let values : m ∷ c ∷ [] ≡ n ∷ b ∷ [] = sym k ∙ ap (λ (a : Told). a .values) h in
+      let is-n : m ≡ n = cc in
+      let is-b : c ≡ b = cc in
+      ap₂ (whole l r (told x)) is-n is-b ∙ ap (λ (a : Told). whole l r a n b) h
+
+  listed-said : (x : Listed) → told x ≡ counted → listingBy l r x ≡ whole l r counted n b
+  listed-said (Lines m c) h = told-whole (Lines m c) m c h refl
+  listed-said (TooSmall m c) h = told-whole (TooSmall m c) m c h refl
 
 -- how each text is read, and the list of what they say
-pub texts-said : (t u : List ℕ) (room : ℕ) (said : TextsListed) (a b : Reading) (answer : Listing)
-    → said ≡ textsListed (readRule t) (readRule u) room
+pub texts-said : (t u : List ℕ) {old : List ℕ} {said : TextsListed} {new : List ℕ} (a b : Reading) (answer : Listing)
+    → TextsList t u old said new
     → a ≡ readingBy (said .left)
     → b ≡ readingBy (said .right)
     → answer ≡ listingBy a b (said .listed)
-    → answer ≡ listingOf (readRule t) (readRule u) room
-texts-said t u room said a b answer is-said is-a is-b is-answer =
-    let l = is-a ∙ ap (λ (x : TextsListed). readingBy (x .left)) is-said ∙ verdict-said (readRule t) in
-    let r = is-b ∙ ap (λ (x : TextsListed). readingBy (x .right)) is-said ∙ verdict-said (readRule u) in
+    → answer ≡ listingOf (readRule t) (readRule u) (length old)
+texts-said t u {old} {said} a b answer is is-a is-b is-answer =
+    let l = is-a ∙ ap readingBy (is .left) ∙ verdict-said (readRule t) in
+    let r = is-b ∙ ap readingBy (is .right) ∙ verdict-said (readRule u) in
+    let x = ruleOf (readRule t) in
+    let y = ruleOf (readRule u) in
+    let n = length (overlapText x y) in
     is-answer
-    ∙ ap (λ (x : TextsListed). listingBy a b (x .listed)) is-said
-    ∙ ap₂ (λ (x y : Reading). listingBy x y (listedOf (linesOf (ruleOf (readRule t)) (ruleOf (readRule u))) room)) l r
-    ∙ listed-said (readingOf (readRule t)) (readingOf (readRule u)) (linesOf (ruleOf (readRule t)) (ruleOf (readRule u))) room
+    ∙ ap₂ (λ (x y : Reading). listingBy x y (said .listed)) l r
+    ∙ listed-said (readingOf (readRule t)) (readingOf (readRule u)) n (length old) (length (linesOf x y)) n (said .listed) (is .listed .answer)

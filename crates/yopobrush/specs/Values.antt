@@ -1,9 +1,13 @@
--- The same answers, from the values that reading and listing return. `reading-said` and `listing-said` of proofs/Said say that they are the same.
+-- The same answers, from what reading and listing return: `text-said` and `texts-said` of proofs/Said say that they are the same.
+use Prim.Native.Nat.{ℕ}
+use Rattle.text.specs.Told.{Told}
 use Rattle.verdicts.specs.declared.Verdict.{Verdict}
 use Rattle.verdicts.specs.declared.Verdict.the-variants.{Accepted, Refused}
 use Rattle.verdicts.specs.Verdicts.{numberOf}
 use Rattle.overlaps.specs.declared.Listed.{Listed}
 use Rattle.overlaps.specs.declared.Listed.the-variants.{Lines, TooSmall}
+use Rattle.overlaps.specs.Answers.{told}
+use Rattle.yopobrush.specs.Answers.{numbered}
 use Rattle.yopobrush.specs.declared.Reading.{Reading}
 use Rattle.yopobrush.specs.declared.Listing.{Listing}
 
@@ -11,6 +15,9 @@ abbrev pub readingBy : Verdict → Reading
 readingBy Accepted = record { refusal = 0; place = 0 }
 readingBy (Refused r p) = record { refusal = numberOf r; place = p }
 
+abbrev pub whole : Reading → Reading → Told → ℕ → ℕ → Listing
+whole left right a n b = record { left = left; right = right; refusal = numbered (a .number); entries = n; bytes = b }
+
 abbrev pub listingBy : Reading → Reading → Listed → Listing
-listingBy left right (Lines n b) = record { left = left; right = right; refusal = 0; entries = n; bytes = b }
-listingBy left right (TooSmall n b) = record { left = left; right = right; refusal = 8; entries = n; bytes = b }
+listingBy left right (Lines n b) = whole left right (told (Lines n b)) n b
+listingBy left right (TooSmall n b) = whole left right (told (TooSmall n b)) n b

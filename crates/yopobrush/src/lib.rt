@@ -2,12 +2,8 @@
 // Numbers and byte slices cross the boundary, and structs of numbers in C's layout; to C a slice is a pointer and a length.
 // A name belongs to the whole program, as in C, so each begins with the library's.
 ghost use mathlib.Core.Path.{_≡_};
-ghost use lib.ListN.{length};
 ghost use Rattle.text.specs.Read.{readRule};
-ghost use Rattle.listing.specs.Overlaps.{overlapText};
-ghost use Rattle.writing.specs.Answers.{after};
-ghost use Rattle.overlaps.specs.Answers.{ruleOf};
-ghost use Rattle.yopobrush.specs.Answers.{readingOf, listingOf};
+ghost use Rattle.yopobrush.specs.Answers.{readingOf, LibraryLists};
 ghost use Rattle.yopobrush.specs.Values.{readingBy, listingBy};
 use overlaps::Listed;
 use verdicts::Verdict;
@@ -78,8 +74,7 @@ pub extern "C" fn yopobrush_read_rule(text: &[u8]) -> Reading
 // Lists the overlaps of two rule texts into the lent bytes. A text that is refused says the rule with no fields, which has no overlaps.
 #[no_mangle]
 pub extern "C" fn yopobrush_list_overlaps(left: &[u8], right: &[u8], out: &mut [u8]) -> Listing
-    ensures { λ r. ⌜ r ≡ listingOf (readRule (now (left .entry))) (readRule (now (right .entry))) (length (now (out .entry))) ⌝ }
-    ensures { λ _. ⌜ now (out .exit) ≡ after (overlapText (ruleOf (readRule (now (left .entry)))) (ruleOf (readRule (now (right .entry))))) (now (out .entry)) ⌝ }
+    ensures { λ r. ⌜ LibraryLists (now (left .entry)) (now (right .entry)) (now (out .entry)) r (now (out .exit)) ⌝ }
 {
     let mut room = [0u8; 1];
     let said = overlaps::list_texts(left, right, &mut room, out);

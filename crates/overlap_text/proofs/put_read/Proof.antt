@@ -1,7 +1,6 @@
 -- `overlap_text::put_read` meets its contract: by how the texts are read and by the lister's answer. Assumes nothing.
 use Prim.Native.Nat.{_+_, _-_}
 use native.Mathlib.Omega.{arith}
-use Rattle.text.specs.Read.{readRule}
 use Rattle.overlap_text.proofs.Texts.{left-refused, right-refused, texts-in, texts-put, texts-long}
 use borrow.Author.Needs.{needs}
 use Rattle.overlap_text.proofs.put_read.Statement.{statement}
@@ -44,9 +43,10 @@ returns c =
     let n = a .at + 65536 - a .at in
     let L = c .before .before .before .before .before .before .before .before .before .before .before .before .list-texts in
     let v = c .before .before .before .before .before .before .l .given in
-    left-refused
-    (readRule (a .left .now)) (readRule (a .right .now)) (a .out .now) (a .at) n (omega arith) (z .pre)
-    (L .ensures) (v .0 .0) (v .0 .1 .0) (search needs) (v .1) (c .before .before .put-refused .ensures)
+    let q = left-refused
+    (a .left .now) (a .right .now) (a .out .now) (a .at) n (omega arith) (z .pre)
+    (L .ensures .0) (v .0 .0) (v .0 .1 .0) (search needs) (v .1) (c .before .before .put-refused .ensures)
+    in (q .0, (q .1, L .ensures .1))
 
 enum-told : tie.Need-enum-told
 enum-told c = search needs
@@ -74,9 +74,10 @@ returns-2 c =
     let L = c .before .before .before .before .before .before .before .before .before .before .before .before .before .before .list-texts in
     let v = c .before .before .before .before .before .before .r .given in
     let e = c .before .before .before .before .before .before .before .before .enum-told .given .1 in
-    right-refused
-    (readRule (a .left .now)) (readRule (a .right .now)) (a .out .now) (a .at) n (omega arith) (z .pre)
-    (L .ensures) (v .0 .0) (v .0 .1 .0) (search needs) e (v .1) (c .before .before .put-refused2 .ensures)
+    let q = right-refused
+    (a .left .now) (a .right .now) (a .out .now) (a .at) n (omega arith) (z .pre)
+    (L .ensures .0) (v .0 .0) (v .0 .1 .0) (search needs) e (v .1) (c .before .before .put-refused2 .ensures)
+    in (q .0, (q .1, L .ensures .1))
 
 enum-told-2 : tie.Need-enum-told-2
 enum-told-2 c = search needs
@@ -91,7 +92,7 @@ add-result c =
     let n = a .at + 65536 - a .at in
     let L = c .before .before .before .before .before .before .before .before .before .before .before .list-texts in
     let v = c .before .listed .given in
-    omega (arith, texts-in (readRule (a .left .now)) (readRule (a .right .now)) (a .out .now) (a .at) n (omega arith) (z .pre) (L .ensures) _ _ (v .1))
+    omega (arith, texts-in (a .left .now) (a .right .now) (a .out .now) (a .at) n (omega arith) (z .pre) (L .ensures .0) _ _ (v .1))
 
 enum-known-listed-2 : tie.Need-enum-known-listed-2
 enum-known-listed-2 c = search needs
@@ -117,9 +118,10 @@ returns-3 c =
     let v = c .before .listed .given in
     let e = c .before .before .before .before .before .enum-told .given .1 in
     let f = c .before .before .before .enum-told2 .given .1 in
-    texts-put
-    (readRule (a .left .now)) (readRule (a .right .now)) (a .out .now) (a .at) n (omega arith) (z .pre)
-    (L .ensures) e f _ _ (v .1)
+    let q = texts-put
+    (a .left .now) (a .right .now) (a .out .now) (a .at) n (omega arith) (z .pre)
+    (L .ensures .0) e f _ _ (v .1)
+    in (q .0, (q .1, L .ensures .1))
 
 same-length-7 : tie.Need-same-length-7
 same-length-7 c = search needs
@@ -136,9 +138,10 @@ returns-4 c =
     let v = c .before .before .before .before .before .before .listed2 .given in
     let e = c .before .before .before .before .before .before .before .before .before .before .enum-told .given .1 in
     let f = c .before .before .before .before .before .before .before .before .enum-told2 .given .1 in
-    texts-long
-    (readRule (a .left .now)) (readRule (a .right .now)) (a .out .now) (a .at) n (omega arith) (z .pre)
-    (L .ensures) e f _ _ (v .1) (search needs) (c .before .before .put-title .ensures)
+    let q = texts-long
+    (a .left .now) (a .right .now) (a .out .now) (a .at) n (omega arith) (z .pre)
+    (L .ensures .0) e f _ _ (v .1) (search needs) (c .before .before .put-title .ensures)
+    in (q .0, (q .1, L .ensures .1))
 
 pub put-read-spec : {M : Type 1} → statement M
 put-read-spec =

@@ -1,5 +1,5 @@
 -- `overlap_text::put_texts` meets its contract: nothing, or all that is said. Assumes nothing.
-use Prim.Native.Nat.{_-_}
+use Prim.Native.Nat.{_-_, _≤_, _<_}
 use native.Mathlib.Omega.{arith}
 use lib.ListN.{length}
 use Rattle.text.specs.Read.{readRule}
@@ -7,6 +7,7 @@ use Rattle.pieces.proofs.Pieces.{placed-none}
 use Rattle.entry_parts.proofs.Pieces.{piece-as}
 use Rattle.overlap_text.specs.Texts.{mostBytes}
 use Rattle.overlap_text.proofs.Said.{in-room, no-room}
+use borrow.Author.Tests.{le-leb, lt-leb}
 use borrow.Author.Needs.{needs}
 use Rattle.overlap_text.proofs.put_texts.Statement.{statement}
 use Rattle.overlap_text.proofs.put_texts.Tie as tie
@@ -17,10 +18,11 @@ bytes-behind-requires c κs = search needs
 returns : tie.Need-returns
 returns c =
     let a = c .before .before .before .before .before .before .args in
-    piece-as mostBytes (a .at) (a .out .now)
-    (no-room (length (a .out .now) - a .at) (readRule (a .left .now)) (readRule (a .right .now))
-    (omega (arith, c .if1 .taken, c .before .bytes-behind .ensures)))
-    (placed-none (a .at) (a .out .now), omega arith)
+    let k = length (a .out .now) - a .at in
+    let few : k < mostBytes = omega (arith, c .if1 .taken, c .before .bytes-behind .ensures) in
+    let none = no-room k (readRule (a .left .now)) (readRule (a .right .now)) few in
+    let q = piece-as mostBytes (a .at) (a .out .now) none (placed-none (a .at) (a .out .now), omega arith) in
+    (q .0, (q .1, rw (lt-leb mostBytes k few)))
 
 put-read-requires : tie.Need-put-read-requires
 put-read-requires c κs =
@@ -38,10 +40,11 @@ returns-2 c =
     let p = c .before .before .before .before in
     let b = p .before .before .before in
     let a = b .before .before .before .before .before .before .args in
-    piece-as mostBytes (a .at) (a .out .now)
-    (in-room (length (a .out .now) - a .at) (readRule (a .left .now)) (readRule (a .right .now))
-    (omega (arith, b .if1 .left, b .before .bytes-behind .ensures)))
-    (p .put-read .ensures)
+    let k = length (a .out .now) - a .at in
+    let enough : mostBytes ≤ k = omega (arith, b .if1 .left, b .before .bytes-behind .ensures) in
+    let e = p .put-read .ensures in
+    let q = piece-as mostBytes (a .at) (a .out .now) (in-room k (readRule (a .left .now)) (readRule (a .right .now)) enough) (e .0, e .1 .0) in
+    (q .0, (q .1, rw (le-leb mostBytes k enough) (e .1 .1)))
 
 pub put-texts-spec : {M : Type 1} → statement M
 put-texts-spec =

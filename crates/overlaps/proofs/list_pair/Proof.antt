@@ -1,8 +1,9 @@
 -- `overlaps::list_pair` meets its contract: by the count, and whether the room had all lines. Assumes nothing.
-use mathlib.Core.Path.{sym}
+use mathlib.Core.Path.{_≡_, sym, ap, _∙_}
 use native.Mathlib.Omega.{arith}
 use lib.Seq.{length-take-le}
 use borrow.Author.Needs.{needs}
+use Rattle.overlaps.specs.declared.Tally.{Tally}
 use Rattle.overlaps.specs.Pairs.{pairOf}
 use Rattle.overlaps.specs.Listing.{allLines}
 use Rattle.overlaps.proofs.Counts.{too-small, room-enough, copied-in}
@@ -19,7 +20,7 @@ returns : tie.Need-returns
 returns c =
     let z = c .before .before .before .before .before .before .before .before .before .args in
     let t = c .before .before .before .all-lines in
-    too-small (allLines (pairOf (z .left .now) (z .right .now) (z .p))) (z .out .now) (t .result) (t .ensures .0) (c .if1 .taken)
+    (too-small (allLines (pairOf (z .left .now) (z .right .now) (z .p))) (z .out .now) (t .result) (t .ensures .0) (c .if1 .taken), t .ensures .1)
 
 all-lines-requires-2 : tie.Need-all-lines-requires-2
 all-lines-requires-2 c κs = search needs
@@ -35,7 +36,10 @@ returns-2 c =
     let z = c .before .before .before .before .before .before .before .before .before .before .before .before .before .before .args in
     let t = c .before .before .before .before .before .before .before .before .all-lines in
     let u = c .before .before .all-lines2 in
-    room-enough (allLines (pairOf (z .left .now) (z .right .now) (z .p))) (z .out .now) (t .result) (t .ensures .0) (c .before .before .before .before .before .if1 .left) (u .result) _ (u .ensures)
+    let same : t .result .bytes ≡ u .result .bytes = ap (λ (x : Tally). x .bytes) (t .ensures .0 ∙ sym (u .ensures .0)) in
+    let ls = allLines (pairOf (z .left .now) (z .right .now) (z .p)) in
+    let fits = c .before .before .before .before .before .if1 .left in
+    (room-enough ls (z .out .now) (u .result) (u .ensures .0) (omega (arith, fits)) (u .ensures .1), t .ensures .1)
 
 slice-reshare-prefix-copy : tie.Need-slice-reshare-prefix-copy
 slice-reshare-prefix-copy c = search needs
@@ -56,7 +60,13 @@ returns-3 : tie.Need-returns-3
 returns-3 c =
     let z = c .before .before .before .before .before .before .before .before .before .before .before .before .before .before .before .args in
     let t = c .before .before .before .before .before .before .before .before .before .all-lines in
-    copied-in (allLines (pairOf (z .left .now) (z .right .now) (z .p))) (z .out .now) (t .result) (t .ensures .0) (c .before .before .before .before .before .before .if1 .left) (z .room .now) _ _ (omega (arith, c .before .before .before .before .before .if2 .left, t .kept .1 .1 .1 .0)) (t .ensures .1) (c .before .before .copy .ensures .1)
+    let ls = allLines (pairOf (z .left .now) (z .right .now) (z .p)) in
+    let fits = c .before .before .before .before .before .before .if1 .left in
+    let held = c .before .before .before .before .before .if2 .left in (
+      copied-in ls (z .out .now) (t .result) (t .ensures .0) fits (z .room .now) _ _ (omega (arith, held, t .kept .1 .1 .1 .0)) (t .ensures .1)
+          (c .before .before .copy .ensures .1),
+      t .ensures .1,
+    )
 
 pub list-pair-spec : {M : Type 1} → statement M
 list-pair-spec =

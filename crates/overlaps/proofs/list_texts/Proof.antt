@@ -1,11 +1,7 @@
 -- `overlaps::list_texts` meets its contract: what is read of each text is accepted, or has no fields. Assumes nothing.
-use mathlib.Core.Path.{refl, _∙_, ap₂}
+use mathlib.Core.Path.{_∙_}
 use borrow.Author.Needs.{needs}
-use Rattle.text.specs.Read.{readRule}
-use Rattle.verdicts.specs.declared.Verdict.{Verdict}
-use Rattle.reading.specs.Answers.{ruleRead}
-use Rattle.overlaps.specs.declared.TextsListed.{TextsListed}
-use Rattle.overlaps.proofs.Texts.{texts-listed}
+use Rattle.overlaps.proofs.Texts.{texts-listed, texts-stored}
 use Rattle.overlaps.proofs.list_texts.Statement.{statement}
 use Rattle.overlaps.proofs.list_texts.Tie as tie
 
@@ -31,10 +27,10 @@ returns c =
     let z = c .before .before .before .before .before .before .before .before .before .before .before .before .before .args in
     let l = c .before .before .before .before .before .before .before .before .read-tokens in
     let r = c .before .before .before .before .before .before .before .read-tokens2 in
-    let o = c .before .before .before .before .list-tokens in
-    let h = texts-listed (z .left .now) (z .right .now) (z .out .now) _ (ruleRead (readRule (z .left .now))) (ruleRead (readRule (z .right .now))) refl refl (o .result) (o .ensures) in
-    let made : Verdict → Verdict → TextsListed = λ v w. record { left = v; right = w; listed = o .result } in
-    (ap₂ made (l .ensures .0) (r .ensures .0) ∙ h .0, h .1)
+    let o = c .before .before .before .before .list-tokens in (
+      texts-listed (z .left .now) (z .right .now) (l .ensures .0) (r .ensures .0) (o .ensures .0),
+      o .ensures .1 ∙ texts-stored (z .left .now) (z .right .now) (z .room .now),
+    )
 
 pub list-texts-spec : {M : Type 1} → statement M
 list-texts-spec =

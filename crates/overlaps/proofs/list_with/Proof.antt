@@ -1,10 +1,11 @@
 -- `overlaps::list_with` meets its contract: the plain text of a value says what the value counts as. Assumes nothing.
+use mathlib.Core.Path.{_∙_}
 use lib.ListN.{replicate}
 use Rattle.text.specs.Plain.{plain}
 use Rattle.accepted.specs.Accepted.{countedRule}
 use Rattle.pieces.proofs.Pieces.{written-long, written-count, written-front}
 use Rattle.plain_text.proofs.Lengths.{plain-short}
-use Rattle.overlaps.proofs.Texts.{values-listed}
+use Rattle.overlaps.proofs.Texts.{values-listed, values-stored}
 use borrow.Author.Needs.{needs}
 use Rattle.overlaps.proofs.list_with.Statement.{statement}
 use Rattle.overlaps.proofs.list_with.Tie as tie
@@ -52,10 +53,13 @@ returns : tie.Need-returns
 returns c =
     let z = c .before .before .before .before .before .before .before .before .before .before .before .before .before .before .before .before .before .before .before .args in
     let o = c .before .before .before .before .list-texts in
-    values-listed (z .left) (z .right) _ _ (z .out .now) _
-    (written-front (plain (countedRule (z .left))) (replicate 1151 0) (plain-short (z .left)) (c .before .before .before .before .before .before .before .before .before .before .before .before .before .size-of .ensures) (c .before .before .before .before .before .before .before .before .before .before .before .before .before .before .before .write-rule .ensures))
-    (written-front (plain (countedRule (z .right))) (replicate 1151 0) (plain-short (z .right)) (c .before .before .before .before .before .before .before .before .before .size-of2 .ensures) (c .before .before .before .before .before .before .before .before .before .before .before .write-rule2 .ensures))
-    (o .result) (o .ensures .0) (o .ensures .1)
+    let s = c .before .before .before .before .before .before .before .before .before .before .before .before .before .size-of .ensures in
+    let t = c .before .before .before .before .before .before .before .before .before .size-of2 .ensures in
+    let v = c .before .before .before .before .before .before .before .before .before .before .before .before .before .before .before .write-rule .ensures in
+    let w = c .before .before .before .before .before .before .before .before .before .before .before .write-rule2 .ensures in
+    let a = written-front (plain (countedRule (z .left))) (replicate 1151 0) (plain-short (z .left)) s v in
+    let b = written-front (plain (countedRule (z .right))) (replicate 1151 0) (plain-short (z .right)) t w in
+    (values-listed (z .left) (z .right) a b (o .ensures .0), o .ensures .1 ∙ values-stored (z .left) (z .right) a b (z .room .now))
 
 pub list-with-spec : {M : Type 1} → statement M
 list-with-spec =

@@ -26,7 +26,7 @@ returns c =
     let z = c .before .before .before .before .before .before .before .before .before .before .before .args in
     let P = c .before .before .before .before .put-answer in
     let t = pairAnswer (z .k) (z .line .now) in
-    let h : length t ≤ length (z .out .now) = omega (arith, P .ensures .1, c .before .before .before .before .before .before .before .if1 .taken) in
+    let h : length t ≤ length (z .out .now) = omega (arith, P .ensures .1 .0, c .before .before .before .before .before .before .before .if1 .taken) in
     (wrote t (z .out .now) h (omega (arith, P .ensures .0 .0)) (P .ensures .0 .1), P .ensures .1)
 
 longest-requires : tie.Need-longest-requires
@@ -46,7 +46,7 @@ slice-aggregate-give c =
     let z = c .before .before .before .before .before .before .before .before .before .before .before .before .args in
     let l = c .before .before .before .before .before .before .before .longest in
     let P = c .before .before .before .before .put-answer2 .ensures in
-    front-size (pairAnswer (z .k) (z .line .now)) (l .result) (omega (arith, P .1, l .ensures)) (P .0)
+    front-size (pairAnswer (z .k) (z .line .now)) (l .result) (omega (arith, P .1 .0, l .ensures)) (P .0)
 
 give-requires : tie.Need-give-requires
 give-requires c κs = search needs
@@ -63,7 +63,9 @@ returns-2 c =
     let l = c .before .before .before .before .before .before .before .before .before .before .before .longest in
     let P = c .before .before .before .before .before .before .before .before .put-answer2 .ensures in
     let G = c .before .before .give in
-    (subst (λ (t : List ℕ). Writes t (z .out .now) (G .result) (G .last .1 .0)) (front-is (pairAnswer (z .k) (z .line .now)) (l .result) (omega (arith, P .1, l .ensures)) (P .0)) (G .ensures), P .1)
+    let t = pairAnswer (z .k) (z .line .now) in
+    let front = front-is t (l .result) (omega (arith, P .1 .0, l .ensures)) (P .0) in
+    (subst (λ (u : List ℕ). Writes u (z .out .now) (G .result) (G .last .1 .0)) front (G .ensures), P .1)
 
 pub answer-with-spec : {M : Type 1} → statement M
 answer-with-spec =

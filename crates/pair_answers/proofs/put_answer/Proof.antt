@@ -30,7 +30,9 @@ unfolding pairAnswer
 returns c =
     let z = c .before .before .before .before .before .before .before .before .before .before .before .before .before .before .before .args in
     let L = c .before .before .before .before .put-line .ensures in
-    (placed-next (titleText (z .k)) (lineText (z .line .now)) 0 (z .out .now) (c .before .before .before .before .before .before .before .before .before .put-title .ensures) (L .0), answer-short (z .k) (z .line .now) (search needs) (L .1))
+    let T = c .before .before .before .before .before .before .before .before .before .put-title .ensures in
+    let short = answer-short (z .k) (z .line .now) (search needs) (L .1 .0) in
+    (placed-next (titleText (z .k)) (lineText (z .line .now)) 0 (z .out .now) T (L .0), (short, L .1 .1))
 
 pub put-answer-spec : {M : Type 1} → statement M
 put-answer-spec =

@@ -1,12 +1,12 @@
 -- `pair_answers::put_line` meets its contract: too long, or what is said of the two parts. Assumes nothing.
-use mathlib.Core.Path.{sym}
+use mathlib.Core.Path.{sym, _∙_}
 use Prim.Native.Nat.{_-_}
 use native.Mathlib.Omega.{arith}
 use lib.ListN.{length}
 use lib.Seq.{length-take-le}
 use Rattle.entry_parts.proofs.Pieces.{piece-as}
 use Rattle.overlap_text.specs.Texts.{mostBytes}
-use Rattle.pair_answers.proofs.Said.{line-said}
+use Rattle.pair_answers.proofs.Said.{line-said, line-room, long-room}
 use Rattle.pair_answers.proofs.Lengths.{line-long}
 use borrow.Author.Needs.{needs}
 use Rattle.pair_answers.proofs.put_line.Statement.{statement}
@@ -24,7 +24,9 @@ same-length c = search needs
 returns : tie.Need-returns
 returns c =
     let z = c .before .before .before .before .before .before .before .before .before .args in
-    piece-as mostBytes (z .at) (z .out .now) (line-long (z .line .now) (c .before .before .before .before .before .if1 .taken)) (c .before .before .put-bytes .ensures, omega arith)
+    let long = c .before .before .before .before .before .if1 .taken in
+    let q = piece-as mostBytes (z .at) (z .out .now) (line-long (z .line .now) long) (c .before .before .put-bytes .ensures, omega arith) in
+    (q .0, (q .1, long-room (z .line .now) (z .room .now) long))
 
 tab-place-requires : tie.Need-tab-place-requires
 tab-place-requires c κs = search needs
@@ -61,8 +63,13 @@ returns-2 c =
     let z = s .args in
     let T = c .before .before .before .before .before .before .before .before .before .before .tab-place in
     let D = c .before .before .before .before .before .before .before .before .before .behind in
-    let said = line-said (z .line .now) (T .result) (D .result) (T .ensures .0) (D .ensures) (length (z .out .now) - z .at) (c .before .before .before .before .before .before .before .before .before .before .before .if1 .left) (omega (arith, s .pre)) in
-    piece-as mostBytes (z .at) (z .out .now) said (c .before .before .before .before .put-texts .ensures)
+    let k = length (z .out .now) - z .at in
+    let short = c .before .before .before .before .before .before .before .before .before .before .before .if1 .left in
+    let said = line-said (z .line .now) (T .result) (D .result) (T .ensures .0) (D .ensures) k short (omega (arith, s .pre)) in
+    let stays = line-room (z .line .now) (T .result) (D .result) (T .ensures .0) (D .ensures) k (z .room .now) short (omega (arith, s .pre)) in
+    let e = c .before .before .before .before .put-texts .ensures in
+    let q = piece-as mostBytes (z .at) (z .out .now) said (e .0, e .1 .0) in
+    (q .0, (q .1, e .1 .1 ∙ stays))
 
 pub put-line-spec : {M : Type 1} → statement M
 put-line-spec =

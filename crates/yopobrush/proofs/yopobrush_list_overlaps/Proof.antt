@@ -28,7 +28,7 @@ returns c =
     let said = c .before .before .before .before .before .before .list-texts in
     let a = c .before .before .reading-of .ensures in
     let b = c .before .reading-of2 .ensures in
-    (texts-said (z .left .now) (z .right .now) _ (said .result) _ _ _ (said .ensures .0) a b (c .listing-of .ensures), said .ensures .1)
+    record { answer = texts-said (z .left .now) (z .right .now) _ _ _ (said .ensures .0) a b (c .listing-of .ensures); bytes = said .ensures .0 .listed .bytes }
 
 pub yopobrush-list-overlaps-spec : {M : Type 1} → statement M
 yopobrush-list-overlaps-spec =
