@@ -35,12 +35,12 @@ searchedOf nine room = record { number = some 9; values = 0 ∷ (0 ∷ []) }
 abbrev pub foundIn : ℕ → Field → Field → Found
 foundIn room f g = linesFor room (countedField f) (countedField g)
 
--- WHAT A SEARCH PROMISES of two field values, a row and the lent bytes `old`: its answer, what the bytes are afterwards, and "every record
--- of the row is the blank record .. refused or not"
-pub record Searches (f g : Field) (row : List Problem) (old : List ℕ) (r : Searched) (row′ : List Problem) (new : List ℕ) : Type 0 where
-  pub answer : told r ≡ searchedOf (foundIn (length row) f g) (length old)
-  pub output : new ≡ after (bytesOf (foundIn (length row) f g)) old
-  pub row : row′ ≡ blanks (length row)
+-- WHAT A SEARCH PROMISES of two field values, the lent records and the lent bytes `old`: its answer, what the bytes are afterwards, and
+-- "every record of the row is the blank record .. refused or not"
+pub record Searches (f g : Field) (records : List Problem) (old : List ℕ) (r : Searched) (records′ : List Problem) (new : List ℕ) : Type 0 where
+  pub answer : told r ≡ searchedOf (foundIn (length records) f g) (length old)
+  pub output : new ≡ after (bytesOf (foundIn (length records) f g)) old
+  pub row : records′ ≡ blanks (length records)
 
 -- ---- by the machine
 
