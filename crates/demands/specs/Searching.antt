@@ -5,8 +5,9 @@
 --     search-demand    every call has it, by the record that the contracts of `search::search` and `solver::search_in` cite
 --     filled-by-laws, solved-by-laws    the equation as it is written, under GP 2's laws
 --     steps-fall, no-chain              Theorem 1 of document 001
+--     set-is                            the set of a problem's list variables
 use mathlib.Core.Path.{_≡_, refl, sym, _∙_, ap, ap₂, subst}
-use mathlib.Core.Logic.{_≢_, _↔_, _⊎_, inl, inr, Iff·trans}
+use mathlib.Core.Logic.{_≢_, _↔_, _⊎_, inl, inr}
 use mathlib.Core.Bool.{Bool, true, false, cond}
 use mathlib.Core.Option.{Option, none, some, Option·none-ne-some, Option·some-injective}
 use mathlib.Core.List.{List, [], _∷_, _++_, map, map-append, head-eq-of-cons-eq, tail-eq-of-cons-eq, nil≢cons, cons≢nil, List·Memᴰ, List·Memᴰ·not-nil}
@@ -20,14 +21,14 @@ use lib.Seq.{take-at, drop-at}
 use borrow.Author.Tests.{le-leb, lt-leb}
 use Rattle.lists.specs.Seqs.{All}
 use Rattle.order.specs.Types.{Kind, basics}
-use Rattle.theory.specs.Terms.{con, var}
+use Rattle.theory.specs.Terms.{con}
 use Rattle.theory.specs.Seqs.{concat-map}
 use Rattle.theory.specs.Fillings.{Filling, Typed, value, fill}
 use Rattle.theory.specs.Laws.{_≈_, flat, replace}
 use Rattle.theory.proofs.Laws.{laws, flat-replace}
-use Rattle.text.specs.Told.{Told, byRoom}
+use Rattle.text.specs.Told.{Told}
 use Rattle.text.specs.Grammar.{Raw, Says}
-use Rattle.text.specs.Terms.{Con, OurTerm, fieldOf, fieldsOf}
+use Rattle.text.specs.Terms.{Con, OurTerm, fieldsOf}
 use Rattle.text.specs.Limits.{IsRule}
 use Rattle.text.specs.Read.{accepted, readRule}
 use Rattle.text.proofs.Told.{eight-iff, fits-iff}
@@ -40,15 +41,18 @@ use Rattle.unifiers.specs.Substitutions.{Subst, image, substitute}
 use Rattle.unifiers.specs.Shapes.{left, right}
 use Rattle.listing.specs.Variables.{variables}
 use Rattle.listing.specs.Fits.{nameOf, Solution}
-use Rattle.searching.specs.Problems.{Bindings, equation, problem, rest}
+use Rattle.searching.specs.Problems.{Bindings, equation, problem, rest, used}
 use Rattle.searching.specs.Problems as searching
-use Rattle.searching.specs.Rules.{Rule, children}
+use Rattle.searching.specs.Rules.{Rule, children, Met}
 use Rattle.searching.specs.Termination.{Lower}
 use Rattle.searching.specs.Runs.{Queued, peak}
+use Rattle.searching.specs.Answers.{ListVariableOf}
 use Rattle.searching.proofs.Searching as theorem
 use Rattle.searching.proofs.Ends as ends
+use Rattle.searching.proofs.Used.{used-is}
 use Rattle.searching.proofs.Peak.{peak-most, peak-met, row-of-none, refused-peak}
 use Rattle.solving.specs.Answers.{setting, fieldOn, AnswerLine, lineText, linesText, WritableAnswer, Gives, InstanceOfLine, answerLine, Lines as Found, lines, nine, linesFor, linesOf, bytesOf}
+use Rattle.solving.proofs.Search.{equation-linear}
 use Rattle.solving.proofs.Shown.{lines-answers, nine-peak}
 use Rattle.solving.proofs.Lines.{answer-lines-one, lines-writable, lines-named, lines-solve, lines-complete}
 use Rattle.terms.specs.declared.Field.{Field}
@@ -444,3 +448,10 @@ steps-fall L M σ u = theorem.steps-fall setting L M σ u
 -- THERE IS NO ENDLESS SEQUENCE of problems, each a child of the one before
 pub no-chain : (s : ℕ → searching.Problem setting) → ((n : ℕ) → (r : Rule) × List·Memᴰ (r, s (suc n)) (children setting (s n))) → ⊥
 no-chain s steps = ends.no-chain setting s steps
+
+-- ---- the set of list variables
+
+-- "the list variables of a problem and its bindings, bound ones too": those that the search for the two fields holds to be used, and no others
+pub set-is : (f g : List OurTerm) → IsRule (f ∷ []) → IsRule (g ∷ []) → (p : searching.Problem setting) → Met setting (fieldOn left f) (fieldOn right g) p
+    → (n : ℕ) → List·Memᴰ n (used setting p) ↔ ListVariableOf setting (fieldOn left f) (fieldOn right g) p n
+set-is f g a b p m n = used-is setting (fieldOn left f) (fieldOn right g) (equation-linear f g a b) p m n

@@ -22,7 +22,6 @@ use Rattle.moves.specs.Encode.{number}
 use Rattle.pieces.specs.Stored as stored
 use Rattle.solving.specs.Answers.{fieldOn, Lines as Found, lines, nine, linesOf, linesFor, bytesOf}
 use Rattle.turns.specs.declared.State.{State}
-use Rattle.queue.specs.Row.{blanks}
 use Rattle.search.specs.declared.Searched.{Searched}
 use Rattle.search.specs.declared.Searched.the-variants.{Lines, TooSmall, Full}
 use Rattle.search.specs.Answers.{told, searchedOf, Searches, reported, Halts, Done}

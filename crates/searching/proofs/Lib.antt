@@ -18,6 +18,7 @@ pub mod Fresh
 pub mod Sizes
 pub mod Few
 pub mod Origins
+pub mod Used
 pub mod Searching
 pub mod Ends
 pub mod Peak

@@ -27,7 +27,7 @@ module _ (E : Setting) where
   length-longest : (k : ℕ) (q : List (Problem E)) → length q ≤ longest E k q
   length-longest zero q = omega arith
   length-longest (suc k) [] = omega arith
-  length-longest (suc k) (p ∷ q) = le-max-left (length (p ∷ q)) (longest E k (q ++ offspring E p))
+  length-longest (suc k) (p ∷ q) = le-max-left (length (p ∷ q)) _
 
   -- every step lowers the steps that are left
   step-falls : (p : Problem E) (q : List (Problem E)) → total E (q ++ offspring E p) < total E (p ∷ q)

@@ -6,12 +6,11 @@
 --     lines-complete                       every solution by constants is an instance of what some line shows
 use mathlib.Core.Path.{_≡_, refl, sym, _∙_, ap, ap₂, subst}
 use mathlib.Core.Logic.{_≢_, _⊎_, inl, inr}
-use mathlib.Core.List.{List, [], _∷_, _++_, map, append-assoc, nil≢cons, head-eq-of-cons-eq, tail-eq-of-cons-eq, List·Memᴰ, List·Memᴰ·head, List·Memᴰ·tail, Memᴰ·map, Memᴰ·of-map}
+use mathlib.Core.List.{List, [], _∷_, _++_, map, append-assoc, nil≢cons, head-eq-of-cons-eq, List·Memᴰ, List·Memᴰ·head, List·Memᴰ·tail, Memᴰ·map, Memᴰ·of-map}
 use Prim.Native.Nat.{ℕ}
 use native.Mathlib.Omega.{arith}
-use native.Mathlib.Decide.{ℕ-discrete}
 use lib.ListN.{drop}
-use Rattle.lists.specs.Seqs.{All, all-map}
+use Rattle.lists.specs.Seqs.{All}
 use Rattle.order.specs.Order.{basic, list}
 use Rattle.order.specs.Types.{Kind, basics}
 use Rattle.theory.specs.Terms.{con, var}
@@ -34,15 +33,11 @@ use Rattle.listing.proofs.Variables.{in-variables}
 use Rattle.searching.specs.Problems.{atomic, listvar, Tm, Bindings}
 use Rattle.searching.specs.Queue.{answers}
 use Rattle.searching.specs.Answers.{StandsIn}
-use Rattle.searching.specs.Fresh.{numbers}
-use Rattle.searching.specs.Pairs.{sixteenAbove}
-use Rattle.searching.specs.Pairs as pairs
-use Rattle.searching.proofs.Seqs.{all-mem}
 use Rattle.searching.proofs.Origins.{answers-from}
-use Rattle.solving.specs.Answers.{setting, fieldOn, found, markOf, valueOf, numberIn, shownOn, AnswerLine, bindingsPart, lineText, linesText, WritableAnswer, Gives, InstanceOfLine, answerLine}
+use Rattle.solving.specs.Answers.{setting, fieldOn, found, markOf, numberIn, shownOn, AnswerLine, bindingsPart, lineText, linesText, WritableAnswer, Gives, InstanceOfLine, answerLine}
 use Rattle.solving.proofs.Search.{equation-linear}
 use Rattle.solving.proofs.Short.{Ours}
-use Rattle.solving.proofs.Shown.{InstanceOf, termOn, stands-on, value-on, shown-solves, shown-left, shown-right, shown-complete}
+use Rattle.solving.proofs.Shown.{termOn, stands-on, value-on, shown-solves, shown-left, shown-right, shown-complete}
 
 -- ---- the bytes determine the lines
 

@@ -115,7 +115,7 @@ pub data Lines : Type 0 where
   nine : Lines
 
 -- "Answers are lines in the order in which solved problems leave the row; repeats stay."
--- `unfinished` never comes (`found-ends` of proofs/), and so stands for no third case
+-- `unfinished` never comes (`found-ends` of proofs/), so that `nine` is a refusal by 9 alone: `lines-nine`, and `nine-peak` by a number
 abbrev pub linesIn : List OurTerm → List OurTerm → Result setting → Lines
 linesIn f g (answers xs) = lines (map (answerText f g) xs)
 linesIn f g refused = nine

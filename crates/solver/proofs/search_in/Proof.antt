@@ -1,6 +1,6 @@
 -- `solver::search_in` meets its contract: a walk of its MIR, by hand. The local array's first records are lent to `search` for a lifetime that ends behind the call (`Local.antt`), and `out` is lent again.
 -- Assumes nothing.
-use mathlib.Core.Path.{_≡_, refl, sym, _∙_, ap, subst}
+use mathlib.Core.Path.{_≡_, refl, sym, _∙_, ap}
 use Prim.Native.Nat.{ℕ, _+_, _-_, _<_, _≤_, _^_, min}
 use mathlib.Core.List.{[], _∷_, List, _++_}
 use native.Mathlib.Omega.{arith}
