@@ -75,9 +75,11 @@ pub record Demand2 (f g : List OurTerm) (count : ℕ) (bytes : List ℕ) : Type 
   -- the returned line count
   pub counted : length lines ≡ count
   -- a line binds the variables of the left field and those of the right field, each once, in order
-  pub named : (l : AnswerLine) → List·Memᴰ l lines → (map nameOf (l .left) ≡ variables (f ∷ [])) × (map nameOf (l .right) ≡ variables (g ∷ []))
+  pub named : (l : AnswerLine) → List·Memᴰ l lines
+      → (map nameOf (l .left) ≡ variables (f ∷ [])) × (map nameOf (l .right) ≡ variables (g ∷ []))
   -- "The search's answers all solve the equation": the values that a line shows make the two fields equal, each by its type
-  pub solve : (l : AnswerLine) → List·Memᴰ l lines → (x : Solution (f ∷ []) (g ∷ []) ℕ) × Gives (x .left) (l .left) × Gives (x .right) (l .right)
+  pub solve : (l : AnswerLine) → List·Memᴰ l lines
+      → (x : Solution (f ∷ []) (g ∷ []) ℕ) × Gives (x .left) (l .left) × Gives (x .right) (l .right)
   -- "every solution by constants is an instance of one of them"
   pub complete : (φ ψ : Filling Con Kind ℕ) → Typed basics consts φ → Typed basics consts ψ → fill φ f ≡ fill ψ g
       → (l : AnswerLine) × List·Memᴰ l lines × InstanceOfLine l φ ψ
@@ -94,7 +96,8 @@ most v w = peak setting (fieldOn left (viewField v)) (fieldOn right (viewField w
 
 -- WHAT THE DEMANDS SAY OF A CALL for the field values v and w, over the lent records and the lent bytes `old`, which answers r and leaves
 -- records′ and new
-pub record SearchDemand (v w : Field) (records : List Problem) (old : List ℕ) (r : Searched) (records′ : List Problem) (new : List ℕ) : Type 0 where
+pub record SearchDemand (v w : Field) (records : List Problem) (old : List ℕ) (r : Searched) (records′ : List Problem)
+    (new : List ℕ) : Type 0 where
   -- THE LENT BUFFER, after a call that is not refused: n lines and b bytes are returned; the first bytes, as many as that, are the lines of
   -- demand 2, and the others are the old ones
   pub answered : BothAccepted v w → (n b : ℕ) → told r ≡ record { number = none; values = n ∷ (b ∷ []) }
@@ -115,18 +118,22 @@ pub record SearchDemand (v w : Field) (records : List Problem) (old : List ℕ) 
       → (text : List ℕ) × Demand2 (viewField v) (viewField w) n text × (length text ≡ b) × (length old < b)
   -- and no other number comes
   pub no-other : (k : ℕ) → told r .number ≡ some k → (k ≡ 8) ⊎ (k ≡ 9)
-  -- "If either field stands on no accepted rule's left side, there are no lines, both counts are 0 and nothing is refused", whatever the row
-  pub unaccepted : (acceptedField v ≡ false) ⊎ (acceptedField w ≡ false) → (told r ≡ record { number = none; values = 0 ∷ (0 ∷ []) }) × (new ≡ old)
+  -- "If either field stands on no accepted rule's left side, there are no lines, both counts are 0 and nothing is refused", whatever the
+  -- row
+  pub unaccepted : (acceptedField v ≡ false) ⊎ (acceptedField w ≡ false)
+      → (told r ≡ record { number = none; values = 0 ∷ (0 ∷ []) }) × (new ≡ old)
 
 -- ---- the most that wait at once
 
 -- some queue of the run without a row has as many problems
 pub most-met : (v w : Field)
-    → (q : List (searching.Problem setting)) × Queued setting (fieldOn left (viewField v)) (fieldOn right (viewField w)) q × (length q ≡ most v w)
+    → (q : List (searching.Problem setting)) × Queued setting (fieldOn left (viewField v)) (fieldOn right (viewField w)) q
+    × (length q ≡ most v w)
 most-met v w = peak-met setting (fieldOn left (viewField v)) (fieldOn right (viewField w))
 
 -- and none has more
-pub none-more : (v w : Field) (q : List (searching.Problem setting)) → Queued setting (fieldOn left (viewField v)) (fieldOn right (viewField w)) q
+pub none-more : (v w : Field) (q : List (searching.Problem setting))
+    → Queued setting (fieldOn left (viewField v)) (fieldOn right (viewField w)) q
     → length q ≤ most v w
 none-more v w q m = peak-most setting (fieldOn left (viewField v)) (fieldOn right (viewField w)) q m
 
@@ -137,7 +144,8 @@ no-member x [] e i = List·Memᴰ·not-nil i
 no-member x (y ∷ xs) e i = omega (arith, e)
 
 -- the bytes of the lines, by the records
-texts-are : (f g : List OurTerm) (xs : List (Bindings setting)) → bytesOf (lines (map (λ σ. lineText (answerLine f g σ)) xs)) ≡ linesText (map (answerLine f g) xs)
+texts-are : (f g : List OurTerm) (xs : List (Bindings setting))
+    → bytesOf (lines (map (λ σ. lineText (answerLine f g σ)) xs)) ≡ linesText (map (answerLine f g) xs)
 texts-are f g [] = refl
 texts-are f g (σ ∷ xs) = ap (λ (l : List ℕ). lineText (answerLine f g σ) ++ l) (texts-are f g xs)
 
@@ -147,7 +155,8 @@ of-answers f g is-f is-g room ls e =
     let x = lines-answers room f g ls e in
     let able = lines-writable f g is-f is-g room (x .0) (x .1) in
     let covers = lines-complete f g is-f is-g room (x .0) (x .1) in
-    let text : bytesOf (lines ls) ≡ linesText (map (answerLine f g) (x .0)) = ap (λ (l : List (List ℕ)). bytesOf (lines l)) (x .2) ∙ texts-are f g (x .0) in
+    let text : bytesOf (lines ls) ≡ linesText (map (answerLine f g) (x .0)) = ap (λ (l : List (List ℕ)). bytesOf (lines l)) (x .2)
+    ∙ texts-are f g (x .0) in
     let counts : length (map (answerLine f g) (x .0)) ≡ length ls =
     length-map (x .0) (answerLine f g) ∙ sym (ap length (x .2) ∙ length-map (x .0) (λ σ. lineText (answerLine f g σ))) in
     record {
@@ -241,12 +250,14 @@ module _ (v w : Field) (records : List Problem) (old : List ℕ) (r : Searched) 
 
   there-none : (acceptedField v ≡ false) ⊎ (acceptedField w ≡ false) → there ≡ lines []
   there-none (inl a) = ap (λ (c : Bool). linesFor (length records) (cond c (viewRule (oneField v)) []) (countedField w)) a
-  there-none (inr a) = ap (λ (c : Bool). linesFor (length records) (countedField v) (cond c (viewRule (oneField w)) [])) a ∙ no-right (length records) (countedField v)
+  there-none (inr a) = ap (λ (c : Bool). linesFor (length records) (countedField v) (cond c (viewRule (oneField w)) [])) a
+      ∙ no-right (length records) (countedField v)
 
   decided : BothAccepted v w ⊎ ((acceptedField v ≡ false) ⊎ (acceptedField w ≡ false))
   decided = go (acceptedField v) (acceptedField w) refl refl
     where
-      go : (a b : Bool) → acceptedField v ≡ a → acceptedField w ≡ b → BothAccepted v w ⊎ ((acceptedField v ≡ false) ⊎ (acceptedField w ≡ false))
+      go : (a b : Bool) → acceptedField v ≡ a → acceptedField w ≡ b
+          → BothAccepted v w ⊎ ((acceptedField v ≡ false) ⊎ (acceptedField w ≡ false))
       go true true a b = inl (a, b)
       go true false a b = inr (inr b)
       go false b a c = inr (inl a)
@@ -258,7 +269,8 @@ module _ (v w : Field) (records : List Problem) (old : List ℕ) (r : Searched) 
   both-of : (there ≡ nine) ⊎ (length old < sizeOf there) → BothAccepted v w
   both-of h = go decided h
     where
-      go : BothAccepted v w ⊎ ((acceptedField v ≡ false) ⊎ (acceptedField w ≡ false)) → (there ≡ nine) ⊎ (length old < sizeOf there) → BothAccepted v w
+      go : BothAccepted v w ⊎ ((acceptedField v ≡ false) ⊎ (acceptedField w ≡ false)) → (there ≡ nine) ⊎ (length old < sizeOf there)
+          → BothAccepted v w
       go (inl a) h = a
       go (inr n) (inl e) = absurd (subst IsLines (sym (there-none n) ∙ e) tt)
       go (inr n) (inr l) = absurd (omega (arith, ap sizeOf (there-none n)))
@@ -287,16 +299,17 @@ module _ (v w : Field) (records : List Problem) (old : List ℕ) (r : Searched) 
       let c = counts-are none n b (x .0) t (x .1) in
       by (x .0) (x .1) (c .0) (c .1) (omega (arith, x .2, ap sizeOf (x .1)))
     where
-      by : (ls : List (List ℕ)) → there ≡ lines ls → length ls ≡ n → length (bytesOf (lines ls)) ≡ b → length (bytesOf (lines ls)) ≤ length old
+      by : (ls : List (List ℕ)) → there ≡ lines ls → length ls ≡ n → length (bytesOf (lines ls)) ≡ b
+          → length (bytesOf (lines ls)) ≤ length old
           → Demand2 f g n (take b new) × (length (take b new) ≡ b) × (drop b new ≡ drop b old)
       by ls e count size room =
           let text = bytesOf (lines ls) in
           let left-behind : new ≡ text ++ drop (length text) old = searches .output
-              ∙ ap (λ (x : Found). after (bytesOf x) old) e
-              ∙ ap (λ (c : Bool). cond c (text ++ drop (length text) old) old) (le-leb (length text) (length old) room) in
+          ∙ ap (λ (x : Found). after (bytesOf x) old) e
+          ∙ ap (λ (c : Bool). cond c (text ++ drop (length text) old) old) (le-leb (length text) (length old) room) in
           let front : take b new ≡ text = ap (take b) left-behind ∙ take-at text (drop (length text) old) b size in
-          let behind : drop b new ≡ drop b old = ap (drop b) left-behind ∙ drop-at text (drop (length text) old) b size ∙ ap (λ (m : ℕ). drop m old) size in
-          (
+          let behind : drop b new ≡ drop b old = ap (drop b) left-behind ∙ drop-at text (drop (length text) old) b size
+          ∙ ap (λ (m : ℕ). drop m old) size in (
             subst (Demand2 f g n) (sym front) (subst (λ (m : ℕ). Demand2 f g m text) count (demanded a ls e)),
             ap length front ∙ size,
             behind,
@@ -321,12 +334,15 @@ module _ (v w : Field) (records : List Problem) (old : List ℕ) (r : Searched) 
   )
 
   nine-counts-is : told r .number ≡ some 9 → told r .values ≡ 0 ∷ (0 ∷ [])
-  nine-counts-is e = ap (λ (t : Told). t .values) (searches .answer ∙ ap (λ (x : Found). searchedOf x (length old)) (told-nine there (length old) (sym number-is ∙ e)))
+  nine-counts-is e = ap (λ (t : Told). t .values) (searches .answer
+      ∙ ap (λ (x : Found). searchedOf x (length old)) (told-nine there (length old) (sym number-is ∙ e)))
 
-  eight-only-is : (told r .number ≡ some 8) ↔ (BothAccepted v w × (most v w ≤ length records) × (length old < length (bytesOf (foundIn (length records) v w))))
+  eight-only-is : (told r .number ≡ some 8)
+      ↔ (BothAccepted v w × (most v w ≤ length records) × (length old < length (bytesOf (foundIn (length records) v w))))
   eight-only-is = (to, λ h. number-is ∙ told-more there (length old) (h .2))
     where
-      to : told r .number ≡ some 8 → BothAccepted v w × (most v w ≤ length records) × (length old < length (bytesOf (foundIn (length records) v w)))
+      to : told r .number ≡ some 8
+          → BothAccepted v w × (most v w ≤ length records) × (length old < length (bytesOf (foundIn (length records) v w)))
       to e =
           let x = told-eight there (length old) (sym number-is ∙ e) in
           let a = both-of (inr (x .2)) in
@@ -341,18 +357,17 @@ module _ (v w : Field) (records : List Problem) (old : List ℕ) (r : Searched) 
   eight-counts-is n b t =
       let x = told-eight there (length old) (sym number-is ∙ ap numberOf t) in
       let c = counts-are (some 8) n b (x .0) t (x .1) in
-      let a = both-of (inr (x .2)) in
-      (
+      let a = both-of (inr (x .2)) in (
         bytesOf (lines (x .0)),
         subst (λ (m : ℕ). Demand2 f g m (bytesOf (lines (x .0)))) (c .0) (demanded a (x .0) (x .1)),
         c .1,
         omega (arith, x .2, ap sizeOf (x .1), c .1),
       )
 
-  unaccepted-is : (acceptedField v ≡ false) ⊎ (acceptedField w ≡ false) → (told r ≡ record { number = none; values = 0 ∷ (0 ∷ []) }) × (new ≡ old)
+  unaccepted-is : (acceptedField v ≡ false) ⊎ (acceptedField w ≡ false)
+      → (told r ≡ record { number = none; values = 0 ∷ (0 ∷ []) }) × (new ≡ old)
   unaccepted-is n =
-      let e = there-none n in
-      (
+      let e = there-none n in (
         searches .answer ∙ ap (λ (x : Found). searchedOf x (length old)) e
             ∙ ap (λ (c : Bool). record { number = byFit c; values = 0 ∷ (0 ∷ []) }) (le-leb 0 (length old) (omega arith)),
         searches .output ∙ ap (λ (x : Found). after (bytesOf x) old) e ∙ after-none [] old (inr refl),
@@ -404,18 +419,20 @@ cons-once : (a b : List Con) → _≡_ {A = List OurTerm} (map con a) (map con b
 cons-once [] [] e = refl
 cons-once [] (d ∷ b) e = absurd (nil≢cons e)
 cons-once (c ∷ a) [] e = absurd (cons≢nil e)
-cons-once (c ∷ a) (d ∷ b) e = ap₂ (λ (x : Con) (l : List Con). x ∷ l) (con-once (head-eq-of-cons-eq e)) (cons-once a b (tail-eq-of-cons-eq e))
+cons-once (c ∷ a) (d ∷ b) e = ap₂ (λ (x : Con) (l : List Con). x ∷ l) (con-once (head-eq-of-cons-eq e))
+    (cons-once a b (tail-eq-of-cons-eq e))
 
 -- texts t and u that say one field each, x and y, and are read as the fields f and g
-module _ (t u : List ℕ) (f g : List OurTerm) (reads-t : readRule t ≡ accepted (f ∷ [])) (reads-u : readRule u ≡ accepted (g ∷ [])) (x y : List Raw)
-    (says-t : Says t (x ∷ [])) (says-u : Says u (y ∷ [])) where
+module _ (t u : List ℕ) (f g : List OurTerm) (reads-t : readRule t ≡ accepted (f ∷ [])) (reads-u : readRule u ≡ accepted (g ∷ []))
+    (x y : List Raw) (says-t : Says t (x ∷ [])) (says-u : Says u (y ∷ [])) where
   said : (s : List ℕ) (e : List OurTerm) (z : List Raw) → readRule s ≡ accepted (e ∷ []) → Says s (z ∷ []) → flat (writtenField z) ≡ e
   said s e z reads says =
       let a = rule-accepted s (e ∷ []) .0 reads .1 in
       flat-field z ∙ head-eq-of-cons-eq (ap fieldsOf (says-one s (z ∷ []) (a .0) says (a .1)) ∙ a .2)
 
   -- what is put for the terms of the two expressions makes them equal by the laws exactly when it makes the fields' terms the same
-  replaced : {U : Type 0} (p q : OurTerm → List U) → (replace p (writtenField x) ≈ replace q (writtenField y)) ↔ (concat-map p f ≡ concat-map q g)
+  replaced : {U : Type 0} (p q : OurTerm → List U)
+      → (replace p (writtenField x) ≈ replace q (writtenField y)) ↔ (concat-map p f ≡ concat-map q g)
   replaced p q =
       let l = laws (replace p (writtenField x)) (replace q (writtenField y)) in
       let a = flat-replace p (writtenField x) ∙ ap (concat-map p) (said t f x reads-t says-t) in
@@ -423,17 +440,18 @@ module _ (t u : List ℕ) (f g : List OurTerm) (reads-t : readRule t ≡ accepte
       (λ h. sym a ∙ l .0 h ∙ b, λ e. l .1 (a ∙ e ∙ sym b))
 
   -- FILLINGS of the two sides make the expressions as written equal by GP 2's laws exactly when they fill the fields alike
-  pub filled-by-laws : (φ ψ : Filling Con Kind ℕ) → (replace (filledTerm φ) (writtenField x) ≈ replace (filledTerm ψ) (writtenField y)) ↔ (fill φ f ≡ fill ψ g)
+  pub filled-by-laws : (φ ψ : Filling Con Kind ℕ)
+      → (replace (filledTerm φ) (writtenField x) ≈ replace (filledTerm ψ) (writtenField y)) ↔ (fill φ f ≡ fill ψ g)
   filled-by-laws φ ψ =
-      let r = replaced (filledTerm φ) (filledTerm ψ) in
-      (
+      let r = replaced (filledTerm φ) (filledTerm ψ) in (
         λ h. cons-once (fill φ f) (fill ψ g) (sym (filled-terms φ f) ∙ r .0 h ∙ filled-terms ψ g),
         λ e. r .1 (filled-terms φ f ∙ ap (map con) e ∙ sym (filled-terms ψ g)),
       )
 
   -- SUBSTITUTIONS likewise, as those of a `Solution`
   pub solved-by-laws : (σ τ : Subst Con Kind ℕ ℕ)
-      → (replace (image σ) (writtenField x) ≈ replace (image τ) (writtenField y)) ↔ (map (substitute σ) (f ∷ []) ≡ map (substitute τ) (g ∷ []))
+      → (replace (image σ) (writtenField x) ≈ replace (image τ) (writtenField y))
+      ↔ (map (substitute σ) (f ∷ []) ≡ map (substitute τ) (g ∷ []))
   solved-by-laws σ τ =
       let r = replaced (image σ) (image τ) in
       (λ h. ap (λ (l : List OurTerm). l ∷ []) (r .0 h), λ e. r .1 (head-eq-of-cons-eq e))
@@ -451,7 +469,9 @@ no-chain s steps = ends.no-chain setting s steps
 
 -- ---- the set of list variables
 
--- "the list variables of a problem and its bindings, bound ones too": those that the search for the two fields holds to be used, and no others
-pub set-is : (f g : List OurTerm) → IsRule (f ∷ []) → IsRule (g ∷ []) → (p : searching.Problem setting) → Met setting (fieldOn left f) (fieldOn right g) p
+-- "the list variables of a problem and its bindings, bound ones too": those that the search for the two fields holds to be used, and
+-- no others
+pub set-is : (f g : List OurTerm) → IsRule (f ∷ []) → IsRule (g ∷ []) → (p : searching.Problem setting)
+    → Met setting (fieldOn left f) (fieldOn right g) p
     → (n : ℕ) → List·Memᴰ n (used setting p) ↔ ListVariableOf setting (fieldOn left f) (fieldOn right g) p n
 set-is f g a b p m n = used-is setting (fieldOn left f) (fieldOn right g) (equation-linear f g a b) p m n

@@ -115,7 +115,8 @@ module _ (F G : Field) (row : List Problem) (out : List ℕ) where
         of (linesOf (length row) (viewField F) (viewField G)) (ap₂ (linesFor (length row)) (counted-by F true p) (counted-by G true q))
         (leaves-read (viewField F) (viewField G) (i .0) (j .0) row out r row′ out′ (subst₂ (λ (F G : Field). Done F G row out r row′ out′) (sym (i .1)) (sym (j .1)) d))
     leaves-by true false p q = of (lines []) (ap₂ (linesFor (length row)) (counted-by F true p) (counted-by G false q)) (left-none (ap₂ _&&_ p q))
-    leaves-by false b p q = of (lines []) (ap (λ (c : List (List OurTerm)). linesFor (length row) c (countedField G)) (counted-by F false p)) (left-none (ap₂ _&&_ p q))
+    leaves-by false b p q = of (lines []) (ap (λ (c : List (List OurTerm)). linesFor (length row) c (countedField G)) (counted-by F false p))
+        (left-none (ap₂ _&&_ p q))
 
     -- WHAT IS PROMISED of the answer, the output and the row
     pub settled : Searches F G row out r row′ out′

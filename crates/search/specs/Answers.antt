@@ -26,7 +26,8 @@ told (Lines n b) = record { number = none; values = n ∷ (b ∷ []) }
 told (TooSmall n b) = record { number = some 8; values = n ∷ (b ∷ []) }
 told Full = record { number = some 9; values = 0 ∷ (0 ∷ []) }
 
--- THE ANSWER, of the lines and the room of the lent buffer: "8: the lines need more bytes than the output buffer has"; "9 is tried before 8"
+-- THE ANSWER, of the lines and the room of the lent buffer: "8: the lines need more bytes than the output buffer has"; "9 is tried before
+-- 8"
 abbrev pub searchedOf : Found → ℕ → Told
 searchedOf (lines ls) room = byRoom (length (bytesOf (lines ls))) room (length ls ∷ (length (bytesOf (lines ls)) ∷ []))
 searchedOf nine room = record { number = some 9; values = 0 ∷ (0 ∷ []) }
@@ -37,7 +38,8 @@ foundIn room f g = linesFor room (countedField f) (countedField g)
 
 -- WHAT A SEARCH PROMISES of two field values, the lent records and the lent bytes `old`: its answer, what the bytes are afterwards, and
 -- "every record of the row is the blank record .. refused or not"
-pub record Searches (f g : Field) (records : List Problem) (old : List ℕ) (r : Searched) (records′ : List Problem) (new : List ℕ) : Type 0 where
+pub record Searches (f g : Field) (records : List Problem) (old : List ℕ) (r : Searched) (records′ : List Problem)
+    (new : List ℕ) : Type 0 where
   pub answer : told r ≡ searchedOf (foundIn (length records) f g) (length old)
   pub output : new ≡ after (bytesOf (foundIn (length records) f g)) old
   pub row : records′ ≡ blanks (length records)

@@ -68,7 +68,8 @@ lines-said (answers.lines ls) room n b e =
     let t = bytesOf (answers.lines ls) in
     let c = counts-are n b (length t) room (length ls) (length t) none e in
     let h = fits-iff (length t) room (length ls ∷ (length t ∷ [])) .0 (sym (ap numberOf e)) in
-    let s : foundText room (answers.lines ls) ≡ countsText 0 (length ls) (length t) ++ t = ap (λ (u : Bool). cond u (countsText 0 (length ls) (length t) ++ t) (countsText 8 (length ls) (length t))) (le-leb (length t) room h) in
+    let s : foundText room (answers.lines ls) ≡ countsText 0 (length ls) (length t) ++ t =
+    ap (λ (u : Bool). cond u (countsText 0 (length ls) (length t) ++ t) (countsText 8 (length ls) (length t))) (le-leb (length t) room h) in
     record { size = sym (c .1); fits = h; said = s ∙ ap₂ (λ (i j : ℕ). countsText 0 i j ++ t) (c .0) (c .1) }
 lines-said answers.nine room n b e = absurd (Option·none-ne-some 9 (ap numberOf e))
 
@@ -152,8 +153,10 @@ module _ (f g : Field) (k room lent : ℕ) (T : List ℕ) (is-lent : lent ≡ mi
 
       pub few-put : r ≡ TooSmall n b → Placed (countsText 8 n b) at old p l → Piece longestBody (foundText (min room mostBytes) x) at old p l
       few-put h c =
-          piece-as longestBody at old (said-as (few-said x lent n b (sym (ap told h) ∙ searched))) (c, omega (arith, counts-short 8 n b (omega arith) n-small b-small))
+          piece-as longestBody at old (said-as (few-said x lent n b (sym (ap told h) ∙ searched)))
+          (c, omega (arith, counts-short 8 n b (omega arith) n-small b-small))
 
   pub full-put : r ≡ Full → (at : ℕ) (old : List ℕ) {p : ℕ} {l : List ℕ} → Placed (countsText 9 0 0) at old p l → Piece longestBody (foundText (min room mostBytes) x) at old p l
   full-put h at old c =
-      piece-as longestBody at old (said-as (full-said x lent (sym (ap told h) ∙ searched))) (c, omega (arith, counts-short 9 0 0 (omega arith) (omega arith) (omega arith)))
+      piece-as longestBody at old (said-as (full-said x lent (sym (ap told h) ∙ searched)))
+      (c, omega (arith, counts-short 9 0 0 (omega arith) (omega arith) (omega arith)))

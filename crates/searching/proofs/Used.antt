@@ -136,7 +136,8 @@ module _ (E : Setting) where
   rule-brings Orient3 (atomic (fixed c) ∷ L) M f = tt
   rule-brings Orient3 (atomic (free x) ∷ L) [] f = tt
   rule-brings Orient3 (atomic (free x) ∷ L) (atomic (fixed d) ∷ M) f = tt
-  rule-brings Orient3 (atomic (free x) ∷ L) (atomic (free y) ∷ M) f = kept-when (below E (basic (sort x)) (basic (sort y))) (equation (atomic (free y) ∷ M) (atomic (free x) ∷ L))
+  rule-brings Orient3 (atomic (free x) ∷ L) (atomic (free y) ∷ M) f = kept-when (below E (basic (sort x)) (basic (sort y)))
+      (equation (atomic (free y) ∷ M) (atomic (free x) ∷ L))
   rule-brings Orient3 (atomic (free x) ∷ L) (listvar y ∷ M) f = tt
   rule-brings Orient3 (listvar x ∷ L) M f = tt
   rule-brings Orient4 [] [] f = tt
@@ -217,7 +218,8 @@ module _ (E : Setting) where
 
           -- the value of x lacks x
           without-x : All (Other E x) s
-          without-x = d .from (i .lin) (Other E x) (all-every (λ t. Other E x t → Other E x t) L (λ t o. o)) (all-every (λ t. Other E x t → Other E x t) M (λ t o. o))
+          without-x = d .from (i .lin) (Other E x) (all-every (λ t. Other E x t → Other E x t) L (λ t o. o))
+              (all-every (λ t. Other E x t → Other E x t) M (λ t o. o))
               (all-from (λ k. Other E x (listvar k)) v (λ k j e. open-x .1 k (unused k j) (sym e))) .0
 
           now-bound : (n : Name) → listvar n ≡ x → Bound (compose E σ x s) n
@@ -228,7 +230,8 @@ module _ (E : Setting) where
 
               value : compose E σ x s (listvar n) ≡ s
               value =
-                  ap (λ (t : Tm E). compose E σ x s t) e ∙ ap (λ (K : Field E). concat-map (put E x s) K) (open-x .0) ∙ append-nil (put E x s x) ∙ put-self E x s
+                  ap (λ (t : Tm E). compose E σ x s t) e ∙ ap (λ (K : Field E). concat-map (put E x s) K) (open-x .0) ∙ append-nil (put E x s x)
+                  ∙ put-self E x s
 
           still-bound : (n : Name) → List·Memᴰ n u → Bound σ n → Bound (compose E σ x s) n
           still-bound n j h q = all-mem (Other E (listvar n)) (compose E σ x s (listvar n)) lacks (listvar n)
@@ -259,7 +262,8 @@ module _ (E : Setting) where
       child-comes : All (λ c. Comes (c .1)) (children E (problem (equation L M) σ u))
       child-comes = all-mapped (λ c. Comes (c .1)) (λ q. (q .0, apply E σ u (q .1))) (moves E L M (pick u))
           (all-map (Is E L M (pick u)) (λ q. Comes (apply E σ u (q .1)))
-          (λ q e. stepped (q .1) (move-does E L M (pick u) q e) (subst Brings e (rule-brings (q .0) L M (pick u)))) (moves E L M (pick u)) (moves-is E L M (pick u)))
+          (λ q e. stepped (q .1) (move-does E L M (pick u) q e) (subst Brings e (rule-brings (q .0) L M (pick u)))) (moves E L M (pick u))
+          (moves-is E L M (pick u)))
 
     root-comes : Comes (root E A B)
     root-comes = ((stands A (λ t i. inl i), stands B (λ t i. inr i)), λ n j. inl (go n (List·Memᴰ·append-cases (namesIn E A) j)))
@@ -282,7 +286,8 @@ module _ (E : Setting) where
         where
           child-of : (q : Problem E) → Invariant E q → Comes q → (c : Rule × Problem E) → List·Memᴰ c (children E q) → Comes (c .1)
           child-of (problem solved σ u) inv h c i = absurd (List·Memᴰ·not-nil i)
-          child-of (problem (equation L M) σ u) inv h c i = all-mem (λ c. Comes (c .1)) (children E (problem (equation L M) σ u)) (child-comes L M σ u inv h) c i
+          child-of (problem (equation L M) σ u) inv h c i = all-mem (λ c. Comes (c .1)) (children E (problem (equation L M) σ u))
+              (child-comes L M σ u inv h) c i
 
       -- THE SET: a list variable is in it exactly when the problem or its bindings have it
       pub used-is : (p : Problem E) → Met E A B p → (n : Name) → List·Memᴰ n (used E p) ↔ ListVariableOf E A B p n

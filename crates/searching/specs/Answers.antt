@@ -42,11 +42,12 @@ module _ (E : Setting) where
   InRest solved n = ⊥
   InRest (equation L M) n = StandsIn L M (listvar n)
 
-  -- "the list variables of a problem and its bindings, bound ones too", for a problem of the search for A = B: what is left has it, or it is
-  -- bound, or the value of one of the equation's terms has it
+  -- "the list variables of a problem and its bindings, bound ones too", for a problem of the search for A = B: what is left has it, or it
+  -- is bound, or the value of one of the equation's terms has it
   abbrev pub ListVariableOf : Field E → Field E → Problem E → Name → Type 0
   ListVariableOf A B p n =
-      InRest (rest E p) n ⊎ ((bindings E p (listvar n) ≢ listvar n ∷ []) ⊎ ((t : Tm E) × StandsIn A B t × List·Memᴰ (listvar n) (bindings E p t)))
+      InRest (rest E p) n ⊎ ((bindings E p (listvar n) ≢ listvar n ∷ [])
+      ⊎ ((t : Tm E) × StandsIn A B t × List·Memᴰ (listvar n) (bindings E p t)))
 
   -- how many list variables a field has, and how often one stands in it
   abbrev pub listvars : Field E → ℕ

@@ -142,7 +142,8 @@ occurs-in f is k n i = only (in-variables (f ∷ []) (is .0 .3) k n .0 i)
 
 -- ---- the theorems
 
-module _ (f g : List OurTerm) (is-f : IsRule (f ∷ [])) (is-g : IsRule (g ∷ [])) (room : ℕ) (xs : List (Bindings setting)) (is : found room f g ≡ answers xs) where
+module _ (f g : List OurTerm) (is-f : IsRule (f ∷ [])) (is-g : IsRule (g ∷ [])) (room : ℕ) (xs : List (Bindings setting))
+    (is : found room f g ≡ answers xs) where
   -- an answer's values have document 01's constants only
   values-ours : All (λ σ. (t : Tm setting) → StandsIn setting (fieldOn left f) (fieldOn right g) t → All Ours (σ t)) xs
   values-ours =
@@ -156,21 +157,24 @@ module _ (f g : List OurTerm) (is-f : IsRule (f ∷ [])) (is-g : IsRule (g ∷ [
           → All WritableBinding (map (bindingOf (shownOn d f g σ)) (variables (e ∷ [])))
       side d e is σ h = bindings-writable (shownOn d f g σ) (variables (e ∷ [])) (λ v i.
           subst (λ (m : List (TermOver basics consts (Mark ℕ))). All TermOk (map (rename (numberIn f g σ)) m)) (sym (value-on d σ (v .0) (v .1)))
-          (terms-ok (numberIn f g σ) (σ (termOn d (var (v .0) (v .1)))) (h (termOn d (var (v .0) (v .1))) (stands-on d (v .0) (v .1) e (occurs-in e is (v .0) (v .1) i)))))
+          (terms-ok (numberIn f g σ) (σ (termOn d (var (v .0) (v .1))))
+          (h (termOn d (var (v .0) (v .1))) (stands-on d (v .0) (v .1) e (occurs-in e is (v .0) (v .1) i)))))
 
       go : (ys : List (Bindings setting)) → All (λ σ. (t : Tm setting) → StandsIn setting (fieldOn left f) (fieldOn right g) t → All Ours (σ t)) ys
           → All WritableAnswer (map (answerLine f g) ys)
       go [] h = tt
       go (σ ∷ ys) h = ((side left f is-f σ (λ t i. h .0 t (inl i)), side right g is-g σ (λ t i. h .0 t (inr i))), go ys (h .1))
 
-  pub lines-named : (l : AnswerLine) → List·Memᴰ l (map (answerLine f g) xs) → (map nameOf (l .left) ≡ variables (f ∷ [])) × (map nameOf (l .right) ≡ variables (g ∷ []))
+  pub lines-named : (l : AnswerLine) → List·Memᴰ l (map (answerLine f g) xs)
+      → (map nameOf (l .left) ≡ variables (f ∷ [])) × (map nameOf (l .right) ≡ variables (g ∷ []))
   lines-named l i =
       let x = Memᴰ·of-map (answerLine f g) xs i in
       subst (λ (m : AnswerLine). (map nameOf (m .left) ≡ variables (f ∷ [])) × (map nameOf (m .right) ≡ variables (g ∷ []))) (x .2)
       (names-are (shownOn left f g (x .0)) (variables (f ∷ [])), names-are (shownOn right f g (x .0)) (variables (g ∷ [])))
 
   -- WHAT A LINE SHOWS solves the equation
-  pub lines-solve : (l : AnswerLine) → List·Memᴰ l (map (answerLine f g) xs) → (x : Solution (f ∷ []) (g ∷ []) ℕ) × Gives (x .left) (l .left) × Gives (x .right) (l .right)
+  pub lines-solve : (l : AnswerLine) → List·Memᴰ l (map (answerLine f g) xs)
+      → (x : Solution (f ∷ []) (g ∷ []) ℕ) × Gives (x .left) (l .left) × Gives (x .right) (l .right)
   lines-solve l i =
       let x = Memᴰ·of-map (answerLine f g) xs i in
       subst (λ (m : AnswerLine). (x : Solution (f ∷ []) (g ∷ []) ℕ) × Gives (x .left) (m .left) × Gives (x .right) (m .right)) (x .2) (
@@ -185,10 +189,14 @@ module _ (f g : List OurTerm) (is-f : IsRule (f ∷ [])) (is-g : IsRule (g ∷ [
   pub lines-complete : (φ ψ : Filling Con Kind ℕ) → Typed basics consts φ → Typed basics consts ψ → fill φ f ≡ fill ψ g
       → (l : AnswerLine) × List·Memᴰ l (map (answerLine f g) xs) × InstanceOfLine l φ ψ
   lines-complete φ ψ t u e =
-      let c = shown-complete f g is-f is-g room xs is φ ψ t u e in
-      (answerLine f g (c .0), Memᴰ·map (answerLine f g) (c .1), (c .2 .0, c .2 .1, at f is-f (shownOn left f g (c .0)) φ (c .2 .0) (c .2 .2), at g is-g (shownOn right f g (c .0)) ψ (c .2 .0) (c .2 .3)))
+      let c = shown-complete f g is-f is-g room xs is φ ψ t u e in (
+        answerLine f g (c .0),
+        Memᴰ·map (answerLine f g) (c .1),
+        (c .2 .0, c .2 .1, at f is-f (shownOn left f g (c .0)) φ (c .2 .0) (c .2 .2), at g is-g (shownOn right f g (c .0)) ψ (c .2 .0) (c .2 .3)),
+      )
     where
-      at : (h : List OurTerm) → IsRule (h ∷ []) → (θ : Subst Con Kind ℕ ℕ) (φ χ : Filling Con Kind ℕ) → ((k : Kind) (n : ℕ) → Occurs k n h → φ k n ≡ fill χ (θ k n))
+      at : (h : List OurTerm) → IsRule (h ∷ []) → (θ : Subst Con Kind ℕ ℕ) (φ χ : Filling Con Kind ℕ)
+          → ((k : Kind) (n : ℕ) → Occurs k n h → φ k n ≡ fill χ (θ k n))
           → (b : Binding) → List·Memᴰ b (map (bindingOf θ) (variables (h ∷ []))) → φ (b .kind) (b .number) ≡ fill χ (b .value)
       at h is θ φ χ k b i =
           let v = Memᴰ·of-map (bindingOf θ) (variables (h ∷ [])) i in

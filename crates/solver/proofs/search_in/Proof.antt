@@ -78,7 +78,8 @@ cut-at : (n k : ℕ) → k ≤ n → replicate n blankProblem ≡ blanks k ++ bl
 cut-at n k h = let e : n ≡ k + (n - k) = omega arith in ap blanks e ∙ sym (replicate-append-replicate k (n - k) blankProblem)
 
 -- the row of blanks is one of as many blanks afterwards
-row-blank : (f g : Field) (k : ℕ) (os : List ℕ) (r : Searched) (zs : List Problem) (us : List ℕ) → Searches f g (blanks k) os r zs us → Searches f g (blanks k) os r (blanks k) us
+row-blank : (f g : Field) (k : ℕ) (os : List ℕ) (r : Searched) (zs : List Problem) (us : List ℕ) → Searches f g (blanks k) os r zs us
+    → Searches f g (blanks k) os r (blanks k) us
 row-blank f g k os r zs us h = record { answer = h .answer; output = h .output; row = ap blanks (sym (length-replicate k blankProblem)) }
 
 module _ {M : Type 1} (𝓤 : URA M) (H : Heap 𝓤) (A : Atoms 𝓤) (W : Given 𝓤 H A) (mem : Memory → SProp 𝓤) (run : Routine → Fun 𝓤) (κ : Lft) (q : Share) (b o : ℕ) (γ : GName) (f g : Field) (m : ℕ) (os : List ℕ) where
@@ -104,7 +105,8 @@ module _ {M : Type 1} (𝓤 : URA M) (H : Heap 𝓤) (A : Atoms 𝓤) (W : Given
   Lists us = Own 𝓤 u8 κ γ b o (length os) us ∷ ‵ (flft κ q) ∷ []
 
   module _ (gf : Is F.the-row f (mach-field f ∷ [])) (gg : Is F.the-row g (mach-field g ∷ [])) (m-fits : m < 2 ^ 64) where
-    exits : (us : List ℕ) (r : Searched) → length us ≡ length os → Is N.the-row r (mach-answer r ∷ []) → Searches f g (blanks k) os r (blanks k) us → ent 𝓤 (⋆ 𝓤 H A (Lists us)) (Post (mach-answer r))
+    exits : (us : List ℕ) (r : Searched) → length us ≡ length os → Is N.the-row r (mach-answer r ∷ []) → Searches f g (blanks k) os r (blanks k) us
+        → ent 𝓤 (⋆ 𝓤 H A (Lists us)) (Post (mach-answer r))
     exits us r e gr is =
         qed W (Lists us) ∵ suffices ! _ (ends-at 𝓤 H A search-in.ended stayed (search-in.clauses 𝓤 H A mem run) W bound (mach-answer r) r (tt, (tt, (tt, (us, tt)))) (tt, (tt, (tt, (e, tt))))) $
         says ! is $ nothing ! $ move ! (2 ∷ 0 ∷ []) $ join ! $ frame ! $ nothing ! $ move ! (1 ∷ 0 ∷ []) $ fjoin ! $ owned ! usize (Is usize) (uint-makes 𝓤 H A W w64) m _ (refl, m-fits) $ fjoin ! $
