@@ -1,14 +1,24 @@
-<<<<<<< HEAD
-// The demands in code. Each function here calls the product's function and promises what the demands say of its answer, as a theorem over
-// what that function's contract gives. Nobody calls them: a contract of the product that gives less than the demands is refused here.
+// The demands as promises of compiled functions: each calls one of the product's and ensures what the demands say of its answer and of
+// the lent bytes, as the theorems of specs/ have it from that function's contract. Nothing calls them: a contract of the product that
+// says less does not pass here.
 ghost use Rattle.demands.specs.Texts.{RuleReading, SlipReading, RuleWriting};
 ghost use Rattle.demands.specs.Matching.{Matching};
+ghost use Rattle.demands.specs.Searching.{SearchDemand};
+ghost use Rattle.demands.specs.Overlaps.{ListsSharedSlips, TextsSharedSlips};
+ghost use Rattle.demands.specs.Pairs.{PairSharedSlips};
+ghost use Rattle.demands.specs.Library.{LibrarySharedSlips};
 use matching::Match;
+use overlaps::Listed;
+use overlaps::TextsListed;
+use problems::Problem;
 use reading::RuleRead;
 use reading::SlipRead;
+use search::Searched;
+use terms::Field;
 use terms::Rule;
 use terms::Slip;
 use writing::Written;
+use yopobrush::Listing;
 
 // ---- reading and writing
 
@@ -39,18 +49,16 @@ pub fn match_rule(rule: Rule, slip: Slip) -> Match
     ensures { λ m. ⌜ Matching rule slip m ⌝ }
 {
     matching::match_rule(rule, slip)
-=======
-// The demands as theorems, in specs/, over what the public functions' contracts cite; and as promises of compiled functions:
-// each function below calls one of the product's and ensures what a demand says of its answer and of the lent bytes. So a contract
-// of the product that says less does not pass. Nothing calls these functions.
-ghost use Rattle.demands.specs.Overlaps.{ListsSharedSlips, TextsSharedSlips};
-ghost use Rattle.demands.specs.Pairs.{PairSharedSlips};
-ghost use Rattle.demands.specs.Library.{LibrarySharedSlips};
-use overlaps::Listed;
-use overlaps::TextsListed;
-use terms::Rule;
-use writing::Written;
-use yopobrush::Listing;
+}
+
+// ---- demand 2, the search
+
+// The search for one field pair, with what the demands say of every call.
+pub fn search(left: Field, right: Field, row: &mut [Problem], out: &mut [u8]) -> Searched
+    ensures { λ r. ⌜ SearchDemand left right (now (row .entry)) (now (out .entry)) r (now (row .exit)) (now (out .exit)) ⌝ }
+{
+    search::search(left, right, row, out)
+}
 
 // ---- demand 3
 
@@ -80,5 +88,4 @@ pub fn library_list(left: &[u8], right: &[u8], out: &mut [u8]) -> Listing
     ensures { λ r. ⌜ LibrarySharedSlips (now (left .entry)) (now (right .entry)) (now (out .entry)) r (now (out .exit)) ⌝ }
 {
     yopobrush::yopobrush_list_overlaps(left, right, out)
->>>>>>> 2155c31769202b77b4e9c97febe479df93ae1235
 }

@@ -22,7 +22,7 @@ flat-term (raw-str s) = refl
 flat-term (raw-var k ds) = refl
 flat-term raw-empty = refl
 
-flat-field : (f : List Raw) → flat (writtenField f) ≡ fieldOf f
+pub flat-field : (f : List Raw) → flat (writtenField f) ≡ fieldOf f
 flat-field [] = refl
 flat-field (r ∷ []) = flat-term r ∙ sym (append-nil (termOf r))
 flat-field (r ∷ (s ∷ rs)) = ap₂ (λ (x y : List OurTerm). x ++ y) (flat-term r) (flat-field (s ∷ rs))

@@ -1,6 +1,7 @@
 -- WHAT SEARCHING COMES TO: both runs end, and what they leave is the answer and the lines of the definition, for any two field values.
 use mathlib.Core.Path.{_≡_, refl, sym, _∙_, ap, ap₂, subst, subst₂}
 use mathlib.Core.Bool.{Bool, true, false, _&&_, cond}
+use mathlib.Core.Option.{none, some}
 use mathlib.Core.List.{List, [], _∷_}
 use Prim.Native.Nat.{ℕ}
 use native.Mathlib.Omega.{arith}
@@ -21,10 +22,9 @@ use Rattle.moves.specs.Encode.{number}
 use Rattle.pieces.specs.Stored as stored
 use Rattle.solving.specs.Answers.{fieldOn, Lines as Found, lines, nine, linesOf, linesFor, bytesOf}
 use Rattle.turns.specs.declared.State.{State}
-use Rattle.queue.specs.Row.{blanks}
 use Rattle.search.specs.declared.Searched.{Searched}
 use Rattle.search.specs.declared.Searched.the-variants.{Lines, TooSmall, Full}
-use Rattle.search.specs.Answers.{searchedOf, reported, Halts, Done}
+use Rattle.search.specs.Answers.{told, searchedOf, Searches, reported, Halts, Done}
 use Rattle.search.proofs.Twice.{Answered, counting-ends-none, writing-ends-none, twice-none}
 use Rattle.search.proofs.Lines.{isNine, shownLines, counting-ends, writing-ends, twice-lines}
 use Rattle.search.proofs.Agreed.{agreed, line-short}
@@ -40,20 +40,28 @@ reported-as e₉ n b room t e f g =
     ap (λ (c : Bool). cond c Full (cond (leb (t .bytes) room) (Lines (t .lines) (t .bytes)) (TooSmall (t .lines) (t .bytes)))) e
     ∙ ap₂ (λ (n b : ℕ). cond e₉ Full (cond (leb b room) (Lines n b) (TooSmall n b))) f g
 
-said : (L : Found) (room : ℕ) (t : State) → t .refused ≡ isNine L → t .lines ≡ length (shownLines L) → t .bytes ≡ length (stored.bytesOf (shownLines L)) → reported t room ≡ searchedOf L room
-said (lines ls) room t e f g = reported-as false (length ls) (length (stored.bytesOf ls)) room t e f g
-said nine room t e f g = reported-as true 0 0 room t e f g
+-- the number and the values of lines that have room, or have none
+told-by : (n b : ℕ) (c : Bool) → told (cond c (Lines n b) (TooSmall n b)) ≡ record { number = cond c none (some 8); values = n ∷ (b ∷ []) }
+told-by n b true = refl
+told-by n b false = refl
+
+said : (L : Found) (room : ℕ) (t : State) → t .refused ≡ isNine L → t .lines ≡ length (shownLines L) → t .bytes ≡ length (stored.bytesOf (shownLines L))
+    → told (reported t room) ≡ searchedOf L room
+said (lines ls) room t e f g =
+    ap told (reported-as false (length ls) (length (stored.bytesOf ls)) room t e f g)
+    ∙ told-by (length ls) (length (stored.bytesOf ls)) (leb (length (stored.bytesOf ls)) room)
+said nine room t e f g = ap told (reported-as true 0 0 room t e f g)
 
 -- ---- what is promised
 
 -- the answer and the output of the lines L
 abbrev Leaves : Found → List ℕ → Searched → List ℕ → Type 0
-Leaves L out r out′ = (r ≡ searchedOf L (length out)) × (out′ ≡ after (bytesOf L) out)
+Leaves L out r out′ = (told r ≡ searchedOf L (length out)) × (out′ ≡ after (bytesOf L) out)
 
 leaves : (F G : Field) (row : List Problem) (out : List ℕ) (r : Searched) (row′ : List Problem) (out′ : List ℕ) (L : Found) (d : Done F G row out r row′ out′)
     → Answered F G row out (isNine L) (shownLines L) (d .counted) (d .written) → Leaves L out r out′
 leaves F G row out r row′ out′ L d a = (
-  d .answer ∙ said L (length out) (d .counted .state) (a .refused-is) (a .lines-is) (a .bytes-is),
+  ap told (d .answer) ∙ said L (length out) (d .counted .state) (a .refused-is) (a .lines-is) (a .bytes-is),
   d .leaves ∙ a .out-is ∙ ap (λ (b : List ℕ). after b out) (bytes-same L),
 )
 
@@ -94,8 +102,8 @@ module _ (F G : Field) (row : List Problem) (out : List ℕ) where
   halts = halts-by (acceptedField F) (acceptedField G) refl refl
 
   module _ (r : Searched) (row′ : List Problem) (out′ : List ℕ) (d : Done F G row out r row′ out′) where
-    none : (acceptedField F && acceptedField G) ≡ false → Leaves (lines []) out r out′
-    none z = leaves F G row out r row′ out′ (lines []) d (twice-none F G row out z (d .counted) (d .written) (d .counts) (d .writes))
+    left-none : (acceptedField F && acceptedField G) ≡ false → Leaves (lines []) out r out′
+    left-none z = leaves F G row out r row′ out′ (lines []) d (twice-none F G row out z (d .counted) (d .written) (d .counts) (d .writes))
 
     of : (L : Found) → linesFor (length row) (countedField F) (countedField G) ≡ L → Leaves L out r out′ → Leaves (linesFor (length row) (countedField F) (countedField G)) out r out′
     of L e h = subst (λ (M : Found). Leaves M out r out′) (sym e) h
@@ -106,11 +114,10 @@ module _ (F G : Field) (row : List Problem) (out : List ℕ) where
         let j = accepted-field G q in
         of (linesOf (length row) (viewField F) (viewField G)) (ap₂ (linesFor (length row)) (counted-by F true p) (counted-by G true q))
         (leaves-read (viewField F) (viewField G) (i .0) (j .0) row out r row′ out′ (subst₂ (λ (F G : Field). Done F G row out r row′ out′) (sym (i .1)) (sym (j .1)) d))
-    leaves-by true false p q = of (lines []) (ap₂ (linesFor (length row)) (counted-by F true p) (counted-by G false q)) (none (ap₂ _&&_ p q))
-    leaves-by false b p q = of (lines []) (ap (λ (c : List (List OurTerm)). linesFor (length row) c (countedField G)) (counted-by F false p)) (none (ap₂ _&&_ p q))
+    leaves-by true false p q = of (lines []) (ap₂ (linesFor (length row)) (counted-by F true p) (counted-by G false q)) (left-none (ap₂ _&&_ p q))
+    leaves-by false b p q = of (lines []) (ap (λ (c : List (List OurTerm)). linesFor (length row) c (countedField G)) (counted-by F false p))
+        (left-none (ap₂ _&&_ p q))
 
     -- WHAT IS PROMISED of the answer, the output and the row
-    pub settled : (r ≡ searchedOf (linesFor (length row) (countedField F) (countedField G)) (length out))
-        × (out′ ≡ after (bytesOf (linesFor (length row) (countedField F) (countedField G))) out)
-        × (row′ ≡ blanks (length row))
-    settled = let h = leaves-by (acceptedField F) (acceptedField G) refl refl in (h .0, h .1, d .clears)
+    pub settled : Searches F G row out r row′ out′
+    settled = let h = leaves-by (acceptedField F) (acceptedField G) refl refl in record { answer = h .0; output = h .1; row = d .clears }

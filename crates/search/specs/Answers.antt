@@ -1,11 +1,12 @@
 -- What searching answers, of the lines of the search; and what it comes to by the machine of crate `queue`.
 use mathlib.Core.Path.{_≡_}
 use mathlib.Core.Bool.{cond}
-use mathlib.Core.List.{List}
-use mathlib.Core.Option.{Option, none, some}
+use mathlib.Core.List.{List, [], _∷_}
+use mathlib.Core.Option.{none, some}
 use Prim.Native.Nat.{ℕ}
 use lib.Dec.{leb}
 use lib.ListN.{length}
+use Rattle.text.specs.Told.{Told, byRoom}
 use Rattle.terms.specs.declared.Field.{Field}
 use Rattle.accepted.specs.Accepted.{countedField}
 use Rattle.writing.specs.Answers.{after}
@@ -18,32 +19,36 @@ use Rattle.queue.specs.Machine.{Config, conf, Ends, Reaches, fromRoot}
 use Rattle.search.specs.declared.Searched.{Searched}
 use Rattle.search.specs.declared.Searched.the-variants.{Lines, TooSmall, Full}
 
--- THE ANSWER, of the lines and the room of the lent buffer. Document 01: "Line and byte counts are returned"; "9: .. both counts are 0. 8: the lines need
--- more bytes than the output buffer has; the line count and the needed byte count are returned. 9 is tried before 8."
-abbrev pub searchedOf : Found → ℕ → Searched
-searchedOf (lines ls) room = cond (leb (length (bytesOf (lines ls))) room) (Lines (length ls) (length (bytesOf (lines ls)))) (TooSmall (length ls) (length (bytesOf (lines ls))))
-searchedOf nine room = Full
+-- document 01's number and values of each answer: "Line and byte counts are returned"; "9: .. both counts are 0. 8: .. the line count and
+-- the needed byte count are returned."
+abbrev pub told : Searched → Told
+told (Lines n b) = record { number = none; values = n ∷ (b ∷ []) }
+told (TooSmall n b) = record { number = some 8; values = n ∷ (b ∷ []) }
+told Full = record { number = some 9; values = 0 ∷ (0 ∷ []) }
+
+-- THE ANSWER, of the lines and the room of the lent buffer: "8: the lines need more bytes than the output buffer has"; "9 is tried before
+-- 8"
+abbrev pub searchedOf : Found → ℕ → Told
+searchedOf (lines ls) room = byRoom (length (bytesOf (lines ls))) room (length ls ∷ (length (bytesOf (lines ls)) ∷ []))
+searchedOf nine room = record { number = some 9; values = 0 ∷ (0 ∷ []) }
 
 -- the lines of two field values over a row of so many records; one that no reading can return counts as no field
 abbrev pub foundIn : ℕ → Field → Field → Found
 foundIn room f g = linesFor room (countedField f) (countedField g)
 
--- what a search promises: its answer, the output, and "every record of the row is the blank record .. refused or not"
-abbrev pub Searches : Field → Field → List Problem → List ℕ → Searched → List Problem → List ℕ → Type 0
-Searches f g row out r row′ out′ =
-    (r ≡ searchedOf (foundIn (length row) f g) (length out)) × (out′ ≡ after (bytesOf (foundIn (length row) f g)) out) × (row′ ≡ blanks (length row))
+-- WHAT A SEARCH PROMISES of two field values, the lent records and the lent bytes `old`: its answer, what the bytes are afterwards, and
+-- "every record of the row is the blank record .. refused or not"
+pub record Searches (f g : Field) (records : List Problem) (old : List ℕ) (r : Searched) (records′ : List Problem)
+    (new : List ℕ) : Type 0 where
+  pub answer : told r ≡ searchedOf (foundIn (length records) f g) (length old)
+  pub output : new ≡ after (bytesOf (foundIn (length records) f g)) old
+  pub row : records′ ≡ blanks (length records)
 
 -- ---- by the machine
 
 -- the answer, of the state that counting ended in and the room of the output. Document 01: "9 is tried before 8"
 abbrev pub reported : State → ℕ → Searched
 reported t room = cond (t .refused) Full (cond (leb (t .bytes) room) (Lines (t .lines) (t .bytes)) (TooSmall (t .lines) (t .bytes)))
-
--- document 01's number of each answer
-abbrev pub refusal : Searched → Option ℕ
-refusal (Lines n b) = none
-refusal (TooSmall n b) = some 8
-refusal Full = some 9
 
 module _ (f g : Field) (row : List Problem) (out : List ℕ) where
   -- where counting starts, and where writing starts after the count ended in c

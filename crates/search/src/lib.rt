@@ -9,7 +9,7 @@ use problems::Problem;
 use terms::Field;
 use turns::State;
 
-// The answer of a search: the line count and the byte count. `refusal` of specs/Answers has document 01's number of each.
+// The answer of a search: the line count and the byte count. `told` of specs/Answers has document 01's number and values of each.
 pub enum Searched {
     // the lines were written
     Lines(usize, usize),

@@ -17,6 +17,10 @@ pub mod Complete
 pub mod Fresh
 pub mod Sizes
 pub mod Few
+pub mod Origins
+pub mod Used
 pub mod Searching
+pub mod Ends
+pub mod Peak
 pub mod Slips
 pub mod Examples

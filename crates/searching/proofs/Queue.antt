@@ -32,13 +32,13 @@ module _ (E : Setting) where
       go false e rec = rec e ∙ append-assoc q (p ∷ []) ps
 
   -- as many as there is room for can be put in
-  enqueue-fits : (room : ℕ) (q ps : List (Problem E)) → length q + length ps ≤ room → enqueue E room q ps ≡ some (q ++ ps)
+  pub enqueue-fits : (room : ℕ) (q ps : List (Problem E)) → length q + length ps ≤ room → enqueue E room q ps ≡ some (q ++ ps)
   enqueue-fits room q [] h = ap {B = Option (List (Problem E))} some (sym (append-nil q))
   enqueue-fits room q (p ∷ ps) h = ap (λ (b : Bool). cond b none (enqueue E room (q ++ p ∷ []) ps)) (lt-leb room (length q) (omega arith))
       ∙ enqueue-fits room (q ++ p ∷ []) ps (omega (arith, length-append q (p ∷ []))) ∙ ap {B = Option (List (Problem E))} some (append-assoc q (p ∷ []) ps)
 
   -- and no more
-  enqueue-full : (room : ℕ) (q ps q′ : List (Problem E)) → length q ≤ room → enqueue E room q ps ≡ some q′ → length q + length ps ≤ room
+  pub enqueue-full : (room : ℕ) (q ps q′ : List (Problem E)) → length q ≤ room → enqueue E room q ps ≡ some q′ → length q + length ps ≤ room
   enqueue-full room q [] q′ h e = omega arith
   enqueue-full room q (p ∷ ps) q′ h e = go (leb room (length q)) refl e (λ l g. enqueue-full room (q ++ p ∷ []) ps q′ l g)
     where

@@ -1,6 +1,6 @@
 -- What an answer says: its values of the equation's own variables, what it is to solve the equation, and what its instances are.
 use mathlib.Core.Path.{_≡_}
-use mathlib.Core.Logic.{_⊎_, ite}
+use mathlib.Core.Logic.{_≢_, _⊎_, ite}
 use mathlib.Core.Bool.{true}
 use mathlib.Core.List.{List, [], _∷_, _++_, map, List·Memᴰ}
 use Prim.Native.Nat.{ℕ, suc, _+_, _≤_}
@@ -9,7 +9,7 @@ use Rattle.theory.specs.Constants.{Consts}
 use Rattle.theory.specs.Seqs.{concat-map}
 use Rattle.unifiers.specs.Shapes.{Vars, fixed, free, val}
 use Rattle.unifiers.specs.Overlaps.{firsts}
-use Rattle.searching.specs.Problems.{Names, Setting, atomic, listvar, At, Tm, Field, tm-eq, kindOf, Bindings}
+use Rattle.searching.specs.Problems.{Names, Setting, atomic, listvar, At, Tm, Field, tm-eq, kindOf, Bindings, Rest, solved, equation, Problem, rest, bindings}
 
 module _ (E : Setting) where
   open Setting E using (order, constants, variables, names)
@@ -36,6 +36,18 @@ module _ (E : Setting) where
 
   abbrev pub StandsIn : Field E → Field E → Tm E → Type 0
   StandsIn L M t = List·Memᴰ t L ⊎ List·Memᴰ t M
+
+  -- what is left has the list variable n
+  abbrev pub InRest : Rest E → Name → Type 0
+  InRest solved n = ⊥
+  InRest (equation L M) n = StandsIn L M (listvar n)
+
+  -- "the list variables of a problem and its bindings, bound ones too", for a problem of the search for A = B: what is left has it, or it
+  -- is bound, or the value of one of the equation's terms has it
+  abbrev pub ListVariableOf : Field E → Field E → Problem E → Name → Type 0
+  ListVariableOf A B p n =
+      InRest (rest E p) n ⊎ ((bindings E p (listvar n) ≢ listvar n ∷ [])
+      ⊎ ((t : Tm E) × StandsIn A B t × List·Memᴰ (listvar n) (bindings E p t)))
 
   -- how many list variables a field has, and how often one stands in it
   abbrev pub listvars : Field E → ℕ

@@ -4,5 +4,6 @@ pub mod Fresh
 pub mod Rules
 pub mod Termination
 pub mod Queue
+pub mod Runs
 pub mod Answers
 pub mod Pairs

@@ -1,10 +1,8 @@
 // The search over a row of its own, as the program runs it.
 ghost use mathlib.Core.Path.{_≡_};
 ghost use Prim.Native.Nat.{min};
-ghost use lib.ListN.{length};
-ghost use Rattle.writing.specs.Answers.{after};
-ghost use Rattle.solving.specs.Answers.{bytesOf};
-ghost use Rattle.search.specs.Answers.{searchedOf, foundIn};
+ghost use Rattle.queue.specs.Row.{blanks};
+ghost use Rattle.search.specs.Answers.{Searches};
 use search::Searched;
 use terms::Field;
 
@@ -16,7 +14,7 @@ fn at_most(n: usize, most: usize) -> usize
 
 // The search over a row of its own: the first `room` of 640 records.
 pub fn search_in(left: Field, right: Field, room: usize, out: &mut [u8]) -> Searched
-    ensures { λ r. ⌜ (r ≡ searchedOf (foundIn (min room 640) left right) (length (now (out .entry)))) × (now (out .exit) ≡ after (bytesOf (foundIn (min room 640) left right)) (now (out .entry))) ⌝ }
+    ensures { λ r. ⌜ Searches left right (blanks (min room 640)) (now (out .entry)) r (blanks (min room 640)) (now (out .exit)) ⌝ }
 {
     let b = problems::blank_problem();
     let mut row = [b; 640];

@@ -1,4 +1,5 @@
 pub mod Search
 pub mod Short
 pub mod Shown
+pub mod Lines
 pub mod Starred

@@ -4,13 +4,14 @@
 --     shown-complete                    "When it isn't refused, every solution by constants is an instance of one of them"
 --     shown-none                        "and no answer means no solution"
 use mathlib.Core.Path.{_≡_, refl, sym, _∙_, ap, ap₂, subst}
-use mathlib.Core.Logic.{_⊎_, inl, inr}
+use mathlib.Core.Logic.{_⊎_, inl, inr, _↔_}
 use mathlib.Core.Bool.{Bool, cond}
 use mathlib.Core.List.{List, [], _∷_, _++_, map, map-append, head-eq-of-cons-eq, tail-eq-of-cons-eq, List·Memᴰ, List·Memᴰ·head, List·Memᴰ·tail, List·Memᴰ·not-nil, List·Memᴰ·cases-cons, Memᴰ·append-left, Memᴰ·append-right, Memᴰ·map}
-use Prim.Native.Nat.{ℕ, _+_, _-_}
+use Prim.Native.Nat.{ℕ, _+_, _-_, _<_}
 use native.Mathlib.Omega.{arith}
 use native.Mathlib.Decide.{ℕ-discrete}
 use lib.Dec.{ltb}
+use lib.ListN.{length}
 use borrow.Author.Tests.{lt-ltb, le-ltb}
 use Rattle.lists.specs.Seqs.{All}
 use Rattle.order.specs.Order.{basic, list}
@@ -31,13 +32,15 @@ use Rattle.unifiers.proofs.Typed.{rename-typed}
 use Rattle.listing.specs.Fits.{Solution}
 use Rattle.listing.specs.Variables as listed
 use Rattle.listing.proofs.Variables.{in-variables}
-use Rattle.searching.specs.Problems.{atomic, listvar, Tm, Bindings}
+use Rattle.searching.specs.Problems.{atomic, listvar, Tm, Bindings, Problem}
 use Rattle.searching.specs.Queue.{Result, answers, refused, unfinished}
+use Rattle.searching.specs.Runs.{Queued, peak}
 use Rattle.searching.specs.Answers.{StandsIn, Fits, Solves, ground, WellTyped, Covers}
 use Rattle.searching.specs.Pairs.{sixteenAbove}
 use Rattle.searching.specs.Pairs as pairs
 use Rattle.searching.specs.Fresh.{numbers}
 use Rattle.searching.proofs.Seqs.{all-mem}
+use Rattle.searching.proofs.Peak.{refused-peak, refused-queued}
 use Rattle.solving.specs.Answers.{setting, fieldOn, found, markOf, valueOf, valuesOn, valuesOf, numberIn, shownOn, answerText, Lines, lines, nine, linesIn, linesOf}
 use Rattle.solving.proofs.Search.{found-ends, answers-solve, answers-complete}
 
@@ -66,6 +69,19 @@ lines-nine room f g e = go (found room f g) refl e
     go (answers xs) q e = absurd (subst IsLines e tt)
     go refused q e = q
     go unfinished q e = absurd (found-ends room f g q)
+
+-- THE CASE OF 9, by the run without a row: more problems wait at once than the row has records
+pub nine-peak : (room : ℕ) (f g : List OurTerm) → (linesOf room f g ≡ nine) ↔ (room < peak setting (fieldOn left f) (fieldOn right g))
+nine-peak room f g =
+    let r = refused-peak setting room (fieldOn left f) (fieldOn right g) in
+    (λ e. r .0 (lines-nine room f g e), λ h. ap (linesIn f g) (r .1 h))
+
+-- that is, some queue of that run has more problems
+pub nine-queued : (room : ℕ) (f g : List OurTerm)
+    → (linesOf room f g ≡ nine) ↔ ((q : List (Problem setting)) × Queued setting (fieldOn left f) (fieldOn right g) q × (room < length q))
+nine-queued room f g =
+    let r = refused-queued setting room (fieldOn left f) (fieldOn right g) in
+    (λ e. r .0 (lines-nine room f g e), λ h. ap (linesIn f g) (r .1 h))
 
 -- ---- what a line shows solves the equation
 
@@ -168,11 +184,11 @@ module _ {A B C : Type 0} (a : B → C) (b : A → B) (c : A → C) where
       go (inl q) rec = ap (λ (y : A). a (b y)) q ∙ head-eq-of-cons-eq e ∙ ap c (sym q)
       go (inr j) rec = rec j
 
-abbrev termOn : Side → OurTerm → Tm setting
+abbrev pub termOn : Side → OurTerm → Tm setting
 termOn d e = pairs.sideTerm basics consts ℕ-discrete numbers sixteenAbove d e
 
 -- a variable of a field stands on its side
-stands-on : (d : Side) (k : Kind) (n : ℕ) (e : List OurTerm) → Occurs k n e → List·Memᴰ (termOn d (var k n)) (fieldOn d e)
+pub stands-on : (d : Side) (k : Kind) (n : ℕ) (e : List OurTerm) → Occurs k n e → List·Memᴰ (termOn d (var k n)) (fieldOn d e)
 stands-on d k n [] o = absurd o
 stands-on d k n (con c ∷ e) o = List·Memᴰ·tail (stands-on d k n e o)
 stands-on d k n (var j m ∷ e) (inl q) = List·Memᴰ·head (ap₂ (λ (a : Kind) (b : ℕ). termOn d (var a b)) (q .0) (q .1))
@@ -184,13 +200,13 @@ number-in k n (con c ∷ e) i o = number-in k n e (i .1) o
 number-in k n (var j m ∷ e) i (inl q) = let l = i .0 in omega (arith, l, q .1)
 number-in k n (var j m ∷ e) i (inr o) = number-in k n e (i .1) o
 
-value-on : (d : Side) (σ : Bindings setting) (k : Kind) (n : ℕ) → valueOf d σ k n ≡ map markOf (σ (termOn d (var k n)))
+pub value-on : (d : Side) (σ : Bindings setting) (k : Kind) (n : ℕ) → valueOf d σ k n ≡ map markOf (σ (termOn d (var k n)))
 value-on d σ (basic k) n = refl
 value-on d σ list n = refl
 
--- the fillings φ and ψ of the two fields are an instance of what the line of σ shows: by a filling χ of the line's variables, each by its type
-abbrev pub InstanceOfLine : List OurTerm → List OurTerm → Bindings setting → Filling Con Kind ℕ → Filling Con Kind ℕ → Type 0
-InstanceOfLine f g σ φ ψ =
+-- the fillings φ and ψ of the two fields are an instance of the values of σ: by a filling χ of the line's variables, each by its type
+abbrev pub InstanceOf : List OurTerm → List OurTerm → Bindings setting → Filling Con Kind ℕ → Filling Con Kind ℕ → Type 0
+InstanceOf f g σ φ ψ =
     (χ : Filling Con Kind ℕ) × Typed basics consts χ
     × ((k : Kind) (n : ℕ) → Occurs k n f → φ k n ≡ fill χ (shownOn left f g σ k n))
     × ((k : Kind) (n : ℕ) → Occurs k n g → ψ k n ≡ fill χ (shownOn right f g σ k n))
@@ -211,7 +227,7 @@ module _ (f g : List OurTerm) (is-f : IsRule (f ∷ [])) (is-g : IsRule (g ∷ [
 
   -- EVERY SOLUTION BY CONSTANTS is an instance of a line
   pub shown-complete : (φ ψ : Filling Con Kind ℕ) → Typed basics consts φ → Typed basics consts ψ → fill φ f ≡ fill ψ g
-      → (σ : Bindings setting) × List·Memᴰ σ xs × InstanceOfLine f g σ φ ψ
+      → (σ : Bindings setting) × List·Memᴰ σ xs × InstanceOf f g σ φ ψ
   shown-complete φ ψ t u e = (c .0, c .1, (r .0, r .1, lefts, rights))
     where
       c : (σ : Bindings setting) × List·Memᴰ σ xs × Covers setting (StandsIn setting (fieldOn left f) (fieldOn right g)) (constantOf φ ψ t u) (listOf φ ψ t u) σ

@@ -1,13 +1,16 @@
 -- THE SEARCH for two of document 01's fields: its lines, and their bytes.
-use mathlib.Core.List.{List, [], _∷_, _++_, map}
+use mathlib.Core.Path.{_≡_}
+use mathlib.Core.List.{List, [], _∷_, _++_, map, List·Memᴰ}
 use Prim.Native.Nat.{ℕ}
 use native.Mathlib.Decide.{ℕ-discrete}
 use lib.ListN.{drop}
+use Rattle.lists.specs.Seqs.{All}
 use Rattle.order.specs.Order.{basic, list}
 use Rattle.order.specs.Types.{Kind, basics}
 use Rattle.theory.specs.Terms.{var}
 use Rattle.theory.specs.Constants.{TermOver}
 use Rattle.theory.specs.Seqs.{concat-map}
+use Rattle.theory.specs.Fillings.{Filling, Typed, fill}
 use Rattle.text.specs.Terms.{Con, OurTerm}
 use Rattle.text.specs.Ascii.{newline}
 use Rattle.instance.specs.Constants.{consts}
@@ -18,7 +21,7 @@ use Rattle.searching.specs.Problems.{Setting, atomic, listvar, Tm, Field, Bindi
 use Rattle.searching.specs.Fresh.{numbers}
 use Rattle.searching.specs.Queue.{Result, answers, refused, unfinished, searching}
 use Rattle.searching.specs.Pairs.{pairSetting, sideField, sixteenAbove}
-use Rattle.listing.specs.Lines.{leftMark, rightMark, bindingsText}
+use Rattle.listing.specs.Lines.{Binding, leftMark, rightMark, bindingsText, WritableBinding}
 use Rattle.listing.specs.Variables.{variables}
 use Rattle.listing.specs.Overlaps.{bindingsOf}
 
@@ -65,13 +68,46 @@ shownOn d f g σ k n = map (rename (numberIn f g σ)) (valueOf d σ k n)
 
 -- ---- the lines
 
--- the bindings part of an overlap line, for rules of one field each
-abbrev pub answerBindings : List OurTerm → List OurTerm → Bindings setting → List ℕ
-answerBindings f g σ = bindingsText leftMark (bindingsOf (f ∷ []) (shownOn left f g σ)) ++ bindingsText rightMark (bindingsOf (g ∷ []) (shownOn right f g σ))
+-- what a line says: the bindings of the left field's variables, and those of the right field's
+pub record AnswerLine : Type 0 where
+  pub left : List Binding
+  pub right : List Binding
+
+-- the bindings part of an overlap line
+abbrev pub bindingsPart : AnswerLine → List ℕ
+bindingsPart l = bindingsText leftMark (l .left) ++ bindingsText rightMark (l .right)
 
 -- "A line is the bindings part of an overlap line, without the field text and the blank after it"; "An equation without variables gives empty lines"
+abbrev pub lineText : AnswerLine → List ℕ
+lineText l = drop 1 (bindingsPart l) ++ newline
+
+abbrev pub linesText : List AnswerLine → List ℕ
+linesText ls = concat-map lineText ls
+
+-- a line that can be written at all: its strings hold only bytes that a string may have
+abbrev pub WritableAnswer : AnswerLine → Type 0
+WritableAnswer l = All WritableBinding (l .left) × All WritableBinding (l .right)
+
+-- a substitution gives every variable that is bound the value that the line shows
+abbrev pub Gives : Subst Con Kind ℕ ℕ → List Binding → Type 0
+Gives θ bs = (b : Binding) → List·Memᴰ b bs → θ (b .kind) (b .number) ≡ b .value
+
+-- the fillings φ and ψ of the two fields are an instance of what a line shows: by a filling of the line's variables, each by its type
+abbrev pub InstanceOfLine : AnswerLine → Filling Con Kind ℕ → Filling Con Kind ℕ → Type 0
+InstanceOfLine l φ ψ =
+    (χ : Filling Con Kind ℕ) × Typed basics consts χ
+    × ((b : Binding) → List·Memᴰ b (l .left) → φ (b .kind) (b .number) ≡ fill χ (b .value))
+    × ((b : Binding) → List·Memᴰ b (l .right) → ψ (b .kind) (b .number) ≡ fill χ (b .value))
+
+-- the line of an answer: "for each variable" of the fields "name, `=`, value"
+abbrev pub answerLine : List OurTerm → List OurTerm → Bindings setting → AnswerLine
+answerLine f g σ = record { left = bindingsOf (f ∷ []) (shownOn left f g σ); right = bindingsOf (g ∷ []) (shownOn right f g σ) }
+
+abbrev pub answerBindings : List OurTerm → List OurTerm → Bindings setting → List ℕ
+answerBindings f g σ = bindingsPart (answerLine f g σ)
+
 abbrev pub answerText : List OurTerm → List OurTerm → Bindings setting → List ℕ
-answerText f g σ = drop 1 (answerBindings f g σ) ++ newline
+answerText f g σ = lineText (answerLine f g σ)
 
 -- the lines, or a refusal by 9
 pub data Lines : Type 0 where
@@ -79,7 +115,7 @@ pub data Lines : Type 0 where
   nine : Lines
 
 -- "Answers are lines in the order in which solved problems leave the row; repeats stay."
--- `unfinished` never comes (`found-ends` of proofs/), and so stands for no third case
+-- `unfinished` never comes (`found-ends` of proofs/), so that `nine` is a refusal by 9 alone: `lines-nine`, and `nine-peak` by a number
 abbrev pub linesIn : List OurTerm → List OurTerm → Result setting → Lines
 linesIn f g (answers xs) = lines (map (answerText f g) xs)
 linesIn f g refused = nine

@@ -3,8 +3,6 @@ use mathlib.Core.Path.{sym}
 use Prim.Native.Nat.{min}
 use native.Mathlib.Omega.{arith}
 use lib.Seq.{length-take-le}
-use Rattle.accepted.specs.Accepted.{countedField}
-use Rattle.solving.specs.Answers.{linesFor}
 use Rattle.search_text.specs.Found.{mostRecords}
 use Rattle.search_text.proofs.Searches.{lines-count, lines-in, lines-put, few-put, full-put}
 use borrow.Author.Needs.{needs}
@@ -41,7 +39,8 @@ array-share-prefix-text c =
     let T = c .before .before .before .before .before .before .before .before .before .before .before .lines-room in
     let n = c .before .before .before .before .before .before .before .before .before .before .at-most in
     let S = c .before .before .before .before .before .before .before .before .search-in in
-    lines-in (linesFor (min (z .row) mostRecords) (countedField (z .left)) (countedField (z .right))) (z .room) (n .result) (T .result) (n .ensures) (T .ensures) (S .ensures) _ _ (c .before .before .before .before .before .lines .given .1)
+    lines-in (z .left) (z .right) (min (z .row) mostRecords) (z .room) (n .result) (T .result) (n .ensures) (T .ensures) (S .ensures) _ _
+    (c .before .before .before .before .before .lines .given .1)
 
 slice-aggregate-put-bytes : tie.Need-slice-aggregate-put-bytes
 slice-aggregate-put-bytes c =
@@ -49,7 +48,8 @@ slice-aggregate-put-bytes c =
     let T = c .before .before .before .before .before .before .before .before .before .before .before .before .lines-room in
     let n = c .before .before .before .before .before .before .before .before .before .before .before .at-most in
     let S = c .before .before .before .before .before .before .before .before .before .search-in in
-    lines-count (linesFor (min (z .row) mostRecords) (countedField (z .left)) (countedField (z .right))) (z .room) (n .result) (T .result) (n .ensures) (T .ensures) (S .ensures) _ _ (c .before .before .before .before .before .before .lines .given .1)
+    lines-count (z .left) (z .right) (min (z .row) mostRecords) (z .room) (n .result) (T .result) (n .ensures) (T .ensures) (S .ensures) _ _
+    (c .before .before .before .before .before .before .lines .given .1)
 
 put-bytes-requires : tie.Need-put-bytes-requires
 put-bytes-requires c κs = search needs
@@ -75,7 +75,9 @@ returns c =
     let T = c .before .before .before .before .before .before .before .before .before .before .before .before .before .before .before .before .lines-room in
     let n = c .before .before .before .before .before .before .before .before .before .before .before .before .before .before .before .at-most in
     let S = c .before .before .before .before .before .before .before .before .before .before .before .before .before .search-in in
-    lines-put (linesFor (min (z .row) mostRecords) (countedField (z .left)) (countedField (z .right))) (z .room) (n .result) (T .result) (n .ensures) (T .ensures) (S .ensures) _ _ (search needs) (search needs) (z .at) (z .out .now) (c .before .before .before .before .before .before .before .before .before .before .lines .given .1) (c .before .before .before .before .before .before .before .put-counts .ensures) (c .before .before .put-bytes .ensures)
+    lines-put (z .left) (z .right) (min (z .row) mostRecords) (z .room) (n .result) (T .result) (n .ensures) (T .ensures) (S .ensures) _ _ (search needs)
+    (search needs) (z .at) (z .out .now) (c .before .before .before .before .before .before .before .before .before .before .lines .given .1)
+    (c .before .before .before .before .before .before .before .put-counts .ensures) (c .before .before .put-bytes .ensures)
 
 same-length-2 : tie.Need-same-length-2
 same-length-2 c = search needs
@@ -86,7 +88,8 @@ returns-2 c =
     let T = c .before .before .before .before .before .before .before .before .before .before .before .lines-room in
     let n = c .before .before .before .before .before .before .before .before .before .before .at-most in
     let S = c .before .before .before .before .before .before .before .before .search-in in
-    few-put (linesFor (min (z .row) mostRecords) (countedField (z .left)) (countedField (z .right))) (z .room) (n .result) (T .result) (n .ensures) (T .ensures) (S .ensures) _ _ (search needs) (search needs) (z .at) (z .out .now) (c .before .before .before .before .before .lines2 .given .1) (c .before .before .put-counts2 .ensures)
+    few-put (z .left) (z .right) (min (z .row) mostRecords) (z .room) (n .result) (T .result) (n .ensures) (T .ensures) (S .ensures) _ _ (search needs)
+    (search needs) (z .at) (z .out .now) (c .before .before .before .before .before .lines2 .given .1) (c .before .before .put-counts2 .ensures)
 
 same-length-3 : tie.Need-same-length-3
 same-length-3 c = search needs
@@ -97,7 +100,8 @@ returns-3 c =
     let T = c .before .before .before .before .before .before .before .before .before .before .lines-room in
     let n = c .before .before .before .before .before .before .before .before .before .at-most in
     let S = c .before .before .before .before .before .before .before .search-in in
-    full-put (linesFor (min (z .row) mostRecords) (countedField (z .left)) (countedField (z .right))) (z .room) (n .result) (T .result) (n .ensures) (T .ensures) (S .ensures) (c .before .before .before .before .enum-told .given .1) (z .at) (z .out .now) (c .before .before .put-counts3 .ensures)
+    full-put (z .left) (z .right) (min (z .row) mostRecords) (z .room) (n .result) (T .result) (n .ensures) (T .ensures) (S .ensures)
+    (c .before .before .before .before .enum-told .given .1) (z .at) (z .out .now) (c .before .before .put-counts3 .ensures)
 
 pub put-search-spec : {M : Type 1} → statement M
 put-search-spec =

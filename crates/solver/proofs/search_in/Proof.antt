@@ -1,6 +1,6 @@
 -- `solver::search_in` meets its contract: a walk of its MIR, by hand. The local array's first records are lent to `search` for a lifetime that ends behind the call (`Local.antt`), and `out` is lent again.
 -- Assumes nothing.
-use mathlib.Core.Path.{_≡_, refl, sym, _∙_, ap, subst}
+use mathlib.Core.Path.{_≡_, refl, sym, _∙_, ap}
 use Prim.Native.Nat.{ℕ, _+_, _-_, _<_, _≤_, _^_, min}
 use mathlib.Core.List.{[], _∷_, List, _++_}
 use native.Mathlib.Omega.{arith}
@@ -53,9 +53,7 @@ use Rattle.walks.proofs.Walk.{Spots, room, holds, envOf, pos, allocs-all, frees
 use Rattle.search.proofs.Lending.{x, Own}
 use Rattle.search.proofs.Drives.{mach, Blank, calls-blank-problem}
 use Rattle.search.specs.declared.Searched.{Searched}
-use Rattle.writing.specs.Answers.{after}
-use Rattle.solving.specs.Answers.{bytesOf}
-use Rattle.search.specs.Answers.{searchedOf, foundIn, Searches}
+use Rattle.search.specs.Answers.{Searches}
 use Rattle.search.proofs.Searched as N
 use Rattle.search.proofs.Searched.Laws as N′
 use Rattle.search.proofs.Calls.{mach-field, mach-answer}
@@ -79,13 +77,10 @@ stayed = (stay-none (λ _. F.the-row) yes, (stay-none (λ _. F.the-row) yes, (st
 cut-at : (n k : ℕ) → k ≤ n → replicate n blankProblem ≡ blanks k ++ blanks (n - k)
 cut-at n k h = let e : n ≡ k + (n - k) = omega arith in ap blanks e ∙ sym (replicate-append-replicate k (n - k) blankProblem)
 
--- what is promised of the lines over so many records
-abbrev Answers : Field → Field → ℕ → List ℕ → Searched → List ℕ → Type 0
-Answers f g k os r us = (r ≡ searchedOf (foundIn k f g) (length os)) × (us ≡ after (bytesOf (foundIn k f g)) os)
-
--- the row of blanks has as many records
-answers : (f g : Field) (k : ℕ) (os : List ℕ) (r : Searched) (zs : List Problem) (us : List ℕ) → Searches f g (blanks k) os r zs us → Answers f g k os r us
-answers f g k os r zs us h = subst (λ (n : ℕ). Answers f g n os r us) (length-replicate k blankProblem) (h .0, h .1)
+-- the row of blanks is one of as many blanks afterwards
+row-blank : (f g : Field) (k : ℕ) (os : List ℕ) (r : Searched) (zs : List Problem) (us : List ℕ) → Searches f g (blanks k) os r zs us
+    → Searches f g (blanks k) os r (blanks k) us
+row-blank f g k os r zs us h = record { answer = h .answer; output = h .output; row = ap blanks (sym (length-replicate k blankProblem)) }
 
 module _ {M : Type 1} (𝓤 : URA M) (H : Heap 𝓤) (A : Atoms 𝓤) (W : Given 𝓤 H A) (mem : Memory → SProp 𝓤) (run : Routine → Fun 𝓤) (κ : Lft) (q : Share) (b o : ℕ) (γ : GName) (f g : Field) (m : ℕ) (os : List ℕ) where
   -- the machine values of `out` and of the local array
@@ -110,7 +105,8 @@ module _ {M : Type 1} (𝓤 : URA M) (H : Heap 𝓤) (A : Atoms 𝓤) (W : Given
   Lists us = Own 𝓤 u8 κ γ b o (length os) us ∷ ‵ (flft κ q) ∷ []
 
   module _ (gf : Is F.the-row f (mach-field f ∷ [])) (gg : Is F.the-row g (mach-field g ∷ [])) (m-fits : m < 2 ^ 64) where
-    exits : (us : List ℕ) (r : Searched) → length us ≡ length os → Is N.the-row r (mach-answer r ∷ []) → Answers f g k os r us → ent 𝓤 (⋆ 𝓤 H A (Lists us)) (Post (mach-answer r))
+    exits : (us : List ℕ) (r : Searched) → length us ≡ length os → Is N.the-row r (mach-answer r ∷ []) → Searches f g (blanks k) os r (blanks k) us
+        → ent 𝓤 (⋆ 𝓤 H A (Lists us)) (Post (mach-answer r))
     exits us r e gr is =
         qed W (Lists us) ∵ suffices ! _ (ends-at 𝓤 H A search-in.ended stayed (search-in.clauses 𝓤 H A mem run) W bound (mach-answer r) r (tt, (tt, (tt, (us, tt)))) (tt, (tt, (tt, (e, tt))))) $
         says ! is $ nothing ! $ move ! (2 ∷ 0 ∷ []) $ join ! $ frame ! $ nothing ! $ move ! (1 ∷ 0 ∷ []) $ fjoin ! $ owned ! usize (Is usize) (uint-makes 𝓤 H A W w64) m _ (refl, m-fits) $ fjoin ! $
@@ -171,7 +167,7 @@ module _ {M : Type 1} (𝓤 : URA M) (H : Heap 𝓤) (A : Atoms 𝓤) (W : Given
         land ! (from ! (stop !)) (init ! (L 0) refl (EL.lawful N.the-type N′.the-laws 𝓤 H A W tt .typed r _ gr .0)) $
         returns ! (look ! (L 0) refl) $ frees-all W ! (Lists us) (envOf 𝓤 H A (code.function .locals) l)
         (holds (mach-answer r) ∷ holds (mach-field f) ∷ holds (mach-field g) ∷ holds (vint w64 m) ∷ holds o₀ ∷ holds (mach blankProblem) ∷ room ∷ holds (vint w64 k) ∷ holds (vptr (spot l) 0) ∷ holds (sliceVal (spot l, 0) k) ∷ holds (vptr b o) ∷ holds o₀ ∷ [])
-        (exits us r e gr (answers f g k os r zs us is)))))))))
+        (exits us r e gr (row-blank f g k os r zs us is)))))))))
       where
         -- where the array lies
         spot : Spots (code.function .locals) → ℕ
