@@ -1,2 +1,3 @@
 pub mod Parts
 pub mod Keeping
+pub mod Finding

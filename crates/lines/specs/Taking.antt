@@ -25,6 +25,10 @@ addedBytes l part line = placed (take (length line - l .kept) part) (l .kept) li
 abbrev pub untaken : Input → List ℕ → List ℕ
 untaken i chunk = slice (i .at) (i .end) chunk
 
+-- as far as the chunk reaches
+abbrev pub inChunk : Input → ℕ → Input
+inChunk i size = record { at = i .at; end = min (i .end) size; ended = i .ended; failed = i .failed }
+
 abbrev pub atPlace : Input → ℕ → Input
 atPlace i at = record { at = at; end = i .end; ended = i .ended; failed = i .failed }
 
@@ -38,3 +42,7 @@ taken i l u size =
     cond (ltb n (length u))
     (record { input = atPlace i (i .at + n + 1); line = wholeLine (addedLine l n size) })
     (record { input = atPlace i (i .end); line = addedLine l n size })
+
+-- where nothing is there to take, the input's end is the line's
+abbrev pub stepped : Input → Line → List ℕ → ℕ → Taken
+stepped i l u size = cond (ltb 0 (length u)) (taken i l u size) (record { input = i; line = wholeLine l })

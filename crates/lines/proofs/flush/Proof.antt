@@ -1,5 +1,6 @@
 -- `lines::flush` meets its contract. Assumes nothing.
-use mathlib.Core.Path.{sym}
+use mathlib.Core.Path.{refl, sym, _∙_}
+use mathlib.Core.Bool.{true≢false}
 use native.Mathlib.Omega.{arith}
 use lib.Seq.{length-take-le}
 use borrow.Author.Needs.{needs}
@@ -19,7 +20,7 @@ write-all-requires : tie.Need-write-all-requires
 write-all-requires c κs = search needs
 
 returns-2 : tie.Need-returns-2
-returns-2 c = search needs
+returns-2 c = record { used = refl; failed = λ e. absurd (true≢false (sym e ∙ c .before .before .before .if1 .left)) }
 
 pub flush-spec : {M : Type 1} → statement M
 flush-spec =

@@ -1,16 +1,21 @@
--- `lines::step` meets its contract: what is kept stays within the line buffer. Assumes nothing.
+-- `lines::step` meets its contract: at most one read, and what is taken behind it. Assumes nothing.
 use native.Mathlib.Omega.{arith}
-use lib.ListN.{length}
+use mathlib.Core.Path.{ap}
+use Prim.Native.Nat.{ℕ}
 use borrow.Author.Needs.{needs}
-use Rattle.lines.proofs.Parts.{taken-kept}
+use Rattle.lines.specs.declared.Input.{Input}
+use Rattle.lines.proofs.Finding.{step-takes, step-ends}
 use Rattle.lines.proofs.step.Statement.{statement}
 use Rattle.lines.proofs.step.Tie as tie
+
+in-chunk-requires : tie.Need-in-chunk-requires
+in-chunk-requires c κs = search needs
 
 flush-before-read-requires : tie.Need-flush-before-read-requires
 flush-before-read-requires c κs = search needs
 
 refill-requires : tie.Need-refill-requires
-refill-requires c κs = search needs
+refill-requires c κs = omega (arith, ap (λ (i : Input). i .end) (c .before .before .in-chunk .ensures))
 
 take-part-requires : tie.Need-take-part-requires
 take-part-requires c κs = search needs
@@ -23,20 +28,26 @@ same-length-2 c = search needs
 
 returns : tie.Need-returns
 returns c =
+    let e = c .before .before .before .before .before .before .before in
+    let z = e .before .before .before .before .before .before .before .before .before .before .before .before .before in
+    let I = e .before .before .before .before .before .before .before in
     let T = c .before .before .before .before .take-part in
-    let z = c .before .before .before .before .before .before .before .before .before .before .before .before .before .before .before .before .before .before .before in
-    omega (arith, taken-kept _ (z .args .s .line) _ (length (z .args .line .now)) (T .ensures .0) (z .pre), T .kept .1 .1 .0)
+    step-takes (z .args .s) (z .args .chunk .now) (e .before .before .before .before .refill .last .1 .0) (z .args .line .now) (e .before .before .before .before .before .before .flush-before-read .result) (I .in-chunk .result) (e .before .before .before .before .refill .result) (I .in-chunk .ensures) (e .before .before .before .before .refill .ensures) (e .before .before .before .before .before .before .flush-before-read .ensures) (e .if1 .taken) (T .ensures .0) (T .ensures .1)
 
 same-length-3 : tie.Need-same-length-3
 same-length-3 c = search needs
 
 returns-2 : tie.Need-returns-2
-returns-2 c = search needs
+returns-2 c =
+    let z = c .before .before .before .before .before .before .before .before .before .before .before .before .before in
+    let I = c .before .before .before .before .before .before .before in
+    step-ends (z .args .s) (z .args .chunk .now) (c .before .before .before .before .refill .last .1 .0) (z .args .line .now) (c .before .before .before .before .before .before .flush-before-read .result) (I .in-chunk .result) (c .before .before .before .before .refill .result) (I .in-chunk .ensures) (c .before .before .before .before .refill .ensures) (c .before .before .before .before .before .before .flush-before-read .ensures) (c .if1 .left)
 
 pub step-spec : {M : Type 1} → statement M
 step-spec =
     tie.close
     (tie.spec
+    in-chunk-requires
     flush-before-read-requires
     refill-requires
     take-part-requires
