@@ -22,12 +22,13 @@ use Rattle.lines.specs.declared.Taken.{Taken}
 use Rattle.lines.specs.Placing.{placed}
 use Rattle.lines.specs.Putting.{Written}
 use Rattle.lines.specs.Taking.{noLine, addedLine, addedBytes, untaken, inChunk, atPlace, wholeLine, taken, stepped}
-use Rattle.lines.specs.Lines.{newlineIn, firstLine, behindLine, lineOf, Fills, waits, dry, reads, Refills, Holds, Steps, Stays, Reads, Asks, quiet, over, more, there, mostTurns, Finds}
+use Rattle.lines.specs.Lines.{newlineIn, firstLine, behindLine, lineOf, Fills, waits, dry, reads, Refills, Holds, Steps}
+use Rattle.lines.specs.Lines.{Stays, Reads, Asks, quiet, over, more, there, mostTurns, Finds}
 use Rattle.lines.proofs.Keeping.{Keeps, keeps-size, none-kept, added-keeps}
 
 -- ---- where the first newline is
 
-index-le : (v : List ℕ) → indexOf 10 v ≤ length v
+pub index-le : (v : List ℕ) → indexOf 10 v ≤ length v
 unfolding indexOf indexAfter
 index-le [] = omega arith
 index-le (x ∷ v) = on (eqb x 10) (index-le v)
@@ -70,8 +71,10 @@ module _ (b v : List ℕ) (plain : indexOf 10 b ≡ length b) where
   newline-append = on (newlineIn v) refl
     where
       on : (y : Bool) → newlineIn v ≡ y → newlineIn (b ++ v) ≡ y
-      on true e = lt-ltb (indexOf 10 (b ++ v)) (length (b ++ v)) (omega (arith, index-append b v plain, length-append b v, ltb-true (indexOf 10 v) (length v) e))
-      on false e = le-ltb (indexOf 10 (b ++ v)) (length (b ++ v)) (omega (arith, index-append b v plain, length-append b v, ltb-false (indexOf 10 v) (length v) e))
+      on true e =
+          lt-ltb (indexOf 10 (b ++ v)) (length (b ++ v)) (omega (arith, index-append b v plain, length-append b v, ltb-true (indexOf 10 v) (length v) e))
+      on false e =
+          le-ltb (indexOf 10 (b ++ v)) (length (b ++ v)) (omega (arith, index-append b v plain, length-append b v, ltb-false (indexOf 10 v) (length v) e))
 
 -- ---- what is taken
 
@@ -112,16 +115,22 @@ module _ (i : Input) (l : Line) (u : List ℕ) (size : ℕ) {t : Taken} (E : t �
   abbrev some : Bool
   some = ltb 0 (length u)
 
+  abbrev onNewline : Taken
+  onNewline = record { input = atPlace i (i .at + n + 1); line = wholeLine (addedLine l n size) }
+
+  abbrev onRest : Taken
+  onRest = record { input = atPlace i (i .end); line = addedLine l n size }
+
   -- whatever holds in the three cases
   by-case : (P : Taken → Type 0)
-      → (some ≡ true → newlineIn u ≡ true → P (record { input = atPlace i (i .at + n + 1); line = wholeLine (addedLine l n size) }))
-      → (some ≡ true → newlineIn u ≡ false → P (record { input = atPlace i (i .end); line = addedLine l n size }))
+      → (some ≡ true → newlineIn u ≡ true → P onNewline)
+      → (some ≡ true → newlineIn u ≡ false → P onRest)
       → (some ≡ false → P (record { input = i; line = wholeLine l }))
       → P t
   by-case P f g h = rw E (on some refl (newlineIn u) refl)
     where
       on : (y : Bool) → some ≡ y → (z : Bool) → newlineIn u ≡ z
-          → P (cond y (cond z (record { input = atPlace i (i .at + n + 1); line = wholeLine (addedLine l n size) }) (record { input = atPlace i (i .end); line = addedLine l n size })) (record { input = i; line = wholeLine l }))
+          → P (cond y (cond z onNewline onRest) (record { input = i; line = wholeLine l }))
       on true e true q = f e q
       on true e false q = g e q
       on false e z q = h e
@@ -192,16 +201,20 @@ added-nothing l line =
     ∙ take-append-drop (l .kept) line)
 
 -- b is the input as far as the chunk reaches, i what is to be taken
-module _ (s : State) (chunk chunk′ line : List ℕ) (o : Output) (b i : Input) (reach : b ≡ inChunk (s .input) (length chunk)) (R : Refills b i chunk chunk′) (H : Holds (ltb (b .at) (b .end)) (s .output) o) where
+module _ (s : State) (chunk chunk′ line : List ℕ) (o : Output) (b i : Input) (reach : b ≡ inChunk (s .input) (length chunk))
+    (R : Refills b i chunk chunk′) (H : Holds (ltb (b .at) (b .end)) (s .output) o) where
   waits-is : ltb (b .at) (b .end) ≡ ltb 0 (length (untaken (s .input) chunk))
-  waits-is = ap (λ (x : Input). ltb (x .at) (x .end)) reach ∙ on (ltb (s .input .at) (min (s .input .end) (length chunk))) refl
+  waits-is = ap (λ (x : Input). ltb (x .at) (x .end)) reach ∙ on (ltb (s .input .at) most) refl
     where
-      on : (y : Bool) → ltb (s .input .at) (min (s .input .end) (length chunk)) ≡ y
-          → ltb (s .input .at) (min (s .input .end) (length chunk)) ≡ ltb 0 (length (untaken (s .input) chunk))
-      on true e =
-          e ∙ sym (lt-ltb 0 (length (untaken (s .input) chunk)) (omega (arith, untaken-length (s .input) chunk, ltb-true (s .input .at) (min (s .input .end) (length chunk)) e)))
-      on false e =
-          e ∙ sym (le-ltb 0 (length (untaken (s .input) chunk)) (omega (arith, untaken-length (s .input) chunk, ltb-false (s .input .at) (min (s .input .end) (length chunk)) e)))
+      most : ℕ
+      most = min (s .input .end) (length chunk)
+
+      n : ℕ
+      n = length (untaken (s .input) chunk)
+
+      on : (y : Bool) → ltb (s .input .at) most ≡ y → ltb (s .input .at) most ≡ ltb 0 n
+      on true e = e ∙ sym (lt-ltb 0 n (omega (arith, untaken-length (s .input) chunk, ltb-true (s .input .at) most e)))
+      on false e = e ∙ sym (le-ltb 0 n (omega (arith, untaken-length (s .input) chunk, ltb-false (s .input .at) most e)))
 
   holds-is : Holds (ltb 0 (length (untaken (s .input) chunk))) (s .output) o
   holds-is = subst (λ (y : Bool). Holds y (s .output) o) waits-is H
@@ -228,7 +241,8 @@ module _ (s : State) (chunk chunk′ line : List ℕ) (o : Output) (b i : Input)
       }
 
 -- what is kept of a line is counted in its buffer
-counted : (old : List ℕ) {line : List ℕ} {k : ℕ} (v : List ℕ) → k ≡ min (indexOf 10 v) (length old) → line ≡ placed (take (length old) (firstLine v)) 0 old → Counts k line
+counted : (old : List ℕ) {line : List ℕ} {k : ℕ} (v : List ℕ) → k ≡ min (indexOf 10 v) (length old)
+    → line ≡ placed (take (length old) (firstLine v)) 0 old → Counts k line
 counted old {line} {k} v e q =
     let t = take (length old) (firstLine v) in
     let m : length line ≡ length old =
@@ -388,7 +402,8 @@ module _ (i : Input) (o : Output) (chunk line : List ℕ) where
 
         on : Going n t c (F .came) → (newlineIn u ≡ false) × (i .ended ≡ false) × Written o (r .output)
         on (still st out most d) =
-            (ap newlineIn (sym (append-nil u) ∙ ap (λ (x : List ℕ). u ++ x) (sym (st .none))) ∙ no-newline (sym before ∙ none), sym (st .ended) ∙ g, rw out at flushed (sym before ∙ none))
+            let z = sym before ∙ none in
+            (ap newlineIn (sym (append-nil u) ∙ ap (λ (x : List ℕ). u ++ x) (sym (st .none))) ∙ no-newline z, sym (st .ended) ∙ g, rw out at flushed z)
         on (going p R W q d) = (p, R .going, written-more W (flushed d))
 
         fresh : untaken (t .input) c ≡ [] → (newlineIn u ≡ false) × (i .ended ≡ false) × Written o (r .output) → Step
@@ -447,7 +462,9 @@ module _ (i : Input) (o : Output) (chunk line : List ℕ) where
       where
         on : (y : Bool) → ltb 0 (length v) ≡ y → cond y true (t .line .found) ≡ ltb 0 (length (F .b ++ v))
         on true e = sym (lt-ltb 0 (length (F .b ++ v)) (omega (arith, length-append (F .b) v, ltb-true 0 (length v) e)))
-        on false e = F .found ∙ ap (λ (x : List ℕ). ltb 0 (length x)) (sym (append-nil (F .b)) ∙ ap (λ (x : List ℕ). F .b ++ x) (sym (empty-is v (omega (arith, ltb-false 0 (length v) e)))))
+        on false e =
+            let z = empty-is v (omega (arith, ltb-false 0 (length v) e)) in
+            F .found ∙ ap (λ (x : List ℕ). ltb 0 (length x)) (sym (append-nil (F .b)) ∙ ap (λ (x : List ℕ). F .b ++ x) (sym z))
 
     bytes-are : l′ ≡ placed (take (length line) (firstLine (F .b ++ v))) 0 line
     bytes-are = K .bytes ∙ ap (λ (x : List ℕ). placed (take (length line) x) 0 line) (sym (first-append (F .b) v (F .plain)))
@@ -462,7 +479,8 @@ module _ (i : Input) (o : Output) (chunk line : List ℕ) where
         all-is = G .all
 
         -- the line's end is met
-        done : r .line .whole ≡ true → (newlineIn v ≡ false → r .input .ended ≡ true) → Asks i o r chunk c′ (G .came) → Finds i o r chunk c′ line l′
+        done : r .line .whole ≡ true → (newlineIn v ≡ false → r .input .ended ≡ true) → Asks i o r chunk c′ (G .came)
+            → Finds i o r chunk c′ line l′
         done w e a =
             record {
               came = G .came;
@@ -499,6 +517,8 @@ module _ (i : Input) (o : Output) (chunk line : List ℕ) where
             inr (w, done w (λ p. absurd (true≢false (sym q ∙ p))) (asked (inl q) W))
         on true e false q W =
             let some = ltb-true 0 (length v) e in
+            let n-is : indexOf 10 (F .b ++ v) ≡ length (F .b ++ v) =
+            index-append (F .b) v (F .plain) ∙ omega (arith, none-index v q, length-append (F .b) v) in
             let all : firstLine v ≡ v = take-all (indexOf 10 v) v (omega (arith, none-index v q)) in
             inl (record {
               came = G .came;
@@ -507,14 +527,14 @@ module _ (i : Input) (o : Output) (chunk line : List ℕ) where
                   all-is
                   ∙ sym (append-nil (F .b ++ v))
                   ∙ ap (λ (x : List ℕ). (F .b ++ v) ++ x) (sym (rest-is ∙ drop-of-length-le v {i = indexOf 10 v + 1} (omega (arith, none-index v q))));
-              plain = index-append (F .b) v (F .plain) ∙ omega (arith, none-index v q, length-append (F .b) v);
+              plain = n-is;
               found = found-is;
               unended = whole-is ∙ ap₂ (λ (y z : Bool). cond y z true) e q;
               keeps =
                   record {
-                    count = kept-is ∙ ap (λ (k : ℕ). min k (length line)) (index-append (F .b) v (F .plain) ∙ omega (arith, none-index v q, length-append (F .b) v));
+                    count = kept-is ∙ ap (λ (k : ℕ). min k (length line)) n-is;
                     bytes = K .bytes ∙ ap (λ (x : List ℕ). placed (take (length line) (F .b ++ x)) 0 line) all;
-                    more = cut-is ∙ ap (ltb (length line)) (index-append (F .b) v (F .plain) ∙ omega (arith, none-index v q, length-append (F .b) v));
+                    more = cut-is ∙ ap (ltb (length line)) n-is;
                   };
               long = omega (arith, F .long, length-append (F .b) v);
               asks = goes some q W;
@@ -558,7 +578,8 @@ module _ (i : Input) (o : Output) (chunk line : List ℕ) where
           }
 
   -- with a turn more, and with none left
-  pub turn-more : {n m : ℕ} {t r : State} {c c′ l l′ : List ℕ} → m ≡ n + 1 → t .line .whole ≡ false → Turn n t c l → Steps t r c c′ l l′ → Turn m r c′ l′
+  pub turn-more : {n m : ℕ} {t r : State} {c c′ l l′ : List ℕ} → m ≡ n + 1 → t .line .whole ≡ false → Turn n t c l
+      → Steps t r c c′ l l′ → Turn m r c′ l′
   turn-more {n} {m} {t} {r} {c} {c′} {l} {l′} e h F S = rw e (sofar-step n t r c c′ l l′ (turn-on h F) S)
 
   pub turn-last : {n : ℕ} {t : State} {c l : List ℕ} → n ≡ mostTurns → Turn n t c l → Finds i o t chunk c line l

@@ -1,4 +1,5 @@
--- THE NEXT LINE: what is done with whatever the reads bring. Which bytes they bring, and whether a read or a write fails, only the system knows.
+-- THE NEXT LINE: what is done with whatever the reads bring.
+-- Which bytes they bring, and whether a read or a write fails, only the system knows.
 use mathlib.Core.Path.{_≡_}
 use mathlib.Core.Bool.{Bool, true, false}
 use mathlib.Core.List.{List, [], _++_}
@@ -38,8 +39,10 @@ lineOf v w size = record { found = ltb 0 (length v); whole = w; kept = min (inde
 -- what there is to take: what waits in the chunk; nothing, where the input's end was met; or what a read brings to the chunk's front
 pub data Fills (i r : Input) (chunk chunk′ : List ℕ) : Type 0 where
   waits : 0 < length (untaken i chunk) → chunk′ ≡ chunk → r ≡ i → Fills i r chunk chunk′
-  dry : untaken i chunk ≡ [] → i .ended ≡ true → chunk′ ≡ chunk → r ≡ record { at = 0; end = 0; ended = true; failed = i .failed } → Fills i r chunk chunk′
-  reads : untaken i chunk ≡ [] → i .ended ≡ false → r .at ≡ 0 → r .ended ≡ eqb (r .end) 0 → (r .failed ≡ true → r .end ≡ 0) → Fills i r chunk chunk′
+  dry : untaken i chunk ≡ [] → i .ended ≡ true → chunk′ ≡ chunk → r ≡ record { at = 0; end = 0; ended = true; failed = i .failed }
+      → Fills i r chunk chunk′
+  reads : untaken i chunk ≡ [] → i .ended ≡ false → r .at ≡ 0 → r .ended ≡ eqb (r .end) 0 → (r .failed ≡ true → r .end ≡ 0)
+      → Fills i r chunk chunk′
 
 pub record Refills (i r : Input) (chunk chunk′ : List ℕ) : Type 0 where
   pub order : r .at ≤ r .end
@@ -68,7 +71,7 @@ pub record Stays (i : Input) (r : State) (chunk chunk′ came : List ℕ) : Type
   pub ended : r .input .ended ≡ i .ended
   pub failed : r .input .failed ≡ i .failed
 
--- bytes are read, as long as no newline was met: the last read's are the front of the chunk, and it met the input's end where there are none
+-- bytes are read, as long as no newline was met: the last read's are the front of the chunk, and without any it met the end or failed
 pub record Reads (i : Input) (r : State) (chunk chunk′ came : List ℕ) : Type 0 where
   pub going : i .ended ≡ false
   pub earlier : List ℕ
@@ -78,10 +81,11 @@ pub record Reads (i : Input) (r : State) (chunk chunk′ came : List ℕ) : Type
   pub ended : r .input .ended ≡ eqb (r .input .end) 0
   pub failed : r .input .failed ≡ true → r .input .end ≡ 0
 
--- a newline waits in the chunk, and nothing is read or written; or the input's end was met before, and nothing is read; or it is asked for more
+-- a newline waits in the chunk, and nothing is read or written; or the input's end was met before, and nothing is read; or reads are made
 pub data Asks (i : Input) (o : Output) (r : State) (chunk chunk′ came : List ℕ) : Type 0 where
   quiet : newlineIn (untaken i chunk) ≡ true → Stays i r chunk chunk′ came → r .output ≡ o → Asks i o r chunk chunk′ came
-  over : newlineIn (untaken i chunk) ≡ false → i .ended ≡ true → Stays i r chunk chunk′ came → Written o (r .output) → Asks i o r chunk chunk′ came
+  over : newlineIn (untaken i chunk) ≡ false → i .ended ≡ true → Stays i r chunk chunk′ came → Written o (r .output)
+      → Asks i o r chunk chunk′ came
   more : newlineIn (untaken i chunk) ≡ false → Reads i r chunk chunk′ came → Written o (r .output) → Asks i o r chunk chunk′ came
 
 -- all that is there: what waits in the chunk, and behind it what comes
@@ -92,8 +96,9 @@ there i chunk came = untaken i chunk ++ came
 abbrev pub mostTurns : ℕ
 mostTurns = 18446744073709551615
 
--- THE NEXT LINE is the first line of all that is there; its first bytes are in the line buffer, between nothing and the old bytes;
--- what is behind its newline waits in the chunk. It is whole if its newline is met, or else the input's end; only a line of 2^64 - 1 bytes may not be.
+-- THE NEXT LINE is the first line of all that is there; its first bytes are in the line buffer, and behind them the old bytes;
+-- what is behind its newline waits in the chunk. It is whole where its newline is met, or else the input's end;
+-- only one of 2^64 - 1 bytes or more may not be.
 pub record Finds (i : Input) (o : Output) (r : State) (chunk chunk′ line line′ : List ℕ) : Type 0 where
   pub came : List ℕ
   pub known : r .line ≡ lineOf (there i chunk came) (r .line .whole) (length line)

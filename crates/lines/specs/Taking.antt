@@ -16,7 +16,8 @@ noLine = record { found = false; whole = false; kept = 0; cut = false }
 
 -- a line with n bytes more, where the line buffer has `size` bytes: those that have no room are passed over
 abbrev pub addedLine : Line → ℕ → ℕ → Line
-addedLine l n size = record { found = true; whole = l .whole; kept = l .kept + min n (size - l .kept); cut = cond (ltb (size - l .kept) n) true (l .cut) }
+addedLine l n size =
+    record { found = true; whole = l .whole; kept = l .kept + min n (size - l .kept); cut = cond (ltb (size - l .kept) n) true (l .cut) }
 
 abbrev pub addedBytes : Line → List ℕ → List ℕ → List ℕ
 addedBytes l part line = placed (take (length line - l .kept) part) (l .kept) line
@@ -35,7 +36,7 @@ atPlace i at = record { at = at; end = i .end; ended = i .ended; failed = i .fai
 abbrev pub wholeLine : Line → Line
 wholeLine l = record { found = l .found; whole = true; kept = l .kept; cut = l .cut }
 
--- u is not taken yet: the line's bytes are those before the first newline (byte 10), which is taken with them; without one they are all of u
+-- u is not taken yet: the line's bytes are those before the first newline (byte 10), which is taken too; without one they are all of u
 abbrev pub taken : Input → Line → List ℕ → ℕ → Taken
 taken i l u size =
     let n = indexOf 10 u in

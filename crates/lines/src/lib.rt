@@ -3,12 +3,11 @@
 ghost use mathlib.Core.Path.{_≡_};
 ghost use Prim.Native.Nat.{_≤_, min};
 ghost use lib.Dec.{ltb};
-ghost use lib.ListN.{length, take};
-ghost use Rattle.bytes.specs.Bytes.{indexOf};
+ghost use lib.ListN.{length};
 ghost use Rattle.lines.specs.Taking.{noLine, addedLine, addedBytes, untaken, inChunk, taken};
 ghost use Rattle.lines.specs.Going.{nothingYet, isOpen};
 ghost use Rattle.lines.specs.Putting.{Written, Puts};
-ghost use Rattle.lines.specs.Lines.{Refills, Holds, Steps, Finds};
+ghost use Rattle.lines.specs.Lines.{firstLine, Refills, Holds, Steps, Finds};
 use libc::STDERR_FILENO;
 use libc::STDIN_FILENO;
 use libc::STDOUT_FILENO;
@@ -139,19 +138,19 @@ fn in_chunk(input: Input, chunk: &[u8]) -> Input
 }
 
 // Reads a new chunk where all of the old one is taken. A read that moves no bytes met the end or failed.
-fn refill(input: Input, chunk: &mut [u8]) -> Input
-    requires { ⌜ input .end ≤ length (now chunk) ⌝ }
-    ensures { λ r. ⌜ Refills input r (now (chunk .entry)) (now (chunk .exit)) ⌝ }
+fn refill(old: Input, chunk: &mut [u8]) -> Input
+    requires { ⌜ old .end ≤ length (now chunk) ⌝ }
+    ensures { λ r. ⌜ Refills old r (now (chunk .entry)) (now (chunk .exit)) ⌝ }
 {
-    if input.at < input.end {
-        return input;
+    if old.at < old.end {
+        return old;
     }
-    if input.ended {
+    if old.ended {
         return Input {
             at: 0,
             end: 0,
             ended: true,
-            failed: input.failed,
+            failed: old.failed,
         };
     }
     let got = libc::read(STDIN_FILENO, chunk);
@@ -167,7 +166,8 @@ fn refill(input: Input, chunk: &mut [u8]) -> Input
 // The line with a part of it more: as many of the part's bytes as the line buffer has room for.
 fn add_part(part: &[u8], line: &mut [u8], l: Line) -> Line
     requires { ⌜ l .kept ≤ length (now line) ⌝ }
-    ensures { λ r. ⌜ (r ≡ addedLine l (length (now (part .entry))) (length (now (line .entry)))) × (now (line .exit) ≡ addedBytes l (now (part .entry)) (now (line .entry))) ⌝ }
+    ensures { λ r. ⌜ (r ≡ addedLine l (length (now (part .entry))) (length (now (line .entry))))
+        × (now (line .exit) ≡ addedBytes l (now (part .entry)) (now (line .entry))) ⌝ }
 {
     let kept = l.kept;
     let room = line.len() - kept;
@@ -193,7 +193,8 @@ fn add_part(part: &[u8], line: &mut [u8], l: Line) -> Line
 // Takes the line's bytes, and the newline behind them, from the chunk.
 fn take_part(input: Input, chunk: &[u8], line: &mut [u8], l: Line) -> Taken
     requires { ⌜ (input .at ≤ input .end) × (input .end ≤ length (now chunk)) × (l .kept ≤ length (now line)) ⌝ }
-    ensures { λ r. ⌜ (r ≡ taken input l (untaken input (now (chunk .entry))) (length (now (line .entry)))) × (now (line .exit) ≡ addedBytes l (take (indexOf 10 (untaken input (now (chunk .entry)))) (untaken input (now (chunk .entry)))) (now (line .entry))) ⌝ }
+    ensures { λ r. ⌜ (r ≡ taken input l (untaken input (now (chunk .entry))) (length (now (line .entry))))
+        × (now (line .exit) ≡ addedBytes l (firstLine (untaken input (now (chunk .entry)))) (now (line .entry))) ⌝ }
 {
     let at = input.at;
     let end = input.end;
@@ -257,10 +258,10 @@ fn step(s: State, chunk: &mut [u8], line: &mut [u8], buffer: &[u8]) -> State
     }
 }
 
-fn flush_before_read(input: Input, buffer: &[u8], o: Output) -> Output
-    ensures { λ r. ⌜ Holds (ltb (input .at) (input .end)) o r ⌝ }
+fn flush_before_read(i: Input, buffer: &[u8], o: Output) -> Output
+    ensures { λ r. ⌜ Holds (ltb (i .at) (i .end)) o r ⌝ }
 {
-    if input.at < input.end {
+    if i.at < i.end {
         return o;
     }
     flush(buffer, o)

@@ -14,7 +14,9 @@ at-most-requires : tie.Need-at-most-requires
 at-most-requires c κs = search needs
 
 slice-aggregate-write-all : tie.Need-slice-aggregate-write-all
-slice-aggregate-write-all c = sym (length-take-le (c .before .at-most .result) (c .before .before .before .before .args .buffer .now) (omega (arith, c .before .at-most .ensures)))
+slice-aggregate-write-all c =
+    let U = c .before .at-most in
+    sym (length-take-le (U .result) (c .before .before .before .before .args .buffer .now) (omega (arith, U .ensures)))
 
 write-all-requires : tie.Need-write-all-requires
 write-all-requires c κs = search needs

@@ -24,14 +24,17 @@ no-line-requires : tie.Need-no-line-requires Inv-loop μ-loop
 no-line-requires c κs = tt
 
 loop-holds : tie.Need-loop-holds Inv-loop μ-loop
-loop-holds c = (refl, refl, omega arith, turn-first (c .before .before .before .before .before .before .args .s .input) (c .before .before .before .before .before .before .args .s .output) (c .before .before .before .before .before .before .args .chunk .now) (c .before .before .before .before .before .before .args .line .now) (c .no-line .ensures))
+loop-holds c =
+    let a = c .before .before .before .before .before .before .args in
+    (refl, refl, omega arith, turn-first (a .s .input) (a .s .output) (a .chunk .now) (a .line .now) (c .no-line .ensures))
 
 step-requires : tie.Need-step-requires Inv-loop μ-loop
 step-requires c κs =
     let a = c .before .before .before .before .before .before .before .before .before .before .before .before .args in
     let i = a .s .input in
     let o = a .s .output in
-    sofar-kept i o (a .chunk .now) (a .line .now) (turn-on i o (a .chunk .now) (a .line .now) (not-true _ (c .before .before .if1 .taken)) (c .before .before .before .before .before .loop .inv .3))
+    sofar-kept i o (a .chunk .now) (a .line .now)
+    (turn-on i o (a .chunk .now) (a .line .now) (not-true _ (c .before .before .if1 .taken)) (c .before .before .before .before .before .loop .inv .3))
 
 sub-turns : tie.Need-sub-turns Inv-loop μ-loop
 sub-turns c = omega (arith, c .before .before .before .before .before .before .before .before .before .loop-test .taken)
@@ -44,7 +47,13 @@ loop-again c =
     let s = c .before .before .before .before .step in
     let h = c .before .before .before .before .before .before .before .before .before .before .loop .inv in
     let a = c .before .before .before .before .before .before .before .before .before .before .before .before .before .before .before .before .before .args in
-    (s .kept .1 .0 ∙ h .0, s .kept .1 .1 .0 ∙ h .1, omega (arith, h .2), turn-more (a .s .input) (a .s .output) (a .chunk .now) (a .line .now) (omega (arith, h .2, c .before .before .before .before .before .before .before .before .before .loop-test .taken)) (not-true _ (c .before .before .before .before .before .before .before .if1 .taken)) (h .3) (s .ensures))
+    let more = c .before .before .before .before .before .before .before .before .before .loop-test .taken in
+    let unended = c .before .before .before .before .before .before .before .if1 .taken in (
+      s .kept .1 .0 ∙ h .0,
+      s .kept .1 .1 .0 ∙ h .1,
+      omega (arith, h .2),
+      turn-more (a .s .input) (a .s .output) (a .chunk .now) (a .line .now) (omega (arith, h .2)) (not-true _ unended) (h .3) (s .ensures),
+    )
 
 same-length : tie.Need-same-length Inv-loop μ-loop
 same-length c = c .before .before .before .loop .inv .0

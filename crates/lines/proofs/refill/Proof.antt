@@ -16,7 +16,7 @@ returns c =
     record {
       order = omega arith;
       within = z .pre;
-      fills = waits (some-untaken (z .args .input) (z .args .chunk .now) (c .if1 .taken) (z .pre)) refl refl;
+      fills = waits (some-untaken (z .args .old) (z .args .chunk .now) (c .if1 .taken) (z .pre)) refl refl;
     }
 
 returns-2 : tie.Need-returns-2
@@ -25,7 +25,7 @@ returns-2 c =
     record {
       order = omega arith;
       within = omega arith;
-      fills = dry (none-untaken (z .args .input) (z .args .chunk .now) (c .before .if1 .left)) (c .if2 .taken) refl refl;
+      fills = dry (none-untaken (z .args .old) (z .args .chunk .now) (c .before .if1 .left)) (c .if2 .taken) refl refl;
     }
 
 read-requires : tie.Need-read-requires
@@ -40,10 +40,14 @@ same-length c = search needs
 returns-3 : tie.Need-returns-3
 returns-3 c =
     let z = c .before .before .before .before .before .before .before .before .before .before in
+    let i = c .before .before .before .before .before .before in
+    let r = c .before .before .before .before .read in
     record {
       order = omega arith;
       within = c .count .ensures .0 .0;
-      fills = reads (none-untaken (z .args .input) (z .args .chunk .now) (c .before .before .before .before .before .before .before .if1 .left)) (c .before .before .before .before .before .before .if2 .left) refl refl (λ h. failed-none (toZ w64 (ofZ w64 (c .before .before .before .before .read .result))) (length (c .before .before .before .before .read .last .1 .0)) h (c .count .ensures .1));
+      fills =
+          reads (none-untaken (z .args .old) (z .args .chunk .now) (i .before .if1 .left)) (i .if2 .left) refl refl
+          (λ h. failed-none (toZ w64 (ofZ w64 (r .result))) (length (r .last .1 .0)) h (c .count .ensures .1));
     }
 
 pub refill-spec : {M : Type 1} → statement M

@@ -1,7 +1,6 @@
 -- `lines::step` meets its contract: at most one read, and what is taken behind it. Assumes nothing.
 use native.Mathlib.Omega.{arith}
 use mathlib.Core.Path.{ap}
-use Prim.Native.Nat.{ℕ}
 use borrow.Author.Needs.{needs}
 use Rattle.lines.specs.declared.Input.{Input}
 use Rattle.lines.proofs.Finding.{step-takes, step-ends}
@@ -32,7 +31,10 @@ returns c =
     let z = e .before .before .before .before .before .before .before .before .before .before .before .before .before in
     let I = e .before .before .before .before .before .before .before in
     let T = c .before .before .before .before .take-part in
-    step-takes (z .args .s) (z .args .chunk .now) (e .before .before .before .before .refill .last .1 .0) (z .args .line .now) (e .before .before .before .before .before .before .flush-before-read .result) (I .in-chunk .result) (e .before .before .before .before .refill .result) (I .in-chunk .ensures) (e .before .before .before .before .refill .ensures) (e .before .before .before .before .before .before .flush-before-read .ensures) (e .if1 .taken) (T .ensures .0) (T .ensures .1)
+    let R = e .before .before .before .before .refill in
+    let W = e .before .before .before .before .before .before .flush-before-read in
+    step-takes (z .args .s) (z .args .chunk .now) (R .last .1 .0) (z .args .line .now) (W .result) (I .in-chunk .result) (R .result)
+    (I .in-chunk .ensures) (R .ensures) (W .ensures) (e .if1 .taken) (T .ensures .0) (T .ensures .1)
 
 same-length-3 : tie.Need-same-length-3
 same-length-3 c = search needs
@@ -41,7 +43,10 @@ returns-2 : tie.Need-returns-2
 returns-2 c =
     let z = c .before .before .before .before .before .before .before .before .before .before .before .before .before in
     let I = c .before .before .before .before .before .before .before in
-    step-ends (z .args .s) (z .args .chunk .now) (c .before .before .before .before .refill .last .1 .0) (z .args .line .now) (c .before .before .before .before .before .before .flush-before-read .result) (I .in-chunk .result) (c .before .before .before .before .refill .result) (I .in-chunk .ensures) (c .before .before .before .before .refill .ensures) (c .before .before .before .before .before .before .flush-before-read .ensures) (c .if1 .left)
+    let R = c .before .before .before .before .refill in
+    let W = c .before .before .before .before .before .before .flush-before-read in
+    step-ends (z .args .s) (z .args .chunk .now) (R .last .1 .0) (z .args .line .now) (W .result) (I .in-chunk .result) (R .result)
+    (I .in-chunk .ensures) (R .ensures) (W .ensures) (c .if1 .left)
 
 pub step-spec : {M : Type 1} → statement M
 step-spec =
