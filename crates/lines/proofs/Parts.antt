@@ -1,6 +1,6 @@
 -- Laws of a part of a buffer that bytes are copied into, and of a part of a chunk that is taken. Assumes nothing.
 use mathlib.Core.Path.{_≡_, sym, ap, ap₂, _∙_}
-use mathlib.Core.Bool.{Bool, true, false, cond}
+use mathlib.Core.Bool.{true}
 use mathlib.Core.List.{List, _++_, append-nil, append-assoc}
 use Prim.Native.Nat.{ℕ, _+_, _-_, _≤_, _<_, min}
 use native.Mathlib.Nat.{zero-add}
@@ -12,7 +12,6 @@ use borrow.Author.Tests.{lt-ltb, le-ltb, le-leb, lt-leb}
 use Rattle.bytes.specs.Bytes.{slice, indexOf}
 use Rattle.lines.specs.declared.Input.{Input}
 use Rattle.lines.specs.declared.Line.{Line}
-use Rattle.lines.specs.declared.Taken.{Taken}
 use Rattle.lines.specs.Placing.{placed}
 use Rattle.lines.specs.Taking.{addedLine, untaken, atPlace, wholeLine, taken}
 use Rattle.lines.specs.Putting.{usedWith, bufferWith}
@@ -26,7 +25,8 @@ module _ (t l : List ℕ) (at : ℕ) (room : at + length t ≤ length l) where
   copied-part {m} e =
       let part : take (length l - at) (drop at l) ≡ drop at l = take-all (length l - at) (drop at l) (omega (arith, length-drop at l)) in
       ap (λ (r : List ℕ). take at l ++ (m ++ r)) (drop-of-length-le (drop at l) {i = length l - at} (omega (arith, length-drop at l)))
-      ∙ ap (λ (r : List ℕ). take at l ++ r) (append-nil m ∙ e ∙ ap₂ (λ (a b : List ℕ). a ++ drop (length t) b) (take-length t) part ∙ ap (λ (r : List ℕ). t ++ r) (drop-drop (length t) at l))
+      ∙ ap (λ (r : List ℕ). take at l ++ r)
+      (append-nil m ∙ e ∙ ap₂ (λ (a b : List ℕ). a ++ drop (length t) b) (take-length t) part ∙ ap (λ (r : List ℕ). t ++ r) (drop-drop (length t) at l))
       ∙ sym (append-assoc (take at l) t (drop (at + length t) l))
 
 -- into the whole buffer
@@ -39,10 +39,12 @@ module _ (l : Line) (part line : List ℕ) where
   abbrev room : ℕ
   room = length line - l .kept
 
-  pub added-some : room < length part → record { found = true; whole = l .whole; kept = l .kept + room; cut = true } ≡ addedLine l (length part) (length line)
+  pub added-some : room < length part
+      → record { found = true; whole = l .whole; kept = l .kept + room; cut = true } ≡ addedLine l (length part) (length line)
   added-some h = let e : min (length part) room ≡ room = omega arith in rw (lt-ltb room (length part) h, e)
 
-  pub added-all : length part ≤ room → record { found = true; whole = l .whole; kept = l .kept + length part; cut = l .cut } ≡ addedLine l (length part) (length line)
+  pub added-all : length part ≤ room
+      → record { found = true; whole = l .whole; kept = l .kept + length part; cut = l .cut } ≡ addedLine l (length part) (length line)
   added-all h = let e : min (length part) room ≡ length part = omega arith in rw (le-ltb room (length part) h, e)
 
 -- ---- what is taken of a chunk
@@ -55,7 +57,8 @@ drop-take n m l h k =
     ∙ drop-at (take n l) (take (m - n) (drop n l)) n (length-take-le n l (omega arith))
 
 -- e is where the line's bytes end in the chunk
-module _ (i : Input) (chunk : List ℕ) (order : i .at ≤ i .end) (within : i .end ≤ length chunk) (e : ℕ) (found : e ≡ i .at + indexOf 10 (untaken i chunk)) (most : e ≤ i .end) where
+module _ (i : Input) (chunk : List ℕ) (order : i .at ≤ i .end) (within : i .end ≤ length chunk)
+    (e : ℕ) (found : e ≡ i .at + indexOf 10 (untaken i chunk)) (most : e ≤ i .end) where
   abbrev u : List ℕ
   u = untaken i chunk
 
@@ -83,27 +86,17 @@ module _ (i : Input) (chunk : List ℕ) (order : i .at ≤ i .end) (within : i .
     added-is : more ≡ addedLine l n size
     added-is = added ∙ ap (λ (k : ℕ). addedLine l k size) part-length
 
-    pub taken-newline : e < i .end → record { input = atPlace i (e + 1); line = record { found = true; whole = true; kept = more .kept; cut = more .cut } } ≡ taken i l u size
+    pub taken-newline : e < i .end
+        → record { input = atPlace i (e + 1); line = record { found = true; whole = true; kept = more .kept; cut = more .cut } } ≡ taken i l u size
     taken-newline h =
         rw (lt-ltb n (length u) (omega (arith, untaken-length)))
-        (ap₂ (λ (k : ℕ) (m : Line). record { input = atPlace i (k + 1); line = record { found = true; whole = true; kept = m .kept; cut = m .cut } }) found added-is)
+        (ap₂ (λ (k : ℕ) (m : Line). record { input = atPlace i (k + 1); line = record { found = true; whole = true; kept = m .kept; cut = m .cut } })
+        found added-is)
 
     pub taken-rest : i .end ≤ e → record { input = atPlace i (i .end); line = more } ≡ taken i l u size
     taken-rest h =
         rw (le-ltb n (length u) (omega (arith, untaken-length)))
         (ap (λ (m : Line). record { input = atPlace i (i .end); line = m }) added-is)
-
--- no more is kept than the line buffer holds
-pub taken-kept : (i : Input) (l : Line) (bytes : List ℕ) (size : ℕ) {r : Taken} → r ≡ taken i l bytes size → l .kept ≤ size → r .line .kept ≤ size
-taken-kept i l bytes size {r} e h = omega (arith, ap (λ (t : Taken). t .line .kept) e, go (ltb k (length bytes)))
-  where
-    k : ℕ
-    k = indexOf 10 bytes
-
-    go : (b : Bool)
-        → cond {A = Taken} b (record { input = atPlace i (i .at + k + 1); line = wholeLine (addedLine l k size) }) (record { input = atPlace i (i .end); line = addedLine l k size }) .line .kept ≤ size
-    go true = omega arith
-    go false = omega arith
 
 -- ---- what is put into the output buffer
 

@@ -16,7 +16,8 @@ noLine = record { found = false; whole = false; kept = 0; cut = false }
 
 -- a line with n bytes more, where the line buffer has `size` bytes: those that have no room are passed over
 abbrev pub addedLine : Line → ℕ → ℕ → Line
-addedLine l n size = record { found = true; whole = l .whole; kept = l .kept + min n (size - l .kept); cut = cond (ltb (size - l .kept) n) true (l .cut) }
+addedLine l n size =
+    record { found = true; whole = l .whole; kept = l .kept + min n (size - l .kept); cut = cond (ltb (size - l .kept) n) true (l .cut) }
 
 abbrev pub addedBytes : Line → List ℕ → List ℕ → List ℕ
 addedBytes l part line = placed (take (length line - l .kept) part) (l .kept) line
@@ -25,16 +26,24 @@ addedBytes l part line = placed (take (length line - l .kept) part) (l .kept) li
 abbrev pub untaken : Input → List ℕ → List ℕ
 untaken i chunk = slice (i .at) (i .end) chunk
 
+-- as far as the chunk reaches
+abbrev pub inChunk : Input → ℕ → Input
+inChunk i size = record { at = i .at; end = min (i .end) size; ended = i .ended; failed = i .failed }
+
 abbrev pub atPlace : Input → ℕ → Input
 atPlace i at = record { at = at; end = i .end; ended = i .ended; failed = i .failed }
 
 abbrev pub wholeLine : Line → Line
 wholeLine l = record { found = l .found; whole = true; kept = l .kept; cut = l .cut }
 
--- u is not taken yet: the line's bytes are those before the first newline (byte 10), which is taken with them; without one they are all of u
+-- u is not taken yet: the line's bytes are those before the first newline (byte 10), which is taken too; without one they are all of u
 abbrev pub taken : Input → Line → List ℕ → ℕ → Taken
 taken i l u size =
     let n = indexOf 10 u in
     cond (ltb n (length u))
     (record { input = atPlace i (i .at + n + 1); line = wholeLine (addedLine l n size) })
     (record { input = atPlace i (i .end); line = addedLine l n size })
+
+-- where nothing is there to take, the input's end is the line's
+abbrev pub stepped : Input → Line → List ℕ → ℕ → Taken
+stepped i l u size = cond (ltb 0 (length u)) (taken i l u size) (record { input = i; line = wholeLine l })

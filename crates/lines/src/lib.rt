@@ -1,15 +1,13 @@
 // Lines: from standard input, and to standard output, in constant memory. No contract can say what is read or written;
 // what is done with the bytes once they are read, and before they are written, is an equation.
 ghost use mathlib.Core.Path.{_≡_};
-ghost use mathlib.Core.Bool.{cond};
 ghost use Prim.Native.Nat.{_≤_, min};
 ghost use lib.Dec.{ltb};
-ghost use lib.ListN.{length, take};
-ghost use Rattle.bytes.specs.Bytes.{indexOf};
-ghost use Rattle.io.specs.Counts.{Counts};
-ghost use Rattle.lines.specs.Taking.{noLine, addedLine, addedBytes, untaken, taken};
+ghost use lib.ListN.{length};
+ghost use Rattle.lines.specs.Taking.{noLine, addedLine, addedBytes, untaken, inChunk, taken};
 ghost use Rattle.lines.specs.Going.{nothingYet, isOpen};
-ghost use Rattle.lines.specs.Putting.{usedWith, bufferWith};
+ghost use Rattle.lines.specs.Putting.{Written, Puts};
+ghost use Rattle.lines.specs.Lines.{firstLine, Refills, Holds, Steps, Finds};
 use libc::STDERR_FILENO;
 use libc::STDIN_FILENO;
 use libc::STDOUT_FILENO;
@@ -64,7 +62,7 @@ fn at_most(n: usize, most: usize) -> usize
 
 // Writes what waits in the buffer. Behind a failed write nothing more is written.
 fn flush(buffer: &[u8], o: Output) -> Output
-    ensures { λ r. ⌜ r .used ≡ 0 ⌝ }
+    ensures { λ r. ⌜ Written o r ⌝ }
 {
     if o.failed {
         return Output {
@@ -82,7 +80,7 @@ fn flush(buffer: &[u8], o: Output) -> Output
 
 // Puts bytes behind those that wait; these are written first where the buffer has no room for both.
 pub fn put(text: &[u8], buffer: &mut [u8], o: Output) -> Output
-    ensures { λ r. ⌜ (r .used ≡ usedWith (o .used) (length (now (text .entry))) (length (now (buffer .entry)))) × (now (buffer .exit) ≡ bufferWith (o .used) (now (text .entry)) (now (buffer .entry))) ⌝ }
+    ensures { λ r. ⌜ Puts o r (now (text .entry)) (now (buffer .entry)) (now (buffer .exit)) ⌝ }
 {
     let used = at_most(o.used, buffer.len());
     let n = text.len();
@@ -127,26 +125,32 @@ fn no_line() -> Line
     }
 }
 
-// Reads a new chunk where all of the old one is taken. A read that moves no bytes met the end or failed.
-fn refill(input: Input, chunk: &mut [u8]) -> Input
-    ensures { λ r. ⌜ (r .at ≤ r .end) × (r .end ≤ length (now (chunk .exit))) ⌝ }
+// The input as far as the chunk reaches.
+fn in_chunk(input: Input, chunk: &[u8]) -> Input
+    ensures { λ r. ⌜ r ≡ inChunk input (length (now (chunk .entry))) ⌝ }
 {
-    let at = input.at;
-    let end = at_most(input.end, chunk.len());
-    if at < end {
-        return Input {
-            at: at,
-            end: end,
-            ended: input.ended,
-            failed: input.failed,
-        };
+    Input {
+        at: input.at,
+        end: at_most(input.end, chunk.len()),
+        ended: input.ended,
+        failed: input.failed,
     }
-    if input.ended {
+}
+
+// Reads a new chunk where all of the old one is taken. A read that moves no bytes met the end or failed.
+fn refill(old: Input, chunk: &mut [u8]) -> Input
+    requires { ⌜ old .end ≤ length (now chunk) ⌝ }
+    ensures { λ r. ⌜ Refills old r (now (chunk .entry)) (now (chunk .exit)) ⌝ }
+{
+    if old.at < old.end {
+        return old;
+    }
+    if old.ended {
         return Input {
             at: 0,
             end: 0,
             ended: true,
-            failed: input.failed,
+            failed: old.failed,
         };
     }
     let got = libc::read(STDIN_FILENO, chunk);
@@ -162,7 +166,8 @@ fn refill(input: Input, chunk: &mut [u8]) -> Input
 // The line with a part of it more: as many of the part's bytes as the line buffer has room for.
 fn add_part(part: &[u8], line: &mut [u8], l: Line) -> Line
     requires { ⌜ l .kept ≤ length (now line) ⌝ }
-    ensures { λ r. ⌜ (r ≡ addedLine l (length (now (part .entry))) (length (now (line .entry)))) × (now (line .exit) ≡ addedBytes l (now (part .entry)) (now (line .entry))) ⌝ }
+    ensures { λ r. ⌜ (r ≡ addedLine l (length (now (part .entry))) (length (now (line .entry))))
+        × (now (line .exit) ≡ addedBytes l (now (part .entry)) (now (line .entry))) ⌝ }
 {
     let kept = l.kept;
     let room = line.len() - kept;
@@ -188,7 +193,8 @@ fn add_part(part: &[u8], line: &mut [u8], l: Line) -> Line
 // Takes the line's bytes, and the newline behind them, from the chunk.
 fn take_part(input: Input, chunk: &[u8], line: &mut [u8], l: Line) -> Taken
     requires { ⌜ (input .at ≤ input .end) × (input .end ≤ length (now chunk)) × (l .kept ≤ length (now line)) ⌝ }
-    ensures { λ r. ⌜ (r ≡ taken input l (untaken input (now (chunk .entry))) (length (now (line .entry)))) × (now (line .exit) ≡ addedBytes l (take (indexOf 10 (untaken input (now (chunk .entry)))) (untaken input (now (chunk .entry)))) (now (line .entry))) ⌝ }
+    ensures { λ r. ⌜ (r ≡ taken input l (untaken input (now (chunk .entry))) (length (now (line .entry))))
+        × (now (line .exit) ≡ addedBytes l (firstLine (untaken input (now (chunk .entry)))) (now (line .entry))) ⌝ }
 {
     let at = input.at;
     let end = input.end;
@@ -224,10 +230,10 @@ fn take_part(input: Input, chunk: &[u8], line: &mut [u8], l: Line) -> Taken
 // One read at most, and what it brought of the line. What waits is written before a read, which may itself have to wait for more input.
 fn step(s: State, chunk: &mut [u8], line: &mut [u8], buffer: &[u8]) -> State
     requires { ⌜ s .line .kept ≤ length (now line) ⌝ }
-    ensures { λ r. ⌜ r .line .kept ≤ length (now (line .exit)) ⌝ }
+    ensures { λ r. ⌜ Steps s r (now (chunk .entry)) (now (chunk .exit)) (now (line .entry)) (now (line .exit)) ⌝ }
 {
     let l = s.line;
-    let before = s.input;
+    let before = in_chunk(s.input, chunk);
     let output = flush_before_read(before, buffer, s.output);
     let input = refill(before, chunk);
     if input.at < input.end {
@@ -252,10 +258,10 @@ fn step(s: State, chunk: &mut [u8], line: &mut [u8], buffer: &[u8]) -> State
     }
 }
 
-fn flush_before_read(input: Input, buffer: &[u8], o: Output) -> Output
-    ensures { λ r. ⌜ r .used ≡ cond (ltb (input .at) (input .end)) (o .used) 0 ⌝ }
+fn flush_before_read(i: Input, buffer: &[u8], o: Output) -> Output
+    ensures { λ r. ⌜ Holds (ltb (i .at) (i .end)) o r ⌝ }
 {
-    if input.at < input.end {
+    if i.at < i.end {
         return o;
     }
     flush(buffer, o)
@@ -285,7 +291,7 @@ pub fn start() -> State
 // The next line: its first bytes, as many as the line buffer holds; the rest of it is passed over.
 // A proved loop has to end, and nothing says that a line does; so the turns are counted down, from a number that no run uses up.
 pub fn next_line(s: State, chunk: &mut [u8], line: &mut [u8], buffer: &[u8]) -> State
-    ensures { λ r. ⌜ Counts (r .line .kept) (now (line .exit)) ⌝ }
+    ensures { λ r. ⌜ Finds (s .input) (s .output) r (now (chunk .entry)) (now (chunk .exit)) (now (line .entry)) (now (line .exit)) ⌝ }
 {
     let input = s.input;
     let output = s.output;

@@ -1,9 +1,8 @@
 -- The tokens' functions, case by case as code makes them: each does to the terms what the mirror on terms says.
 use mathlib.Core.Path.{_≡_, refl, sym, _∙_, ap, ap₂}
-use mathlib.Core.Bool.{Bool, true, false, not}
+use mathlib.Core.Bool.{Bool, true, false}
 use mathlib.Core.List.{List, [], _∷_, map, map-map}
 use Prim.Native.Nat.{ℕ, zero, suc, _+_, _/_, _%_, _<_}
-use borrow.Author.Tests.{not-true, not-false}
 use lib.ListN.{length, getD, set, length-map, List·getD-map}
 use Rattle.order.specs.Values.{kindFrom}
 use Rattle.terms.specs.declared.Term.{Term}
@@ -81,19 +80,28 @@ module _ (l r : List ℕ) where
     pub join-same : p ≡ true → joinedOf l r (record { ok = true; next = st }) ≡ joinTerms (term a) (term b) (terms-of st)
     join-same e = terms.join-same (term a) (term b) (terms-of st) (term x) (term y) is-x is-y p p-is e
 
-    module _ (q : Bool) (is-q : q ≡ takes s t) (differ : p ≡ false) where
-      q-is : q ≡ takes (term x) (term y)
-      q-is = is-q ∙ ap₂ takes is-s is-t
+    module _ (differ : p ≡ false) where
+      abbrev Answer : Fillings → Bool → Type 0
+      Answer next ok = joinedOf l r (record { ok = ok; next = next }) ≡ joinTerms (term a) (term b) (terms-of st)
 
-      pub join-left : (next : Fillings) (gone kept : Token) → not q ≡ false → gone ≡ x → kept ≡ y → terms-of next ≡ over gone kept → joinedOf l r (record { ok = true; next = next }) ≡ joinTerms (term a) (term b) (terms-of st)
-      join-left next gone kept e u v o = terms.join-left (term a) (term b) (terms-of st) (term x) (term y) is-x is-y p p-is q q-is differ (terms-of next) (not-false q e) (o ∙ ap₂ over u v)
+      left-is : takes (term x) (term y) ≡ takes s t
+      left-is = sym (ap₂ takes is-s is-t)
 
-      module _ (o : Bool) (is-o : o ≡ takes t s) (above : not q ≡ true) where
-        o-is : o ≡ takes (term y) (term x)
-        o-is = is-o ∙ ap₂ takes is-t is-s
+      right-is : takes (term y) (term x) ≡ takes t s
+      right-is = sym (ap₂ takes is-t is-s)
 
-        pub join-right : (next : Fillings) (gone kept : Token) → not o ≡ false → gone ≡ y → kept ≡ x → terms-of next ≡ over gone kept → joinedOf l r (record { ok = true; next = next }) ≡ joinTerms (term a) (term b) (terms-of st)
-        join-right next gone kept e u v n = terms.join-right (term a) (term b) (terms-of st) (term x) (term y) is-x is-y p p-is q q-is differ o o-is (not-true q above) (terms-of next) (not-false o e) (n ∙ ap₂ over u v)
+      pub join-left : takes s t ≡ true → (next : Fillings) (gone kept : Token) → gone ≡ x → kept ≡ y → terms-of next ≡ over gone kept → Answer next true
+      join-left e next gone kept u v o =
+          terms.join-left (term a) (term b) (terms-of st) (term x) (term y) is-x is-y p p-is (takes (term x) (term y)) refl differ (terms-of next)
+          (left-is ∙ e) (o ∙ ap₂ over u v)
 
-        pub join-clash : not o ≡ true → joinedOf l r (record { ok = false; next = st }) ≡ joinTerms (term a) (term b) (terms-of st)
-        join-clash e = terms.join-clash (term a) (term b) (terms-of st) (term x) (term y) is-x is-y p p-is q q-is differ o o-is (not-true q above) (not-true o e)
+      pub join-right : (takes s t ≡ false) × (takes t s ≡ true) → (next : Fillings) (gone kept : Token) → gone ≡ y → kept ≡ x
+          → terms-of next ≡ over gone kept → Answer next true
+      join-right e next gone kept u v o =
+          terms.join-right (term a) (term b) (terms-of st) (term x) (term y) is-x is-y p p-is (takes (term x) (term y)) refl differ
+          (takes (term y) (term x)) refl (left-is ∙ e .0) (terms-of next) (right-is ∙ e .1) (o ∙ ap₂ over u v)
+
+      pub join-clash : (takes s t ≡ false) × (takes t s ≡ false) → Answer st false
+      join-clash e =
+          terms.join-clash (term a) (term b) (terms-of st) (term x) (term y) is-x is-y p p-is (takes (term x) (term y)) refl differ
+          (takes (term y) (term x)) refl (left-is ∙ e .0) (right-is ∙ e .1)

@@ -2,11 +2,14 @@
 ghost use mathlib.Core.Path.{_≡_};
 ghost use mathlib.Core.List.{List};
 ghost use Prim.Native.Nat.{ℕ};
-ghost use Rattle.order.specs.Values.{kindFrom};
+ghost use mathlib.Core.Bool.{_&&_};
+ghost use Rattle.order.specs.Types.{same};
+ghost use Rattle.order.specs.Values.{kindOf, kindFrom};
 ghost use Rattle.fillings.specs.States.{takes, replaced, joinTerms, kindAt, startValue};
 ghost use Rattle.tokens.specs.Tokens.{termOf};
-ghost use Rattle.token_fillings.specs.States.{fillingsOf, joinedOf};
+ghost use Rattle.token_fillings.specs.States.{wayOf, fillingsOf, joinedOf};
 use order::Kind;
+use order::Met;
 use terms::Term;
 use tokens::Token;
 
@@ -21,14 +24,47 @@ pub struct Joined {
     pub next: Fillings,
 }
 
-// Whether x is a variable that y can replace: y's type is at or below its own.
-fn takes(x: Term, y: Term) -> bool
-    ensures { λ r. ⌜ r ≡ takes x y ⌝ }
+// Which of two classes goes over into the other.
+enum Way {
+    Left,
+    Right,
+    Clash,
+}
+
+// The joined class takes the atom whose type is the meet of both, so the other's class goes over, and that is a variable's. No meet is a clash.
+fn decided(s: Term, t: Term) -> Way
+    ensures { λ r. ⌜ r ≡ wayOf (takes s t) (takes t s) ⌝ }
 {
-    if !atoms::is_variable(x) {
-        return false;
+    let a = atoms::is_variable(s);
+    let b = atoms::is_variable(t);
+    if !a {
+        if !b {
+            return Way::Clash;
+        }
     }
-    order::below(atoms::kind_of(y), atoms::kind_of(x))
+    let j = atoms::kind_of(s);
+    let k = atoms::kind_of(t);
+    match order::meet(j, k) {
+        Met::Is(m) => by_meet(a, b, j, k, m),
+        Met::Nothing => Way::Clash,
+    }
+}
+
+// The same where m is the meet of j and k, the kinds of two atoms, and a and b say which are variables.
+fn by_meet(a: bool, b: bool, j: Kind, k: Kind, m: Kind) -> Way
+    ensures { λ r. ⌜ r ≡ wayOf (a && same (kindOf m) (kindOf k)) (b && same (kindOf m) (kindOf j)) ⌝ }
+{
+    if a {
+        if order::same_kind(m, k) {
+            return Way::Left;
+        }
+    }
+    if b {
+        if order::same_kind(m, j) {
+            return Way::Right;
+        }
+    }
+    Way::Clash
 }
 
 // The type below list of this rank.
@@ -96,15 +132,18 @@ impl Fillings {
         // The class of gone goes over into that of kept: decided first, so that one call does both ways.
         let mut gone = x;
         let mut kept = y;
-        if !takes(s, t) {
-            if !takes(t, s) {
+        match decided(s, t) {
+            Way::Left => {}
+            Way::Right => {
+                gone = y;
+                kept = x;
+            }
+            Way::Clash => {
                 return Joined {
                     ok: false,
                     next: self,
                 };
             }
-            gone = y;
-            kept = x;
         }
         Joined {
             ok: true,

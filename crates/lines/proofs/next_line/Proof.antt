@@ -1,16 +1,21 @@
--- `lines::next_line` meets its contract. The loop's invariant: what is kept is within the line buffer. The measure is the number of turns that are left. Assumes nothing.
-use mathlib.Core.Path.{_≡_, refl, sym, ap, _∙_}
-use Prim.Native.Nat.{_≤_}
+-- `lines::next_line` meets its contract. The loop's invariant: in the turns that were taken no newline was met, or the line is found.
+-- The measure is the number of turns that are left. Assumes nothing.
+use mathlib.Core.Path.{_≡_, refl, _∙_}
+use Prim.Native.Nat.{_-_, _≤_}
 use native.Mathlib.Omega.{arith}
 use lib.ListN.{length}
-use lib.Seq.{length-take-le}
-use Rattle.lines.specs.declared.Line.{Line}
+use borrow.Author.Tests.{not-true, not-false}
+use Rattle.lines.specs.Lines.{mostTurns}
+use Rattle.lines.proofs.Finding.{Turn, turn-first, turn-on, turn-more, turn-done, turn-last, sofar-kept}
 use Rattle.lines.proofs.next_line.Statement.{statement}
 use Rattle.lines.proofs.next_line.Tie as tie
 
 abbrev Inv-loop : tie.InvT-loop
 Inv-loop chunk₀ line₀ buffer turns₀ t₀ chunk line turns t =
-    (length chunk ≡ length chunk₀) × (length line ≡ length line₀) × (t .line .kept ≤ length line)
+    (length chunk ≡ length chunk₀)
+    × (length line ≡ length line₀)
+    × (turns ≤ mostTurns)
+    × Turn (t₀ .input) (t₀ .output) chunk₀ line₀ (mostTurns - turns) t chunk line
 
 abbrev μ-loop : tie.MeasureT-loop
 μ-loop chunk₀ line₀ buffer turns₀ t₀ chunk line turns t = turns
@@ -19,10 +24,17 @@ no-line-requires : tie.Need-no-line-requires Inv-loop μ-loop
 no-line-requires c κs = tt
 
 loop-holds : tie.Need-loop-holds Inv-loop μ-loop
-loop-holds c = (refl, refl, omega (arith, ap (λ (l : Line). l .kept) (c .no-line .ensures)))
+loop-holds c =
+    let a = c .before .before .before .before .before .before .args in
+    (refl, refl, omega arith, turn-first (a .s .input) (a .s .output) (a .chunk .now) (a .line .now) (c .no-line .ensures))
 
 step-requires : tie.Need-step-requires Inv-loop μ-loop
-step-requires c κs = c .before .before .before .before .before .loop .inv .2
+step-requires c κs =
+    let a = c .before .before .before .before .before .before .before .before .before .before .before .before .args in
+    let i = a .s .input in
+    let o = a .s .output in
+    sofar-kept i o (a .chunk .now) (a .line .now)
+    (turn-on i o (a .chunk .now) (a .line .now) (not-true _ (c .before .before .if1 .taken)) (c .before .before .before .before .before .loop .inv .3))
 
 sub-turns : tie.Need-sub-turns Inv-loop μ-loop
 sub-turns c = omega (arith, c .before .before .before .before .before .before .before .before .before .loop-test .taken)
@@ -34,7 +46,14 @@ loop-again : tie.Need-loop-again Inv-loop μ-loop
 loop-again c =
     let s = c .before .before .before .before .step in
     let h = c .before .before .before .before .before .before .before .before .before .before .loop .inv in
-    (s .kept .1 .0 ∙ h .0, s .kept .1 .1 .0 ∙ h .1, s .ensures)
+    let a = c .before .before .before .before .before .before .before .before .before .before .before .before .before .before .before .before .before .args in
+    let more = c .before .before .before .before .before .before .before .before .before .loop-test .taken in
+    let unended = c .before .before .before .before .before .before .before .if1 .taken in (
+      s .kept .1 .0 ∙ h .0,
+      s .kept .1 .1 .0 ∙ h .1,
+      omega (arith, h .2),
+      turn-more (a .s .input) (a .s .output) (a .chunk .now) (a .line .now) (omega (arith, h .2)) (not-true _ unended) (h .3) (s .ensures),
+    )
 
 same-length : tie.Need-same-length Inv-loop μ-loop
 same-length c = c .before .before .before .loop .inv .0
@@ -44,8 +63,9 @@ same-length-2 c = c .before .before .before .loop .inv .1
 
 returns : tie.Need-returns Inv-loop μ-loop
 returns c =
-    let h = c .before .before .before .loop .inv .2 in
-    (h, sym (length-take-le _ (c .before .before .before .loop .line) h))
+    let h = c .before .before .before .loop .inv .3 in
+    let a = c .before .before .before .before .before .before .before .before .before .before .args in
+    turn-done (a .s .input) (a .s .output) (a .chunk .now) (a .line .now) (not-false _ (c .if1 .left)) h
 
 same-length-3 : tie.Need-same-length-3 Inv-loop μ-loop
 same-length-3 c = c .before .loop .inv .0
@@ -55,8 +75,9 @@ same-length-4 c = c .before .loop .inv .1
 
 returns-2 : tie.Need-returns-2 Inv-loop μ-loop
 returns-2 c =
-    let h = c .before .loop .inv .2 in
-    (h, sym (length-take-le _ (c .before .loop .line) h))
+    let h = c .before .loop .inv .3 in
+    let a = c .before .before .before .before .before .before .before .before .args in
+    turn-last (a .s .input) (a .s .output) (a .chunk .now) (a .line .now) (omega (arith, c .before .loop .inv .2)) h
 
 pub next-line-spec : {M : Type 1} → statement M
 next-line-spec =

@@ -1,5 +1,6 @@
 -- `lines::put` meets its contract: by where the bytes have room. Assumes nothing.
-use mathlib.Core.Path.{refl}
+use mathlib.Core.Path.{refl, sym, _∙_}
+use mathlib.Core.Bool.{true≢false}
 use native.Mathlib.Omega.{arith}
 use borrow.Author.Needs.{needs}
 use Rattle.lines.proofs.Parts.{copied-part, copied-front, put-behind, put-front, put-nowhere}
@@ -35,7 +36,10 @@ returns c =
     let z = c .before .before .before .before .before .before .before .before .args in
     let U = c .before .before .before .before .before .at-most in
     let h = c .before .before .before .before .if1 .taken in
-    put-behind (z .o .used) (z .text .now) (z .buffer .now) (U .ensures) h (copied-part (z .text .now) (z .buffer .now) (U .result) (omega (arith, U .ensures, h)) (c .before .before .copy .ensures .1))
+    let P =
+    put-behind (z .o .used) (z .text .now) (z .buffer .now) (U .ensures) h
+    (copied-part (z .text .now) (z .buffer .now) (U .result) (omega (arith, U .ensures, h)) (c .before .before .copy .ensures .1)) in
+    record { used = P .0; bytes = P .1; quiet = λ _. refl; failed = λ e. e }
 
 flush-requires : tie.Need-flush-requires
 flush-requires c κs = search needs
@@ -50,7 +54,11 @@ returns-2 : tie.Need-returns-2
 returns-2 c =
     let z = c .before .before .before .before .before .before .before .before .before .before .before .args in
     let e = c .before .before .before .before .before .before .before .before .at-most .ensures in
-    put-front (z .o .used) (z .text .now) (z .buffer .now) (omega (arith, c .before .before .before .before .before .before .before .if1 .left)) (c .before .before .before .before .if2 .taken) (copied-front (z .text .now) (z .buffer .now) (c .before .before .copy2 .ensures .1))
+    let full = c .before .before .before .before .before .before .before .if1 .left in
+    let P =
+    put-front (z .o .used) (z .text .now) (z .buffer .now) (omega arith) (c .before .before .before .before .if2 .taken)
+    (copied-front (z .text .now) (z .buffer .now) (c .before .before .copy2 .ensures .1)) in
+    record { used = P .0; bytes = P .1; quiet = λ h. absurd (omega arith); failed = c .before .before .before .before .before .flush .ensures .failed }
 
 same-length-3 : tie.Need-same-length-3
 same-length-3 c = search needs
@@ -59,7 +67,10 @@ returns-3 : tie.Need-returns-3
 returns-3 c =
     let z = c .before .before .before .before .before .before .before .before .args in
     let e = c .before .before .before .before .before .at-most .ensures in
-    put-nowhere (z .o .used) (z .text .now) (z .buffer .now) (omega (arith, c .before .before .before .before .if1 .left)) (c .before .if2 .left) (c .before .before .flush .ensures)
+    let full = c .before .before .before .before .if1 .left in
+    let F = c .before .before .flush .ensures in
+    let P = put-nowhere (z .o .used) (z .text .now) (z .buffer .now) (omega arith) (c .before .if2 .left) (F .used) in
+    record { used = P .0; bytes = P .1; quiet = λ h. absurd (omega arith); failed = F .failed }
 
 write-all-requires : tie.Need-write-all-requires
 write-all-requires c κs = search needs
@@ -71,7 +82,10 @@ returns-4 : tie.Need-returns-4
 returns-4 c =
     let z = c .before .before .before .before .before .before .before .before .before .args in
     let e = c .before .before .before .before .before .before .at-most .ensures in
-    put-nowhere (z .o .used) (z .text .now) (z .buffer .now) (omega (arith, c .before .before .before .before .before .if1 .left)) (c .before .before .if2 .left) refl
+    let full = c .before .before .before .before .before .if1 .left in
+    let F = c .before .before .before .flush .ensures in
+    let P = put-nowhere (z .o .used) (z .text .now) (z .buffer .now) (omega arith) (c .before .before .if2 .left) refl in
+    record { used = P .0; bytes = P .1; quiet = λ h. absurd (omega arith); failed = λ e. absurd (true≢false (sym (F .failed e) ∙ c .before .if3 .left)) }
 
 pub put-spec : {M : Type 1} → statement M
 put-spec =

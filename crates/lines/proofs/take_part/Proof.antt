@@ -35,7 +35,12 @@ returns c =
     let z = c .before .before .before .before .before .before .before .before .before in
     let F = c .before .before .before .before .before .before .find in
     let P = c .before .before .before .add-part in
-    (taken-newline (z .args .input) (z .args .chunk .now) (z .pre .0) (z .pre .1) _ (F .ensures .0) (F .ensures .1) (z .args .l) (length (z .args .line .now)) (P .ensures .0) (c .if1 .taken), P .ensures .1 ∙ ap (λ (p : List ℕ). addedBytes (z .args .l) p (z .args .line .now)) (part-is (z .args .input) (z .args .chunk .now) (z .pre .0) (z .pre .1) _ (F .ensures .0) (F .ensures .1)))
+    let i = z .args .input in
+    let u = z .args .chunk .now in
+    let l = z .args .line .now in (
+      taken-newline i u (z .pre .0) (z .pre .1) _ (F .ensures .0) (F .ensures .1) (z .args .l) (length l) (P .ensures .0) (c .if1 .taken),
+      P .ensures .1 ∙ ap (λ (p : List ℕ). addedBytes (z .args .l) p l) (part-is i u (z .pre .0) (z .pre .1) _ (F .ensures .0) (F .ensures .1)),
+    )
 
 same-length-2 : tie.Need-same-length-2
 same-length-2 c = search needs
@@ -45,7 +50,12 @@ returns-2 c =
     let z = c .before .before .before .before .before .before .before .before .before in
     let F = c .before .before .before .before .before .before .find in
     let P = c .before .before .before .add-part in
-    (taken-rest (z .args .input) (z .args .chunk .now) (z .pre .0) (z .pre .1) _ (F .ensures .0) (F .ensures .1) (z .args .l) (length (z .args .line .now)) (P .ensures .0) (c .if1 .left), P .ensures .1 ∙ ap (λ (p : List ℕ). addedBytes (z .args .l) p (z .args .line .now)) (part-is (z .args .input) (z .args .chunk .now) (z .pre .0) (z .pre .1) _ (F .ensures .0) (F .ensures .1)))
+    let i = z .args .input in
+    let u = z .args .chunk .now in
+    let l = z .args .line .now in (
+      taken-rest i u (z .pre .0) (z .pre .1) _ (F .ensures .0) (F .ensures .1) (z .args .l) (length l) (P .ensures .0) (c .if1 .left),
+      P .ensures .1 ∙ ap (λ (p : List ℕ). addedBytes (z .args .l) p l) (part-is i u (z .pre .0) (z .pre .1) _ (F .ensures .0) (F .ensures .1)),
+    )
 
 pub take-part-spec : {M : Type 1} → statement M
 take-part-spec =

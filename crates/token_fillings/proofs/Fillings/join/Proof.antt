@@ -1,10 +1,11 @@
 -- `token_fillings::Fillings::join` meets its contract. Assumes nothing.
-use mathlib.Core.Path.{_≡_}
+use mathlib.Core.Path.{_≡_, sym, _∙_}
 use mathlib.Core.Logic.{⊎-elim}
 use lib.ListN.{length}
 use Rattle.lists.specs.Seqs.{long-mapped}
 use Rattle.atoms.specs.Atoms.{places}
 use Rattle.token_fillings.proofs.Cases.{looks, join-same, join-left, join-right, join-clash}
+use Rattle.token_fillings.proofs.Meets.{is-left, is-right, is-clash}
 use borrow.Author.Needs.{needs}
 use Rattle.token_fillings.proofs.Fillings.join.Statement.{statement}
 use Rattle.token_fillings.proofs.Fillings.join.Tie as tie
@@ -56,15 +57,21 @@ returns c =
     let is-y = looks l r (z .t1) (z .b) (p .before .before .before .before .before .before .before .place-of2 .result) _ (y .result) n (p .before .before .before .before .before .before .before .place-of2 .ensures .0) (y .ensures) in
     join-same l r (z .a) (z .b) (z .t1) (x .result) (y .result) is-x is-y (p .before .before .term-of .result) (p .before .term-of2 .result) (p .before .before .term-of .ensures) (p .before .term-of2 .ensures) (p .same-atom .result) (p .same-atom .ensures) (c .if1 .taken)
 
-takes-requires : tie.Need-takes-requires
-takes-requires c κs = search needs
+decided-requires : tie.Need-decided-requires
+decided-requires c κs = search needs
 
-takes-requires-2 : tie.Need-takes-requires-2
-takes-requires-2 c κs = search needs
+enum-told : tie.Need-enum-told
+enum-told c = search needs
+
+enum-told-2 : tie.Need-enum-told-2
+enum-told-2 c = search needs
+
+enum-told-3 : tie.Need-enum-told-3
+enum-told-3 c = search needs
 
 returns-2 : tie.Need-returns-2
 returns-2 c =
-    let p = c .before .before .before .before .before in
+    let p = c .before .before .before .before in
     let z = p .before .before .before .before .before .before .before .before .before .before .before .args in
     let l = z .left .now in
     let r = z .right .now in
@@ -74,7 +81,8 @@ returns-2 c =
     let y = p .before .before .before .held2 in
     let is-x = looks l r (z .t1) (z .a) (p .before .before .before .before .before .before .before .before .place-of .result) _ (x .result) n (p .before .before .before .before .before .before .before .before .place-of .ensures .0) (x .ensures) in
     let is-y = looks l r (z .t1) (z .b) (p .before .before .before .before .before .before .before .place-of2 .result) _ (y .result) n (p .before .before .before .before .before .before .before .place-of2 .ensures .0) (y .ensures) in
-    join-clash l r (z .a) (z .b) (z .t1) (x .result) (y .result) is-x is-y (p .before .before .term-of .result) (p .before .term-of2 .result) (p .before .before .term-of .ensures) (p .before .term-of2 .ensures) (p .same-atom .result) (p .same-atom .ensures) (c .before .before .before .takes .result) (c .before .before .before .takes .ensures) (c .before .before .before .before .if1 .left) (c .before .takes2 .result) (c .before .takes2 .ensures) (c .before .before .if2 .taken) (c .if3 .taken)
+    let D = c .before .before .decided in
+    join-clash l r (z .a) (z .b) (z .t1) (x .result) (y .result) is-x is-y (p .before .before .term-of .result) (p .before .term-of2 .result) (p .before .before .term-of .ensures) (p .before .term-of2 .ensures) (p .same-atom .result) (p .same-atom .ensures) (c .before .before .before .if1 .left) (is-clash _ _ (sym (D .ensures) ∙ c .enum-told3 .given .1))
 
 replace-requires : tie.Need-replace-requires
 replace-requires c κs = search needs
@@ -91,12 +99,12 @@ returns-3 c =
     let y = p .before .before .before .held2 in
     let is-x = looks l r (z .t1) (z .a) (p .before .before .before .before .before .before .before .before .place-of .result) _ (x .result) n (p .before .before .before .before .before .before .before .before .place-of .ensures .0) (x .ensures) in
     let is-y = looks l r (z .t1) (z .b) (p .before .before .before .before .before .before .before .place-of2 .result) _ (y .result) n (p .before .before .before .before .before .before .before .place-of2 .ensures .0) (y .ensures) in
-    let q = c .before .before .takes in
+    let D = c .before .before .decided in
     let i = c .before .before .before .if1 in
     ⊎-elim
-    (λ w. join-right l r (z .a) (z .b) (z .t1) (x .result) (y .result) is-x is-y (p .before .before .term-of .result) (p .before .term-of2 .result) (p .before .before .term-of .ensures) (p .before .term-of2 .ensures) (p .same-atom .result) (p .same-atom .ensures) (q .result) (q .ensures) (i .left) (w .1 .result) (w .1 .ensures) (w .0 .taken) (c .replace .result) _ _ (w .2 .left) (w .3) (w .4) (c .replace .ensures))
-    (λ w. join-left l r (z .a) (z .b) (z .t1) (x .result) (y .result) is-x is-y (p .before .before .term-of .result) (p .before .term-of2 .result) (p .before .before .term-of .ensures) (p .before .term-of2 .ensures) (p .same-atom .result) (p .same-atom .ensures) (q .result) (q .ensures) (i .left) (c .replace .result) _ _ (w .0 .left) (w .1) (w .2) (c .replace .ensures))
-    (c .before .if2 .came)
+    (λ w. join-left l r (z .a) (z .b) (z .t1) (x .result) (y .result) is-x is-y (p .before .before .term-of .result) (p .before .term-of2 .result) (p .before .before .term-of .ensures) (p .before .term-of2 .ensures) (p .same-atom .result) (p .same-atom .ensures) (i .left) (is-left _ _ (sym (D .ensures) ∙ w .1 .given .1)) (c .replace .result) _ _ (w .2) (w .3) (c .replace .ensures))
+    (λ w. join-right l r (z .a) (z .b) (z .t1) (x .result) (y .result) is-x is-y (p .before .before .term-of .result) (p .before .term-of2 .result) (p .before .before .term-of .ensures) (p .before .term-of2 .ensures) (p .same-atom .result) (p .same-atom .ensures) (i .left) (is-right _ _ (sym (D .ensures) ∙ w .1 .given .1)) (c .replace .result) _ _ (w .2) (w .3) (c .replace .ensures))
+    (c .before .match .came)
 
 pub join-spec : {M : Type 1} → statement M
 join-spec =
@@ -114,8 +122,10 @@ join-spec =
     term-of-requires-2
     same-atom-requires
     returns
-    takes-requires
-    takes-requires-2
+    decided-requires
+    enum-told
+    enum-told-2
+    enum-told-3
     returns-2
     replace-requires
     returns-3)
