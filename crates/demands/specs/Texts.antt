@@ -19,6 +19,7 @@ use Rattle.text.specs.Grammar.{Raw, Says}
 use Rattle.text.specs.Terms.{OurTerm, fieldsOf}
 use Rattle.text.specs.Read.{Reason, long, grammar, fields, terms, limits, linear, variable, number, Sort, rule, slip}
 use Rattle.text.specs.Read.{Outcome, refused, accepted, read, readRule, readSlip, Refuses, NoReason}
+use Rattle.text.specs.Marks.{Over, NotLinear, IsVar}
 use Rattle.text.specs.Sharp.{FirstBadMark}
 use Rattle.text.specs.Plain.{plain}
 use Rattle.text.proofs.Accepted.{rule-read, rule-plain}
@@ -159,6 +160,40 @@ slip-reading t r reads = subst (SlipReading t) (sym reads) (go (readSlip t) of-t
         → SlipReading t (slipRead a)
     go (refused o p) h = h
     go (accepted x) h = h
+
+-- ---- the places, number by number
+
+module _ (t : List ℕ) (r : RuleRead) (reads : ReadsRule t r) (p : ℕ) where
+  -- 3: "a fifth field, at its first byte"
+  pub rule-three : told (r .verdict) ≡ refusal fields p → (b : FirstBadMark 16 fields t p) × (b .mark .inField ≡ 5) × (b .mark .index ≡ 1)
+  rule-three e = let b = rule-reading t r reads .places fields (omega arith) p e in (b, b .stated .0, b .stated .1)
+
+  -- 4: "a seventeenth term in a field"
+  pub rule-four : told (r .verdict) ≡ refusal terms p → (b : FirstBadMark 16 terms t p) × (b .mark .index ≡ 17)
+  rule-four e = let b = rule-reading t r reads .places terms (omega arith) p e in (b, b .stated)
+
+  -- 5: "a value, digit count, variable number or string length over its limit"
+  pub rule-five : told (r .verdict) ≡ refusal limits p → (b : FirstBadMark 16 limits t p) × Over (b .mark .raw)
+  rule-five e = let b = rule-reading t r reads .places limits (omega arith) p e in (b, b .stated)
+
+  -- 6: "a list variable that occurs earlier in the rule, or that follows another in its field"
+  pub rule-six : told (r .verdict) ≡ refusal linear p → (b : FirstBadMark 16 linear t p) × NotLinear (b .earlier) (b .mark)
+  rule-six e = let b = rule-reading t r reads .places linear (omega arith) p e in (b, b .stated)
+
+module _ (t : List ℕ) (r : SlipRead) (reads : ReadsSlip t r) (p : ℕ) where
+  pub slip-three : told (r .verdict) ≡ refusal fields p → (b : FirstBadMark 64 fields t p) × (b .mark .inField ≡ 5) × (b .mark .index ≡ 1)
+  slip-three e = let b = slip-reading t r reads .places fields (omega arith) p e in (b, b .stated .0, b .stated .1)
+
+  -- 4: "a sixty-fifth term"
+  pub slip-four : told (r .verdict) ≡ refusal terms p → (b : FirstBadMark 64 terms t p) × (b .mark .index ≡ 65)
+  slip-four e = let b = slip-reading t r reads .places terms (omega arith) p e in (b, b .stated)
+
+  pub slip-five : told (r .verdict) ≡ refusal limits p → (b : FirstBadMark 64 limits t p) × Over (b .mark .raw)
+  slip-five e = let b = slip-reading t r reads .places limits (omega arith) p e in (b, b .stated)
+
+  -- 7: "a variable"
+  pub slip-seven : told (r .verdict) ≡ refusal variable p → (b : FirstBadMark 64 variable t p) × IsVar (b .mark .raw)
+  slip-seven e = let b = slip-reading t r reads .places variable (omega arith) p e in (b, b .stated)
 
 -- ---- plain text
 
