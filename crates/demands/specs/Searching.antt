@@ -50,9 +50,11 @@ use Rattle.searching.specs.Answers.{ListVariableOf}
 use Rattle.searching.proofs.Searching as theorem
 use Rattle.searching.proofs.Ends as ends
 use Rattle.searching.proofs.Used.{used-is}
-use Rattle.searching.proofs.Peak.{peak-most, peak-met, row-of-none, refused-peak}
+use Rattle.searching.proofs.Peak as peaks
+use Rattle.searching.proofs.Peak.{peak-most, peak-met, refused-peak}
 use Rattle.solving.specs.Answers.{setting, fieldOn, AnswerLine, lineText, linesText, WritableAnswer, Gives, InstanceOfLine, answerLine, Lines as Found, lines, nine, linesFor, linesOf, bytesOf}
 use Rattle.solving.proofs.Search.{equation-linear}
+use Rattle.solving.proofs.Shown as shown
 use Rattle.solving.proofs.Shown.{lines-answers, nine-peak}
 use Rattle.solving.proofs.Lines.{answer-lines-one, lines-writable, lines-named, lines-solve, lines-complete}
 use Rattle.terms.specs.declared.Field.{Field}
@@ -391,15 +393,19 @@ module _ (v w : Field) (records : List Problem) (old : List ℕ) (r : Searched) 
   -- 9 in the words of document 01: some queue of the run without a row has more problems than the row has records
   pub nine-queued : (told r .number ≡ some 9) ↔ (BothAccepted v w
       × ((q : List (searching.Problem setting)) × Queued setting (fieldOn left f) (fieldOn right g) q × (length records < length q)))
-  nine-queued = (
-    λ e. let h = nine-only-is .0 e in let m = most-met v w in (h .0, (m .0, m .1, omega (arith, m .2, h .1))),
-    λ h. nine-only-is .1 (h .0, omega (arith, h .1 .2, none-more v w (h .1 .0) (h .1 .1))),
-  )
+  nine-queued =
+      let n = shown.nine-queued (length records) f g in (
+        λ e.
+        let x = told-nine there (length old) (sym number-is ∙ e) in
+        let a = both-of (inl x) in
+        (a, n .0 (sym (there-is a) ∙ x)),
+        λ h. number-is ∙ ap (λ (x : Found). searchedOf x (length old) .number) (there-is (h .0) ∙ n .1 (h .1)),
+      )
 
   -- "a row of none refuses every pair of accepted fields"
-  pub none-refused : BothAccepted v w → length records ≡ 0 → told r .number ≡ some 9
-  none-refused a z =
-      let h = refused-peak setting 0 (fieldOn left f) (fieldOn right g) .0 (row-of-none setting (fieldOn left f) (fieldOn right g)) in
+  pub row-of-none : BothAccepted v w → length records ≡ 0 → told r .number ≡ some 9
+  row-of-none a z =
+      let h = refused-peak setting 0 (fieldOn left f) (fieldOn right g) .0 (peaks.row-of-none setting (fieldOn left f) (fieldOn right g)) in
       nine-only-is .1 (a, omega (arith, h))
 
 -- ---- the equation as it is written

@@ -2,11 +2,11 @@
 use mathlib.Core.Path.{_≡_, refl, sym, ap, ap₂, subst}
 use mathlib.Core.Logic.{_⊎_, inl, inr, ite}
 use mathlib.Core.Bool.{Bool, true, false, cond}
-use mathlib.Core.List.{List, [], _∷_, _++_, map, List·Memᴰ, List·Memᴰ·head, List·Memᴰ·tail, Memᴰ·map}
-use Prim.Native.Nat.{ℕ, zero, suc, _*_, _≤_}
+use mathlib.Core.List.{List, [], _∷_, map, List·Memᴰ, List·Memᴰ·head, List·Memᴰ·tail, Memᴰ·map}
+use Prim.Native.Nat.{ℕ, zero, suc, _+_, _*_, _≤_}
 use native.Mathlib.Omega.{arith}
 use native.Mathlib.Decide.{ℕ-discrete}
-use lib.ListN.{length, drop, length-append, length-map, length-drop}
+use lib.ListN.{length, length-append, length-map, length-drop}
 use Rattle.lists.specs.Seqs.{All, all-append}
 use Rattle.order.specs.Order.{basic, list, full-eq}
 use Rattle.order.specs.Types.{Kind, basics}
@@ -14,7 +14,6 @@ use Rattle.theory.specs.Terms.{Term, con, var}
 use Rattle.theory.specs.Constants.{TermOver}
 use Rattle.theory.specs.Seqs.{concat-map}
 use Rattle.theory.specs.Fillings.{Occurs}
-use Rattle.text.specs.Ascii.{newline}
 use Rattle.text.specs.Sizes.{largestInteger, largestNumber}
 use Rattle.text.specs.Terms.{OurTerm, int, str}
 use Rattle.text.specs.Grammar.{colons}
@@ -33,7 +32,7 @@ use Rattle.searching.specs.Problems.{atomic, listvar, Tm, Field, Bindings}
 use Rattle.searching.specs.Fresh.{numbers}
 use Rattle.searching.specs.Pairs.{sideTerm, sixteenAbove}
 use Rattle.searching.specs.Answers.{StandsIn}
-use Rattle.solving.specs.Answers.{setting, fieldOn, markOf, valueOf, valuesOn, valuesOf, numberIn, shownOn, answerText}
+use Rattle.solving.specs.Answers.{setting, fieldOn, markOf, valueOf, valuesOn, valuesOf, numberIn, AnswerLine, lineText, answerLine, answerText}
 
 -- a constant in a value is one of document 01's
 abbrev pub Ours : Tm setting → Type 0
@@ -195,6 +194,11 @@ module _ (d : Side) (f : List OurTerm) (σ : Bindings setting) (h : (t : Tm sett
 
 -- ---- THE LINE
 
+-- the newline stands in place of the first blank
+line-short : (l : AnswerLine) (n : ℕ) → 1 ≤ n → length (bindingsText leftMark (l .left)) ≤ n → length (bindingsText rightMark (l .right)) ≤ n
+    → length (lineText l) ≤ n + n
+line-short l n some p q = simp (length-append, length-drop) (omega arith)
+
 module _ (f g : List OurTerm) (σ : Bindings setting) (h : (t : Tm setting) → StandsIn setting (fieldOn left f) (fieldOn right g) t → (length (σ t) ≤ 17) × All Ours (σ t)) where
   values-short : All (λ (w : Marked). length w ≤ 17) (valuesOf f g σ)
   values-short =
@@ -214,11 +218,9 @@ module _ (f g : List OurTerm) (σ : Bindings setting) (h : (t : Tm setting) → 
       let names = concat-map (namesOf (full-eq (basics .kind-eq)) k) (valuesOf f g σ) in
       omega (arith, place-most eq b (firsts eq names), firsts-most eq names, all-names-most (full-eq (basics .kind-eq)) k (valuesOf f g σ) values-short, values-most)
 
-  -- 319 bytes for each of at most 128 bindings; the newline in place of the first blank
+  -- 319 bytes for each of at most 128 bindings
   pub answer-short : length (answerText f g σ) ≤ 40832
   answer-short =
-      let l = bindingsText leftMark (bindingsOf (f ∷ []) (shownOn left f g σ)) in
-      let r = bindingsText rightMark (bindingsOf (g ∷ []) (shownOn right f g σ)) in
       let short-l = side-short left f σ (λ t i. h t (inl i)) leftMark (numberIn f g σ) number-few in
       let short-r = side-short right g σ (λ t i. h t (inr i)) rightMark (numberIn f g σ) number-few in
-      omega (arith, length-append (drop 1 (l ++ r)) newline, length-drop 1 (l ++ r), length-append l r, short-l, short-r)
+      line-short (answerLine f g σ) 20416 (omega arith) short-l short-r
