@@ -396,9 +396,9 @@ module _ (v w : Field) (records : List Problem) (old : List ℕ) (r : Searched) 
   nine-queued =
       let n = shown.nine-queued (length records) f g in (
         λ e.
-        let x = told-nine there (length old) (sym number-is ∙ e) in
-        let a = both-of (inl x) in
-        (a, n .0 (sym (there-is a) ∙ x)),
+            let x = told-nine there (length old) (sym number-is ∙ e) in
+            let a = both-of (inl x) in
+            (a, n .0 (sym (there-is a) ∙ x)),
         λ h. number-is ∙ ap (λ (x : Found). searchedOf x (length old) .number) (there-is (h .0) ∙ n .1 (h .1)),
       )
 
