@@ -14,7 +14,7 @@ use Rattle.instance.specs.Constants.{consts}
 use Rattle.unifiers.specs.Overlaps.{firsts}
 use Rattle.searching.specs.Problems.{Tm, Field, Bindings, compose, Rest, solved, equation, problem, namesIn}
 use Rattle.searching.specs.Problems as search
-use Rattle.searching.specs.Fresh.{lowest}
+use Rattle.searching.specs.Fresh.{lowest, lowest-new}
 use Rattle.searching.specs.Rules.{Rule, Move, keep, bind, fails, rule, apply, Met, step}
 use Rattle.searching.specs.Answers.{StandsIn}
 use Rattle.searching.proofs.Counts.{Other, all-put-in}
@@ -25,7 +25,7 @@ use Rattle.searching.proofs.Searching.{fresh-small}
 use Rattle.searching.proofs.Sizes.{New, sides-short, value-short, fresh-below, names-below}
 use Rattle.fillings.proofs.Agree.{names}
 use Rattle.names.specs.Sets.{digits, setOf, withName, freshValue, listVariables}
-use Rattle.names.proofs.Laws.{with-one, fresh-lowest, variables-distinct}
+use Rattle.names.proofs.Laws.{with-one, fresh-lowest, variables-distinct, some-left}
 use Rattle.items.specs.declared.Items.{Items}
 use Rattle.items.specs.Encode.{setting, encodeTm, encodeItems}
 use Rattle.moves.specs.Encode.{bringsIn, encodeMove}
@@ -58,6 +58,13 @@ module _ (A B : Field setting) (q : Equation A B) where
       ap freshValue (h .used)
       ∙ fresh-lowest (search.used setting P)
       (all-map (λ n. n < 32) (λ n. n < digits) (λ n l. omega arith) (search.used setting P) (used-in P (h .met))) (fresh-in P (h .met))
+
+  -- and one is always left
+  pub fresh-left : (p : Problem) (P : search.Problem setting) → Holds A B p P → listVariables (p .used) < digits
+  fresh-left p P h =
+      subst (λ (s : ℕ). listVariables s < digits) (sym (h .used))
+      (some-left (lowest (search.used setting P)) (search.used setting P)
+      (all-map (λ n. n < 32) (λ n. n < digits) (λ n l. omega arith) (search.used setting P) (used-in P (h .met))) (fresh-in P (h .met)) (lowest-new (search.used setting P)))
 
   -- "ones count variables of a problem": those used, each once
   pub variables-holds : (p : Problem) (P : search.Problem setting) → Holds A B p P → listVariables (p .used) ≡ length (firsts ℕ-discrete (search.used setting P))

@@ -1,4 +1,4 @@
--- What the set's functions are of its members: `with-one`, `fresh-lowest`, `variables-distinct`.
+-- What the set's functions are of its members: `with-one`, `fresh-lowest`, `variables-distinct`, `some-left`.
 use mathlib.Core.Path.{_≡_, refl, sym, _∙_, ap}
 use mathlib.Core.Logic.{_⊎_, inl, inr, ite}
 use mathlib.Core.Bool.{Bool, cond}
@@ -9,7 +9,7 @@ use native.Mathlib.Decide.{ℕ-discrete}
 use borrow.Author.Tests.{le-leb, lt-leb}
 use lib.Bits.{bitOr, or-lt}
 use lib.Pow.{pow-lt}
-use lib.Count.{ones}
+use lib.Count.{ones, ones-le}
 use lib.ListN.{length}
 use Rattle.lists.specs.Seqs.{All}
 use Rattle.theory.specs.Seqs.{Distinct}
@@ -90,3 +90,8 @@ variables-distinct (n ∷ u) = go (member n u) (variables-distinct u)
     go (yes i) rec =
         omega (arith, ones-more n (setOf u), has-member n u i, without-member n (firsts ℕ-discrete u) (firsts-distinct ℕ-discrete u) (in-firsts ℕ-discrete n u i))
     go (no h) rec = omega (arith, ones-more n (setOf u), lacks-other n u h, without-absent n (firsts ℕ-discrete u) (λ i. h (firsts-in ℕ-discrete n u i)))
+
+-- where a number that has a digit is absent, there are fewer than the digits
+pub some-left : (n : ℕ) (u : List ℕ) → All (λ m. m < digits) u → n < digits → (List·Memᴰ n u → ⊥) → listVariables (setOf u) < digits
+some-left n u h g absent =
+    omega (arith, ones-le digits (setOf (n ∷ u)) (set-small (n ∷ u) (g, h)), ones-more n (setOf u), lacks-other n u absent)

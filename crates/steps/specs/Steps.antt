@@ -1,7 +1,8 @@
 -- A step of the search on records, as code makes it. `fails-holds` and `child-holds` of proofs/Agree say that it is the search's.
-use mathlib.Core.Bool.{Bool, true, false, cond}
+use mathlib.Core.Bool.{Bool, true, false, cond, _&&_}
 use Prim.Native.Nat.{ℕ}
-use Rattle.names.specs.Sets.{freshValue}
+use lib.Dec.{leb}
+use Rattle.names.specs.Sets.{digits, freshValue, listVariables}
 use Rattle.moves.specs.declared.Move.{Move}
 use Rattle.moves.specs.Moves.{moveValue}
 use Rattle.failures.specs.Fails.{failsValue}
@@ -17,8 +18,13 @@ failsOf p = failsValue (p .left) (p .right)
 abbrev pub noChild : Child
 noChild = record { ok = false; problem = blankProblem }
 
+-- "ones count variables of a problem": the record has all the list variables that a set can have, and no fresh one is left
+abbrev pub noneLeft : Problem → Bool
+noneLeft p = leb digits (listVariables (p .used))
+
+-- a rule that needs a fresh list variable where none is left gives no child; `fresh-left` of effects/proofs/Moved says that one is always left
 abbrev pub childBy : Problem → Move → ℕ → Child
-childBy p m f = cond (m .applies) (record { ok = true; problem = appliedValue p m f }) noChild
+childBy p m f = cond (m .applies) (cond (m .fresh && noneLeft p) noChild (record { ok = true; problem = appliedValue p m f })) noChild
 
 -- "each rule that applies gives one child": by the rule of a number, with the fresh list variable f
 abbrev pub childWith : Problem → ℕ → ℕ → Child
