@@ -141,7 +141,8 @@ module _ (S : Sort) (other : Reason) {Value : Type 0} (blank : Value) (held : Li
 pub rule-reading : (t : List ℕ) (r : RuleRead) → ReadsRule t r → RuleReading t r
 rule-reading t r reads = subst (RuleReading t) (sym reads) (go (readRule t) of-text)
   where
-    of-text : let a = readRule t in Reading rule variable blankRule encodeRule t (verdictOf a) (valueOf rule variable blankRule encodeRule a)
+    of-text : let a = readRule t in
+        Reading rule variable blankRule encodeRule t (verdictOf a) (valueOf rule variable blankRule encodeRule a)
     of-text = reading-of rule variable blankRule encodeRule t (λ o n p. rule-refused o n t p) (rule-never t) (rule-accepted t)
 
     go : (a : Outcome) → Reading rule variable blankRule encodeRule t (verdictOf a) (valueOf rule variable blankRule encodeRule a)
@@ -153,7 +154,8 @@ rule-reading t r reads = subst (RuleReading t) (sym reads) (go (readRule t) of-t
 pub slip-reading : (t : List ℕ) (r : SlipRead) → ReadsSlip t r → SlipReading t r
 slip-reading t r reads = subst (SlipReading t) (sym reads) (go (readSlip t) of-text)
   where
-    of-text : let a = readSlip t in Reading slip linear blankSlip encodeSlip t (verdictOf a) (valueOf slip linear blankSlip encodeSlip a)
+    of-text : let a = readSlip t in
+        Reading slip linear blankSlip encodeSlip t (verdictOf a) (valueOf slip linear blankSlip encodeSlip a)
     of-text = reading-of slip linear blankSlip encodeSlip t (λ o n p. slip-refused o n t p) (slip-never t) (slip-accepted t)
 
     go : (a : Outcome) → Reading slip linear blankSlip encodeSlip t (verdictOf a) (valueOf slip linear blankSlip encodeSlip a)
