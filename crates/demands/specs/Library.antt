@@ -14,10 +14,10 @@ use lib.ListN.{length, take, drop}
 use borrow.Author.Tests.{le-leb, lt-leb, leb-false}
 use Rattle.text.specs.Terms.{OurTerm}
 use Rattle.text.specs.Limits.{IsRule}
-use Rattle.text.specs.Read.{Reason, long, grammar, fields, terms, limits, linear, variable, number, Outcome, refused, accepted, readRule}
+use Rattle.text.specs.Read.{Reason, long, grammar, fields, terms, limits, linear, variable, number, Outcome, refused, accepted, readRule, earlier}
 use Rattle.text.specs.Read.{Refuses, NoReason, rule}
 use Rattle.text.proofs.Accepted.{rule-read}
-use Rattle.text.proofs.Theorems.{earlier, rule-refused}
+use Rattle.text.proofs.Theorems.{rule-refused}
 use Rattle.listing.specs.Overlaps.{linesOf, overlapText}
 use Rattle.overlaps.proofs.Rules.{no-right, none-listed}
 use Rattle.yopobrush.specs.declared.Reading.{Reading}

@@ -17,7 +17,7 @@ use borrow.Author.Tests.{le-leb, lt-leb}
 use Rattle.text.specs.Told.{Told}
 use Rattle.text.specs.Grammar.{Raw, Says}
 use Rattle.text.specs.Terms.{OurTerm, fieldsOf}
-use Rattle.text.specs.Read.{Reason, long, grammar, fields, terms, limits, linear, variable, number, Sort, rule, slip}
+use Rattle.text.specs.Read.{Reason, long, grammar, fields, terms, limits, linear, variable, number, Sort, rule, slip, earlier}
 use Rattle.text.specs.Read.{Outcome, refused, accepted, read, readRule, readSlip, Refuses, NoReason}
 use Rattle.text.specs.Marks.{Over, NotLinear, IsVar}
 use Rattle.text.specs.Sharp.{FirstBadMark}
@@ -25,7 +25,7 @@ use Rattle.text.specs.Plain.{plain}
 use Rattle.text.proofs.Accepted.{rule-read, rule-plain}
 use Rattle.text.proofs.Sharp.{first-bad}
 use Rattle.text.proofs.Told.{eight-iff, fits-iff}
-use Rattle.text.proofs.Theorems.{earlier, rule-refused, slip-refused, rule-never, slip-never, rule-accepted, slip-accepted, plain-injective}
+use Rattle.text.proofs.Theorems.{rule-refused, slip-refused, rule-never, slip-never, rule-accepted, slip-accepted, plain-injective}
 use Rattle.terms.specs.declared.Rule.{Rule}
 use Rattle.terms.specs.Values.{viewRule, blankRule, blankSlip, encodeRule, encodeSlip}
 use Rattle.accepted.specs.Accepted.{acceptedRule, countedRule}

@@ -8,22 +8,12 @@ use native.Mathlib.Omega.{arith}
 use Rattle.lists.specs.Seqs.{All}
 use Rattle.text.specs.Grammar.{Raw, Says}
 use Rattle.text.specs.Terms.{OurTerm, fieldsOf}
-use Rattle.text.specs.Read.{Reason, long, grammar, fields, terms, limits, linear, variable, number, Sort, rule, slip, Refuses, NoReason, FirstReason, refused, accepted, read, readRule, readSlip}
+use Rattle.text.specs.Read.{Reason, long, grammar, fields, terms, limits, linear, variable, number, Sort, rule, slip, Refuses, NoReason, FirstReason, refused, accepted, read, readRule, readSlip, earlier}
 use Rattle.text.specs.Plain.{plain}
 use Rattle.text.specs.Limits.{IsRule}
 use Rattle.text.proofs.Read.{read-refused, read-accepted}
 use Rattle.text.proofs.Plain.{LeanField, lean-is-plain, plain-one}
 use Rattle.text.proofs.Accepted.{in-grammar, said-is, rule-read, rule-plain, rule-ok}
-
--- the reasons tried before one
-abbrev pub earlier : Reason → List Reason
-earlier long = []
-earlier grammar = long ∷ []
-earlier fields = long ∷ grammar ∷ []
-earlier terms = long ∷ grammar ∷ fields ∷ []
-earlier limits = long ∷ grammar ∷ fields ∷ terms ∷ []
-earlier linear = long ∷ grammar ∷ fields ∷ terms ∷ limits ∷ []
-earlier variable = long ∷ grammar ∷ fields ∷ terms ∷ limits ∷ []
 
 module _ (R : Reason → ℕ → Type 0) (r : Reason) (p : ℕ) where
   abbrev Other : Reason → Type 0

@@ -87,6 +87,16 @@ abbrev pub FirstReason : (Reason → ℕ → Type 0) → List Reason → Reason 
 FirstReason R [] s p = ⊥
 FirstReason R (r ∷ rs) s p = ((r ≡ s) × R r p) ⊎ (Never (R r) × FirstReason R rs s p)
 
+-- the reasons tried before one
+abbrev pub earlier : Reason → List Reason
+earlier long = []
+earlier grammar = long ∷ []
+earlier fields = long ∷ grammar ∷ []
+earlier terms = long ∷ grammar ∷ fields ∷ []
+earlier limits = long ∷ grammar ∷ fields ∷ terms ∷ []
+earlier linear = long ∷ grammar ∷ fields ∷ terms ∷ limits ∷ []
+earlier variable = long ∷ grammar ∷ fields ∷ terms ∷ limits ∷ []
+
 -- the same, computed
 abbrev pub said : List ℕ → List (List Raw)
 said t = Option·getD (parse t) []
