@@ -7,7 +7,7 @@ use mathlib.Core.Logic.{_≢_, _↔_, Iff·trans}
 use mathlib.Core.Bool.{Bool, true, false, cond, false≢true}
 use mathlib.Core.Option.{none, some}
 use mathlib.Core.List.{List, [], _++_}
-use Prim.Native.Nat.{ℕ, zero, suc, _≤_, _<_}
+use Prim.Native.Nat.{ℕ, _≤_, _<_}
 use native.Mathlib.Omega.{arith}
 use lib.Dec.{leb}
 use lib.ListN.{length, take, drop}
@@ -17,6 +17,7 @@ use Rattle.text.specs.Limits.{IsRule}
 use Rattle.text.specs.Read.{Reason, long, grammar, fields, terms, limits, linear, variable, number, Outcome, refused, accepted, readRule, earlier}
 use Rattle.text.specs.Read.{Refuses, NoReason, rule}
 use Rattle.text.proofs.Accepted.{rule-read}
+use Rattle.text.proofs.Refused.{number-once}
 use Rattle.text.proofs.Theorems.{rule-refused}
 use Rattle.listing.specs.Overlaps.{linesOf, overlapText}
 use Rattle.overlaps.proofs.Rules.{no-right, none-listed}
@@ -33,26 +34,6 @@ use Rattle.demands.specs.Overlaps.{Demand3, rules-3}
 abbrev pub accepting : Reading
 accepting = record { refusal = 0; place = 0 }
 
-reason-of : ℕ → Reason
-reason-of zero = variable
-reason-of (suc zero) = long
-reason-of (suc (suc zero)) = grammar
-reason-of (suc (suc (suc zero))) = fields
-reason-of (suc (suc (suc (suc zero)))) = terms
-reason-of (suc (suc (suc (suc (suc zero))))) = limits
-reason-of (suc (suc (suc (suc (suc (suc zero)))))) = linear
-reason-of (suc (suc (suc (suc (suc (suc (suc n))))))) = variable
-
-reason-back : (r : Reason) → reason-of (number r) ≡ r
-unfolding reason-of
-reason-back long = refl
-reason-back grammar = refl
-reason-back fields = refl
-reason-back terms = refl
-reason-back limits = refl
-reason-back linear = refl
-reason-back variable = refl
-
 not-zero : (r : Reason) → number r ≢ 0
 not-zero long e = omega arith
 not-zero grammar e = omega arith
@@ -67,7 +48,7 @@ reading-refused (refused s q) r p = (to, λ e. ap readingOf e)
   where
     to : readingOf (refused s q) ≡ record { refusal = number r; place = p } → refused s q ≡ refused r p
     to e =
-        let a : s ≡ r = sym (reason-back s) ∙ ap (λ (a : Reading). reason-of (a .refusal)) e ∙ reason-back r in
+        let a : s ≡ r = number-once s r (ap (λ (a : Reading). a .refusal) e) in
         let b : q ≡ p = ap (λ (a : Reading). a .place) e in
         cc
 reading-refused (accepted x) r p = (λ e. absurd (not-zero r (sym (ap (λ (a : Reading). a .refusal) e))), λ e. ap readingOf e)
