@@ -16,7 +16,8 @@ same-length-2 c = search needs
 returns : tie.Need-returns
 returns c =
     let z = c .before .before .before .before .before .before .before .before .before .before .before .args in
-    texts-shared (z .left .now) (z .right .now) (c .before .before .before .before .list-texts .ensures .0)
+    let o = c .before .before .before .before .list-texts .ensures in
+    (texts-shared (z .left .now) (z .right .now) (o .0), o .1)
 
 pub list-texts-spec : {M : Type 1} → statement M
 list-texts-spec = tie.close (tie.spec list-texts-requires same-length same-length-2 returns)
