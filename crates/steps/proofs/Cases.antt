@@ -17,7 +17,8 @@ module _ (p : Problem) (r f : ℕ) (m : Move) (is-f : f ≡ freshValue (p .used)
   child-is = ap (λ (n : Move). childBy p n f) is-m ∙ ap (childWith p r) is-f
 
   -- by the two tests
-  by-tests : (b d : Bool) → m .applies ≡ b → m .fresh && noneLeft p ≡ d → cond b (cond d noChild (record { ok = true; problem = appliedValue p m f })) noChild ≡ childOf p r
+  by-tests : (b d : Bool) → m .applies ≡ b → m .fresh && noneLeft p ≡ d
+      → cond b (cond d noChild (record { ok = true; problem = appliedValue p m f })) noChild ≡ childOf p r
   by-tests b d e g =
       ap₂ (λ (x y : Bool). cond x (cond y noChild (record { ok = true; problem = appliedValue p m f })) noChild) (sym e) (sym g) ∙ child-is
 

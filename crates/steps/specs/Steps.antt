@@ -22,7 +22,7 @@ noChild = record { ok = false; problem = blankProblem }
 abbrev pub noneLeft : Problem → Bool
 noneLeft p = leb digits (listVariables (p .used))
 
--- a rule that needs a fresh list variable where none is left gives no child; `fresh-left` of effects/proofs/Moved says that one is always left
+-- a rule that needs a fresh list variable where none is left gives no child; one always is (`fresh-left` of effects/proofs/Moved)
 abbrev pub childBy : Problem → Move → ℕ → Child
 childBy p m f = cond (m .applies) (cond (m .fresh && noneLeft p) noChild (record { ok = true; problem = appliedValue p m f })) noChild
 

@@ -31,7 +31,7 @@ enum Way {
     Clash,
 }
 
-// The joined class takes the atom whose type is the meet of both, so the other's class goes over, and that is a variable's. No meet is a clash.
+// The joined class takes the atom whose type is the meet of both; the other, a variable, goes over. No meet is a clash.
 fn decided(s: Term, t: Term) -> Way
     ensures { λ r. ⌜ r ≡ wayOf (takes s t) (takes t s) ⌝ }
 {

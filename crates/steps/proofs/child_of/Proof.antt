@@ -46,7 +46,10 @@ returns-3 c =
     let m = d .move-of .result in
     one-child (z .p) (z .rule) (d .before .fresh .result) m (d .before .fresh .ensures) (d .move-of .ensures)
     (c .before .before .if1 .left) (c .applied .result) (c .applied .ensures)
-    (⊎-elim (λ w. some-asked (z .p) (m .fresh) (w .0 .taken) (w .1 .ensures) (w .2 .left)) (λ w. none-asked (z .p) (m .fresh) (w .left)) (c .before .if2 .came))
+    (⊎-elim
+    (λ w. some-asked (z .p) (m .fresh) (w .0 .taken) (w .1 .ensures) (omega (arith, w .2 .left)))
+    (λ w. none-asked (z .p) (m .fresh) (w .left))
+    (c .before .if2 .came))
 
 pub child-of-spec : {M : Type 1} → statement M
 child-of-spec =
