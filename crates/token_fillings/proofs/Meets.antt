@@ -21,7 +21,7 @@ abbrev pub MeetSays : Kind → Kind → Met → Type 0
 MeetSays j k (Is m) = (same (kindOf m) (kindOf k) ≡ le (kindOf k) (kindOf j)) × (same (kindOf m) (kindOf j) ≡ le (kindOf j) (kindOf k))
 MeetSays j k Nothing = (false ≡ le (kindOf k) (kindOf j)) × (false ≡ le (kindOf j) (kindOf k))
 
-pub meet-says : (j k : Kind) → MeetSays j k (meetOf (meet types (kindOf j) (kindOf k)))
+pub meet-says : (j k : Kind) → MeetSays j k (meetOf (meet types (kindOf k) (kindOf j)))
 meet-says Integer Integer = (refl, refl)
 meet-says Integer String = (refl, refl)
 meet-says Integer Atom = (refl, refl)
@@ -42,7 +42,7 @@ meet-says List List = (refl, refl)
 -- j and k are the kinds of x and y, a and b whether they are variables
 module _ (x y : Term) (a b : Bool) (is-a : a ≡ isVariable (x .form)) (is-b : b ≡ isVariable (y .form))
     (j k : Kind) (is-j : j ≡ kindFrom (kindOfAtom (x .form))) (is-k : k ≡ kindFrom (kindOfAtom (y .form)))
-    (r : Met) (is-r : r ≡ meetOf (meet types (kindOf j) (kindOf k))) where
+    (r : Met) (is-r : r ≡ meetOf (meet types (kindOf k) (kindOf j))) where
   says : MeetSays j k r
   says = subst (MeetSays j k) (sym is-r) (meet-says j k)
 

@@ -44,7 +44,8 @@ fn decided(s: Term, t: Term) -> Way
     }
     let j = atoms::kind_of(s);
     let k = atoms::kind_of(t);
-    match order::meet(j, k) {
+    // The left atom's class goes over most often: its test is the meet's first.
+    match order::meet(k, j) {
         Met::Is(m) => by_meet(a, b, j, k, m),
         Met::Nothing => Way::Clash,
     }
