@@ -13,16 +13,16 @@ use lib.ListN.{length, getD}
 use Rattle.lists.specs.Seqs.{All, IsCons, all-map}
 use Rattle.text.specs.Sizes.{mostFields}
 use Rattle.text.specs.Terms.{OurTerm}
-use Rattle.text.specs.Read.{rule, Outcome, accepted, readRule}
-use Rattle.text.specs.Limits.{TermIn, Within, Linear, IsRule}
+use Rattle.text.specs.Read.{rule, Outcome, accepted, readSide}
+use Rattle.text.specs.Limits.{TermIn, Within, Linear, IsLeft}
 use Rattle.text.proofs.Accepted.{rule-iff}
 use Rattle.terms.specs.declared.Term.{Term}
 use Rattle.terms.specs.declared.Field.{Field}
-use Rattle.terms.specs.declared.Rule.{Rule}
+use Rattle.terms.specs.declared.RuleSide.{RuleSide}
 use Rattle.canonical.specs.Filled.{filledTo}
 use Rattle.linearity.specs.Lists.{linear}
-use Rattle.terms.specs.Values.{viewTerm, viewField, viewRule, blankField, blankRule, encodeTerm, encodeField, encodeRule, oneField}
-use Rattle.accepted.specs.Accepted.{fieldOk, fieldBlank, acceptedRule, acceptedField}
+use Rattle.terms.specs.Values.{viewTerm, viewField, viewSide, blankField, blankSide, encodeTerm, encodeField, encodeSide, oneField}
+use Rattle.accepted.specs.Accepted.{fieldOk, fieldBlank, acceptedLeft, acceptedField}
 use Rattle.lists.specs.Truths.{both-is}
 use Rattle.linearity.proofs.Linear.{linear-is, linear-field}
 use Rattle.canonical.proofs.Arrays.{Stands, encode-one, Counted, counted}
@@ -32,7 +32,7 @@ use Rattle.canonical.proofs.Terms.{term-stands}
 abbrev field-parts : Counted Term Field
 field-parts = record { count = λ f. f .n; places = λ f. f .terms; make = λ n ts. record { n = n; terms = ts }; make-parts = λ f. refl; count-make = λ n ts. refl; places-make = λ n ts. refl }
 
-abbrev rule-parts : Counted Field Rule
+abbrev rule-parts : Counted Field RuleSide
 rule-parts = record { count = λ r. r .n; places = λ r. r .fields; make = λ n fs. record { n = n; fields = fs }; make-parts = λ r. refl; count-make = λ n fs. refl; places-make = λ n fs. refl }
 
 -- a field's terms, a rule's fields: not too many, each within its limits
@@ -42,13 +42,13 @@ FieldIn f = (length f ≤ rule .width) × All TermIn f
 abbrev pub RuleIn : List (List OurTerm) → Type 0
 RuleIn r = (length r ≤ mostFields) × All FieldIn r
 
-abbrev pub ruleOk : Rule → Bool
+abbrev pub ruleOk : RuleSide → Bool
 ruleOk r = filledTo mostFields fieldOk fieldBlank (r .n) (r .fields)
 
 pub field-stands : Stands viewField encodeField fieldOk fieldBlank blankField FieldIn
 field-stands = counted field-parts (rule .width) term-stands
 
-pub rule-stands : Stands viewRule encodeRule ruleOk (λ r. eqb (r .n) 0 && ruleOk r) blankRule RuleIn
+pub rule-stands : Stands viewSide encodeSide ruleOk (λ r. eqb (r .n) 0 && ruleOk r) blankSide RuleIn
 rule-stands = counted rule-parts mostFields field-stands
 
 -- ---- the limits of document 01
@@ -72,7 +72,7 @@ within-is w r =
     let b = all-both (λ f. length f ≤ w) (All TermIn) r in
     (λ h. (h .0, h .1, b .1 (h .2, h .3)), λ h. (h .0, h .1, b .0 (h .2) .0, b .0 (h .2) .1))
 
-pub rule-is : (r : List (List OurTerm)) → IsRule r ↔ (IsCons r × RuleIn r × Linear r)
+pub rule-is : (r : List (List OurTerm)) → IsLeft r ↔ (IsCons r × RuleIn r × Linear r)
 rule-is r = let i = within-is (rule .width) r in (λ h. let j = i .0 (h .0) in (j .0, (j .1, j .2), h .1), λ h. (i .1 (h .0, h .1 .0, h .1 .1), h .2))
 
 -- ---- there and back
@@ -82,11 +82,11 @@ view-encode-term t h = term-stands .view-encode t h
 pub view-encode-field : (ts : List OurTerm) → length ts ≤ rule .width → All TermIn ts → viewField (encodeField ts) ≡ ts
 view-encode-field ts k h = field-stands .view-encode ts (k, h)
 
-pub view-encode-rule : (r : List (List OurTerm)) → IsRule r → viewRule (encodeRule r) ≡ r
+pub view-encode-rule : (r : List (List OurTerm)) → IsLeft r → viewSide (encodeSide r) ≡ r
 view-encode-rule r h = rule-stands .view-encode r (rule-is r .0 h .1)
 
 -- THERE IS ONE VALUE for one rule
-pub encode-rule-one : (r s : List (List OurTerm)) → IsRule r → IsRule s → encodeRule r ≡ encodeRule s → r ≡ s
+pub encode-rule-one : (r s : List (List OurTerm)) → IsLeft r → IsLeft s → encodeSide r ≡ encodeSide s → r ≡ s
 encode-rule-one r s h k e = encode-one rule-stands r s (rule-is r .0 h .1) (rule-is s .0 k .1) e
 
 -- ---- accepted
@@ -94,24 +94,24 @@ encode-rule-one r s h k e = encode-one rule-stands r s (rule-is r .0 h .1) (rule
 pub count-is : (n : ℕ) (r : List (List OurTerm)) → length r ≡ n → (ltb 0 n ≡ true) ↔ IsCons r
 count-is n r e = (λ h. cons-is r .0 (omega (arith, ltb-true 0 n h)), λ h. lt-ltb 0 n (omega (arith, cons-is r .1 h)))
 
-pub encode-accepted-rule : (r : List (List OurTerm)) → IsRule r → acceptedRule (encodeRule r) ≡ true
+pub encode-accepted-rule : (r : List (List OurTerm)) → IsLeft r → acceptedLeft (encodeSide r) ≡ true
 encode-accepted-rule r h =
     let i = rule-is r .0 h in
-    let l : linear (viewRule (encodeRule r)) ≡ true = ap linear (view-encode-rule r h) ∙ linear-is r (h .0 .3) .1 (h .1) in
-    both-is (ltb 0 (length r)) (ruleOk (encodeRule r) && linear (viewRule (encodeRule r))) .1 (
+    let l : linear (viewSide (encodeSide r)) ≡ true = ap linear (view-encode-rule r h) ∙ linear-is r (h .0 .3) .1 (h .1) in
+    both-is (ltb 0 (length r)) (ruleOk (encodeSide r) && linear (viewSide (encodeSide r))) .1 (
       count-is (length r) r refl .1 (i .0),
-      both-is (ruleOk (encodeRule r)) (linear (viewRule (encodeRule r))) .1 (rule-stands .encode-good r (i .1), l),
+      both-is (ruleOk (encodeSide r)) (linear (viewSide (encodeSide r))) .1 (rule-stands .encode-good r (i .1), l),
     )
 
-pub accepted-rule : (v : Rule) → acceptedRule v ≡ true → IsRule (viewRule v) × (encodeRule (viewRule v) ≡ v)
+pub accepted-rule : (v : RuleSide) → acceptedLeft v ≡ true → IsLeft (viewSide v) × (encodeSide (viewSide v) ≡ v)
 accepted-rule v h =
-    let p = both-is (ltb 0 (v .n)) (ruleOk v && linear (viewRule v)) .0 h in
-    let q = both-is (ruleOk v) (linear (viewRule v)) .0 (p .1) in
+    let p = both-is (ltb 0 (v .n)) (ruleOk v && linear (viewSide v)) .0 h in
+    let q = both-is (ruleOk v) (linear (viewSide v)) .0 (p .1) in
     let e = rule-stands .encode-view v (q .0) in
     let i = rule-stands .view-in v (q .0) in
-    let c = count-is (v .n) (viewRule v) (ap (λ (r : Rule). r .n) e) .0 (p .0) in
-    let l = linear-is (viewRule v) (all-map FieldIn (All TermIn) (λ f k. k .1) (viewRule v) (i .1)) .0 (q .1) in
-    (rule-is (viewRule v) .1 (c, i, l), e)
+    let c = count-is (v .n) (viewSide v) (ap (λ (r : RuleSide). r .n) e) .0 (p .0) in
+    let l = linear-is (viewSide v) (all-map FieldIn (All TermIn) (λ f k. k .1) (viewSide v) (i .1)) .0 (q .1) in
+    (rule-is (viewSide v) .1 (c, i, l), e)
 
 -- ---- THE ACCEPTED VALUES are those that some text is read as
 abbrev pub ReadAs : {W : Type 0} → (List ℕ → Outcome) → (List (List OurTerm) → W) → W → Type 0
@@ -130,23 +130,23 @@ value-iff {W} good view encode read Is read-is from to v = (there, λ h. ap good
         let t = read-is (view v) .1 (a .0) in
         (t .0, view v, t .1, sym (a .1))
 
-pub rule-value-iff : (v : Rule) → (acceptedRule v ≡ true) ↔ ((t : List ℕ) × (r : List (List OurTerm)) × (readRule t ≡ accepted r) × (v ≡ encodeRule r))
-rule-value-iff = value-iff acceptedRule viewRule encodeRule readRule IsRule rule-iff accepted-rule encode-accepted-rule
+pub rule-value-iff : (v : RuleSide) → (acceptedLeft v ≡ true) ↔ ((t : List ℕ) × (r : List (List OurTerm)) × (readSide t ≡ accepted r) × (v ≡ encodeSide r))
+rule-value-iff = value-iff acceptedLeft viewSide encodeSide readSide IsLeft rule-iff accepted-rule encode-accepted-rule
 
 -- ---- THE ACCEPTED FIELDS are those that stand on some accepted rule's left side
-pub encode-accepted-field : (ts : List OurTerm) → IsRule (ts ∷ []) → acceptedField (encodeField ts) ≡ true
+pub encode-accepted-field : (ts : List OurTerm) → IsLeft (ts ∷ []) → acceptedField (encodeField ts) ≡ true
 encode-accepted-field ts h = encode-accepted-rule (ts ∷ []) h
 
-pub accepted-field : (f : Field) → acceptedField f ≡ true → IsRule (viewField f ∷ []) × (encodeField (viewField f) ≡ f)
-accepted-field f h = let a = accepted-rule (oneField f) h in (a .0, ap (λ (r : Rule). getD (r .fields) 0 blankField) (a .1))
+pub accepted-field : (f : Field) → acceptedField f ≡ true → IsLeft (viewField f ∷ []) × (encodeField (viewField f) ≡ f)
+accepted-field f h = let a = accepted-rule (oneField f) h in (a .0, ap (λ (r : RuleSide). getD (r .fields) 0 blankField) (a .1))
 
-one-rule : (r : List (List OurTerm)) (ts : List OurTerm) → IsRule r → List·Memᴰ ts r → IsRule (ts ∷ [])
+one-rule : (r : List (List OurTerm)) (ts : List OurTerm) → IsLeft r → List·Memᴰ ts r → IsLeft (ts ∷ [])
 one-rule r ts h m =
     let i = rule-is r .0 h in
     rule-is (ts ∷ []) .1 (tt, (omega arith, (all-mem FieldIn r ts (i .1 .1) m, tt)), linear-field r ts (i .2) m)
 
-pub field-value-iff : (f : Field) → (acceptedField f ≡ true) ↔ ((r : List (List OurTerm)) × (ts : List OurTerm) × IsRule r × List·Memᴰ ts r × (f ≡ encodeField ts))
+pub field-value-iff : (f : Field) → (acceptedField f ≡ true) ↔ ((r : List (List OurTerm)) × (ts : List OurTerm) × IsLeft r × List·Memᴰ ts r × (f ≡ encodeField ts))
 field-value-iff f = (to, λ h. ap acceptedField (h .4) ∙ encode-accepted-field (h .1) (one-rule (h .0) (h .1) (h .2) (h .3)))
   where
-    to : acceptedField f ≡ true → (r : List (List OurTerm)) × (ts : List OurTerm) × IsRule r × List·Memᴰ ts r × (f ≡ encodeField ts)
+    to : acceptedField f ≡ true → (r : List (List OurTerm)) × (ts : List OurTerm) × IsLeft r × List·Memᴰ ts r × (f ≡ encodeField ts)
     to h = let a = accepted-field f h in (viewField f ∷ [], viewField f, a .0, List·Memᴰ·head refl, sym (a .1))

@@ -7,9 +7,9 @@ use Rattle.text.specs.Sizes.{mostFields}
 use Rattle.text.specs.Terms.{OurTerm}
 use Rattle.text.specs.Read.{rule}
 use Rattle.terms.specs.declared.Field.{Field}
-use Rattle.terms.specs.declared.Rule.{Rule}
+use Rattle.terms.specs.declared.RuleSide.{RuleSide}
 use Rattle.linearity.specs.Lists.{linear}
-use Rattle.terms.specs.Values.{viewRule, oneField}
+use Rattle.terms.specs.Values.{viewSide, oneField}
 use Rattle.canonical.specs.Filled.{filledTo}
 use Rattle.canonical.specs.Terms.{termOk, termBlank}
 
@@ -19,17 +19,17 @@ fieldOk f = filledTo (rule .width) termOk termBlank (f .n) (f .terms)
 abbrev pub fieldBlank : Field → Bool
 fieldBlank f = eqb (f .n) 0 && fieldOk f
 
-abbrev pub acceptedRule : Rule → Bool
-acceptedRule r = ltb 0 (r .n) && (filledTo mostFields fieldOk fieldBlank (r .n) (r .fields) && linear (viewRule r))
+abbrev pub acceptedLeft : RuleSide → Bool
+acceptedLeft r = ltb 0 (r .n) && (filledTo mostFields fieldOk fieldBlank (r .n) (r .fields) && linear (viewSide r))
 
 -- document 01: a value "that no reading can return counts there as one with no fields"
-abbrev pub countedRule : Rule → List (List OurTerm)
-countedRule r = cond (acceptedRule r) (viewRule r) []
+abbrev pub countedLeft : RuleSide → List (List OurTerm)
+countedLeft r = cond (acceptedLeft r) (viewSide r) []
 
 -- ---- fields: one that stands on some accepted rule's left side stands there alone too
 
 abbrev pub acceptedField : Field → Bool
-acceptedField f = acceptedRule (oneField f)
+acceptedField f = acceptedLeft (oneField f)
 
 abbrev pub countedField : Field → List (List OurTerm)
-countedField f = countedRule (oneField f)
+countedField f = countedLeft (oneField f)

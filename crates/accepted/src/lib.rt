@@ -3,15 +3,15 @@ ghost use mathlib.Core.Path.{_≡_};
 ghost use mathlib.Core.Bool.{cond};
 ghost use Prim.Native.Nat.{min};
 ghost use Rattle.text.specs.Sizes.{mostFields};
-ghost use Rattle.terms.specs.Values.{viewTerm, viewField, viewRule};
+ghost use Rattle.terms.specs.Values.{viewTerm, viewField, viewSide};
 ghost use Rattle.linearity.specs.Lists.{addTerm, addField, linear};
 ghost use Rattle.canonical.specs.Filled.{filledTo};
-ghost use Rattle.accepted.specs.Accepted.{fieldOk, fieldBlank, acceptedRule, acceptedField};
+ghost use Rattle.accepted.specs.Accepted.{fieldOk, fieldBlank, acceptedLeft, acceptedField};
 use linearity::Lists;
 use order::Kind;
 use terms::Field;
 use terms::Form;
-use terms::Rule;
+use terms::RuleSide;
 use terms::Term;
 
 // The terms of a field are ones that reading can return, and the unused places are blank.
@@ -44,7 +44,7 @@ fn is_field_place(f: Field, used: bool) -> bool
     has_terms(f)
 }
 
-fn has_fields(r: Rule) -> bool
+fn has_fields(r: RuleSide) -> bool
     ensures { λ b. ⌜ b ≡ filledTo mostFields fieldOk fieldBlank (r .n) (r .fields) ⌝ }
 {
     let n = r.n;
@@ -97,8 +97,8 @@ fn add_field(l: Lists, f: Field) -> Lists
     now
 }
 
-fn is_linear(r: Rule) -> bool
-    ensures { λ b. ⌜ b ≡ linear (viewRule r) ⌝ }
+fn is_linear(r: RuleSide) -> bool
+    ensures { λ b. ⌜ b ≡ linear (viewSide r) ⌝ }
 {
     let n = least(r.n, 4);
     let mut l = Lists::none();
@@ -111,8 +111,8 @@ fn is_linear(r: Rule) -> bool
 }
 
 // Whether reading can return this rule.
-pub fn is_rule(r: Rule) -> bool
-    ensures { λ b. ⌜ b ≡ acceptedRule r ⌝ }
+pub fn is_left(r: RuleSide) -> bool
+    ensures { λ b. ⌜ b ≡ acceptedLeft r ⌝ }
 {
     if r.n == 0 {
         return false;
@@ -127,5 +127,5 @@ pub fn is_rule(r: Rule) -> bool
 pub fn is_field(f: Field) -> bool
     ensures { λ b. ⌜ b ≡ acceptedField f ⌝ }
 {
-    is_rule(terms::one_field(f))
+    is_left(terms::one_field(f))
 }

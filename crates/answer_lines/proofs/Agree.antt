@@ -15,7 +15,7 @@ use Rattle.theory.specs.Seqs.{concat-map}
 use Rattle.theory.proofs.Seqs.{concat-map-append}
 use Rattle.text.specs.Ascii.{newline}
 use Rattle.text.specs.Terms.{OurTerm}
-use Rattle.text.specs.Limits.{IsRule}
+use Rattle.text.specs.Limits.{IsLeft}
 use Rattle.instance.specs.Constants.{consts}
 use Rattle.unifiers.specs.Shapes.{fixed, free, Side, left, right, side-eq, Variable, of}
 use Rattle.unifiers.specs.Overlaps.{placeOf, firsts, namesOf, Mark, mark-eq, termOf, rename, numbersOf}
@@ -97,7 +97,7 @@ met : (fs : List (List Marked)) (t : Marked) → Any (λ f. Any (λ u. u ≡ t) 
 met fs (con c) h = tt
 met fs (var k m) h = h
 
-module _ (f g : List OurTerm) (is-f : IsRule (f ∷ [])) (is-g : IsRule (g ∷ [])) (σ : Bindings setting) (p : Problem) (h : Answered f g σ p) where
+module _ (f g : List OurTerm) (is-f : IsLeft (f ∷ [])) (is-g : IsLeft (g ∷ [])) (σ : Bindings setting) (p : Problem) (h : Answered f g σ p) where
   abbrev θ : OurState
   θ = h .state
 

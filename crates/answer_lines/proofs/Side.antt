@@ -19,7 +19,7 @@ use Rattle.theory.specs.Fillings.{Occurs}
 use Rattle.theory.proofs.Seqs.{concat-map-append}
 use Rattle.text.specs.Sizes.{largestNumber}
 use Rattle.text.specs.Terms.{OurTerm}
-use Rattle.text.specs.Limits.{TermIn, IsRule}
+use Rattle.text.specs.Limits.{TermIn, IsLeft}
 use Rattle.instance.proofs.Linear.{left-linear}
 use Rattle.unifiers.specs.Shapes.{fixed, free, Side, Variable, of}
 use Rattle.unifiers.specs.Overlaps.{termOf}
@@ -167,7 +167,7 @@ atoms-small = all-left Small atomVariables (ofKind list) (all-from Small every (
 
 -- ---- one side
 
-module _ (d : Side) (f : List OurTerm) (is-rule : IsRule (f ∷ [])) (σ : Bindings setting) (st : Fillings) (θ : OurState) (h : Holds st θ)
+module _ (d : Side) (f : List OurTerm) (is-rule : IsLeft (f ∷ [])) (σ : Bindings setting) (st : Fillings) (θ : OurState) (h : Holds st θ)
     (atoms : (x : Variable Basic ℕ) → σ (atomic (free x)) ≡ atomic (θ x) ∷ []) (place : ℕ) where
   in-terms : All TermIn f
   in-terms = is-rule .0 .3 .0

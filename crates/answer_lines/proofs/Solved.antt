@@ -6,7 +6,7 @@ use native.Mathlib.Omega.{arith}
 use lib.ListN.{getD}
 use Rattle.lists.specs.Seqs.{all-map}
 use Rattle.text.specs.Terms.{OurTerm}
-use Rattle.text.specs.Limits.{IsRule}
+use Rattle.text.specs.Limits.{IsLeft}
 use Rattle.unifiers.specs.Shapes.{fixed, free, left, right, of}
 use Rattle.terms.specs.Values.{encodeField}
 use Rattle.searching.specs.Problems.{atomic, listvar, Tm, Field, Bindings, solved, problem, namesIn}
@@ -30,7 +30,7 @@ marked-within (listvar n) h = h
 from-known : (A : Field setting) (σ : Bindings setting) (v : Items) → known.Listed σ (namesIn setting A) v → Listed A σ v
 from-known A σ v l = record { items = l .items; short = omega (arith, l .short); within = all-map Within (λ t. MarkedIn (markOf t)) marked-within (listValue A σ) (l .within) }
 
-module _ (f g : List OurTerm) (is-f : IsRule (f ∷ [])) (is-g : IsRule (g ∷ [])) (σ : Bindings setting) (u : List ℕ) (p : Problem) (h : Holds (fieldOn left f) (fieldOn right g) p (problem solved σ u)) where
+module _ (f g : List OurTerm) (is-f : IsLeft (f ∷ [])) (is-g : IsLeft (g ∷ [])) (σ : Bindings setting) (u : List ℕ) (p : Problem) (h : Holds (fieldOn left f) (fieldOn right g) p (problem solved σ u)) where
   answered : Answered f g σ p
   answered =
       let q = equation-of f g is-f is-g in

@@ -9,7 +9,7 @@ use lib.ListN.{length, take, length-append}
 use lib.Seq.{length-take-le, take-all}
 use Rattle.text.specs.Ascii.{newline}
 use Rattle.text.specs.Plain.{plain}
-use Rattle.text.specs.Read.{Reason, long, rule, slip, Outcome, refused, accepted, readRule, readSlip}
+use Rattle.text.specs.Read.{Reason, long, rule, slip, Outcome, refused, accepted, readSide, readSlip}
 use Rattle.text.proofs.Read.{read-refused}
 use Rattle.text.proofs.Refused.{rule-place, slip-place}
 use Rattle.text.proofs.Accepted.{rule-read, rule-length}
@@ -23,9 +23,9 @@ refusal-length r p h = omega (arith, number-at-length r p h)
 
 rule-answer-length : (t : List ℕ) → length (ruleAnswer t) ≤ 1157
 unfolding ruleAnswer
-rule-answer-length t = omega (arith, length-append (ruleText (readRule t)) newline, go (readRule t) refl)
+rule-answer-length t = omega (arith, length-append (ruleText (readSide t)) newline, go (readSide t) refl)
   where
-    go : (o : Outcome) → readRule t ≡ o → length (ruleText o) ≤ 1151
+    go : (o : Outcome) → readSide t ≡ o → length (ruleText o) ≤ 1151
     go (refused r p) e = omega (arith, refusal-length r p (omega (arith, rule-place t r p e)))
     go (accepted x) e = rule-length x (rule-read t x e .0)
 
@@ -43,7 +43,7 @@ texts-short t = omega (arith, length-append (ruleAnswer t) (slipAnswer t), rule-
 
 -- ---- ONLY THE FIRST 8,193 BYTES of a line matter: a longer text is refused by 1 whatever it holds
 
-long-rule : (t : List ℕ) → rule .bytes < length t → readRule t ≡ refused long (rule .bytes)
+long-rule : (t : List ℕ) → rule .bytes < length t → readSide t ≡ refused long (rule .bytes)
 long-rule t h = read-refused rule t long (rule .bytes) .1 (inl (refl, (h, refl)))
 
 long-slip : (t : List ℕ) → slip .bytes < length t → readSlip t ≡ refused long (slip .bytes)

@@ -2,7 +2,7 @@
 use mathlib.Core.List.{List, _++_}
 use Prim.Native.Nat.{ℕ}
 use Rattle.text.specs.Plain.{plain}
-use Rattle.text.specs.Read.{Reason, number, Outcome, refused, accepted, readRule, readSlip}
+use Rattle.text.specs.Read.{Reason, number, Outcome, refused, accepted, readSide, readSlip}
 use Rattle.text.specs.Ascii.{ascii, newline}
 use Rattle.pieces.specs.Refusals.{numberAt}
 
@@ -19,7 +19,7 @@ slipText (refused r p) = refusalText r p
 slipText (accepted x) = ascii "read"
 
 unfoldable pub ruleAnswer : List ℕ → List ℕ
-ruleAnswer t = ascii "rule " ++ ruleText (readRule t) ++ newline
+ruleAnswer t = ascii "rule " ++ ruleText (readSide t) ++ newline
 
 unfoldable pub slipAnswer : List ℕ → List ℕ
 slipAnswer t = ascii "slip " ++ slipText (readSlip t) ++ newline

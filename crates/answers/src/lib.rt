@@ -3,14 +3,14 @@
 ghost use mathlib.Core.Path.{_≡_};
 ghost use lib.ListN.{length};
 ghost use Rattle.text.specs.Plain.{plain};
-ghost use Rattle.accepted.specs.Accepted.{countedRule};
+ghost use Rattle.accepted.specs.Accepted.{countedLeft};
 ghost use Rattle.writing.specs.Answers.{Writes};
 ghost use Rattle.text.specs.Ascii.{ascii, newline};
 ghost use Rattle.pieces.specs.Placed.{Placed};
 ghost use Rattle.answers.specs.Texts.{ruleAnswer, slipAnswer, textsAnswer};
 ghost use Rattle.answers.specs.Verdicts.{verdictText, ruleSaid};
 use reading::RuleRead;
-use terms::Rule;
+use terms::RuleSide;
 use verdicts::Verdict;
 use writing::Written;
 
@@ -23,8 +23,8 @@ fn put_newline(out: &mut [u8], at: usize) -> usize
 }
 
 // A rule's plain text, which has at most 1,151 bytes.
-fn put_rule(r: Rule, out: &mut [u8], at: usize) -> usize
-    ensures { λ p. ⌜ Placed (plain (countedRule r)) at (now (out .entry)) p (now (out .exit)) ⌝ }
+fn put_rule(r: RuleSide, out: &mut [u8], at: usize) -> usize
+    ensures { λ p. ⌜ Placed (plain (countedLeft r)) at (now (out .entry)) p (now (out .exit)) ⌝ }
 {
     let mut text = [0u8; 1151];
     let size = pieces::size_of(plain_text::write_rule(r, &mut text));

@@ -18,8 +18,8 @@ use Rattle.text.specs.Terms.{OurTerm}
 use Rattle.instance.specs.Constants.{consts}
 use Rattle.terms.specs.declared.Term.{Term}
 use Rattle.terms.specs.declared.Field.{Field}
-use Rattle.terms.specs.declared.Rule.{Rule}
-use Rattle.terms.specs.Values.{blankField, encodeTerm, encodeField, encodeRule}
+use Rattle.terms.specs.declared.RuleSide.{RuleSide}
+use Rattle.terms.specs.Values.{blankField, encodeTerm, encodeField, encodeSide}
 use Rattle.unifiers.specs.Shapes.{fixed, free, of}
 use Rattle.unifiers.specs.Candidates.{Cand, exact, long, before, cands}
 use Rattle.unifiers.specs.Joins.{resolve}
@@ -200,7 +200,7 @@ pub fields-there : (Ss : List OurShape) (r : List Field) → FieldsFrom 0 (map e
 fields-there [] r = tt
 fields-there (S ∷ Ss) r = (refl, fields-behind (encodeField (shapeTerms S)) 0 (map encodeField (map shapeTerms Ss) ++ r) Ss (fields-there Ss r))
 
-module _ (st : Fillings) (s : OurState) (h : Holds st s) (l r : Rule) (ch : Choice) where
+module _ (st : Fillings) (s : OurState) (h : Holds st s) (l r : RuleSide) (ch : Choice) where
   fields-agree : (g : ℕ) (Ss Ts : List OurShape) (cs : List Cand) → All ShapeIn Ss → All ShapeIn Ts
       → FieldsFrom g (l .fields) Ss → FieldsFrom g (r .fields) Ts → HoldsFrom g ch Ss Ts cs
       → tabulate (length Ss) (λ i. wideAt l r ch st (g + i)) ≡ map encodeWide (map (map markTerm) (map fieldOf (map (mapShape (resolve basics consts names s)) (fieldsFor g Ss Ts cs))))
@@ -222,18 +222,18 @@ module _ (st : Fillings) (s : OurState) (h : Holds st s) (l r : Rule) (ch : Choi
 -- THE ENTRY of a whole choice
 pub entry-agree : (st : Fillings) (s : OurState) → Holds st s
     → (Ss Ts : List OurShape) → length Ss ≤ mostFields → All ShapeIn Ss → All ShapeIn Ts → (cs : List Cand) (ch : Choice) → ChoiceHolds ch Ss Ts cs
-    → entryOf (encodeRule (map shapeTerms Ss)) (encodeRule (map shapeTerms Ts)) ch st ≡ entryValue (markedFields basics consts ℕ-discrete Ss Ts (cs, s))
+    → entryOf (encodeSide (map shapeTerms Ss)) (encodeSide (map shapeTerms Ts)) ch st ≡ entryValue (markedFields basics consts ℕ-discrete Ss Ts (cs, s))
 entry-agree st s h Ss Ts few p q cs ch k =
     ap (λ (n : ℕ). entryFrom a n 0 blankEntry) count
     ∙ walk-fold pushedField a (length Ss) 0 blankEntry
     ∙ ap (foldl pushedField blankEntry) fields
     ∙ push-all mostFields encodeEntry encodeWide pushedField push-field-agrees [] fs (omega (arith, long-as-table encodeWide (length Ss) (λ i. a (0 + i)) fs fields))
   where
-    left : Rule
-    left = encodeRule (map shapeTerms Ss)
+    left : RuleSide
+    left = encodeSide (map shapeTerms Ss)
 
-    right : Rule
-    right = encodeRule (map shapeTerms Ts)
+    right : RuleSide
+    right = encodeSide (map shapeTerms Ts)
 
     a : ℕ → Wide
     a = wideAt left right ch st

@@ -9,7 +9,7 @@ use lib.ListN.{length, getD, set}
 use Rattle.text.specs.Sizes.{mostFields}
 use Rattle.terms.specs.declared.Term.{Term}
 use Rattle.terms.specs.declared.Field.{Field}
-use Rattle.terms.specs.declared.Rule.{Rule}
+use Rattle.terms.specs.declared.RuleSide.{RuleSide}
 use Rattle.terms.specs.Values.{blankField}
 use Rattle.shapes.specs.declared.Shape.{Shape}
 use Rattle.rows.specs.declared.Cell.{Cell}
@@ -75,7 +75,7 @@ module _ (f g : List Term) (n from to : ℕ) (st : Fillings) (w : Wide) where
 abbrev pub no-field : Field
 no-field = record { n = 0; terms = [] }
 
-module _ (l r : Rule) (c : Choice) (st : Fillings) where
+module _ (l r : RuleSide) (c : Choice) (st : Fillings) where
   abbrev add : ℕ → Entry → Entry
   add j e = pushedField e (wideAt l r c st j)
 

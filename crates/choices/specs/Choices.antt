@@ -9,7 +9,7 @@ use Rattle.order.specs.Order.{list}
 use Rattle.theory.specs.Terms.{var}
 use Rattle.text.specs.Sizes.{mostFields}
 use Rattle.terms.specs.declared.Term.{Term}
-use Rattle.terms.specs.declared.Rule.{Rule}
+use Rattle.terms.specs.declared.RuleSide.{RuleSide}
 use Rattle.terms.specs.Values.{blankField, encodeTerm}
 use Rattle.shapes.specs.Shapes.{termsOf, shapeValue}
 use Rattle.rows.specs.Rows.{mergedValue}
@@ -64,12 +64,12 @@ wideValue f g n long place st =
 abbrev pub pushedField : Entry → Wide → Entry
 pushedField e w = cond (leb mostFields (e .n)) e (record { n = e .n + 1; fields = set (e .fields) (e .n) w })
 
-abbrev pub wideAt : Rule → Rule → Choice → Fillings → ℕ → Wide
+abbrev pub wideAt : RuleSide → RuleSide → Choice → Fillings → ℕ → Wide
 wideAt l r c st j = wideValue (termsOf (getD (l .fields) j blankField)) (termsOf (getD (r .fields) j blankField)) (getD (c .sizes) j 0) (getD (c .longs) j false) j st
 
 -- the fields from j on, k of them, behind those of e
 abbrev pub entryFrom : (ℕ → Wide) → ℕ → ℕ → Entry → Entry
 entryFrom a k j e = walk (λ i x. pushedField x (a i)) k j e
 
-abbrev pub entryOf : Rule → Rule → Choice → Fillings → Entry
+abbrev pub entryOf : RuleSide → RuleSide → Choice → Fillings → Entry
 entryOf l r c st = entryFrom (wideAt l r c st) (min (l .n) mostFields) 0 blankEntry

@@ -17,7 +17,7 @@ use Rattle.theory.specs.Linear.{LeftLinear}
 use Rattle.theory.proofs.Fillings.{fills-agree}
 use Rattle.text.specs.Sizes.{largestNumber, mostFields}
 use Rattle.text.specs.Terms.{Con, OurTerm}
-use Rattle.text.specs.Limits.{TermIn, IsRule}
+use Rattle.text.specs.Limits.{TermIn, IsLeft}
 use Rattle.instance.specs.Constants.{consts, some-of, some-of-le}
 use Rattle.instance.proofs.Linear.{left-linear}
 use Rattle.unifiers.specs.Substitutions.{Subst, substitute, TermsOf, TypedSubst}
@@ -48,7 +48,7 @@ pub record Filled (rule : List (List OurTerm)) (bs : List Binding) (ψ : Filling
 abbrev bound : Subst Con Kind ℕ ℕ → Variable → Binding
 bound σ v = record { kind = v .0; number = v .1; value = σ (v .0) (v .1) }
 
-filled-by : (rule : List (List OurTerm)) → IsRule rule → (σ : Subst Con Kind ℕ ℕ) (ψ : Filling Con Kind ℕ) (w : List (List Con))
+filled-by : (rule : List (List OurTerm)) → IsLeft rule → (σ : Subst Con Kind ℕ ℕ) (ψ : Filling Con Kind ℕ) (w : List (List Con))
     → Typed basics consts (λ k n. fill ψ (σ k n)) → map (fill (λ k n. fill ψ (σ k n))) rule ≡ w → Filled rule (bindingsOf rule σ) ψ w
 filled-by rule is σ ψ w t h =
     record {
@@ -69,7 +69,7 @@ pub record Sized (l : Line) : Type 0 where
   pub short : All (λ f. length f ≤ 31) (l .fields)
   pub small : (k : Kind) (n : ℕ) → Any (Occurs k n) (l .fields) → n ≤ 31
 
-module _ (r₁ r₂ : List (List OurTerm)) (is₁ : IsRule r₁) (is₂ : IsRule r₂) where
+module _ (r₁ r₂ : List (List OurTerm)) (is₁ : IsLeft r₁) (is₂ : IsLeft r₂) where
   lin₁ : LeftLinear r₁
   lin₁ = left-linear r₁ (is₁ .1)
 
@@ -103,7 +103,7 @@ module _ (r₁ r₂ : List (List OurTerm)) (is₁ : IsRule r₁) (is₂ : IsRule
       b = entries.fillings-right basics consts ℕ-discrete r₁ r₂ lin₁ lin₂ (e .0) (e .1) w ψ t fills
 
   -- a rule's variables have the numbers 0 to 15
-  number-in : (r : List (List OurTerm)) → IsRule r → (k : Kind) (n : ℕ) → Any (Occurs k n) r → List·Memᴰ n numbers
+  number-in : (r : List (List OurTerm)) → IsLeft r → (k : Kind) (n : ℕ) → Any (Occurs k n) r → List·Memᴰ n numbers
   number-in r is k n o =
       let v = keep-mem (λ (v : Variable). occurs (v .0) (v .1) r) (k, n) every .0 (in-variables r (is .0 .3) k n .1 o) in
       let h : n ≤ largestNumber = every-mem k n .0 (v .0) in

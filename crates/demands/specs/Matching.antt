@@ -1,7 +1,7 @@
 -- DEMAND 2, its first sentence: "A rule matches a slip exactly when some filling of its variables, each by its type, makes the two equal
 -- under GP 2's associativity and unit laws."
 -- Over the definition that the contract cites, for a rule value v and a slip value w:
---     matching::match_rule   answers `matchOf (countedRule v) (countedSlip w)`
+--     matching::match_rule   answers `matchOf (countedLeft v) (countedSlip w)`
 use mathlib.Core.Path.{_≡_, refl, sym, _∙_, ap, ap₂, subst}
 use mathlib.Core.Logic.{_↔_, Iff·trans, inl, inr}
 use mathlib.Core.Bool.{Bool, true, false, cond, false≢true}
@@ -21,8 +21,8 @@ use Rattle.theory.specs.Matcher.{complete}
 use Rattle.text.specs.Grammar.{Raw, Says}
 use Rattle.text.specs.Sizes.{largestNumber}
 use Rattle.text.specs.Terms.{Con, OurTerm, fieldsOf}
-use Rattle.text.specs.Limits.{TermIn, IsCon, IsRule, IsSlip}
-use Rattle.text.specs.Read.{Outcome, refused, accepted, readRule, readSlip}
+use Rattle.text.specs.Limits.{TermIn, IsCon, IsLeft, IsSlip}
+use Rattle.text.specs.Read.{Outcome, refused, accepted, readSide, readSlip}
 use Rattle.text.proofs.Parse.{says-one}
 use Rattle.text.proofs.Accepted.{rule-read, slip-read}
 use Rattle.text.proofs.Theorems.{rule-accepted, slip-accepted}
@@ -31,10 +31,10 @@ use Rattle.instance.specs.Matching.{constants, Matches, matcher}
 use Rattle.instance.specs.Written.{writtenField}
 use Rattle.instance.proofs.Written.{written-matches, terms-matches}
 use Rattle.instance.proofs.Matching.{match-iff, match-is, match-yes, match-blank}
-use Rattle.terms.specs.declared.Rule.{Rule}
+use Rattle.terms.specs.declared.RuleSide.{RuleSide}
 use Rattle.terms.specs.declared.Slip.{Slip}
-use Rattle.terms.specs.Values.{blankTerm, encodeTerm, encodeRule, encodeSlip, viewRule, viewSlip}
-use Rattle.accepted.specs.Accepted.{acceptedRule, countedRule}
+use Rattle.terms.specs.Values.{blankTerm, encodeTerm, encodeSide, encodeSlip, viewSide, viewSlip}
+use Rattle.accepted.specs.Accepted.{acceptedLeft, countedLeft}
 use Rattle.accepted_slips.specs.Slips.{acceptedSlip, countedSlip}
 use Rattle.accepted.proofs.Accepted.{rule-is, accepted-rule, encode-accepted-rule, view-encode-rule}
 use Rattle.accepted_slips.proofs.Slips.{slip-is, accepted-slip, encode-accepted-slip, view-encode-slip}
@@ -86,7 +86,7 @@ number-in k n [] i o = absurd o
 number-in k n (f ∷ r) i (inl o) = occurs-in k n f (i .0) o
 number-in k n (f ∷ r) i (inr o) = number-in k n r (i .1) o
 
-module _ (rule : List (List OurTerm)) (is-rule : IsRule rule) (slip : List (List Con)) (φ : Filling Con Kind ℕ)
+module _ (rule : List (List OurTerm)) (is-rule : IsLeft rule) (slip : List (List Con)) (φ : Filling Con Kind ℕ)
     (yes-φ : matcher rule slip ≡ some φ)
   where
     abbrev shown : FillingValue
@@ -125,29 +125,29 @@ module _ (rule : List (List OurTerm)) (is-rule : IsRule rule) (slip : List (List
 -- ---- the answer
 
 -- the text t is read as the rule value v, the text u as the slip value w
-abbrev pub ReadAsRule : List ℕ → Rule → Type 0
+abbrev pub ReadAsRule : List ℕ → RuleSide → Type 0
 ReadAsRule t v = ReadsRule t (record { verdict = Accepted; rule = v })
 
 abbrev pub ReadAsSlip : List ℕ → Slip → Type 0
 ReadAsSlip u w = ReadsSlip u (record { verdict = Accepted; slip = w })
 
 -- WHAT MATCHING ANSWERS of a rule value v and a slip value w
-pub record Matching (v : Rule) (w : Slip) (m : Match) : Type 0 where
+pub record Matching (v : RuleSide) (w : Slip) (m : Match) : Type 0 where
   -- DEMAND 2's sentence, of values that reading returns: their fields as one writes them, equal by the laws
-  pub exactly : acceptedRule v ≡ true → acceptedSlip w ≡ true
-      → (m .yes ≡ true) ↔ MatchesByLaws basics consts (map expr (viewRule v)) (map expr (viewSlip w))
+  pub exactly : acceptedLeft v ≡ true → acceptedSlip w ≡ true
+      → (m .yes ≡ true) ↔ MatchesByLaws basics consts (map expr (viewSide v)) (map expr (viewSlip w))
   -- the same as they are written: whatever texts t and u are read as the two, which say x and y
   pub as-written : (t u : List ℕ) → ReadAsRule t v → ReadAsSlip u w → (x y : List (List Raw)) → Says t x → Says u y
       → (m .yes ≡ true) ↔ MatchesByLaws basics consts (map writtenField x) (map writtenField y)
   -- and of the rule's terms and the slip's constants: some filling, each variable by its type, fills the one to the other
-  pub on-terms : acceptedRule v ≡ true → acceptedSlip w ≡ true → (m .yes ≡ true) ↔ Matches (viewRule v) (map constants (viewSlip w))
+  pub on-terms : acceptedLeft v ≡ true → acceptedSlip w ≡ true → (m .yes ≡ true) ↔ Matches (viewSide v) (map constants (viewSlip w))
   -- the one filling, where the answer is yes
-  pub filling : acceptedRule v ≡ true → acceptedSlip w ≡ true → m .yes ≡ true
-      → (φ : Filling Con Kind ℕ) × Shows (viewRule v) (map constants (viewSlip w)) (m .filling) φ
+  pub filling : acceptedLeft v ≡ true → acceptedSlip w ≡ true → m .yes ≡ true
+      → (φ : Filling Con Kind ℕ) × Shows (viewSide v) (map constants (viewSlip w)) (m .filling) φ
   -- "no with the blank filling (every number zero)"
   pub no-blank : m .yes ≡ false → m ≡ noMatch
   -- "A rule or slip with no fields gives no", and so does a value that no reading returns
-  pub unread-rule : acceptedRule v ≡ false → m ≡ noMatch
+  pub unread-rule : acceptedLeft v ≡ false → m ≡ noMatch
   pub unread-slip : acceptedSlip w ≡ false → m ≡ noMatch
 
 found-yes : (r : List (List OurTerm)) (ws : List (List Con)) (m : Option (Filling Con Kind ℕ)) → (found r ws m .yes ≡ true) ↔ IsSome m
@@ -155,21 +155,21 @@ found-yes r ws none = (λ e. absurd (false≢true e), λ h. absurd h)
 found-yes r ws (some φ) = (λ e. tt, λ h. refl)
 
 -- accepted values
-module _ (v : Rule) (w : Slip) (accepted-v : acceptedRule v ≡ true) (accepted-w : acceptedSlip w ≡ true) where
+module _ (v : RuleSide) (w : Slip) (accepted-v : acceptedLeft v ≡ true) (accepted-w : acceptedSlip w ≡ true) where
   abbrev rule : List (List OurTerm)
-  rule = viewRule v
+  rule = viewSide v
 
   abbrev slip : List (List Con)
   slip = map constants (viewSlip w)
 
-  is-rule : IsRule rule
+  is-rule : IsLeft rule
   is-rule = accepted-rule v accepted-v .0
 
   is-slip : IsSlip (viewSlip w)
   is-slip = accepted-slip w accepted-w .0
 
   abbrev answer : Match
-  answer = matchOf (countedRule v) (countedSlip w)
+  answer = matchOf (countedLeft v) (countedSlip w)
 
   answer-is : answer ≡ found rule slip (matcher rule slip)
   answer-is =
@@ -209,21 +209,21 @@ module _ (v : Rule) (w : Slip) (accepted-v : acceptedRule v ≡ true) (accepted-
 abbrev SaysFields : List ℕ → List (List OurTerm) → Type 0
 SaysFields t r = (x : List (List Raw)) → Says t x → fieldsOf x ≡ r
 
-read-rule : (t : List ℕ) (v : Rule) → ReadAsRule t v → (acceptedRule v ≡ true) × SaysFields t (viewRule v)
-read-rule t v reads = go (readRule t) refl reads
+read-rule : (t : List ℕ) (v : RuleSide) → ReadAsRule t v → (acceptedLeft v ≡ true) × SaysFields t (viewSide v)
+read-rule t v reads = go (readSide t) refl reads
   where
-    go : (a : Outcome) → readRule t ≡ a → record { verdict = Accepted; rule = v } ≡ ruleRead a
-        → (acceptedRule v ≡ true) × SaysFields t (viewRule v)
+    go : (a : Outcome) → readSide t ≡ a → record { verdict = Accepted; rule = v } ≡ ruleRead a
+        → (acceptedLeft v ≡ true) × SaysFields t (viewSide v)
     go (refused o p) is e =
         let d : Accepted ≡ Refused (reasonFrom o) p = ap (λ (r : RuleRead). r .verdict) e in
         let z : _≡_ {A = ℕ} 0 1 = cc in
         absurd (omega arith)
     go (accepted r) is e =
         let h = rule-read t r is in
-        let held : v ≡ encodeRule r = ap (λ (x : RuleRead). x .rule) e in
+        let held : v ≡ encodeSide r = ap (λ (x : RuleRead). x .rule) e in
         let said = rule-accepted t r .0 is .1 in (
-          ap acceptedRule held ∙ encode-accepted-rule r h,
-          λ x says. ap fieldsOf (says-one t x (said .0) says (said .1)) ∙ said .2 ∙ sym (ap viewRule held ∙ view-encode-rule r h),
+          ap acceptedLeft held ∙ encode-accepted-rule r h,
+          λ x says. ap fieldsOf (says-one t x (said .0) says (said .1)) ∙ said .2 ∙ sym (ap viewSide held ∙ view-encode-rule r h),
         )
 
 read-slip : (u : List ℕ) (w : Slip) → ReadAsSlip u w → (acceptedSlip w ≡ true) × SaysFields u (viewSlip w)
@@ -254,10 +254,10 @@ no-is-blank (f ∷ r) (w ∷ s) e = go (matcher (f ∷ r) (map constants (w ∷ 
     go (some φ) y = absurd (false≢true (sym y))
 
 -- MATCHING, of what the contract answers
-pub matching : (v : Rule) (w : Slip) (m : Match) → m ≡ matchOf (countedRule v) (countedSlip w) → Matching v w m
+pub matching : (v : RuleSide) (w : Slip) (m : Match) → m ≡ matchOf (countedLeft v) (countedSlip w) → Matching v w m
 matching v w m is = subst (Matching v w) (sym is) of-answer
   where
-    of-answer : Matching v w (matchOf (countedRule v) (countedSlip w))
+    of-answer : Matching v w (matchOf (countedLeft v) (countedSlip w))
     of-answer = record {
       exactly = yes-laws v w;
       as-written = λ t u reads reads-slip x y says says-slip.
@@ -266,7 +266,7 @@ matching v w m is = subst (Matching v w) (sym is) of-answer
           yes-written v w (a .0) (b .0) x y (a .1 x says) (b .1 y says-slip);
       on-terms = yes-iff v w;
       filling = the-filling v w;
-      no-blank = no-is-blank (countedRule v) (countedSlip w);
+      no-blank = no-is-blank (countedLeft v) (countedSlip w);
       unread-rule = λ e. sym (not-rule v w e);
       unread-slip = λ e. sym (not-slip v w e);
     }

@@ -3,7 +3,7 @@
 -- entry has a slip. No list of solutions, written with our terms, that covers all shared slips has fewer solutions than the returned entry
 -- count. The only premise is that the lent buffer has room for the whole list."
 -- Over the relations that the contracts cite, for the lent bytes `old`, the answer r and the bytes `new` afterwards:
---     overlaps::list_overlaps   of rule values v and w   `Lists (countedRule v) (countedRule w) old r new`
+--     overlaps::list_overlaps   of rule values v and w   `Lists (countedLeft v) (countedLeft w) old r new`
 --     overlaps::list_texts      of texts t and u         `TextsList t u old r new`
 -- src/ has functions that call these and ensure what is said here.
 use mathlib.Core.Path.{_≡_, refl, sym, _∙_, ap, ap₂, subst}
@@ -23,8 +23,8 @@ use Rattle.order.specs.Types.{Kind, basics}
 use Rattle.theory.specs.Fillings.{Filling, Typed, fill}
 use Rattle.text.specs.Told.{Told}
 use Rattle.text.specs.Terms.{Con, OurTerm}
-use Rattle.text.specs.Limits.{IsRule}
-use Rattle.text.specs.Read.{Reason, Outcome, refused, accepted, readRule}
+use Rattle.text.specs.Limits.{IsLeft}
+use Rattle.text.specs.Read.{Reason, Outcome, refused, accepted, readSide}
 use Rattle.text.proofs.Accepted.{rule-read}
 use Rattle.instance.specs.Constants.{consts}
 use Rattle.instance.specs.Matching.{Matches}
@@ -33,9 +33,9 @@ use Rattle.listing.specs.Overlaps.{linesOf, overlapText}
 use Rattle.listing.specs.Fits.{OurSlip, Fits, Shows, Solution, Covers}
 use Rattle.listing.proofs.Lines.{lines-one}
 use Rattle.listing.proofs.Exact.{lines-exact, lines-once, lines-fillings, lines-slips, lines-least, lines-writable}
-use Rattle.terms.specs.declared.Rule.{Rule}
-use Rattle.terms.specs.Values.{viewRule, encodeRule}
-use Rattle.accepted.specs.Accepted.{acceptedRule, countedRule}
+use Rattle.terms.specs.declared.RuleSide.{RuleSide}
+use Rattle.terms.specs.Values.{viewSide, encodeSide}
+use Rattle.accepted.specs.Accepted.{acceptedLeft, countedLeft}
 use Rattle.accepted.proofs.Accepted.{accepted-rule, encode-accepted-rule, view-encode-rule, rule-value-iff}
 use Rattle.verdicts.specs.declared.Verdict.the-variants.{Accepted, Refused}
 use Rattle.verdicts.specs.Verdicts.{reasonFrom, verdictOf}
@@ -95,7 +95,7 @@ pub record RefusedByRoom (x y : List (List OurTerm)) (old : List ℕ) (r : Liste
 
 -- ---- for the rules that reading returns
 
-pub of-rules : (B : Type 0) (r₁ r₂ : List (List OurTerm)) → IsRule r₁ → IsRule r₂
+pub of-rules : (B : Type 0) (r₁ r₂ : List (List OurTerm)) → IsLeft r₁ → IsLeft r₂
     → Demand3 B r₁ r₂ (length (linesOf r₁ r₂)) (overlapText r₁ r₂)
 of-rules B r₁ r₂ a b =
     record {
@@ -119,7 +119,7 @@ module _ {x y : List (List OurTerm)} {old : List ℕ} {r : Listed} {new : List �
   abbrev counts : List ℕ
   counts = length (linesOf x y) ∷ length text ∷ []
 
-  pub rules-3 : (B : Type 0) → IsRule x → IsRule y → length text ≤ length old → SharedSlips B x y old r new
+  pub rules-3 : (B : Type 0) → IsLeft x → IsLeft y → length text ≤ length old → SharedSlips B x y old r new
   rules-3 B a b room =
       record {
         answer = lists .answer ∙ ap (λ (f : Bool). record { number = cond f none (some 8); values = counts }) fits;
@@ -193,44 +193,44 @@ module _ {x y : List (List OurTerm)} {old : List ℕ} {r : Listed} {new : List �
 
 -- ---- of rule values, which no reading need have returned
 
-is-rule : (v : Rule) → acceptedRule v ≡ true → IsRule (countedRule v)
+is-rule : (v : RuleSide) → acceptedLeft v ≡ true → IsLeft (countedLeft v)
 is-rule v h = along (accepted-rule v h .0)
   where
-    along : IsRule (viewRule v) → IsRule (countedRule v)
+    along : IsLeft (viewSide v) → IsLeft (countedLeft v)
     along k = rw (h) k
 
-not-counted : (v : Rule) → acceptedRule v ≡ false → countedRule v ≡ []
-not-counted v e = ap (λ (b : Bool). cond b (viewRule v) []) e
+not-counted : (v : RuleSide) → acceptedLeft v ≡ false → countedLeft v ≡ []
+not-counted v e = ap (λ (b : Bool). cond b (viewSide v) []) e
 
-module _ (v w : Rule) {old : List ℕ} {r : Listed} {new : List ℕ} (lists : Lists (countedRule v) (countedRule w) old r new) where
+module _ (v w : RuleSide) {old : List ℕ} {r : Listed} {new : List ℕ} (lists : Lists (countedLeft v) (countedLeft w) old r new) where
   -- THE THEOREM, of what `list_overlaps` answers and leaves
-  pub demand-3 : (B : Type 0) → acceptedRule v ≡ true → acceptedRule w ≡ true
-      → length (overlapText (countedRule v) (countedRule w)) ≤ length old → SharedSlips B (countedRule v) (countedRule w) old r new
+  pub demand-3 : (B : Type 0) → acceptedLeft v ≡ true → acceptedLeft w ≡ true
+      → length (overlapText (countedLeft v) (countedLeft w)) ≤ length old → SharedSlips B (countedLeft v) (countedLeft w) old r new
   demand-3 B a b room = rules-3 lists B (is-rule v a) (is-rule w b) room
 
-  pub not-accepted-left : acceptedRule v ≡ false → NoneListed old r new
+  pub not-accepted-left : acceptedLeft v ≡ false → NoneListed old r new
   not-accepted-left e = no-fields-left lists (not-counted v e)
 
-  pub not-accepted-right : acceptedRule w ≡ false → NoneListed old r new
+  pub not-accepted-right : acceptedLeft w ≡ false → NoneListed old r new
   not-accepted-right e = no-fields-right lists (not-counted w e)
 
 -- "In demand 3 a rule is accepted when reading some text returns it with fields"
-pub accepted-iff : (v : Rule)
-    → (acceptedRule v ≡ true) ↔ ((t : List ℕ) × (x : List (List OurTerm)) × (readRule t ≡ accepted x) × (v ≡ encodeRule x))
+pub accepted-iff : (v : RuleSide)
+    → (acceptedLeft v ≡ true) ↔ ((t : List ℕ) × (x : List (List OurTerm)) × (readSide t ≡ accepted x) × (v ≡ encodeSide x))
 accepted-iff = rule-value-iff
 
 -- a value that reading a text returns counts as the rule that the text says
-read-is : (t : List ℕ) (x : List (List OurTerm)) → readRule t ≡ accepted x → countedRule (encodeRule x) ≡ x
+read-is : (t : List ℕ) (x : List (List OurTerm)) → readSide t ≡ accepted x → countedLeft (encodeSide x) ≡ x
 read-is t x e = let h = rule-read t x e in rw (encode-accepted-rule x h, view-encode-rule x h)
 
 -- the same of the values that reading the texts t and u returns
 pub values-demand-3 : (B : Type 0) (t u : List ℕ) (x y : List (List OurTerm)) {old : List ℕ} {r : Listed} {new : List ℕ}
-    → readRule t ≡ accepted x → readRule u ≡ accepted y
-    → Lists (countedRule (encodeRule x)) (countedRule (encodeRule y)) old r new → length (overlapText x y) ≤ length old
+    → readSide t ≡ accepted x → readSide u ≡ accepted y
+    → Lists (countedLeft (encodeSide x)) (countedLeft (encodeSide y)) old r new → length (overlapText x y) ≤ length old
     → SharedSlips B x y old r new
 values-demand-3 B t u x y {old} {r} {new} reads-t reads-u lists room =
     rules-3 (subst (λ (z : List (List OurTerm)). Lists x z old r new) (read-is u y reads-u)
-    (subst (λ (z : List (List OurTerm)). Lists z (countedRule (encodeRule y)) old r new) (read-is t x reads-t) lists))
+    (subst (λ (z : List (List OurTerm)). Lists z (countedLeft (encodeSide y)) old r new) (read-is t x reads-t) lists))
     B (rule-read t x reads-t) (rule-read u y reads-u) room
 
 -- ---- of texts
@@ -243,7 +243,7 @@ pub record TextsShared (B : Type 0) (x y : List (List OurTerm)) (old : List ℕ)
 
 module _ (t u : List ℕ) {old : List ℕ} {r : TextsListed} {new : List ℕ} (lists : TextsList t u old r new) where
   -- THE THEOREM, of what `list_texts` answers and leaves
-  pub texts-demand-3 : (B : Type 0) (x y : List (List OurTerm)) → readRule t ≡ accepted x → readRule u ≡ accepted y
+  pub texts-demand-3 : (B : Type 0) (x y : List (List OurTerm)) → readSide t ≡ accepted x → readSide u ≡ accepted y
       → length (overlapText x y) ≤ length old → TextsShared B x y old r new
   texts-demand-3 B x y reads-t reads-u room =
       record {
@@ -254,20 +254,20 @@ module _ (t u : List ℕ) {old : List ℕ} {r : TextsListed} {new : List ℕ} (l
     where
       said : Lists x y old (r .listed) new
       said = subst (λ (o : Outcome). Lists x (ruleOf o) old (r .listed) new) reads-u
-          (subst (λ (o : Outcome). Lists (ruleOf o) (ruleOf (readRule u)) old (r .listed) new) reads-t (lists .listed))
+          (subst (λ (o : Outcome). Lists (ruleOf o) (ruleOf (readSide u)) old (r .listed) new) reads-t (lists .listed))
 
 -- ---- what src/ ensures
 
 -- demand 3 of `list_overlaps`, at the numbers as names: of whatever two values, the answer and the lent bytes
-pub record ListsSharedSlips (v w : Rule) (old : List ℕ) (r : Listed) (new : List ℕ) : Type 0 where
-  pub shared : acceptedRule v ≡ true → acceptedRule w ≡ true → length (overlapText (countedRule v) (countedRule w)) ≤ length old
-      → SharedSlips ℕ (countedRule v) (countedRule w) old r new
-  pub by-room : RefusedByRoom (countedRule v) (countedRule w) old r new
-  pub left-none : acceptedRule v ≡ false → NoneListed old r new
-  pub right-none : acceptedRule w ≡ false → NoneListed old r new
-  pub other-count : length (countedRule v) ≢ length (countedRule w) → NoneListed old r new
+pub record ListsSharedSlips (v w : RuleSide) (old : List ℕ) (r : Listed) (new : List ℕ) : Type 0 where
+  pub shared : acceptedLeft v ≡ true → acceptedLeft w ≡ true → length (overlapText (countedLeft v) (countedLeft w)) ≤ length old
+      → SharedSlips ℕ (countedLeft v) (countedLeft w) old r new
+  pub by-room : RefusedByRoom (countedLeft v) (countedLeft w) old r new
+  pub left-none : acceptedLeft v ≡ false → NoneListed old r new
+  pub right-none : acceptedLeft w ≡ false → NoneListed old r new
+  pub other-count : length (countedLeft v) ≢ length (countedLeft w) → NoneListed old r new
 
-pub lists-shared : (v w : Rule) {old : List ℕ} {r : Listed} {new : List ℕ} → Lists (countedRule v) (countedRule w) old r new
+pub lists-shared : (v w : RuleSide) {old : List ℕ} {r : Listed} {new : List ℕ} → Lists (countedLeft v) (countedLeft w) old r new
     → ListsSharedSlips v w old r new
 lists-shared v w h =
     record {
@@ -280,12 +280,12 @@ lists-shared v w h =
 
 -- and of `list_texts`: of whatever two texts. "A refusal returns its number, its place and the rule with no fields", which has no entries
 pub record TextsSharedSlips (t u old : List ℕ) (r : TextsListed) (new : List ℕ) : Type 0 where
-  pub shared : (x y : List (List OurTerm)) → readRule t ≡ accepted x → readRule u ≡ accepted y → length (overlapText x y) ≤ length old
+  pub shared : (x y : List (List OurTerm)) → readSide t ≡ accepted x → readSide u ≡ accepted y → length (overlapText x y) ≤ length old
       → TextsShared ℕ x y old r new
-  pub by-room : RefusedByRoom (ruleOf (readRule t)) (ruleOf (readRule u)) old (r .listed) new
-  pub left-refused : (s : Reason) (p : ℕ) → readRule t ≡ refused s p
+  pub by-room : RefusedByRoom (ruleOf (readSide t)) (ruleOf (readSide u)) old (r .listed) new
+  pub left-refused : (s : Reason) (p : ℕ) → readSide t ≡ refused s p
       → (r .left ≡ Refused (reasonFrom s) p) × NoneListed old (r .listed) new
-  pub right-refused : (s : Reason) (p : ℕ) → readRule u ≡ refused s p
+  pub right-refused : (s : Reason) (p : ℕ) → readSide u ≡ refused s p
       → (r .right ≡ Refused (reasonFrom s) p) × NoneListed old (r .listed) new
 
 pub texts-shared : (t u : List ℕ) {old : List ℕ} {r : TextsListed} {new : List ℕ} → TextsList t u old r new

@@ -29,8 +29,8 @@ use Rattle.theory.proofs.Laws.{laws, flat-replace}
 use Rattle.text.specs.Told.{Told}
 use Rattle.text.specs.Grammar.{Raw, Says}
 use Rattle.text.specs.Terms.{Con, OurTerm, fieldsOf}
-use Rattle.text.specs.Limits.{IsRule}
-use Rattle.text.specs.Read.{accepted, readRule}
+use Rattle.text.specs.Limits.{IsLeft}
+use Rattle.text.specs.Read.{accepted, readSide}
 use Rattle.text.proofs.Told.{eight-iff, fits-iff}
 use Rattle.text.proofs.Parse.{says-one}
 use Rattle.text.proofs.Theorems.{rule-accepted}
@@ -58,7 +58,7 @@ use Rattle.solving.proofs.Shown as shown
 use Rattle.solving.proofs.Shown.{lines-answers, nine-peak}
 use Rattle.solving.proofs.Lines.{answer-lines-one, lines-writable, lines-named, lines-solve, lines-complete}
 use Rattle.terms.specs.declared.Field.{Field}
-use Rattle.terms.specs.Values.{viewField, viewRule, oneField}
+use Rattle.terms.specs.Values.{viewField, viewSide, oneField}
 use Rattle.accepted.specs.Accepted.{acceptedField, countedField}
 use Rattle.accepted.proofs.Accepted.{accepted-field}
 use Rattle.writing.specs.Answers.{after}
@@ -151,7 +151,7 @@ texts-are : (f g : List OurTerm) (xs : List (Bindings setting))
 texts-are f g [] = refl
 texts-are f g (σ ∷ xs) = ap (λ (l : List ℕ). lineText (answerLine f g σ) ++ l) (texts-are f g xs)
 
-of-answers : (f g : List OurTerm) → IsRule (f ∷ []) → IsRule (g ∷ []) → (room : ℕ) (ls : List (List ℕ)) → linesOf room f g ≡ lines ls
+of-answers : (f g : List OurTerm) → IsLeft (f ∷ []) → IsLeft (g ∷ []) → (room : ℕ) (ls : List (List ℕ)) → linesOf room f g ≡ lines ls
     → Demand2 f g (length ls) (bytesOf (lines ls))
 of-answers f g is-f is-g room ls e =
     let x = lines-answers room f g ls e in
@@ -247,12 +247,12 @@ module _ (v w : Field) (records : List Problem) (old : List ℕ) (r : Searched) 
   there-is : BothAccepted v w → there ≡ linesOf (length records) f g
   there-is a =
       ap₂ (λ (x y : List (List OurTerm)). linesFor (length records) x y)
-      (ap (λ (c : Bool). cond c (viewRule (oneField v)) []) (a .0))
-      (ap (λ (c : Bool). cond c (viewRule (oneField w)) []) (a .1))
+      (ap (λ (c : Bool). cond c (viewSide (oneField v)) []) (a .0))
+      (ap (λ (c : Bool). cond c (viewSide (oneField w)) []) (a .1))
 
   there-none : (acceptedField v ≡ false) ⊎ (acceptedField w ≡ false) → there ≡ lines []
-  there-none (inl a) = ap (λ (c : Bool). linesFor (length records) (cond c (viewRule (oneField v)) []) (countedField w)) a
-  there-none (inr a) = ap (λ (c : Bool). linesFor (length records) (countedField v) (cond c (viewRule (oneField w)) [])) a
+  there-none (inl a) = ap (λ (c : Bool). linesFor (length records) (cond c (viewSide (oneField v)) []) (countedField w)) a
+  there-none (inr a) = ap (λ (c : Bool). linesFor (length records) (countedField v) (cond c (viewSide (oneField w)) [])) a
       ∙ no-right (length records) (countedField v)
 
   decided : BothAccepted v w ⊎ ((acceptedField v ≡ false) ⊎ (acceptedField w ≡ false))
@@ -429,9 +429,9 @@ cons-once (c ∷ a) (d ∷ b) e = ap₂ (λ (x : Con) (l : List Con). x ∷ l) (
     (cons-once a b (tail-eq-of-cons-eq e))
 
 -- texts t and u that say one field each, x and y, and are read as the fields f and g
-module _ (t u : List ℕ) (f g : List OurTerm) (reads-t : readRule t ≡ accepted (f ∷ [])) (reads-u : readRule u ≡ accepted (g ∷ []))
+module _ (t u : List ℕ) (f g : List OurTerm) (reads-t : readSide t ≡ accepted (f ∷ [])) (reads-u : readSide u ≡ accepted (g ∷ []))
     (x y : List Raw) (says-t : Says t (x ∷ [])) (says-u : Says u (y ∷ [])) where
-  said : (s : List ℕ) (e : List OurTerm) (z : List Raw) → readRule s ≡ accepted (e ∷ []) → Says s (z ∷ []) → flat (writtenField z) ≡ e
+  said : (s : List ℕ) (e : List OurTerm) (z : List Raw) → readSide s ≡ accepted (e ∷ []) → Says s (z ∷ []) → flat (writtenField z) ≡ e
   said s e z reads says =
       let a = rule-accepted s (e ∷ []) .0 reads .1 in
       flat-field z ∙ head-eq-of-cons-eq (ap fieldsOf (says-one s (z ∷ []) (a .0) says (a .1)) ∙ a .2)
@@ -477,7 +477,7 @@ no-chain s steps = ends.no-chain setting s steps
 
 -- "the list variables of a problem and its bindings, bound ones too": those that the search for the two fields holds to be used, and
 -- no others
-pub set-is : (f g : List OurTerm) → IsRule (f ∷ []) → IsRule (g ∷ []) → (p : searching.Problem setting)
+pub set-is : (f g : List OurTerm) → IsLeft (f ∷ []) → IsLeft (g ∷ []) → (p : searching.Problem setting)
     → Met setting (fieldOn left f) (fieldOn right g) p
     → (n : ℕ) → List·Memᴰ n (used setting p) ↔ ListVariableOf setting (fieldOn left f) (fieldOn right g) p n
 set-is f g a b p m n = used-is setting (fieldOn left f) (fieldOn right g) (equation-linear f g a b) p m n

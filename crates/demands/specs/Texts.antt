@@ -1,7 +1,7 @@
 -- What is promised of reading and writing rules and slips, over the relations that the contracts cite:
 --     reading::read_rule       returns r with `ReadsRule t r`
 --     reading::read_slip       returns r with `ReadsSlip t r`
---     plain_text::write_rule   answers r and leaves `new` with `Writes (plain (countedRule v)) old r new`
+--     plain_text::write_rule   answers r and leaves `new` with `Writes (plain (countedLeft v)) old r new`
 use mathlib.Core.Path.{_≡_, refl, sym, _∙_, ap, subst}
 use mathlib.Core.Logic.{_≢_, _↔_, Iff·trans}
 use mathlib.Core.Bool.{Bool, true, false, cond}
@@ -18,7 +18,7 @@ use Rattle.text.specs.Told.{Told}
 use Rattle.text.specs.Grammar.{Raw, Says}
 use Rattle.text.specs.Terms.{OurTerm, fieldsOf}
 use Rattle.text.specs.Read.{Reason, long, grammar, fields, terms, limits, linear, variable, number, Sort, rule, slip, earlier}
-use Rattle.text.specs.Read.{Outcome, refused, accepted, read, readRule, readSlip, Refuses, NoReason}
+use Rattle.text.specs.Read.{Outcome, refused, accepted, read, readSide, readSlip, Refuses, NoReason}
 use Rattle.text.specs.Marks.{Over, NotLinear, IsVar}
 use Rattle.text.specs.Sharp.{FirstBadMark}
 use Rattle.text.specs.Plain.{plain}
@@ -26,9 +26,9 @@ use Rattle.text.proofs.Accepted.{rule-read, rule-plain}
 use Rattle.text.proofs.Sharp.{first-bad}
 use Rattle.text.proofs.Told.{eight-iff, fits-iff}
 use Rattle.text.proofs.Theorems.{rule-refused, slip-refused, rule-never, slip-never, rule-accepted, slip-accepted, plain-injective}
-use Rattle.terms.specs.declared.Rule.{Rule}
-use Rattle.terms.specs.Values.{viewRule, blankRule, blankSlip, encodeRule, encodeSlip}
-use Rattle.accepted.specs.Accepted.{acceptedRule, countedRule}
+use Rattle.terms.specs.declared.RuleSide.{RuleSide}
+use Rattle.terms.specs.Values.{viewSide, blankSide, blankSlip, encodeSide, encodeSlip}
+use Rattle.accepted.specs.Accepted.{acceptedLeft, countedLeft}
 use Rattle.accepted.proofs.Accepted.{accepted-rule, encode-accepted-rule, view-encode-rule}
 use Rattle.verdicts.specs.declared.Verdict.{Verdict}
 use Rattle.verdicts.specs.declared.Verdict.the-variants.{Accepted}
@@ -66,13 +66,13 @@ pub record Reading (S : Sort) (other : Reason) {Value : Type 0} (blank : Value) 
   pub places : (o : Reason) → 3 ≤ number o → (p : ℕ) → told verdict ≡ refusal o p → FirstBadMark (S .width) o t p
 
 abbrev pub RuleReading : List ℕ → RuleRead → Type 0
-RuleReading t r = Reading rule variable blankRule encodeRule t (r .verdict) (r .rule)
+RuleReading t r = Reading rule variable blankSide encodeSide t (r .verdict) (r .rule)
 
 abbrev pub SlipReading : List ℕ → SlipRead → Type 0
 SlipReading t r = Reading slip linear blankSlip encodeSlip t (r .verdict) (r .slip)
 
 -- "the rule with no fields", "The slip with no fields"
-pub blank-rule : blankRule .n ≡ 0
+pub blank-rule : blankSide .n ≡ 0
 blank-rule = refl
 
 pub blank-slip : blankSlip .n ≡ 0
@@ -139,13 +139,13 @@ module _ (S : Sort) (other : Reason) {Value : Type 0} (blank : Value) (held : Li
 
 -- READING A RULE
 pub rule-reading : (t : List ℕ) (r : RuleRead) → ReadsRule t r → RuleReading t r
-rule-reading t r reads = subst (RuleReading t) (sym reads) (go (readRule t) of-text)
+rule-reading t r reads = subst (RuleReading t) (sym reads) (go (readSide t) of-text)
   where
-    of-text : let a = readRule t in
-        Reading rule variable blankRule encodeRule t (verdictOf a) (valueOf rule variable blankRule encodeRule a)
-    of-text = reading-of rule variable blankRule encodeRule t (λ o n p. rule-refused o n t p) (rule-never t) (rule-accepted t)
+    of-text : let a = readSide t in
+        Reading rule variable blankSide encodeSide t (verdictOf a) (valueOf rule variable blankSide encodeSide a)
+    of-text = reading-of rule variable blankSide encodeSide t (λ o n p. rule-refused o n t p) (rule-never t) (rule-accepted t)
 
-    go : (a : Outcome) → Reading rule variable blankRule encodeRule t (verdictOf a) (valueOf rule variable blankRule encodeRule a)
+    go : (a : Outcome) → Reading rule variable blankSide encodeSide t (verdictOf a) (valueOf rule variable blankSide encodeSide a)
         → RuleReading t (ruleRead a)
     go (refused o p) h = h
     go (accepted x) h = h
@@ -199,35 +199,35 @@ module _ (t : List ℕ) (r : SlipRead) (reads : ReadsSlip t r) (p : ℕ) where
 
 -- ---- plain text
 
-counted-accepted : (v : Rule) → acceptedRule v ≡ true → countedRule v ≡ viewRule v
-counted-accepted v h = ap (λ (b : Bool). cond b (viewRule v) []) h
+counted-accepted : (v : RuleSide) → acceptedLeft v ≡ true → countedLeft v ≡ viewSide v
+counted-accepted v h = ap (λ (b : Bool). cond b (viewSide v) []) h
 
 -- READING A RULE'S PLAIN TEXT returns the rule
-pub read-written : (v : Rule) → acceptedRule v ≡ true → ruleRead (readRule (plain (countedRule v))) ≡ record { verdict = Accepted; rule = v }
+pub read-written : (v : RuleSide) → acceptedLeft v ≡ true → ruleRead (readSide (plain (countedLeft v))) ≡ record { verdict = Accepted; rule = v }
 read-written v h =
     let a = accepted-rule v h in
-    ap (λ (r : List (List OurTerm)). ruleRead (readRule (plain r))) (counted-accepted v h)
-    ∙ ap ruleRead (rule-plain (viewRule v) (a .0))
-    ∙ ap (λ (w : Rule). record { verdict = Accepted; rule = w }) (a .1)
+    ap (λ (r : List (List OurTerm)). ruleRead (readSide (plain r))) (counted-accepted v h)
+    ∙ ap ruleRead (rule-plain (viewSide v) (a .0))
+    ∙ ap (λ (w : RuleSide). record { verdict = Accepted; rule = w }) (a .1)
 
 -- EVERY TEXT that is read as r is written as the one plain text of r
-pub written-once : (t : List ℕ) (r : List (List OurTerm)) → readRule t ≡ accepted r → plain (countedRule (encodeRule r)) ≡ plain r
+pub written-once : (t : List ℕ) (r : List (List OurTerm)) → readSide t ≡ accepted r → plain (countedLeft (encodeSide r)) ≡ plain r
 written-once t r e =
     let h = rule-read t r e in
-    ap plain (counted-accepted (encodeRule r) (encode-accepted-rule r h) ∙ view-encode-rule r h)
+    ap plain (counted-accepted (encodeSide r) (encode-accepted-rule r h) ∙ view-encode-rule r h)
 
 -- PLAIN TEXT IS INJECTIVE on accepted rules
-pub written-injective : (v w : Rule) → acceptedRule v ≡ true → acceptedRule w ≡ true → plain (countedRule v) ≡ plain (countedRule w) → v ≡ w
+pub written-injective : (v w : RuleSide) → acceptedLeft v ≡ true → acceptedLeft w ≡ true → plain (countedLeft v) ≡ plain (countedLeft w) → v ≡ w
 written-injective v w h k e =
     let a = accepted-rule v h in
     let b = accepted-rule w k in
     sym (a .1)
-    ∙ ap encodeRule (plain-injective (viewRule v) (viewRule w) (a .0) (b .0) (ap plain (sym (counted-accepted v h)) ∙ e ∙ ap plain (counted-accepted w k)))
+    ∙ ap encodeSide (plain-injective (viewSide v) (viewSide w) (a .0) (b .0) (ap plain (sym (counted-accepted v h)) ∙ e ∙ ap plain (counted-accepted w k)))
     ∙ b .1
 
 -- A VALUE THAT NO READING RETURNS writes no bytes
-pub unread-nothing : (v : Rule) → acceptedRule v ≡ false → plain (countedRule v) ≡ []
-unread-nothing v h = ap (λ (b : Bool). plain (cond b (viewRule v) [])) h
+pub unread-nothing : (v : RuleSide) → acceptedLeft v ≡ false → plain (countedLeft v) ≡ []
+unread-nothing v h = ap (λ (b : Bool). plain (cond b (viewSide v) [])) h
 
 -- ---- writing
 
@@ -261,14 +261,14 @@ text-writing text old r new w =
     left h = w .bytes ∙ by (le-leb (length text) (length old) h)
 
 -- WRITING A RULE, and reading what was written: "Reading that text returns the rule"
-pub record RuleWriting (v : Rule) (old : List ℕ) (r : Written) (new : List ℕ) : Type 0 where
-  pub written : Writing (plain (countedRule v)) old r new
-  pub again : acceptedRule v ≡ true → length (plain (countedRule v)) ≤ length old
-      → (a : RuleRead) → ReadsRule (take (length (plain (countedRule v))) new) a → (told (a .verdict) ≡ noRefusal) × (a .rule ≡ v)
+pub record RuleWriting (v : RuleSide) (old : List ℕ) (r : Written) (new : List ℕ) : Type 0 where
+  pub written : Writing (plain (countedLeft v)) old r new
+  pub again : acceptedLeft v ≡ true → length (plain (countedLeft v)) ≤ length old
+      → (a : RuleRead) → ReadsRule (take (length (plain (countedLeft v))) new) a → (told (a .verdict) ≡ noRefusal) × (a .rule ≡ v)
   -- "A rule .. that no reading can return counts there as one with no fields; writing such a rule gives no bytes"
-  pub unread : acceptedRule v ≡ false → (plain (countedRule v) ≡ []) × (new ≡ old)
+  pub unread : acceptedLeft v ≡ false → (plain (countedLeft v) ≡ []) × (new ≡ old)
 
-pub rule-writing : (v : Rule) (old : List ℕ) (r : Written) (new : List ℕ) → Writes (plain (countedRule v)) old r new
+pub rule-writing : (v : RuleSide) (old : List ℕ) (r : Written) (new : List ℕ) → Writes (plain (countedLeft v)) old r new
     → RuleWriting v old r new
 rule-writing v old r new w =
     record {
@@ -279,11 +279,11 @@ rule-writing v old r new w =
           (e, w .bytes ∙ ap (λ (t : List ℕ). after t old) e ∙ ap (λ (c : Bool). cond c old old) (le-leb 0 (length old) (omega arith)));
     }
   where
-    x : Writing (plain (countedRule v)) old r new
-    x = text-writing (plain (countedRule v)) old r new w
+    x : Writing (plain (countedLeft v)) old r new
+    x = text-writing (plain (countedLeft v)) old r new w
 
-    reads-back : acceptedRule v ≡ true → length (plain (countedRule v)) ≤ length old
-        → (a : RuleRead) → ReadsRule (take (length (plain (countedRule v))) new) a → (told (a .verdict) ≡ noRefusal) × (a .rule ≡ v)
+    reads-back : acceptedLeft v ≡ true → length (plain (countedLeft v)) ≤ length old
+        → (a : RuleRead) → ReadsRule (take (length (plain (countedLeft v))) new) a → (told (a .verdict) ≡ noRefusal) × (a .rule ≡ v)
     reads-back h room a reads =
-        let e = reads ∙ ap (λ (t : List ℕ). ruleRead (readRule t)) (x .front room) ∙ read-written v h in
+        let e = reads ∙ ap (λ (t : List ℕ). ruleRead (readSide t)) (x .front room) ∙ read-written v h in
         (ap (λ (b : RuleRead). told (b .verdict)) e, ap (λ (b : RuleRead). b .rule) e)

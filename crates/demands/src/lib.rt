@@ -17,7 +17,7 @@ use reading::RuleRead;
 use reading::SlipRead;
 use search::Searched;
 use terms::Field;
-use terms::Rule;
+use terms::RuleSide;
 use terms::Slip;
 use writing::Written;
 use yopobrush::Listing;
@@ -38,7 +38,7 @@ pub fn read_slip(text: &[u8]) -> SlipRead
 }
 
 // The plain text and the old bytes behind it, or refusal 8 and all old bytes; read again, the text gives the rule.
-pub fn write_rule(r: Rule, out: &mut [u8]) -> Written
+pub fn write_rule(r: RuleSide, out: &mut [u8]) -> Written
     ensures { λ w. ⌜ RuleWriting r (now (out .entry)) w (now (out .exit)) ⌝ }
 {
     plain_text::write_rule(r, out)
@@ -47,7 +47,7 @@ pub fn write_rule(r: Rule, out: &mut [u8]) -> Written
 // ---- demand 2, matching
 
 // Yes exactly when some filling makes the two equal by GP 2's laws; then the one filling is shown, and else none.
-pub fn match_rule(rule: Rule, slip: Slip) -> Match
+pub fn match_rule(rule: RuleSide, slip: Slip) -> Match
     ensures { λ m. ⌜ Matching rule slip m ⌝ }
 {
     matching::match_rule(rule, slip)
@@ -65,7 +65,7 @@ pub fn search(left: Field, right: Field, row: &mut [Problem], out: &mut [u8]) ->
 // ---- demand 3
 
 // The list of two rule values.
-pub fn list_overlaps(left: Rule, right: Rule, out: &mut [u8]) -> Listed
+pub fn list_overlaps(left: RuleSide, right: RuleSide, out: &mut [u8]) -> Listed
     ensures { λ r. ⌜ ListsSharedSlips left right (now (out .entry)) r (now (out .exit)) ⌝ }
 {
     overlaps::list_overlaps(left, right, out)

@@ -12,7 +12,7 @@ use Rattle.theory.specs.Fillings.{Filling, value}
 use Rattle.text.specs.Bytes.{digit?, begins, follows, first, holds}
 use Rattle.text.specs.Marks.{fifth?, many?, over?, clash?, clashOf?}
 use Rattle.text.specs.Terms.{Con, OurTerm}
-use Rattle.text.specs.Read.{Outcome, refused, accepted, readRule, readSlip}
+use Rattle.text.specs.Read.{Outcome, refused, accepted, readSide, readSlip}
 use Rattle.text.specs.Plain.{plain}
 use Rattle.text.proofs.Examples.{bytes}
 use Rattle.instance.specs.Matching.{constants, matcher, compared}
@@ -22,7 +22,7 @@ fields (refused r p) = []
 fields (accepted r) = r
 
 abbrev ruleOf : String → List (List OurTerm)
-ruleOf t = fields (readRule (bytes t))
+ruleOf t = fields (readSide (bytes t))
 
 abbrev slipOf : String → List (List Con)
 slipOf t = map constants (fields (readSlip (bytes t)))

@@ -14,7 +14,7 @@ use Rattle.theory.specs.Fillings.{Filling, Typed, fill}
 use Rattle.theory.specs.Linear.{LeftLinear}
 use Rattle.theory.proofs.Matching.{match-unique}
 use Rattle.text.specs.Terms.{Con, int, str, OurTerm}
-use Rattle.text.specs.Limits.{TermIn, IsRule}
+use Rattle.text.specs.Limits.{TermIn, IsLeft}
 use Rattle.text.specs.Plain.{TermOk}
 use Rattle.instance.specs.Constants.{consts, some-of}
 use Rattle.instance.specs.Matching.{Matches}
@@ -85,7 +85,7 @@ bindings-writable σ h [] = tt
 bindings-writable σ h (v ∷ vs) = (terms-ok (σ (v .0) (v .1)) (h (v .0) (v .1)), bindings-writable σ h vs)
 
 -- a filling that gives the rule's variables what the values shown become by ψ is shown by the bindings
-shown-by : (rule : List (List OurTerm)) → IsRule rule → (σ : Subst Con Kind ℕ ℕ) (ψ : Filling Con Kind ℕ) (w : List (List Con))
+shown-by : (rule : List (List OurTerm)) → IsLeft rule → (σ : Subst Con Kind ℕ ℕ) (ψ : Filling Con Kind ℕ) (w : List (List Con))
     → Typed basics consts (λ k n. fill ψ (σ k n)) → map (fill (λ k n. fill ψ (σ k n))) rule ≡ w → Shows rule (bindingsOf rule σ) ψ w
 shown-by rule r σ ψ w t h = (names-are rule σ (variables rule), values)
   where
@@ -105,7 +105,7 @@ pub entries-are : (r₁ r₂ : List (List OurTerm)) → IsCons r₁ → entriesO
 entries-are [] r₂ h = absurd h
 entries-are (f ∷ r₁) r₂ h = refl
 
-module _ (r₁ r₂ : List (List OurTerm)) (is₁ : IsRule r₁) (is₂ : IsRule r₂) where
+module _ (r₁ r₂ : List (List OurTerm)) (is₁ : IsLeft r₁) (is₂ : IsLeft r₂) where
   lin₁ : LeftLinear r₁
   lin₁ = left-linear r₁ (is₁ .1)
 
@@ -115,7 +115,7 @@ module _ (r₁ r₂ : List (List OurTerm)) (is₁ : IsRule r₁) (is₂ : IsRule
   abbrev entries : List OurEntry
   entries = overlaps basics consts ℕ-discrete r₁ r₂
 
-  in-ours : (r : List (List OurTerm)) → IsRule r → All (All (ConstantIn OurCon)) r
+  in-ours : (r : List (List OurTerm)) → IsLeft r → All (All (ConstantIn OurCon)) r
   in-ours r h = all-map (All TermIn) (All (ConstantIn OurCon)) (λ f k. all-map TermIn (ConstantIn OurCon) constant-in f k) r (h .0 .3)
 
   lines-are : linesOf r₁ r₂ ≡ map (lineOf r₁ r₂) entries

@@ -9,7 +9,7 @@ use Rattle.lists.specs.Seqs.{any?}
 use Rattle.text.specs.Bytes.{digit?, begins, follows, first, holds}
 use Rattle.text.specs.Marks.{fifth?, many?, over?, clash?, clashOf?}
 use Rattle.text.specs.Ascii.{ascii, newline}
-use Rattle.text.specs.Read.{Outcome, refused, accepted, readRule}
+use Rattle.text.specs.Read.{Outcome, refused, accepted, readSide}
 use Rattle.listing.specs.Overlaps.{overlapText}
 
 -- the list of two texts' rules; nothing, if one is refused
@@ -38,6 +38,6 @@ starred-pairs =
     record { left = "a0:a0"; right = "i0:l0"; lines = "i0:i0 <a0=i0 >i0=i0 >l0=i0" ∷ [] } ∷
     record { left = "a0:a0"; right = "1:\"1\""; lines = [] } ∷ []
 
-pub starred : map (λ (c : Case). listed (readRule (ascii (c .left))) (readRule (ascii (c .right)))) starred-pairs ≡ map (λ (c : Case). printed (c .lines)) starred-pairs
+pub starred : map (λ (c : Case). listed (readSide (ascii (c .left))) (readSide (ascii (c .right)))) starred-pairs ≡ map (λ (c : Case). printed (c .lines)) starred-pairs
 unfolding decLe decLt ℕ-discrete digit? begins follows first holds fifth? many? over? any? clash? clashOf?
 starred = refl

@@ -20,8 +20,8 @@ use Rattle.text.specs.Ascii.{ascii, newline}
 use Rattle.text.specs.Terms.{Con, OurTerm}
 use Rattle.text.specs.Numbers.{digitsOf}
 use Rattle.text.specs.Plain.{termText, fieldText}
-use Rattle.text.specs.Limits.{IsRule, IsSlip}
-use Rattle.text.specs.Read.{Outcome, refused, accepted, readRule, readSlip}
+use Rattle.text.specs.Limits.{IsLeft, IsSlip}
+use Rattle.text.specs.Read.{Outcome, refused, accepted, readSide, readSlip}
 use Rattle.text.proofs.Accepted.{spell-short, field-length, rule-read, slip-read}
 use Rattle.text.proofs.Refused.{rule-place, slip-place}
 use Rattle.instance.specs.Matching.{constants, matcher}
@@ -53,7 +53,7 @@ numbers-short : (g : ℕ → List ℕ) (b m n : ℕ) → ((i : ℕ) → i < n + 
 numbers-short g b zero n h = omega arith
 numbers-short g b (suc m) n h = omega (arith, length-append (g n) (concat-map g (numbersFrom m (suc n))), h n (omega arith), numbers-short g b m (suc n) (λ i l. h i (omega arith)))
 
-module _ (x y : List (List OurTerm)) (is-rule : IsRule x) (is-slip : IsSlip y) (φ : Filling Con Kind ℕ) (yes-φ : matcher x (map constants y) ≡ some φ) where
+module _ (x y : List (List OurTerm)) (is-rule : IsLeft x) (is-slip : IsSlip y) (φ : Filling Con Kind ℕ) (yes-φ : matcher x (map constants y) ≡ some φ) where
   field-short : (k : Kind) (n : ℕ) → Any (Occurs k n) x → 5 + length (fieldText (map con (φ k n))) ≤ most k
   field-short (basic k) n o =
       let v = atom-value x (is-rule .1) (map constants y) φ yes-φ k n o in
@@ -90,17 +90,17 @@ module _ (x y : List (List OurTerm)) (is-rule : IsRule x) (is-slip : IsSlip y) (
 
 -- ---- answers
 
-found-short : (x y : List (List OurTerm)) → IsRule x → IsSlip y → length (foundText x (matcher x (map constants y))) ≤ 19555
+found-short : (x y : List (List OurTerm)) → IsLeft x → IsSlip y → length (foundText x (matcher x (map constants y))) ≤ 19555
 found-short x y h k = go (matcher x (map constants y)) refl
   where
     go : (m : Option (Filling Con Kind ℕ)) → matcher x (map constants y) ≡ m → length (foundText x m) ≤ 19555
     go none e = omega arith
     go (some φ) e = omega (arith, values-short x y h k φ e)
 
-read-short : (t u : List ℕ) → length (readText (readRule t) (readSlip u)) ≤ 19555
-read-short t u = go (readRule t) (readSlip u) refl refl
+read-short : (t u : List ℕ) → length (readText (readSide t) (readSlip u)) ≤ 19555
+read-short t u = go (readSide t) (readSlip u) refl refl
   where
-    go : (o p : Outcome) → readRule t ≡ o → readSlip u ≡ p → length (readText o p) ≤ 19555
+    go : (o p : Outcome) → readSide t ≡ o → readSlip u ≡ p → length (readText o p) ≤ 19555
     go (refused r i) p e f = omega (arith, number-at-length r i (omega (arith, rule-place t r i e)))
     go (accepted x) (refused r i) e f = omega (arith, number-at-length r i (omega (arith, slip-place u r i f)))
     go (accepted x) (accepted y) e f = found-short x y (rule-read t x e) (slip-read u y f)
@@ -109,7 +109,7 @@ line-short : (t : List ℕ) → length (lineText t) ≤ 19555
 unfolding lineText
 line-short t = go (ltb longestLine (length t))
   where
-    go : (b : Bool) → length (cond b (ascii "line too long") (readText (readRule (rulePart t)) (readSlip (slipPart t)))) ≤ 19555
+    go : (b : Bool) → length (cond b (ascii "line too long") (readText (readSide (rulePart t)) (readSlip (slipPart t)))) ≤ 19555
     go true = omega arith
     go false = read-short (rulePart t) (slipPart t)
 

@@ -20,14 +20,14 @@ use Rattle.theory.proofs.Seqs.{concat-map-append}
 use Rattle.text.specs.Ascii.{ascii}
 use Rattle.text.specs.Terms.{Con, OurTerm}
 use Rattle.text.specs.Plain.{termText, fieldText}
-use Rattle.text.specs.Limits.{TermIn, IsCon, IsRule, IsSlip}
-use Rattle.text.specs.Read.{Outcome, refused, accepted, readRule, readSlip}
+use Rattle.text.specs.Limits.{TermIn, IsCon, IsLeft, IsSlip}
+use Rattle.text.specs.Read.{Outcome, refused, accepted, readSide, readSlip}
 use Rattle.text.proofs.Accepted.{rule-read, slip-read}
 use Rattle.instance.specs.Matching.{constants, matcher}
 use Rattle.instance.proofs.Matching.{constants-are}
 use Rattle.terms.specs.declared.Term.{Term}
-use Rattle.terms.specs.Values.{blankTerm, blankSlipField, viewTerm, encodeTerm, encodeSlipField, encodeRule, encodeSlip}
-use Rattle.accepted.specs.Accepted.{countedRule}
+use Rattle.terms.specs.Values.{blankTerm, blankSlipField, viewTerm, encodeTerm, encodeSlipField, encodeSide, encodeSlip}
+use Rattle.accepted.specs.Accepted.{countedLeft}
 use Rattle.accepted_slips.specs.Slips.{countedSlip}
 use Rattle.accepted.proofs.Accepted.{view-encode-term, view-encode-rule, encode-accepted-rule}
 use Rattle.accepted_slips.proofs.Slips.{view-encode-slip, encode-accepted-slip}
@@ -112,7 +112,7 @@ viewed (c ∷ v) h = ap₂ (λ (t : OurTerm) (l : List OurTerm). t ∷ l) (view-
 abbrev pub ofVariable : List (List OurTerm) → Filling Con Kind ℕ → Kind → ℕ → List ℕ
 ofVariable x φ k n = cond (occurs k n x) (valueText φ (k, n)) []
 
-module _ (x y : List (List OurTerm)) (is-rule : IsRule x) (is-slip : IsSlip y) (φ : Filling Con Kind ℕ) (yes-φ : matcher x (map constants y) ≡ some φ) where
+module _ (x y : List (List OurTerm)) (is-rule : IsLeft x) (is-slip : IsSlip y) (φ : Filling Con Kind ℕ) (yes-φ : matcher x (map constants y) ≡ some φ) where
   abbrev ws : List (List Con)
   ws = map constants y
 
@@ -149,7 +149,7 @@ module _ (x y : List (List OurTerm)) (is-rule : IsRule x) (is-slip : IsSlip y) (
   value-said (basic k) n h o = atom-said k n h o
   value-said list n h o = run-said (runOf filling n) (φ list n) (run-items x (is-rule .1) ws φ yes-φ n h o) (value-in list n o)
 
-  variable-said : (k : Kind) (n : ℕ) → n ≤ 15 → saidVariable (encodeRule x) (encodeSlip y) filling k n ≡ ofVariable x φ k n
+  variable-said : (k : Kind) (n : ℕ) → n ≤ 15 → saidVariable (encodeSide x) (encodeSlip y) filling k n ≡ ofVariable x φ k n
   variable-said k n h = ap (λ (r : List (List OurTerm)). cond (occurs k n r) (nameText k n ++ saidValue k n (encodeSlip y) filling) []) (view-encode-rule x is-rule) ∙ go (occurs k n x) refl
     where
       go : (b : Bool) → occurs k n x ≡ b → cond b (nameText k n ++ saidValue k n (encodeSlip y) filling) [] ≡ cond b (valueText φ (k, n)) []
@@ -198,38 +198,38 @@ module _ (x : List (List OurTerm)) (φ : Filling Con Kind ℕ) where
 
 -- ---- the answer
 
-module _ (x y : List (List OurTerm)) (is-rule : IsRule x) (is-slip : IsSlip y) where
+module _ (x y : List (List OurTerm)) (is-rule : IsLeft x) (is-slip : IsSlip y) where
   values-said : (φ : Filling Con Kind ℕ) → matcher x (map constants y) ≡ some φ
-      → saidValues (encodeRule x) (encodeSlip y) (record { values = encodeValues φ; runs = runsOf x (map constants y) }) ≡ concat-map (valueText φ) (variables x)
+      → saidValues (encodeSide x) (encodeSlip y) (record { values = encodeValues φ; runs = runsOf x (map constants y) }) ≡ concat-map (valueText φ) (variables x)
   values-said φ e =
       ap₂ (λ (a b : List ℕ). a ++ b) (one (basic integer)) (ap₂ (λ (a b : List ℕ). a ++ b) (one (basic string)) (ap₂ (λ (a b : List ℕ). a ++ b) (one (basic atom)) (one list)))
       ∙ sym (by-kind x φ)
     where
-      one : (k : Kind) → saidKind (encodeRule x) (encodeSlip y) (record { values = encodeValues φ; runs = runsOf x (map constants y) }) k ≡ ofKindText x φ k
+      one : (k : Kind) → saidKind (encodeSide x) (encodeSlip y) (record { values = encodeValues φ; runs = runsOf x (map constants y) }) k ≡ ofKindText x φ k
       one k =
-          same-over (saidVariable (encodeRule x) (encodeSlip y) (record { values = encodeValues φ; runs = runsOf x (map constants y) }) k) (ofVariable x φ k) 16 0
+          same-over (saidVariable (encodeSide x) (encodeSlip y) (record { values = encodeValues φ; runs = runsOf x (map constants y) }) k) (ofVariable x φ k) 16 0
           (λ n l. variable-said x y is-rule is-slip φ e k n (omega arith))
 
-  counted-rule : countedRule (encodeRule x) ≡ x
+  counted-rule : countedLeft (encodeSide x) ≡ x
   counted-rule = rw (encode-accepted-rule x is-rule, view-encode-rule x is-rule)
 
   counted-slip : countedSlip (encodeSlip y) ≡ y
   counted-slip = rw (encode-accepted-slip y is-slip, view-encode-slip y is-slip)
 
-  match-said : saidMatch (encodeRule x) (encodeSlip y) (matchOf (countedRule (encodeRule x)) (countedSlip (encodeSlip y))) ≡ foundText x (matcher x (map constants y))
+  match-said : saidMatch (encodeSide x) (encodeSlip y) (matchOf (countedLeft (encodeSide x)) (countedSlip (encodeSlip y))) ≡ foundText x (matcher x (map constants y))
   match-said =
-      ap₂ (λ (r s : List (List OurTerm)). saidMatch (encodeRule x) (encodeSlip y) (matchOf r s)) counted-rule counted-slip
-      ∙ ap (saidMatch (encodeRule x) (encodeSlip y)) (with-fields x y (is-rule .0 .0) (is-slip .0 .0))
+      ap₂ (λ (r s : List (List OurTerm)). saidMatch (encodeSide x) (encodeSlip y) (matchOf r s)) counted-rule counted-slip
+      ∙ ap (saidMatch (encodeSide x) (encodeSlip y)) (with-fields x y (is-rule .0 .0) (is-slip .0 .0))
       ∙ go (matcher x (map constants y)) refl
     where
-      go : (m : Option (Filling Con Kind ℕ)) → matcher x (map constants y) ≡ m → saidMatch (encodeRule x) (encodeSlip y) (found x (map constants y) m) ≡ foundText x m
+      go : (m : Option (Filling Con Kind ℕ)) → matcher x (map constants y) ≡ m → saidMatch (encodeSide x) (encodeSlip y) (found x (map constants y) m) ≡ foundText x m
       go none e = refl
       go (some φ) e = ap (λ (t : List ℕ). ascii "yes" ++ t) (values-said φ e)
 
-pub reads-said : (t u : List ℕ) → saidReads (ruleRead (readRule t)) (slipRead (readSlip u)) ≡ readText (readRule t) (readSlip u)
-reads-said t u = go (readRule t) (readSlip u) refl refl
+pub reads-said : (t u : List ℕ) → saidReads (ruleRead (readSide t)) (slipRead (readSlip u)) ≡ readText (readSide t) (readSlip u)
+reads-said t u = go (readSide t) (readSlip u) refl refl
   where
-    go : (o p : Outcome) → readRule t ≡ o → readSlip u ≡ p → saidReads (ruleRead o) (slipRead p) ≡ readText o p
+    go : (o p : Outcome) → readSide t ≡ o → readSlip u ≡ p → saidReads (ruleRead o) (slipRead p) ≡ readText o p
     go (refused r i) p e f = ap (λ (n : ℕ). ascii "refused rule " ++ numberAt n i) (number-is r)
     go (accepted x) (refused r i) e f = ap (λ (n : ℕ). ascii "refused slip " ++ numberAt n i) (number-is r)
     go (accepted x) (accepted y) e f = match-said x y (rule-read t x e) (slip-read u y f)
@@ -245,9 +245,9 @@ module _ (t : List ℕ) (tab rest : ℕ) (is-tab : tab ≡ indexOf 9 t) (is-rest
       go (yes h) = ap (λ (i : ℕ). drop i t) (let e : rest ≡ suc (indexOf 9 t) = omega arith in e)
       go (no h) = drop-of-length-le t {i = rest} (omega arith) ∙ sym (drop-of-length-le t {i = suc (indexOf 9 t)} (omega arith))
 
-  pub line-said : (r : RuleRead) (s : SlipRead) → length t ≤ longestLine → r ≡ ruleRead (readRule (take tab t)) → s ≡ slipRead (readSlip (take (length t - rest) (drop rest t))) → lineText t ≡ saidReads r s
+  pub line-said : (r : RuleRead) (s : SlipRead) → length t ≤ longestLine → r ≡ ruleRead (readSide (take tab t)) → s ≡ slipRead (readSlip (take (length t - rest) (drop rest t))) → lineText t ≡ saidReads r s
   unfolding lineText
   line-said r s h is-r is-s =
-      ap (λ (b : Bool). cond b (ascii "line too long") (readText (readRule (rulePart t)) (readSlip (slipPart t)))) (le-ltb longestLine (length t) h)
+      ap (λ (b : Bool). cond b (ascii "line too long") (readText (readSide (rulePart t)) (readSlip (slipPart t)))) (le-ltb longestLine (length t) h)
       ∙ sym (reads-said (rulePart t) (slipPart t))
-      ∙ ap₂ saidReads (sym (is-r ∙ ap (λ (i : ℕ). ruleRead (readRule (take i t))) is-tab)) (sym (is-s ∙ ap (λ (u : List ℕ). slipRead (readSlip u)) slip-part))
+      ∙ ap₂ saidReads (sym (is-r ∙ ap (λ (i : ℕ). ruleRead (readSide (take i t))) is-tab)) (sym (is-s ∙ ap (λ (u : List ℕ). slipRead (readSlip u)) slip-part))

@@ -13,7 +13,7 @@ use Rattle.theory.specs.Fillings.{Filling}
 use Rattle.text.specs.Terms.{Con, OurTerm}
 use Rattle.text.specs.Numbers.{digitsOf}
 use Rattle.text.specs.Plain.{termText, fieldText}
-use Rattle.text.specs.Read.{number, Outcome, refused, accepted, readRule, readSlip}
+use Rattle.text.specs.Read.{number, Outcome, refused, accepted, readSide, readSlip}
 use Rattle.instance.specs.Matching.{constants, matcher}
 use Rattle.listing.specs.Variables.{Variable, variables}
 use Rattle.text.specs.Ascii.{ascii, newline}
@@ -54,7 +54,7 @@ readText (accepted rule) (refused r p) = ascii "refused slip " ++ numberAt (numb
 readText (accepted rule) (accepted slip) = foundText rule (matcher rule (map constants slip))
 
 unfoldable pub lineText : List ℕ → List ℕ
-lineText t = cond (ltb longestLine (length t)) (ascii "line too long") (readText (readRule (rulePart t)) (readSlip (slipPart t)))
+lineText t = cond (ltb longestLine (length t)) (ascii "line too long") (readText (readSide (rulePart t)) (readSlip (slipPart t)))
 
 abbrev pub titleText : ℕ → List ℕ
 titleText k = ascii "match " ++ digitsOf k ++ newline

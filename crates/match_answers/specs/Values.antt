@@ -2,8 +2,8 @@
 use mathlib.Core.List.{List, _++_}
 use Prim.Native.Nat.{ℕ}
 use Rattle.text.specs.Ascii.{ascii}
-use Rattle.terms.specs.declared.Rule.{Rule}
-use Rattle.accepted.specs.Accepted.{countedRule}
+use Rattle.terms.specs.declared.RuleSide.{RuleSide}
+use Rattle.accepted.specs.Accepted.{countedLeft}
 use Rattle.accepted_slips.specs.Slips.{countedSlip}
 use Rattle.matching.specs.Answers.{matchOf}
 use Rattle.verdicts.specs.declared.Verdict.{Verdict}
@@ -20,8 +20,8 @@ verdictText words Accepted t = t
 verdictText words (Refused r p) t = words ++ numberAt (numberOf r) p
 
 -- the slip, against a rule; both, as they were read
-abbrev pub saidSlip : Rule → SlipRead → List ℕ
-saidSlip r s = verdictText (ascii "refused slip ") (s .verdict) (saidMatch r (s .slip) (matchOf (countedRule r) (countedSlip (s .slip))))
+abbrev pub saidSlip : RuleSide → SlipRead → List ℕ
+saidSlip r s = verdictText (ascii "refused slip ") (s .verdict) (saidMatch r (s .slip) (matchOf (countedLeft r) (countedSlip (s .slip))))
 
 abbrev pub saidReads : RuleRead → SlipRead → List ℕ
 saidReads r s = verdictText (ascii "refused rule ") (r .verdict) (saidSlip (r .rule) s)

@@ -8,14 +8,14 @@ ghost use Rattle.match_answers.specs.Matches.{lineText, matchAnswer};
 ghost use Rattle.match_answers.specs.Values.{saidSlip, saidReads};
 use reading::RuleRead;
 use reading::SlipRead;
-use terms::Rule;
+use terms::RuleSide;
 use verdicts::Verdict;
 use writing::Written;
 
 // ---- pieces: each is put at a place of the room, and returns the place behind it
 
 // What is said of a slip that was read, or of its refusal.
-fn put_slip_read(r: Rule, read: SlipRead, out: &mut [u8], at: usize) -> usize
+fn put_slip_read(r: RuleSide, read: SlipRead, out: &mut [u8], at: usize) -> usize
     ensures { λ p. ⌜ Placed (saidSlip r read) at (now (out .entry)) p (now (out .exit)) ⌝ }
 {
     let verdict = read.verdict;

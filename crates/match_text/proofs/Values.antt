@@ -12,9 +12,9 @@ use Rattle.order.specs.Values.{kindOf}
 use Rattle.text.specs.Plain.{termText}
 use Rattle.terms.specs.declared.Form.{Form}
 use Rattle.terms.specs.declared.Form.the-variants.{Var}
-use Rattle.terms.specs.declared.Rule.{Rule}
+use Rattle.terms.specs.declared.RuleSide.{RuleSide}
 use Rattle.terms.specs.declared.Slip.{Slip}
-use Rattle.terms.specs.Values.{viewForm, viewTerm, viewRule}
+use Rattle.terms.specs.Values.{viewForm, viewTerm, viewSide}
 use Rattle.bindings.specs.declared.Filling.{Filling}
 use Rattle.matching.specs.declared.Match.{Match}
 use Rattle.bindings.specs.Values.{atomOf, runOf}
@@ -49,7 +49,7 @@ module _ (n : ℕ) (s : Slip) (x : Filling) where
 
 -- ---- a variable, by whether the rule has it
 
-module _ (r : Rule) (s : Slip) (x : Filling) (k : Kind) (n : ℕ) (b : Bool) (is-b : b ≡ occurs k n (viewRule r)) where
+module _ (r : RuleSide) (s : Slip) (x : Filling) (k : Kind) (n : ℕ) (b : Bool) (is-b : b ≡ occurs k n (viewSide r)) where
   has : (y : Bool) → b ≡ y → cond y (nameText k n ++ saidValue k n s x) [] ≡ saidVariable r s x k n
   has y e = ap (λ (a : Bool). cond a (nameText k n ++ saidValue k n s x) []) (sym e ∙ is-b)
 
@@ -61,7 +61,7 @@ module _ (r : Rule) (s : Slip) (x : Filling) (k : Kind) (n : ℕ) (b : Bool) (is
 
 -- ---- a match, by the answer
 
-module _ (r : Rule) (s : Slip) {n : Match} (m : Match) (is-m : m ≡ n) where
+module _ (r : RuleSide) (s : Slip) {n : Match} (m : Match) (is-m : m ≡ n) where
   yes : (y : Bool) → m .yes ≡ y → cond y (ascii "yes" ++ saidValues r s (m .filling)) (ascii "no") ≡ saidMatch r s n
   yes y e = ap (λ (a : Bool). cond a (ascii "yes" ++ saidValues r s (m .filling)) (ascii "no")) (sym e) ∙ ap (saidMatch r s) is-m
 

@@ -10,10 +10,10 @@ use Rattle.theory.specs.Seqs.{concat-map}
 use Rattle.text.specs.Ascii.{ascii}
 use Rattle.text.specs.Plain.{termText, fieldText}
 use Rattle.terms.specs.declared.Term.{Term}
-use Rattle.terms.specs.declared.Rule.{Rule}
+use Rattle.terms.specs.declared.RuleSide.{RuleSide}
 use Rattle.terms.specs.declared.SlipField.{SlipField}
 use Rattle.terms.specs.declared.Slip.{Slip}
-use Rattle.terms.specs.Values.{blankSlipField, viewTerm, viewRule}
+use Rattle.terms.specs.Values.{blankSlipField, viewTerm, viewSide}
 use Rattle.bindings.specs.declared.Filling.{Filling}
 use Rattle.bindings.specs.declared.Run.{Run}
 use Rattle.bindings.specs.Values.{atomOf, runOf}
@@ -37,16 +37,16 @@ abbrev pub nameText : Kind → ℕ → List ℕ
 nameText k n = ascii " " ++ termText (var k n) ++ ascii "="
 
 -- of a variable that the rule lacks nothing is said
-abbrev pub saidVariable : Rule → Slip → Filling → Kind → ℕ → List ℕ
-saidVariable r s x k n = cond (occurs k n (viewRule r)) (nameText k n ++ saidValue k n s x) []
+abbrev pub saidVariable : RuleSide → Slip → Filling → Kind → ℕ → List ℕ
+saidVariable r s x k n = cond (occurs k n (viewSide r)) (nameText k n ++ saidValue k n s x) []
 
-abbrev pub saidKind : Rule → Slip → Filling → Kind → List ℕ
+abbrev pub saidKind : RuleSide → Slip → Filling → Kind → List ℕ
 saidKind r s x k = concat-map (saidVariable r s x k) numbers
 
-abbrev pub saidValues : Rule → Slip → Filling → List ℕ
+abbrev pub saidValues : RuleSide → Slip → Filling → List ℕ
 saidValues r s x = saidKind r s x (basic integer) ++ (saidKind r s x (basic string) ++ (saidKind r s x (basic atom) ++ saidKind r s x list))
 
 -- ---- a match
 
-abbrev pub saidMatch : Rule → Slip → Match → List ℕ
+abbrev pub saidMatch : RuleSide → Slip → Match → List ℕ
 saidMatch r s m = cond (m .yes) (ascii "yes" ++ saidValues r s (m .filling)) (ascii "no")

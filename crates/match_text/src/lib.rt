@@ -5,8 +5,8 @@ ghost use Prim.Native.Nat.{min};
 ghost use lib.ListN.{getD};
 ghost use Rattle.order.specs.Values.{kindOf};
 ghost use Rattle.text.specs.Plain.{fieldText};
-ghost use Rattle.terms.specs.Values.{blankSlipField, viewTerm, viewField, viewRule};
-ghost use Rattle.accepted.specs.Accepted.{countedRule};
+ghost use Rattle.terms.specs.Values.{blankSlipField, viewTerm, viewField, viewSide};
+ghost use Rattle.accepted.specs.Accepted.{countedLeft};
 ghost use Rattle.accepted_slips.specs.Slips.{countedSlip};
 ghost use Rattle.matching.specs.Answers.{matchOf};
 ghost use Rattle.listing.specs.Variables.{isVariable, inField, occurs};
@@ -17,7 +17,7 @@ use bindings::Run;
 use order::Kind;
 use terms::Field;
 use terms::Form;
-use terms::Rule;
+use terms::RuleSide;
 use terms::Slip;
 use terms::SlipField;
 use terms::Term;
@@ -61,8 +61,8 @@ fn in_field(f: Field, k: Kind, n: u8) -> bool
     false
 }
 
-fn has_variable(r: Rule, k: Kind, n: u8) -> bool
-    ensures { λ b. ⌜ b ≡ occurs (kindOf k) n (viewRule r) ⌝ }
+fn has_variable(r: RuleSide, k: Kind, n: u8) -> bool
+    ensures { λ b. ⌜ b ≡ occurs (kindOf k) n (viewSide r) ⌝ }
 {
     let fields = at_most(r.n, 4);
     let mut i: usize = 0;
@@ -138,7 +138,7 @@ fn put_name(k: Kind, n: u8, out: &mut [u8], at: usize) -> usize
 }
 
 // A variable's name and value; of one that the rule lacks nothing.
-fn put_variable(k: Kind, n: u8, r: Rule, s: Slip, x: Filling, out: &mut [u8], at: usize) -> usize
+fn put_variable(k: Kind, n: u8, r: RuleSide, s: Slip, x: Filling, out: &mut [u8], at: usize) -> usize
     ensures { λ p. ⌜ Placed (saidVariable r s x (kindOf k) n) at (now (out .entry)) p (now (out .exit)) ⌝ }
 {
     if !has_variable(r, k, n) {
@@ -149,7 +149,7 @@ fn put_variable(k: Kind, n: u8, r: Rule, s: Slip, x: Filling, out: &mut [u8], at
 }
 
 // The rule's variables of one type, by number.
-fn put_kind(k: Kind, r: Rule, s: Slip, x: Filling, out: &mut [u8], at: usize) -> usize
+fn put_kind(k: Kind, r: RuleSide, s: Slip, x: Filling, out: &mut [u8], at: usize) -> usize
     ensures { λ p. ⌜ Placed (saidKind r s x (kindOf k)) at (now (out .entry)) p (now (out .exit)) ⌝ }
 {
     let mut p = at;
@@ -161,7 +161,7 @@ fn put_kind(k: Kind, r: Rule, s: Slip, x: Filling, out: &mut [u8], at: usize) ->
     p
 }
 
-fn put_values(r: Rule, s: Slip, x: Filling, out: &mut [u8], at: usize) -> usize
+fn put_values(r: RuleSide, s: Slip, x: Filling, out: &mut [u8], at: usize) -> usize
     ensures { λ p. ⌜ Placed (saidValues r s x) at (now (out .entry)) p (now (out .exit)) ⌝ }
 {
     let a = put_kind(Kind::Integer, r, s, x, out, at);
@@ -171,8 +171,8 @@ fn put_values(r: Rule, s: Slip, x: Filling, out: &mut [u8], at: usize) -> usize
 }
 
 // `no`, or `yes` with the values.
-pub fn put_match(r: Rule, s: Slip, out: &mut [u8], at: usize) -> usize
-    ensures { λ p. ⌜ Placed (saidMatch r s (matchOf (countedRule r) (countedSlip s))) at (now (out .entry)) p (now (out .exit)) ⌝ }
+pub fn put_match(r: RuleSide, s: Slip, out: &mut [u8], at: usize) -> usize
+    ensures { λ p. ⌜ Placed (saidMatch r s (matchOf (countedLeft r) (countedSlip s))) at (now (out .entry)) p (now (out .exit)) ⌝ }
 {
     let m = matching::match_rule(r, s);
     if !m.yes {

@@ -16,10 +16,10 @@ use Rattle.instance.proofs.Linear.{left-linear}
 use Rattle.instance.proofs.Matching.{constants-are}
 use Rattle.terms.specs.declared.Field.{Field}
 use Rattle.terms.specs.declared.SlipField.{SlipField}
-use Rattle.terms.specs.declared.Rule.{Rule}
+use Rattle.terms.specs.declared.RuleSide.{RuleSide}
 use Rattle.terms.specs.declared.Slip.{Slip}
-use Rattle.terms.specs.Values.{blankField, blankSlipField, encodeField, encodeSlipField, encodeRule, encodeSlip, viewRule, viewSlip}
-use Rattle.accepted.specs.Accepted.{acceptedRule, countedRule}
+use Rattle.terms.specs.Values.{blankField, blankSlipField, encodeField, encodeSlipField, encodeSide, encodeSlip, viewSide, viewSlip}
+use Rattle.accepted.specs.Accepted.{acceptedLeft, countedLeft}
 use Rattle.accepted_slips.specs.Slips.{acceptedSlip, countedSlip}
 use Rattle.accepted.proofs.Accepted.{FieldIn, rule-is, accepted-rule}
 use Rattle.accepted_slips.proofs.Slips.{slip-is, accepted-slip}
@@ -31,7 +31,7 @@ use Rattle.matching.proofs.Found.{answer-counts, answer-no, answer-yes}
 
 -- ---- the fields of a value
 
-fields-of : (r : List (List OurTerm)) → take (length r) ((encodeRule r) .fields) ≡ map encodeField r
+fields-of : (r : List (List OurTerm)) → take (length r) ((encodeSide r) .fields) ≡ map encodeField r
 fields-of r = unpadded mostFields blankField encodeField r
 
 slip-fields-of : (s : List (List OurTerm)) → take (length s) ((encodeSlip s) .fields) ≡ map encodeSlipField s
@@ -43,15 +43,15 @@ fields-again (f ∷ s) i = ap₂ (λ (w : SlipField) (ws : List SlipField). w �
 
 -- ---- what is not accepted has no fields
 
-pub not-rule : (rule : Rule) (slip : Slip) → acceptedRule rule ≡ false → noMatch ≡ matchOf (countedRule rule) (countedSlip slip)
-not-rule rule slip e = sym (ap (λ (b : Bool). matchOf (cond b (viewRule rule) []) (countedSlip slip)) e)
+pub not-rule : (rule : RuleSide) (slip : Slip) → acceptedLeft rule ≡ false → noMatch ≡ matchOf (countedLeft rule) (countedSlip slip)
+not-rule rule slip e = sym (ap (λ (b : Bool). matchOf (cond b (viewSide rule) []) (countedSlip slip)) e)
 
 no-fields : (r : List (List OurTerm)) → matchOf r [] ≡ noMatch
 no-fields [] = refl
 no-fields (f ∷ r) = refl
 
-pub not-slip : (rule : Rule) (slip : Slip) → acceptedSlip slip ≡ false → noMatch ≡ matchOf (countedRule rule) (countedSlip slip)
-not-slip rule slip e = sym (ap (λ (b : Bool). matchOf (countedRule rule) (cond b (viewSlip slip) [])) e ∙ no-fields (countedRule rule))
+pub not-slip : (rule : RuleSide) (slip : Slip) → acceptedSlip slip ≡ false → noMatch ≡ matchOf (countedLeft rule) (countedSlip slip)
+not-slip rule slip e = sym (ap (λ (b : Bool). matchOf (countedLeft rule) (cond b (viewSlip slip) [])) e ∙ no-fields (countedLeft rule))
 
 -- ---- accepted values
 
@@ -61,21 +61,21 @@ with-fields (f ∷ r) (w ∷ s) i j = refl
 with-fields (f ∷ r) [] i j = absurd j
 with-fields [] s i j = absurd i
 
-module _ (rule : Rule) (slip : Slip) (a : acceptedRule rule ≡ true) (b : acceptedSlip slip ≡ true) where
+module _ (rule : RuleSide) (slip : Slip) (a : acceptedLeft rule ≡ true) (b : acceptedSlip slip ≡ true) where
   abbrev fs : List (List OurTerm)
-  fs = viewRule rule
+  fs = viewSide rule
 
   abbrev ws : List (List Con)
   ws = map constants (viewSlip slip)
 
   rule-fields : take (rule .n) (rule .fields) ≡ map encodeField fs
-  rule-fields = ap (λ (r : Rule). take (r .n) (r .fields)) (sym (accepted-rule rule a .1)) ∙ fields-of fs
+  rule-fields = ap (λ (r : RuleSide). take (r .n) (r .fields)) (sym (accepted-rule rule a .1)) ∙ fields-of fs
 
   slip-fields : take (slip .n) (slip .fields) ≡ map encodeItems ws
   slip-fields = ap (λ (s : Slip). take (s .n) (s .fields)) (sym (accepted-slip slip b .1)) ∙ slip-fields-of (viewSlip slip) ∙ fields-again (viewSlip slip) (accepted-slip slip b .0 .1)
 
   rule-count : rule .n ≡ length fs
-  rule-count = ap (λ (r : Rule). r .n) (sym (accepted-rule rule a .1))
+  rule-count = ap (λ (r : RuleSide). r .n) (sym (accepted-rule rule a .1))
 
   slip-count : slip .n ≡ length ws
   slip-count = ap (λ (s : Slip). s .n) (sym (accepted-slip slip b .1)) ∙ sym (length-map (viewSlip slip) constants)
@@ -89,12 +89,12 @@ module _ (rule : Rule) (slip : Slip) (a : acceptedRule rule ≡ true) (b : accep
   one-list : All OneList fs
   one-list = left-linear fs (accepted-rule rule a .0 .1) .1
 
-  answer-is : matchOf (countedRule rule) (countedSlip slip) ≡ found fs ws (matcher fs ws)
+  answer-is : matchOf (countedLeft rule) (countedSlip slip) ≡ found fs ws (matcher fs ws)
   answer-is =
       ap₂ (λ (x y : Bool). matchOf (cond x fs []) (cond y (viewSlip slip) [])) a b
       ∙ with-fields fs (viewSlip slip) (rule-is fs .0 (accepted-rule rule a .0) .0) (slip-is (viewSlip slip) .0 (accepted-slip slip b .0) .0)
 
-  pub says-counts : slip .n ≢ rule .n → noMatch ≡ matchOf (countedRule rule) (countedSlip slip)
+  pub says-counts : slip .n ≢ rule .n → noMatch ≡ matchOf (countedLeft rule) (countedSlip slip)
   says-counts n = answer-counts fs ws (λ e. n (slip-count ∙ sym e ∙ sym rule-count)) ∙ sym answer-is
 
   module _ (same : slip .n ≡ rule .n) (t : Tested) (is-t : t ≡ fieldsTested (take (rule .n) (rule .fields)) (take (slip .n) (slip .fields)) noValues) where
@@ -104,11 +104,11 @@ module _ (rule : Rule) (slip : Slip) (a : acceptedRule rule ≡ true) (b : accep
     counts : length fs ≡ length ws
     counts = sym rule-count ∙ sym same ∙ slip-count
 
-    pub says-no : t .ok ≡ false → noMatch ≡ matchOf (countedRule rule) (countedSlip slip)
+    pub says-no : t .ok ≡ false → noMatch ≡ matchOf (countedLeft rule) (countedSlip slip)
     says-no e = answer-no fs ws counts t tests terms-in one-list e ∙ sym answer-is
 
     pub says-yes : t .ok ≡ true
-        → record { yes = true; filling = runsAll 0 (take (rule .n) (rule .fields)) (take (slip .n) (slip .fields)) (fillingOf (t .values)) } ≡ matchOf (countedRule rule) (countedSlip slip)
+        → record { yes = true; filling = runsAll 0 (take (rule .n) (rule .fields)) (take (slip .n) (slip .fields)) (fillingOf (t .values)) } ≡ matchOf (countedLeft rule) (countedSlip slip)
     says-yes e =
         ap₂ (λ (f : List Field) (w : List SlipField). record { yes = true; filling = runsAll 0 f w (fillingOf (t .values)) }) rule-fields slip-fields
         ∙ answer-yes fs ws counts t tests terms-in one-list e

@@ -3,7 +3,7 @@ ghost use mathlib.Core.Path.{_≡_};
 ghost use Prim.Native.Nat.{_-_, _≤_, min};
 ghost use Rattle.matching.specs.Tests.{fieldsTested, noValues, withRun, runsIn, runsAll};
 ghost use Rattle.matching.specs.Answers.{fillingOf, matchOf, noMatch};
-ghost use Rattle.accepted.specs.Accepted.{countedRule};
+ghost use Rattle.accepted.specs.Accepted.{countedLeft};
 ghost use Rattle.accepted_slips.specs.Slips.{countedSlip};
 ghost use lib.ListN.{take};
 use bindings::Filling;
@@ -13,7 +13,7 @@ use item_match::Tested;
 use order::Kind;
 use terms::Field;
 use terms::Form;
-use terms::Rule;
+use terms::RuleSide;
 use terms::Slip;
 use terms::SlipField;
 use terms::Term;
@@ -34,7 +34,7 @@ fn no_values() -> Values
 }
 
 // As many fields of the slip as of the rule, one after the other.
-fn match_fields(r: Rule, s: Slip) -> Tested
+fn match_fields(r: RuleSide, s: Slip) -> Tested
     requires { ⌜ (r .n ≤ 4) × (s .n ≡ r .n) ⌝ }
     ensures { λ t. ⌜ t ≡ fieldsTested (take (r .n) (r .fields)) (take (s .n) (s .fields)) noValues ⌝ }
 {
@@ -115,7 +115,7 @@ fn run_field(j: usize, f: Field, w: SlipField, x: Filling) -> Filling
     y
 }
 
-fn run_fields(r: Rule, s: Slip, x: Filling) -> Filling
+fn run_fields(r: RuleSide, s: Slip, x: Filling) -> Filling
     requires { ⌜ (r .n ≤ 4) × (s .n ≡ r .n) ⌝ }
     ensures { λ y. ⌜ y ≡ runsAll 0 (take (r .n) (r .fields)) (take (s .n) (s .fields)) x ⌝ }
 {
@@ -155,10 +155,10 @@ fn no_match() -> Match
 }
 
 // Whether the rule matches the slip, and with which filling. What no reading returns has no fields, and matches nothing.
-pub fn match_rule(rule: Rule, slip: Slip) -> Match
-    ensures { λ m. ⌜ m ≡ matchOf (countedRule rule) (countedSlip slip) ⌝ }
+pub fn match_rule(rule: RuleSide, slip: Slip) -> Match
+    ensures { λ m. ⌜ m ≡ matchOf (countedLeft rule) (countedSlip slip) ⌝ }
 {
-    if !accepted::is_rule(rule) {
+    if !accepted::is_left(rule) {
         return no_match();
     }
     if !accepted_slips::is_slip(slip) {

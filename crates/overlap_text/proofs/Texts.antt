@@ -6,7 +6,7 @@ use native.Mathlib.Omega.{arith}
 use lib.ListN.{length, take, drop}
 use Rattle.text.specs.Ascii.{ascii, newline}
 use Rattle.text.specs.Numbers.{digitsOf}
-use Rattle.text.specs.Read.{Outcome, readRule}
+use Rattle.text.specs.Read.{Outcome, readSide}
 use Rattle.verdicts.specs.declared.Reason.{Reason}
 use Rattle.verdicts.specs.declared.Verdict.the-variants.{Accepted, Refused}
 use Rattle.verdicts.specs.Verdicts.{numberOf, verdictOf}
@@ -23,10 +23,10 @@ use Rattle.overlap_text.proofs.Values.{refusal-short}
 
 module _ (s u : List ℕ) (old : List ℕ) (at n : ℕ) (is-n : n ≡ mostBytes) (room : at + mostBytes ≤ length old) where
   abbrev o : Outcome
-  o = readRule s
+  o = readSide s
 
   abbrev p : Outcome
-  p = readRule u
+  p = readSide u
 
   -- the bytes that are lent, and the whole room with m in their place
   abbrev part : List ℕ

@@ -6,7 +6,7 @@ use lib.Dec.{leb}
 use lib.ListN.{length}
 use Rattle.text.specs.Ascii.{ascii, newline}
 use Rattle.text.specs.Numbers.{digitsOf}
-use Rattle.text.specs.Read.{number, Outcome, refused, accepted, readRule}
+use Rattle.text.specs.Read.{number, Outcome, refused, accepted, readSide}
 use Rattle.listing.specs.Overlaps.{overlapText}
 use Rattle.pieces.specs.Refusals.{numberAt}
 use Rattle.overlaps.specs.Answers.{textsRoom}
@@ -36,10 +36,10 @@ roomBy k t u room = cond (leb mostBytes k) (textsRoom t u room) room
 -- ---- of texts, and of the bytes from a place on
 
 abbrev pub saidOf : List ℕ → List ℕ → List ℕ
-saidOf t u = readText (readRule t) (readRule u)
+saidOf t u = readText (readSide t) (readSide u)
 
 abbrev pub saidIn : List ℕ → ℕ → List ℕ → List ℕ → List ℕ
-saidIn old at t u = textsIn (length old - at) (readRule t) (readRule u)
+saidIn old at t u = textsIn (length old - at) (readSide t) (readSide u)
 
 abbrev pub roomIn : List ℕ → ℕ → List ℕ → List ℕ → List ℕ → List ℕ
 roomIn old at t u room = roomBy (length old - at) t u room

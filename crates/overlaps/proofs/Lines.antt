@@ -13,7 +13,7 @@ use Rattle.theory.specs.Terms.{con, var}
 use Rattle.theory.specs.Seqs.{Distinct}
 use Rattle.text.specs.Sizes.{mostFields}
 use Rattle.text.specs.Terms.{OurTerm}
-use Rattle.text.specs.Limits.{TermIn, IsRule}
+use Rattle.text.specs.Limits.{TermIn, IsLeft}
 use Rattle.text.specs.Read.{rule}
 use Rattle.instance.specs.Constants.{consts}
 use Rattle.instance.proofs.Linear.{left-linear}
@@ -30,8 +30,8 @@ use Rattle.unifiers.proofs.Listed.{marked-left, marked-right}
 use Rattle.listing.specs.Lines.{lineText}
 use Rattle.listing.specs.Overlaps.{OurEntry, entriesOf, lineOf, linesOf}
 use Rattle.listing.proofs.Exact.{entries-are}
-use Rattle.terms.specs.declared.Rule.{Rule}
-use Rattle.terms.specs.Values.{encodeField, encodeRule, blankField}
+use Rattle.terms.specs.declared.RuleSide.{RuleSide}
+use Rattle.terms.specs.Values.{encodeField, encodeSide, blankField}
 use Rattle.sides.specs.Sides.{OurAtom, OurShape, OurState, AtomIn, shapeTerms}
 use Rattle.sides.specs.Values.{rightRule}
 use Rattle.sides.proofs.Sides.{shapes-length, shapes-small, left-value, right-value}
@@ -77,7 +77,7 @@ both-all : (Ss : List OurShape) → All (λ S. length (shapeTerms S) ≤ rule .w
 both-all [] p q = tt
 both-all (S ∷ Ss) p q = ((p .0, atoms-in S (q .0)), both-all Ss (p .1) (q .1))
 
-shapes-in : (d : Side) (r : List (List OurTerm)) → IsRule r → (Ss : List OurShape) → shapesOf d r ≡ some Ss → All ShapeIn Ss
+shapes-in : (d : Side) (r : List (List OurTerm)) → IsLeft r → (Ss : List OurShape) → shapesOf d r ≡ some Ss → All ShapeIn Ss
 shapes-in d r h Ss e =
     both-all Ss (shapes-small (rule .width) d r Ss e (h .0 .2))
     (rule-every AtomIn d r Ss e (all-map (All TermIn) (All (OnTerm AtomIn d)) (λ f k. all-map TermIn (OnTerm AtomIn d) (atom-in d) f k) r (h .0 .3)))
@@ -115,7 +115,7 @@ module _ (st : Fillings) (s : OurState) (h : Holds st s) where
 
 -- ---- the values of a rule on side d are those that the line shows
 
-module _ (r : List (List OurTerm)) (is-rule : IsRule r) (d : Side) (Ss : List OurShape) (shapes : shapesOf d r ≡ some Ss) (st : Fillings) (s : OurState) (h : Holds st s)
+module _ (r : List (List OurTerm)) (is-rule : IsLeft r) (d : Side) (Ss : List OurShape) (shapes : shapesOf d r ≡ some Ss) (st : Fillings) (s : OurState) (h : Holds st s)
     (fs : List (List Marked)) (solved : map (substitute (markedValue basics consts ℕ-discrete d Ss s fs)) r ≡ fs) where
   pub as-many : length fs ≡ length r
   as-many = ap length (sym solved) ∙ length-map r (substitute (markedValue basics consts ℕ-discrete d Ss s fs))
@@ -139,7 +139,7 @@ module _ (r : List (List OurTerm)) (is-rule : IsRule r) (d : Side) (Ss : List Ou
 
 -- ---- two rules that reading returns, with as many fields
 
-module _ (r₁ r₂ : List (List OurTerm)) (is₁ : IsRule r₁) (is₂ : IsRule r₂) (same : length r₁ ≡ length r₂) where
+module _ (r₁ r₂ : List (List OurTerm)) (is₁ : IsLeft r₁) (is₂ : IsLeft r₂) (same : length r₁ ≡ length r₂) where
   shapes₁ : (Ss : List OurShape) × (shapesOf left r₁ ≡ some Ss) × Distinct (gaps Ss)
   shapes₁ = linear-shapes left r₁ (left-linear r₁ (is₁ .1))
 
@@ -153,7 +153,7 @@ module _ (r₁ r₂ : List (List OurTerm)) (is₁ : IsRule r₁) (is₂ : IsRule
   Ts = shapes₂ .0
 
   abbrev pub rulePair : Pair
-  rulePair = record { left = encodeRule r₁; sided = rightRule (encodeRule r₂) }
+  rulePair = record { left = encodeSide r₁; sided = rightRule (encodeSide r₂) }
 
   few : length Ss ≤ mostFields
   few = omega (arith, shapes-length left r₁ Ss (shapes₁ .1), is₁ .0 .1)
@@ -164,8 +164,8 @@ module _ (r₁ r₂ : List (List OurTerm)) (is₁ : IsRule r₁) (is₂ : IsRule
   line-agree : (st : Fillings) (s : OurState) (ch : Choice) (cs : List Cand) → Holds st s → ChoiceHolds ch Ss Ts cs → List·Memᴰ (cs, s) (rawFrom Ss Ts (start basics consts names)) → lineAt rulePair ch st ≡ line (cs, s)
   unfolding lineAt line
   line-agree st s ch cs h c i =
-      ap₂ (λ (x y : Rule). lineValue (entryAt rulePair ch st) (shownValue x (encodeRule r₁) (entryAt rulePair ch st) st) (shownValue y (rightRule (encodeRule r₂)) (entryAt rulePair ch st) st)) (plain-left r₁ (is₁ .0 .3)) (plain-right r₂ (is₂ .0 .3))
-      ∙ ap (λ (e : Entry). lineValue e (shownValue (encodeRule r₁) (encodeRule r₁) e st) (shownValue (encodeRule r₂) (rightRule (encodeRule r₂)) e st)) entry
+      ap₂ (λ (x y : RuleSide). lineValue (entryAt rulePair ch st) (shownValue x (encodeSide r₁) (entryAt rulePair ch st) st) (shownValue y (rightRule (encodeSide r₂)) (entryAt rulePair ch st) st)) (plain-left r₁ (is₁ .0 .3)) (plain-right r₂ (is₂ .0 .3))
+      ∙ ap (λ (e : Entry). lineValue e (shownValue (encodeSide r₁) (encodeSide r₁) e st) (shownValue (encodeSide r₂) (rightRule (encodeSide r₂)) e st)) entry
       ∙ ap₂ (λ (x y : Shown). lineValue (entryValue fs) x y) (left-values r₁ is₁ Ss fs many₁ st s h (shapes₁ .1)) (right-values r₂ is₂ Ts fs many₂ st s h (shapes₂ .1))
       ∙ line-agrees fs (marked-in st s h Ss Ts cs few (shapes-in left r₁ is₁ Ss (shapes₁ .1)) (shapes-in right r₂ is₂ Ts (shapes₂ .1))) r₁ r₂
       (markedValue basics consts ℕ-discrete left Ss s fs) (markedValue basics consts ℕ-discrete right Ts s fs)
@@ -187,9 +187,9 @@ module _ (r₁ r₂ : List (List OurTerm)) (is₁ : IsRule r₁) (is₂ : IsRule
       many₂ : length fs ≡ length r₂
       many₂ = as-many r₂ is₂ right Ts (shapes₂ .1) st s h fs solved₂
 
-      entry : entryOf (encodeRule r₁) (rightRule (encodeRule r₂)) ch st ≡ entryValue fs
+      entry : entryOf (encodeSide r₁) (rightRule (encodeSide r₂)) ch st ≡ entryValue fs
       entry =
-          ap₂ (λ (x y : Rule). entryOf x y ch st) (left-value r₁ Ss (shapes₁ .1)) (right-value r₂ Ts (is₂ .0 .3) (shapes₂ .1))
+          ap₂ (λ (x y : RuleSide). entryOf x y ch st) (left-value r₁ Ss (shapes₁ .1)) (right-value r₂ Ts (is₂ .0 .3) (shapes₂ .1))
           ∙ entry-agree st s h Ss Ts few (shapes-in left r₁ is₁ Ss (shapes₁ .1)) (shapes-in right r₂ is₂ Ts (shapes₂ .1)) cs ch c
 
   -- ALL LINES are those of the overlap list
@@ -198,8 +198,8 @@ module _ (r₁ r₂ : List (List OurTerm)) (is₁ : IsRule r₁) (is₂ : IsRule
   lines-are =
       all-agree rulePair line Ss Ts line-agree (shapes-in left r₁ is₁ Ss (shapes₁ .1)) (shapes-in right r₂ is₂ Ts (shapes₂ .1))
       (shapes-length left r₁ Ss (shapes₁ .1) ∙ same ∙ sym (shapes-length right r₂ Ts (shapes₂ .1))) few (sym (shapes-length left r₁ Ss (shapes₁ .1)))
-      (subst (λ (x : Rule). FieldsFrom 0 (x .fields) Ss) (sym (left-value r₁ Ss (shapes₁ .1))) (fields-there Ss (replicate (mostFields - length (map encodeField (map shapeTerms Ss))) blankField)))
-      (subst (λ (x : Rule). FieldsFrom 0 (x .fields) Ts) (sym (right-value r₂ Ts (is₂ .0 .3) (shapes₂ .1))) (fields-there Ts (replicate (mostFields - length (map encodeField (map shapeTerms Ts))) blankField)))
+      (subst (λ (x : RuleSide). FieldsFrom 0 (x .fields) Ss) (sym (left-value r₁ Ss (shapes₁ .1))) (fields-there Ss (replicate (mostFields - length (map encodeField (map shapeTerms Ss))) blankField)))
+      (subst (λ (x : RuleSide). FieldsFrom 0 (x .fields) Ts) (sym (right-value r₂ Ts (is₂ .0 .3) (shapes₂ .1))) (fields-there Ts (replicate (mostFields - length (map encodeField (map shapeTerms Ts))) blankField)))
       ∙ sym (map-map (λ (e : OurEntry). lineText (lineOf r₁ r₂ e)) (shown basics consts ℕ-discrete Ss Ts) (rawFrom Ss Ts (start basics consts names)))
       ∙ ap (map (λ (e : OurEntry). lineText (lineOf r₁ r₂ e))) (sym list-is)
       ∙ sym (map-map lineText (lineOf r₁ r₂) (entriesOf r₁ r₂))

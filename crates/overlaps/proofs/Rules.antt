@@ -12,7 +12,7 @@ use borrow.Author.Tests.{le-leb}
 use Rattle.order.specs.Types.{basics}
 use Rattle.text.specs.Told.{byRoom}
 use Rattle.text.specs.Terms.{OurTerm}
-use Rattle.text.specs.Limits.{IsRule}
+use Rattle.text.specs.Limits.{IsLeft}
 use Rattle.instance.specs.Constants.{consts}
 use Rattle.unifiers.specs.Shapes.{left, right, shapesOf}
 use Rattle.unifiers.specs.Candidates.{Cand, cands}
@@ -21,9 +21,9 @@ use Rattle.unifiers.specs.Entries.{equations, chosen, branch}
 use Rattle.unifiers.specs.Overlaps.{shown, listed}
 use Rattle.listing.specs.Lines.{Line, lineText, listText}
 use Rattle.listing.specs.Overlaps.{lineOf, linesOf, overlapText}
-use Rattle.terms.specs.declared.Rule.{Rule}
-use Rattle.terms.specs.Values.{viewRule, encodeRule}
-use Rattle.accepted.specs.Accepted.{acceptedRule, countedRule}
+use Rattle.terms.specs.declared.RuleSide.{RuleSide}
+use Rattle.terms.specs.Values.{viewSide, encodeSide}
+use Rattle.accepted.specs.Accepted.{acceptedLeft, countedLeft}
 use Rattle.accepted.proofs.Accepted.{accepted-rule}
 use Rattle.sides.specs.Sides.{OurShape, OurState}
 use Rattle.sides.specs.Values.{rightRule}
@@ -88,18 +88,18 @@ no-right (f ∷ r) = lines-none (f ∷ r) [] (λ e. absurd (omega (arith, e)))
 
 -- ---- rule values
 
-module _ (v : Rule) (h : acceptedRule v ≡ true) where
-  counted-is : countedRule v ≡ viewRule v
-  counted-is = ap (λ (b : Bool). cond b (viewRule v) []) h
+module _ (v : RuleSide) (h : acceptedLeft v ≡ true) where
+  counted-is : countedLeft v ≡ viewSide v
+  counted-is = ap (λ (b : Bool). cond b (viewSide v) []) h
 
-  value-is : encodeRule (countedRule v) ≡ v
-  value-is = ap encodeRule counted-is ∙ accepted-rule v h .1
+  value-is : encodeSide (countedLeft v) ≡ v
+  value-is = ap encodeSide counted-is ∙ accepted-rule v h .1
 
-  is-rule : IsRule (countedRule v)
-  is-rule = subst IsRule (sym counted-is) (accepted-rule v h .0)
+  is-rule : IsLeft (countedLeft v)
+  is-rule = subst IsLeft (sym counted-is) (accepted-rule v h .0)
 
-  count-is : v .n ≡ length (countedRule v)
-  count-is = sym (ap (λ (x : Rule). x .n) value-is)
+  count-is : v .n ≡ length (countedLeft v)
+  count-is = sym (ap (λ (x : RuleSide). x .n) value-is)
 
   at-most-four : v .n ≤ 4
   at-most-four = omega (arith, count-is, is-rule .0 .1)
@@ -133,49 +133,49 @@ no-terms [] e = refl
 no-terms (f ∷ r) e = absurd (omega (arith, e))
 
 -- what has no fields counts as that
-no-fields : (v : Rule) → v .n ≡ 0 → countedRule v ≡ []
-no-fields v e = go (acceptedRule v) refl
+no-fields : (v : RuleSide) → v .n ≡ 0 → countedLeft v ≡ []
+no-fields v e = go (acceptedLeft v) refl
   where
-    go : (b : Bool) → acceptedRule v ≡ b → countedRule v ≡ []
-    go true q = no-terms (countedRule v) (sym (count-is v q) ∙ e)
-    go false q = ap (λ (b : Bool). cond b (viewRule v) []) q
+    go : (b : Bool) → acceptedLeft v ≡ b → countedLeft v ≡ []
+    go true q = no-terms (countedLeft v) (sym (count-is v q) ∙ e)
+    go false q = ap (λ (b : Bool). cond b (viewSide v) []) q
 
-nothing-left : (v w : Rule) → v .n ≡ 0 → linesOf (countedRule v) (countedRule w) ≡ []
-nothing-left v w e = ap (λ (r : List (List OurTerm)). linesOf r (countedRule w)) (no-fields v e)
+nothing-left : (v w : RuleSide) → v .n ≡ 0 → linesOf (countedLeft v) (countedLeft w) ≡ []
+nothing-left v w e = ap (λ (r : List (List OurTerm)). linesOf r (countedLeft w)) (no-fields v e)
 
-module _ (v w : Rule) (a : acceptedRule v ≡ true) (b : acceptedRule w ≡ true) where
-  other-count : v .n ≢ w .n → linesOf (countedRule v) (countedRule w) ≡ []
-  other-count n = lines-none (countedRule v) (countedRule w) (λ e. n (count-is v a ∙ e ∙ sym (count-is w b)))
+module _ (v w : RuleSide) (a : acceptedLeft v ≡ true) (b : acceptedLeft w ≡ true) where
+  other-count : v .n ≢ w .n → linesOf (countedLeft v) (countedLeft w) ≡ []
+  other-count n = lines-none (countedLeft v) (countedLeft w) (λ e. n (count-is v a ∙ e ∙ sym (count-is w b)))
 
-  module _ (same : v .n ≡ w .n) (x : Rule) (is-x : x ≡ rightRule w) where
-    lines : allLines (record { left = v; sided = x }) ≡ map lineText (linesOf (countedRule v) (countedRule w))
+  module _ (same : v .n ≡ w .n) (x : RuleSide) (is-x : x ≡ rightRule w) where
+    lines : allLines (record { left = v; sided = x }) ≡ map lineText (linesOf (countedLeft v) (countedLeft w))
     lines =
-        ap (λ (y : Rule). allLines (record { left = v; sided = y })) is-x
-        ∙ ap₂ (λ (y z : Rule). allLines (record { left = y; sided = rightRule z })) (sym (value-is v a)) (sym (value-is w b))
-        ∙ lines-are (countedRule v) (countedRule w) (is-rule v a) (is-rule w b) (sym (count-is v a) ∙ same ∙ count-is w b)
+        ap (λ (y : RuleSide). allLines (record { left = v; sided = y })) is-x
+        ∙ ap₂ (λ (y z : RuleSide). allLines (record { left = y; sided = rightRule z })) (sym (value-is v a)) (sym (value-is w b))
+        ∙ lines-are (countedLeft v) (countedLeft w) (is-rule v a) (is-rule w b) (sym (count-is v a) ∙ same ∙ count-is w b)
 
 -- ---- values as reading returns them
 
-counts-differ : (v w : Rule) → AsRead v × AsRead w → v .n ≢ 0 → v .n ≢ w .n → linesOf (countedRule v) (countedRule w) ≡ []
+counts-differ : (v w : RuleSide) → AsRead v × AsRead w → v .n ≢ 0 → v .n ≢ w .n → linesOf (countedLeft v) (countedLeft w) ≡ []
 counts-differ v w h k n = go (ℕ-discrete (w .n) 0)
   where
-    go : Dec (w .n ≡ 0) → linesOf (countedRule v) (countedRule w) ≡ []
-    go (yes e) = ap (linesOf (countedRule v)) (no-fields w e) ∙ no-right (countedRule v)
+    go : Dec (w .n ≡ 0) → linesOf (countedLeft v) (countedLeft w) ≡ []
+    go (yes e) = ap (linesOf (countedLeft v)) (no-fields w e) ∙ no-right (countedLeft v)
     go (no m) = other-count v w (h .0 k) (h .1 m) n
 
-same-accepted : (v w : Rule) → AsRead v × AsRead w → v .n ≢ 0 → v .n ≡ w .n → (acceptedRule v ≡ true) × (acceptedRule w ≡ true)
+same-accepted : (v w : RuleSide) → AsRead v × AsRead w → v .n ≢ 0 → v .n ≡ w .n → (acceptedLeft v ≡ true) × (acceptedLeft w ≡ true)
 same-accepted v w h k e = (h .0 k, h .1 (λ z. k (e ∙ z)))
 
 -- ---- what two texts say, given by the tokens of each
 
 module _ (l r : List ℕ) (x y : TokenRule) (said : Said l r x y) where
   left-count : x .n ≡ saidRule l .n
-  left-count = ap (λ (v : Rule). v .n) (said .0)
+  left-count = ap (λ (v : RuleSide). v .n) (said .0)
 
   right-count : y .n ≡ saidRule r .n
-  right-count = ap (λ (v : Rule). v .n) (said .1)
+  right-count = ap (λ (v : RuleSide). v .n) (said .1)
 
-  pub said-none : x .n ≡ 0 → linesOf (countedRule (saidRule l)) (countedRule (saidRule r)) ≡ []
+  pub said-none : x .n ≡ 0 → linesOf (countedLeft (saidRule l)) (countedLeft (saidRule r)) ≡ []
   said-none e = nothing-left (saidRule l) (saidRule r) (sym left-count ∙ e)
 
   module _ (read : AsRead (saidRule l) × AsRead (saidRule r)) (n : x .n ≢ 0) where
@@ -185,14 +185,14 @@ module _ (l r : List ℕ) (x y : TokenRule) (said : Said l r x y) where
     pub said-four : x .n ≤ 4
     said-four = omega (arith, left-count, at-most-four (saidRule l) (read .0 present))
 
-    pub said-differ : x .n ≢ y .n → linesOf (countedRule (saidRule l)) (countedRule (saidRule r)) ≡ []
+    pub said-differ : x .n ≢ y .n → linesOf (countedLeft (saidRule l)) (countedLeft (saidRule r)) ≡ []
     said-differ m = counts-differ (saidRule l) (saidRule r) read present (λ e. m (left-count ∙ e ∙ sym right-count))
 
     -- the lines that are listed are those of the rules that the texts say
     pub said-lines : x .n ≡ y .n
-        → allLines (record { left = ruleOf l r x; sided = ruleOf l r y }) ≡ map lineText (linesOf (countedRule (saidRule l)) (countedRule (saidRule r)))
+        → allLines (record { left = ruleOf l r x; sided = ruleOf l r y }) ≡ map lineText (linesOf (countedLeft (saidRule l)) (countedLeft (saidRule r)))
     said-lines same =
         let counts : saidRule l .n ≡ saidRule r .n = sym left-count ∙ same ∙ right-count in
         let a = same-accepted (saidRule l) (saidRule r) read present counts in
-        ap (λ (v : Rule). allLines (record { left = v; sided = ruleOf l r y })) (said .0)
+        ap (λ (v : RuleSide). allLines (record { left = v; sided = ruleOf l r y })) (said .0)
         ∙ lines (saidRule l) (saidRule r) (a .0) (a .1) counts (ruleOf l r y) (said .1)

@@ -8,9 +8,9 @@ use Prim.Native.Nat.{ℕ}
 use lib.ListN.{length}
 use Rattle.text.specs.Told.{Told, byRoom}
 use Rattle.text.specs.Terms.{OurTerm}
-use Rattle.text.specs.Read.{Outcome, refused, accepted, readRule}
+use Rattle.text.specs.Read.{Outcome, refused, accepted, readSide}
 use Rattle.verdicts.specs.Verdicts.{verdictOf}
-use Rattle.accepted.specs.Accepted.{countedRule}
+use Rattle.accepted.specs.Accepted.{countedLeft}
 use Rattle.writing.specs.Answers.{after}
 use Rattle.pieces.specs.Stored.{bytesOf, storeAll}
 use Rattle.listing.specs.Lines.{lineText}
@@ -44,19 +44,19 @@ ruleOf (accepted x) = x
 
 -- WHAT LISTING PROMISES of the texts t and u: how each is read, and the list of the rules that they say
 pub record TextsList (t u old : List ℕ) (r : TextsListed) (new : List ℕ) : Type 0 where
-  pub left : r .left ≡ verdictOf (readRule t)
-  pub right : r .right ≡ verdictOf (readRule u)
-  pub listed : Lists (ruleOf (readRule t)) (ruleOf (readRule u)) old (r .listed) new
+  pub left : r .left ≡ verdictOf (readSide t)
+  pub right : r .right ≡ verdictOf (readSide u)
+  pub listed : Lists (ruleOf (readSide t)) (ruleOf (readSide u)) old (r .listed) new
 
 abbrev pub textsRoom : List ℕ → List ℕ → List ℕ → List ℕ
-textsRoom t u room = roomAfter (ruleOf (readRule t)) (ruleOf (readRule u)) room
+textsRoom t u room = roomAfter (ruleOf (readSide t)) (ruleOf (readSide u)) room
 
 -- the same of the values that the texts say
 abbrev pub SaidLists : List ℕ → List ℕ → List ℕ → Listed → List ℕ → Type 0
-SaidLists t u old r new = Lists (countedRule (saidRule t)) (countedRule (saidRule u)) old r new
+SaidLists t u old r new = Lists (countedLeft (saidRule t)) (countedLeft (saidRule u)) old r new
 
 abbrev pub saidRoom : List ℕ → List ℕ → List ℕ → List ℕ
-saidRoom t u room = roomAfter (countedRule (saidRule t)) (countedRule (saidRule u)) room
+saidRoom t u room = roomAfter (countedLeft (saidRule t)) (countedLeft (saidRule u)) room
 
 -- ---- of lines as bytes: `lines-list` of proofs/Rules says that they are listed as `Lists` has it
 

@@ -8,9 +8,9 @@ use Prim.Native.Nat.{ℕ, zero, suc, _+_, _-_, _*_, _≤_}
 use lib.Dec.{eqb}
 use lib.ListN.{length, getD}
 use Rattle.terms.specs.declared.Term.{Term}
-use Rattle.terms.specs.declared.Rule.{Rule}
+use Rattle.terms.specs.declared.RuleSide.{RuleSide}
 use Rattle.terms.specs.Values.{blankField}
-use Rattle.accepted.specs.Accepted.{acceptedRule}
+use Rattle.accepted.specs.Accepted.{acceptedLeft}
 use Rattle.fillings.specs.declared.Fillings.{Fillings}
 use Rattle.fillings.specs.declared.Joined.{Joined}
 use Rattle.fillings.specs.States.{startValue}
@@ -112,5 +112,5 @@ Countable t ls = Moderate t × (t .entries + length ls ≤ mostEntries)
 
 -- ---- the rules that are listed: a value with fields is one that reading returns
 
-abbrev pub AsRead : Rule → Type 0
-AsRead v = v .n ≢ 0 → acceptedRule v ≡ true
+abbrev pub AsRead : RuleSide → Type 0
+AsRead v = v .n ≢ 0 → acceptedLeft v ≡ true

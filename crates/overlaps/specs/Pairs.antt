@@ -2,8 +2,8 @@
 use mathlib.Core.List.{List}
 use Prim.Native.Nat.{ℕ}
 use mathlib.Core.Path.{_≡_}
-use Rattle.text.specs.Read.{readRule}
-use Rattle.terms.specs.declared.Rule.{Rule}
+use Rattle.text.specs.Read.{readSide}
+use Rattle.terms.specs.declared.RuleSide.{RuleSide}
 use Rattle.sides.specs.Values.{rightRule}
 use Rattle.reading.specs.Answers.{ruleRead}
 use Rattle.tokens.specs.declared.TokenRule.{TokenRule}
@@ -11,16 +11,16 @@ use Rattle.tokens.specs.Tokens.{ruleOf}
 use Rattle.overlaps.specs.declared.TokenPair.{TokenPair}
 
 pub record Pair : Type 0 where
-  pub left : Rule
-  pub sided : Rule
+  pub left : RuleSide
+  pub sided : RuleSide
 
 -- the rules that a pair of token rules stands for, of the left text and the right one
 abbrev pub pairOf : List ℕ → List ℕ → TokenPair → Pair
 pairOf l r p = record { left = ruleOf l r (p .left); sided = ruleOf l r (p .right) }
 
 -- the rule that a text says as a value, with no fields where it is refused
-abbrev pub saidRule : List ℕ → Rule
-saidRule t = (ruleRead (readRule t)) .rule
+abbrev pub saidRule : List ℕ → RuleSide
+saidRule t = (ruleRead (readSide t)) .rule
 
 -- token rules that stand for what the left text l and the right text r say
 abbrev pub Said : List ℕ → List ℕ → TokenRule → TokenRule → Type 0

@@ -5,7 +5,7 @@ ghost use mathlib.Core.Path.{_≡_};
 ghost use mathlib.Core.List.{[], _∷_};
 ghost use Prim.Native.Nat.{_-_, _+_, _≤_, _<_, min};
 ghost use lib.ListN.{length};
-ghost use Rattle.accepted.specs.Accepted.{countedRule};
+ghost use Rattle.accepted.specs.Accepted.{countedLeft};
 ghost use Rattle.entry_lines.specs.Lines.{lineBound};
 ghost use Rattle.overlaps.specs.Pairs.{Said};
 ghost use Rattle.pieces.specs.Stored.{storeAll};
@@ -14,7 +14,7 @@ ghost use Rattle.overlaps.specs.Listing.{candidateOf, noTally, Stores, l
 ghost use Rattle.overlaps.specs.Answers.{Lists, ListsLines, TextsList, SaidLists, roomAfter, textsRoom, saidRoom};
 use candidates::Span;
 use choices::Choice;
-use terms::Rule;
+use terms::RuleSide;
 use token_fillings::Fillings;
 use tokens::TokenRule;
 use verdicts::Verdict;
@@ -266,9 +266,9 @@ pub fn list_texts(left: &[u8], right: &[u8], room: &mut [u8], out: &mut [u8]) ->
 
 // The list of two rule values: that of their plain texts, which have at most 1,151 bytes. What no reading returns has no text,
 // and so no overlaps.
-pub fn list_with(left: Rule, right: Rule, room: &mut [u8], out: &mut [u8]) -> Listed
-    ensures { λ r. ⌜ Lists (countedRule left) (countedRule right) (now (out .entry)) r (now (out .exit)) ⌝ }
-    ensures { λ _. ⌜ now (room .exit) ≡ roomAfter (countedRule left) (countedRule right) (now (room .entry)) ⌝ }
+pub fn list_with(left: RuleSide, right: RuleSide, room: &mut [u8], out: &mut [u8]) -> Listed
+    ensures { λ r. ⌜ Lists (countedLeft left) (countedLeft right) (now (out .entry)) r (now (out .exit)) ⌝ }
+    ensures { λ _. ⌜ now (room .exit) ≡ roomAfter (countedLeft left) (countedLeft right) (now (room .entry)) ⌝ }
 {
     let mut a = [0u8; 1151];
     let mut b = [0u8; 1151];
@@ -279,8 +279,8 @@ pub fn list_with(left: Rule, right: Rule, room: &mut [u8], out: &mut [u8]) -> Li
 }
 
 // The same with no room but the lent bytes.
-pub fn list_overlaps(left: Rule, right: Rule, out: &mut [u8]) -> Listed
-    ensures { λ r. ⌜ Lists (countedRule left) (countedRule right) (now (out .entry)) r (now (out .exit)) ⌝ }
+pub fn list_overlaps(left: RuleSide, right: RuleSide, out: &mut [u8]) -> Listed
+    ensures { λ r. ⌜ Lists (countedLeft left) (countedLeft right) (now (out .entry)) r (now (out .exit)) ⌝ }
 {
     let mut room = [0u8; 1];
     list_with(left, right, &mut room, out)

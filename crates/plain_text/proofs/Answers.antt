@@ -5,18 +5,18 @@ use mathlib.Core.List.{List, []}
 use Prim.Native.Nat.{ℕ}
 use native.Mathlib.Omega.{arith}
 use Rattle.text.specs.Plain.{plain}
-use Rattle.terms.specs.declared.Rule.{Rule}
-use Rattle.terms.specs.Values.{viewRule}
-use Rattle.accepted.specs.Accepted.{acceptedRule, countedRule}
+use Rattle.terms.specs.declared.RuleSide.{RuleSide}
+use Rattle.terms.specs.Values.{viewSide}
+use Rattle.accepted.specs.Accepted.{acceptedLeft, countedLeft}
 use Rattle.writing.specs.declared.Written.{Written}
 use Rattle.writing.specs.declared.Written.the-variants.{Bytes}
 use Rattle.writing.specs.Answers.{Writes}
 use Rattle.writing.proofs.Answers.{wrote}
 
-module _ (r : Rule) where
+module _ (r : RuleSide) where
   -- a value that no reading returns has no bytes, and is never refused
-  pub of-none : (l : List ℕ) → acceptedRule r ≡ false → Writes (plain (countedRule r)) l (Bytes 0) l
+  pub of-none : (l : List ℕ) → acceptedLeft r ≡ false → Writes (plain (countedLeft r)) l (Bytes 0) l
   of-none l e = rw e (wrote [] l (omega arith) refl refl)
 
-  pub of-rule : (l : List ℕ) {w : Written} {m : List ℕ} → acceptedRule r ≡ true → Writes (plain (viewRule r)) l w m → Writes (plain (countedRule r)) l w m
+  pub of-rule : (l : List ℕ) {w : Written} {m : List ℕ} → acceptedLeft r ≡ true → Writes (plain (viewSide r)) l w m → Writes (plain (countedLeft r)) l w m
   of-rule l e h = rw e h

@@ -5,12 +5,12 @@ ghost use mathlib.Core.Path.{_≡_};
 ghost use Prim.Native.Nat.{_≤_, min};
 ghost use lib.ListN.{length};
 ghost use Rattle.text.specs.Plain.{fieldText, plain};
-ghost use Rattle.terms.specs.Values.{viewField, viewRule};
-ghost use Rattle.accepted.specs.Accepted.{countedRule};
+ghost use Rattle.terms.specs.Values.{viewField, viewSide};
+ghost use Rattle.accepted.specs.Accepted.{countedLeft};
 ghost use Rattle.writing.specs.Room.{Room, Put};
 ghost use Rattle.writing.specs.Answers.{Writes};
 use terms::Field;
-use terms::Rule;
+use terms::RuleSide;
 use writing::Written;
 
 // How many of n: the views end a count where its array ends, and so does the code.
@@ -40,8 +40,8 @@ fn field_size(f: Field) -> usize
 }
 
 // The fields with a `|` between them. The longest plain text of a rule has 1,151 bytes.
-fn rule_size(r: Rule) -> usize
-    ensures { λ s. ⌜ (s ≡ length (plain (viewRule r))) × (s ≤ 1151) ⌝ }
+fn rule_size(r: RuleSide) -> usize
+    ensures { λ s. ⌜ (s ≡ length (plain (viewSide r))) × (s ≤ 1151) ⌝ }
 {
     let n = at_most(r.n, 4);
     if n == 0 {
@@ -76,9 +76,9 @@ fn put_field(f: Field, out: &mut [u8], at: usize) -> usize
     p
 }
 
-fn put_rule(r: Rule, out: &mut [u8], at: usize) -> usize
-    requires { ⌜ Room (plain (viewRule r)) at (now out) ⌝ }
-    ensures { λ p. ⌜ Put (plain (viewRule r)) at (now (out .entry)) p (now (out .exit)) ⌝ }
+fn put_rule(r: RuleSide, out: &mut [u8], at: usize) -> usize
+    requires { ⌜ Room (plain (viewSide r)) at (now out) ⌝ }
+    ensures { λ p. ⌜ Put (plain (viewSide r)) at (now (out .entry)) p (now (out .exit)) ⌝ }
 {
     let n = at_most(r.n, 4);
     if n == 0 {
@@ -97,10 +97,10 @@ fn put_rule(r: Rule, out: &mut [u8], at: usize) -> usize
 // ---- the public functions
 
 // A rule's plain text. Document 01: a value that no reading can return "counts there as one with no fields; writing such a rule gives no bytes".
-pub fn write_rule(r: Rule, out: &mut [u8]) -> Written
-    ensures { λ w. ⌜ Writes (plain (countedRule r)) (now (out .entry)) w (now (out .exit)) ⌝ }
+pub fn write_rule(r: RuleSide, out: &mut [u8]) -> Written
+    ensures { λ w. ⌜ Writes (plain (countedLeft r)) (now (out .entry)) w (now (out .exit)) ⌝ }
 {
-    if !accepted::is_rule(r) {
+    if !accepted::is_left(r) {
         return Written::Bytes(0);
     }
     let need = rule_size(r);

@@ -14,24 +14,24 @@ use Rattle.text.specs.Machine.{place2}
 use Rattle.text.specs.Marks.{Mark, marks, FifthField, TooMany, MarkOver, Over}
 use Rattle.text.specs.Terms.{OurTerm, fieldsOf}
 use Rattle.text.specs.Walk.{walked}
-use Rattle.text.specs.Read.{Reason, long, grammar, fields, terms, limits, Sort, rule, slip, Refuses, said, placeOf, NoReason, Outcome, refused, accepted, tell, chain, read, readRule, readSlip}
+use Rattle.text.specs.Read.{Reason, long, grammar, fields, terms, limits, Sort, rule, slip, Refuses, said, placeOf, NoReason, Outcome, refused, accepted, tell, chain, read, readSide, readSlip}
 use Rattle.text.proofs.Place.{place2-none}
 use Rattle.text.proofs.Walk.{walk-says}
 use Rattle.text.proofs.Leftmost.{none-all}
 use Rattle.text.proofs.Fields.{few-to, width-to, each}
 use Rattle.text.proofs.Read.{read-accepted}
 use Rattle.text.proofs.Accepted.{Base, in-grammar, said-is, clean-to}
-use Rattle.terms.specs.declared.Rule.{Rule}
+use Rattle.terms.specs.declared.RuleSide.{RuleSide}
 use Rattle.terms.specs.declared.Slip.{Slip}
-use Rattle.terms.specs.Values.{blankRule, blankSlip}
+use Rattle.terms.specs.Values.{blankSide, blankSlip}
 use Rattle.scanning.specs.declared.Found.{Found}
 use Rattle.scanning.specs.declared.Found.the-variants as found
 use Rattle.scanning.specs.Places.{foundOf}
 use Rattle.verdicts.specs.declared.Verdict.{Verdict}
 use Rattle.verdicts.specs.declared.Verdict.the-variants.{Accepted, Refused}
 use Rattle.refusals.specs.declared.Survey.{Survey}
-use Rattle.text_passes.specs.Build.{builtRule, builtSlip}
-use Rattle.text_passes.specs.Passes.{surveyIn, ruleIn, slipIn}
+use Rattle.text_passes.specs.Build.{builtSide, builtSlip}
+use Rattle.text_passes.specs.Passes.{surveyIn, sideIn, slipIn}
 use Rattle.verdicts.specs.Verdicts.{sortOf, reasonFrom, verdictOf, reasons, refusedAt}
 use Rattle.refusals.specs.Refusals.{surveyMark, nothingYet, told}
 use Rattle.refusals.proofs.Refusals.{tellAll, survey-is}
@@ -89,8 +89,8 @@ verdict-same [] j p x y = refl
 verdict-same (r ∷ rs) zero p x y = refl
 verdict-same (r ∷ rs) (suc j) p x y = verdict-same rs j p x y
 
-rule-refused : (o : Outcome) (v : Verdict) (r : _) (p : ℕ) → v ≡ verdictOf o → v ≡ Refused r p → ruleRead o ≡ record { verdict = v; rule = blankRule }
-rule-refused (refused r p) v r′ p′ e q = ap (λ (z : Verdict). record { verdict = z; rule = blankRule }) (sym e)
+rule-refused : (o : Outcome) (v : Verdict) (r : _) (p : ℕ) → v ≡ verdictOf o → v ≡ Refused r p → ruleRead o ≡ record { verdict = v; rule = blankSide }
+rule-refused (refused r p) v r′ p′ e q = ap (λ (z : Verdict). record { verdict = z; rule = blankSide }) (sym e)
 rule-refused (accepted x) v r′ p′ e q = let z : _≡_ {A = ℕ} 0 1 = cc in absurd (omega arith)
 
 slip-refused : (o : Outcome) (v : Verdict) (r : _) (p : ℕ) → v ≡ verdictOf o → v ≡ Refused r p → slipRead o ≡ record { verdict = v; slip = blankSlip }
@@ -127,10 +127,10 @@ module _ (s : Bool) (t : List ℕ) (e : Accepted ≡ verdictOf (read (sortOf s) 
       let b : Base (sortOf s) t = (n .0, n .1 .0, n .1 .1 .0, n .1 .1 .1 .0, n .1 .1 .1 .1 .0) in
       (g .0, g .1, fits (sortOf s) t b (g .0) (g .1), a .1 ∙ ap accepted (sym (r .1) ∙ ap fieldsOf (said-is t (g .0) (g .1))), walk-says t (g .0) (g .1))
 
-rule-accepted : (t : List ℕ) → Accepted ≡ verdictOf (readRule t) → record { verdict = Accepted; rule = builtRule (walked t) } ≡ ruleRead (readRule t)
+rule-accepted : (t : List ℕ) → Accepted ≡ verdictOf (readSide t) → record { verdict = Accepted; rule = builtSide (walked t) } ≡ ruleRead (readSide t)
 rule-accepted t e =
     let a = accepts false t e in
-    ap (λ (r : _). record { verdict = Accepted; rule = r }) (ap builtRule (a .4) ∙ rule-built (a .0) (a .1 .0) (a .2)) ∙ ap ruleRead (sym (a .3))
+    ap (λ (r : _). record { verdict = Accepted; rule = r }) (ap builtSide (a .4) ∙ rule-built (a .0) (a .1 .0) (a .2)) ∙ ap ruleRead (sym (a .3))
 
 slip-accepted : (t : List ℕ) → Accepted ≡ verdictOf (readSlip t) → record { verdict = Accepted; slip = builtSlip (walked t) } ≡ slipRead (readSlip t)
 slip-accepted t e =
@@ -175,13 +175,13 @@ accepted-short s t v e q = go (decLt ((sortOf s) .bytes) (length t))
     go (no n) = let b = bytes-small s in omega arith
 
 -- the answers
-pub rule-yes : (t : List ℕ) (v : Verdict) (r : Rule) → v ≡ verdictOf (readRule t) → v ≡ Accepted → r ≡ ruleIn t → record { verdict = v; rule = r } ≡ ruleRead (readRule t)
+pub rule-yes : (t : List ℕ) (v : Verdict) (r : RuleSide) → v ≡ verdictOf (readSide t) → v ≡ Accepted → r ≡ sideIn t → record { verdict = v; rule = r } ≡ ruleRead (readSide t)
 rule-yes t v r e q b =
-    ap₂ (λ (x : Verdict) (y : Rule). record { verdict = x; rule = y }) q (b ∙ rw (is-short t (accepted-short false t v e q)))
+    ap₂ (λ (x : Verdict) (y : RuleSide). record { verdict = x; rule = y }) q (b ∙ rw (is-short t (accepted-short false t v e q)))
     ∙ rule-accepted t (sym q ∙ e)
 
-pub rule-no : (t : List ℕ) (v : Verdict) (r : Rule) (k : _) (p : ℕ) → v ≡ verdictOf (readRule t) → v ≡ Refused k p → r ≡ blankRule → record { verdict = v; rule = r } ≡ ruleRead (readRule t)
-rule-no t v r k p e q b = ap (λ (y : Rule). record { verdict = v; rule = y }) b ∙ sym (rule-refused (readRule t) v k p e q)
+pub rule-no : (t : List ℕ) (v : Verdict) (r : RuleSide) (k : _) (p : ℕ) → v ≡ verdictOf (readSide t) → v ≡ Refused k p → r ≡ blankSide → record { verdict = v; rule = r } ≡ ruleRead (readSide t)
+rule-no t v r k p e q b = ap (λ (y : RuleSide). record { verdict = v; rule = y }) b ∙ sym (rule-refused (readSide t) v k p e q)
 
 pub slip-yes : (t : List ℕ) (v : Verdict) (r : Slip) → v ≡ verdictOf (readSlip t) → v ≡ Accepted → r ≡ slipIn t → record { verdict = v; slip = r } ≡ slipRead (readSlip t)
 slip-yes t v r e q b =

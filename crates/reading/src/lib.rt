@@ -3,13 +3,13 @@ ghost use mathlib.Core.Path.{_≡_};
 ghost use mathlib.Core.Bool.{cond};
 ghost use mathlib.Core.List.{List};
 ghost use Prim.Native.Nat.{ℕ};
-ghost use Rattle.text.specs.Read.{read, readRule};
+ghost use Rattle.text.specs.Read.{read, readSide};
 ghost use Rattle.verdicts.specs.Verdicts.{sortOf, verdictOf};
 ghost use Rattle.tokens.specs.Tokens.{ruleOf};
 ghost use Rattle.text_passes.specs.Tokens.{onSide};
 ghost use Rattle.reading.specs.Answers.{ruleRead, ReadsRule, ReadsSlip};
 use scanning::Found;
-use terms::Rule;
+use terms::RuleSide;
 use terms::Slip;
 use tokens::TokenRule;
 use verdicts::Reason;
@@ -17,7 +17,7 @@ use verdicts::Verdict;
 
 pub struct RuleRead {
     pub verdict: Verdict,
-    pub rule: Rule,
+    pub rule: RuleSide,
 }
 
 pub struct SlipRead {
@@ -61,11 +61,11 @@ pub fn read_rule(text: &[u8]) -> RuleRead
     match verdict {
         Verdict::Accepted => RuleRead {
             verdict: verdict,
-            rule: text_passes::rule_in(text),
+            rule: text_passes::side_in(text),
         },
         Verdict::Refused(_, _) => RuleRead {
             verdict: verdict,
-            rule: terms::blank_rule(),
+            rule: terms::blank_side(),
         },
     }
 }
@@ -89,8 +89,8 @@ pub fn read_slip(text: &[u8]) -> SlipRead
 
 // Reads a rule as tokens: as the right text of a pair its atom variables have numbers 16 higher, and its constants are places of the right text.
 pub fn read_tokens(text: &[u8], right: bool) -> TokensRead
-    ensures { λ r. ⌜ r .verdict ≡ (ruleRead (readRule (now (text .entry)))) .verdict ⌝ }
-    ensures { λ r. ⌜ ((o : List ℕ) → ruleOf (cond right o (now (text .entry))) (cond right (now (text .entry)) o) (r .rule) ≡ onSide right ((ruleRead (readRule (now (text .entry)))) .rule)) ⌝ }
+    ensures { λ r. ⌜ r .verdict ≡ (ruleRead (readSide (now (text .entry)))) .verdict ⌝ }
+    ensures { λ r. ⌜ ((o : List ℕ) → ruleOf (cond right o (now (text .entry))) (cond right (now (text .entry)) o) (r .rule) ≡ onSide right ((ruleRead (readSide (now (text .entry)))) .rule)) ⌝ }
 {
     let verdict = judge(text, false);
     match verdict {

@@ -16,7 +16,7 @@ use Rattle.theory.specs.Terms.{con, var}
 use Rattle.theory.specs.Seqs.{concat-map}
 use Rattle.theory.specs.Linear.{lists}
 use Rattle.text.specs.Terms.{OurTerm, int, str}
-use Rattle.text.specs.Limits.{TermIn, IsRule}
+use Rattle.text.specs.Limits.{TermIn, IsLeft}
 use Rattle.instance.specs.Constants.{consts}
 use Rattle.instance.proofs.Linear.{left-linear}
 use Rattle.unifiers.specs.Shapes.{fixed, free, Side, left, right, of}
@@ -89,7 +89,7 @@ names-small (var (basic k) n ∷ f) h = names-small f (h .1)
 names-small (var list n ∷ f) h = (omega (arith, h .0), names-small f (h .1))
 
 -- document 01's fields on the two sides
-pub equation-of : (f g : List OurTerm) → IsRule (f ∷ []) → IsRule (g ∷ []) → Equation (fieldOn left f) (fieldOn right g)
+pub equation-of : (f g : List OurTerm) → IsLeft (f ∷ []) → IsLeft (g ∷ []) → Equation (fieldOn left f) (fieldOn right g)
 equation-of f g p q =
     record {
       linear = fields-linear basics consts ℕ-discrete numbers sixteenAbove f g (left-linear (f ∷ []) (p .1) .1 .0) (left-linear (g ∷ []) (q .1) .1 .0)
@@ -166,7 +166,7 @@ start-holds A B q =
     stands t (inr i) = (all-mem Within B (q .right-in) t i, tt)
 
 -- THE ROOT of two of document 01's fields
-pub root-holds : (f g : List OurTerm) → IsRule (f ∷ []) → IsRule (g ∷ [])
+pub root-holds : (f g : List OurTerm) → IsLeft (f ∷ []) → IsLeft (g ∷ [])
     → Holds (fieldOn left f) (fieldOn right g) (rootValue (encodeField f) (encodeField g)) (root setting (fieldOn left f) (fieldOn right g))
 root-holds f g p q =
     subst (λ (r : Problem). Holds (fieldOn left f) (fieldOn right g) r (root setting (fieldOn left f) (fieldOn right g)))

@@ -22,7 +22,7 @@ use Rattle.theory.specs.Seqs.{Distinct}
 use Rattle.text.specs.Sizes.{largestNumber, mostFields}
 use Rattle.text.specs.Read.{rule}
 use Rattle.text.specs.Terms.{int, str, OurTerm}
-use Rattle.text.specs.Limits.{TermIn, IsRule}
+use Rattle.text.specs.Limits.{TermIn, IsLeft}
 use Rattle.instance.specs.Constants.{consts}
 use Rattle.instance.proofs.Linear.{left-linear}
 use Rattle.unifiers.specs.Shapes.{fixed, free, Side, left, right, of, closed, gapped, shapeOf, shapesOf}
@@ -32,8 +32,8 @@ use Rattle.unifiers.proofs.Named.{gaps}
 use Rattle.unifiers.proofs.Linear.{linear-shapes}
 use Rattle.terms.specs.declared.Term.{Term}
 use Rattle.terms.specs.declared.Field.{Field}
-use Rattle.terms.specs.declared.Rule.{Rule}
-use Rattle.terms.specs.Values.{pad, blankTerm, blankField, encodeTerm, encodeField, encodeRule}
+use Rattle.terms.specs.declared.RuleSide.{RuleSide}
+use Rattle.terms.specs.Values.{pad, blankTerm, blankField, encodeTerm, encodeField, encodeSide}
 use Rattle.listing.specs.Variables.{Variable, every, inField, occurs}
 use Rattle.listing.proofs.Rising.{keep-mem}
 use Rattle.listing.proofs.Variables.{every-mem, occurs-is, in-variables}
@@ -242,17 +242,17 @@ mark-atom (free (of d k n)) = refl
 
 -- ---- THE AGREEMENT: of a rule r that reading returns, on side d, with shapes Ss; fs are the entry's fields before the renumbering
 
-module _ (r : List (List OurTerm)) (is-rule : IsRule r) (d : Side) (Ss : List OurShape) (shapes : shapesOf d r ≡ some Ss) (fs : List (List Marked)) (as-many : length fs ≡ length r)
+module _ (r : List (List OurTerm)) (is-rule : IsLeft r) (d : Side) (Ss : List OurShape) (shapes : shapesOf d r ≡ some Ss) (fs : List (List Marked)) (as-many : length fs ≡ length r)
     (st : Fillings) (σ : OurState) (h : Holds st σ) where
   -- of the rule's value and its value in the pair; `left-values` and `right-values` below say which that is
   abbrev pub theValues : Shown
-  theValues = shownValue (encodeRule r) (encodeRule (map shapeTerms Ss)) (entryValue fs) st
+  theValues = shownValue (encodeSide r) (encodeSide (map shapeTerms Ss)) (entryValue fs) st
 
   over-terms : theValues ≡ walk d st σ h 0 blankShown r fs
   over-terms =
       let gs = map encodeField (map (map (sideTerm d)) r) in
       let ws = map encodeWide (map (map markTerm) fs) in
-      ap (λ (x : List (List OurTerm)). shownValue (encodeRule r) (encodeRule x) (entryValue fs) st) (sym (shapes-terms d r Ss shapes))
+      ap (λ (x : List (List OurTerm)). shownValue (encodeSide r) (encodeSide x) (entryValue fs) st) (sym (shapes-terms d r Ss shapes))
       ∙ ap (λ (l : List Field). showFields st 0 blankShown l (pad mostFields blankField gs) (pad mostFields blankWide ws))
       (take-at (map encodeField r) (replicate (mostFields - length (map encodeField r)) blankField) (length r) (length-map r encodeField))
       ∙ fields-put d st σ h 0 blankShown r fs as-many (is-rule .0 .3) (replicate (mostFields - length gs) blankField) (replicate (mostFields - length ws) blankWide)
@@ -302,9 +302,9 @@ module _ (r : List (List OurTerm)) (is-rule : IsRule r) (d : Side) (Ss : List Ou
 
 -- ---- the two rules of a pair, as they are and as they stand in it
 
-module _ (r : List (List OurTerm)) (is-rule : IsRule r) (Ss : List OurShape) (fs : List (List Marked)) (as-many : length fs ≡ length r) (st : Fillings) (σ : OurState) (h : Holds st σ) where
-  pub left-values : (shapes : shapesOf left r ≡ some Ss) → shownValue (encodeRule r) (encodeRule r) (entryValue fs) st ≡ theValues r is-rule left Ss shapes fs as-many st σ h
-  left-values shapes = ap (λ (x : Rule). shownValue (encodeRule r) x (entryValue fs) st) (left-value r Ss shapes)
+module _ (r : List (List OurTerm)) (is-rule : IsLeft r) (Ss : List OurShape) (fs : List (List Marked)) (as-many : length fs ≡ length r) (st : Fillings) (σ : OurState) (h : Holds st σ) where
+  pub left-values : (shapes : shapesOf left r ≡ some Ss) → shownValue (encodeSide r) (encodeSide r) (entryValue fs) st ≡ theValues r is-rule left Ss shapes fs as-many st σ h
+  left-values shapes = ap (λ (x : RuleSide). shownValue (encodeSide r) x (entryValue fs) st) (left-value r Ss shapes)
 
-  pub right-values : (shapes : shapesOf right r ≡ some Ss) → shownValue (encodeRule r) (rightRule (encodeRule r)) (entryValue fs) st ≡ theValues r is-rule right Ss shapes fs as-many st σ h
-  right-values shapes = ap (λ (x : Rule). shownValue (encodeRule r) x (entryValue fs) st) (right-value r Ss (is-rule .0 .3) shapes)
+  pub right-values : (shapes : shapesOf right r ≡ some Ss) → shownValue (encodeSide r) (rightRule (encodeSide r)) (entryValue fs) st ≡ theValues r is-rule right Ss shapes fs as-many st σ h
+  right-values shapes = ap (λ (x : RuleSide). shownValue (encodeSide r) x (entryValue fs) st) (right-value r Ss (is-rule .0 .3) shapes)

@@ -24,8 +24,8 @@ use Rattle.terms.specs.declared.Form.{Form}
 use Rattle.terms.specs.declared.Form.the-variants.{Int, Str, Var}
 use Rattle.terms.specs.declared.Term.{Term}
 use Rattle.terms.specs.declared.Field.{Field}
-use Rattle.terms.specs.declared.Rule.{Rule}
-use Rattle.terms.specs.Values.{pad, blankTerm, blankField, encodeTerm, encodeField, encodeRule}
+use Rattle.terms.specs.declared.RuleSide.{RuleSide}
+use Rattle.terms.specs.Values.{pad, blankTerm, blankField, encodeTerm, encodeField, encodeSide}
 use Rattle.sides.specs.Sides.{numbersOfSide, sided}
 use Rattle.sides.specs.Values.{rightNumber, rightForm, rightTerm, mapFirst, rightField, rightRule}
 use Rattle.shown.specs.Values.{placeBy}
@@ -60,7 +60,7 @@ module _ {A B : Type 0} (e : A → B) (p : B → B) (P : A → Type 0) (d : B) (
 plain-field : (f : List OurTerm) → All TermIn f → plainField (encodeField f) ≡ encodeField f
 plain-field f h = ap (λ (ts : List Term). record { n = length f; terms = ts }) (padded-kept encodeTerm plainTerm TermIn blankTerm plain-term refl (rule .width) f h)
 
-pub plain-left : (x : List (List OurTerm)) → All (All TermIn) x → plainRule (encodeRule x) ≡ encodeRule x
+pub plain-left : (x : List (List OurTerm)) → All (All TermIn) x → plainRule (encodeSide x) ≡ encodeSide x
 plain-left x h = ap (λ (fs : List Field). record { n = length x; fields = fs }) (padded-kept encodeField plainField (All TermIn) blankField plain-field refl mostFields x h)
 
 -- ---- on the right its numbers are moved by those of a side
@@ -89,11 +89,11 @@ first-back {A} p g same (suc n) (x ∷ s) = ap₂ (λ (y : A) (ys : List A). y �
 field-back : (f : Field) → plainField (rightField f) ≡ plainField f
 field-back f = ap (λ (ts : List Term). record { n = f .n; terms = ts }) (first-back plainTerm rightTerm term-back (f .n) (f .terms))
 
-rule-back : (r : Rule) → plainRule (rightRule r) ≡ plainRule r
+rule-back : (r : RuleSide) → plainRule (rightRule r) ≡ plainRule r
 rule-back r = ap (λ (fs : List Field). record { n = r .n; fields = fs }) (first-back plainField rightField field-back (r .n) (r .fields))
 
-pub plain-right : (x : List (List OurTerm)) → All (All TermIn) x → plainRule (rightRule (encodeRule x)) ≡ encodeRule x
-plain-right x h = rule-back (encodeRule x) ∙ plain-left x h
+pub plain-right : (x : List (List OurTerm)) → All (All TermIn) x → plainRule (rightRule (encodeSide x)) ≡ encodeSide x
+plain-right x h = rule-back (encodeSide x) ∙ plain-left x h
 
 -- ---- the place of a token's variable
 

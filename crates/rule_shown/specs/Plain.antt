@@ -6,7 +6,7 @@ use Rattle.terms.specs.declared.Form.{Form}
 use Rattle.terms.specs.declared.Form.the-variants.{Int, Str, Var}
 use Rattle.terms.specs.declared.Term.{Term}
 use Rattle.terms.specs.declared.Field.{Field}
-use Rattle.terms.specs.declared.Rule.{Rule}
+use Rattle.terms.specs.declared.RuleSide.{RuleSide}
 use Rattle.sides.specs.Sides.{numbersOfSide}
 
 abbrev pub plainForm : Form → Form
@@ -20,5 +20,5 @@ plainTerm t = record { form = plainForm (t .form); text = t .text }
 abbrev pub plainField : Field → Field
 plainField f = record { n = f .n; terms = map plainTerm (f .terms) }
 
-abbrev pub plainRule : Rule → Rule
+abbrev pub plainRule : RuleSide → RuleSide
 plainRule r = record { n = r .n; fields = map plainField (r .fields) }

@@ -4,7 +4,7 @@ use mathlib.Core.List.{List, [], _∷_, map}
 use Prim.Native.Nat.{ℕ, _+_, _-_}
 use lib.ListN.{take}
 use Rattle.terms.specs.declared.Field.{Field}
-use Rattle.terms.specs.declared.Rule.{Rule}
+use Rattle.terms.specs.declared.RuleSide.{RuleSide}
 use Rattle.shapes.specs.Shapes.{termsOf, shapeValue}
 use Rattle.fillings.specs.declared.Fillings.{Fillings}
 use Rattle.entries.specs.declared.Wide.{Wide}
@@ -33,5 +33,5 @@ showFields st j s (f ∷ fs) (g ∷ gs) [] = s
 showFields st j s (f ∷ fs) (g ∷ gs) (w ∷ ws) = showFields st (j + 1) (showField (runAt j g w) st s f g) fs gs ws
 
 -- THE VALUES
-abbrev pub shownValue : Rule → Rule → Entry → Fillings → Shown
+abbrev pub shownValue : RuleSide → RuleSide → Entry → Fillings → Shown
 shownValue r sided e st = showFields st 0 blankShown (take (r .n) (r .fields)) (sided .fields) (e .fields)

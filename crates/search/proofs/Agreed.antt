@@ -8,7 +8,7 @@ use native.Mathlib.Omega.{arith}
 use lib.ListN.{length}
 use Rattle.lists.specs.Seqs.{all-map}
 use Rattle.text.specs.Terms.{OurTerm}
-use Rattle.text.specs.Limits.{IsRule}
+use Rattle.text.specs.Limits.{IsLeft}
 use Rattle.terms.specs.Values.{encodeField}
 use Rattle.unifiers.specs.Shapes.{fixed, free, left, right}
 use Rattle.searching.specs.Problems.{atomic, listvar, Tm, Field, Bindings, Rest, solved, equation, problem}
@@ -37,7 +37,7 @@ ours (atomic (fixed c)) h = h
 ours (atomic (free x)) h = tt
 ours (listvar n) h = tt
 
-module _ (f g : List OurTerm) (is-f : IsRule (f ∷ [])) (is-g : IsRule (g ∷ [])) where
+module _ (f g : List OurTerm) (is-f : IsLeft (f ∷ [])) (is-g : IsLeft (g ∷ [])) where
   abbrev A : Field setting
   A = fieldOn left f
 

@@ -10,7 +10,7 @@ use native.Mathlib.Decide.{ℕ-discrete}
 use lib.ListN.{length, length-map}
 use Rattle.order.specs.Types.{basics}
 use Rattle.text.specs.Terms.{OurTerm}
-use Rattle.text.specs.Limits.{IsRule}
+use Rattle.text.specs.Limits.{IsLeft}
 use Rattle.terms.specs.declared.Field.{Field}
 use Rattle.accepted.specs.Accepted.{acceptedField}
 use Rattle.instance.specs.Constants.{consts}
@@ -51,7 +51,7 @@ module _ (f g : List OurTerm) where
   lines-are refused = refl
   lines-are unfinished = refl
 
-  module _ (F G : Field) (row : List Problem) (out : List ℕ) (is-f : IsRule (f ∷ [])) (is-g : IsRule (g ∷ [])) (both : (acceptedField F && acceptedField G) ≡ true)
+  module _ (F G : Field) (row : List Problem) (out : List ℕ) (is-f : IsLeft (f ∷ [])) (is-g : IsLeft (g ∷ [])) (both : (acceptedField F && acceptedField G) ≡ true)
       (Holds : Problem → theory.Problem setting → Type 0) (number : Rule → ℕ) (agrees : Agrees setting (records F G) Holds number (answerText f g))
       (bound : ℕ) (short : (p : Problem) (σ : theory.Bindings setting) (u : List ℕ) → Holds p (theory.problem theory.solved σ u) → length (answerText f g σ) ≤ bound) (low : bound * 2 ^ 34 < 2 ^ 64)
       (is-root : Holds (rootValue F G) (root setting (fieldOn left f) (fieldOn right g))) where

@@ -8,7 +8,7 @@ use native.Mathlib.Omega.{arith}
 use lib.Dec.{leb}
 use lib.ListN.{length}
 use Rattle.text.specs.Terms.{OurTerm}
-use Rattle.text.specs.Limits.{IsRule}
+use Rattle.text.specs.Limits.{IsLeft}
 use Rattle.terms.specs.declared.Field.{Field}
 use Rattle.terms.specs.Values.{viewField, encodeField}
 use Rattle.accepted.specs.Accepted.{acceptedField, countedField}
@@ -67,7 +67,7 @@ leaves F G row out r row′ out′ L d a = (
 
 -- ---- two accepted fields
 
-module _ (f g : List OurTerm) (is-f : IsRule (f ∷ [])) (is-g : IsRule (g ∷ [])) (row : List Problem) (out : List ℕ) where
+module _ (f g : List OurTerm) (is-f : IsLeft (f ∷ [])) (is-g : IsLeft (g ∷ [])) (row : List Problem) (out : List ℕ) where
   both : (acceptedField (encodeField f) && acceptedField (encodeField g)) ≡ true
   both = ap₂ _&&_ (encode-accepted-field f is-f) (encode-accepted-field g is-g)
 

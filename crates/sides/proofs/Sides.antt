@@ -21,7 +21,7 @@ use Rattle.text.specs.Limits.{TermIn}
 use Rattle.terms.specs.declared.Form.the-variants.{Var}
 use Rattle.terms.specs.declared.Term.{Term}
 use Rattle.terms.specs.declared.Field.{Field}
-use Rattle.terms.specs.Values.{pad, blankTerm, blankField, encodeTerm, encodeField, encodeRule}
+use Rattle.terms.specs.Values.{pad, blankTerm, blankField, encodeTerm, encodeField, encodeSide}
 use Rattle.unifiers.specs.Shapes.{Side, left, right, fixed, free, of, closed, gapped, withAtom, withList, shapeOf, shapesOf, both}
 use Rattle.sides.specs.Sides.{OurAtom, OurShape, numbersOfSide, sided, atomTerm, sideTerm, shapeTerms}
 use Rattle.sides.specs.Values.{rightTerm, mapFirst, rightField, rightRule}
@@ -58,7 +58,7 @@ right-field f h =
     ap₂ (λ (n : ℕ) (ts : List Term). record { n = n; terms = ts }) (sym (length-map f (sideTerm right)))
     (map-padded encodeTerm rightTerm (sideTerm right) TermIn right-term (rule .width) blankTerm f h)
 
-pub right-encoded : (r : List (List OurTerm)) → All (All TermIn) r → rightRule (encodeRule r) ≡ encodeRule (map (map (sideTerm right)) r)
+pub right-encoded : (r : List (List OurTerm)) → All (All TermIn) r → rightRule (encodeSide r) ≡ encodeSide (map (map (sideTerm right)) r)
 right-encoded r h =
     ap₂ (λ (n : ℕ) (fs : List Field). record { n = n; fields = fs }) (sym (length-map r (map (sideTerm right))))
     (map-padded encodeField rightField (map (sideTerm right)) (All TermIn) right-field mostFields blankField r h)
@@ -130,8 +130,8 @@ left-rule : (r : List (List OurTerm)) → map (map (sideTerm left)) r ≡ r
 left-rule [] = refl
 left-rule (f ∷ r) = ap₂ (λ (g : List OurTerm) (s : List (List OurTerm)). g ∷ s) (left-field f) (left-rule r)
 
-pub left-value : (r : List (List OurTerm)) (Ss : List OurShape) → shapesOf left r ≡ some Ss → encodeRule r ≡ encodeRule (map shapeTerms Ss)
-left-value r Ss e = ap encodeRule (sym (left-rule r) ∙ shapes-terms left r Ss e)
+pub left-value : (r : List (List OurTerm)) (Ss : List OurShape) → shapesOf left r ≡ some Ss → encodeSide r ≡ encodeSide (map shapeTerms Ss)
+left-value r Ss e = ap encodeSide (sym (left-rule r) ∙ shapes-terms left r Ss e)
 
-pub right-value : (r : List (List OurTerm)) (Ss : List OurShape) → All (All TermIn) r → shapesOf right r ≡ some Ss → rightRule (encodeRule r) ≡ encodeRule (map shapeTerms Ss)
-right-value r Ss h e = right-encoded r h ∙ ap encodeRule (shapes-terms right r Ss e)
+pub right-value : (r : List (List OurTerm)) (Ss : List OurShape) → All (All TermIn) r → shapesOf right r ≡ some Ss → rightRule (encodeSide r) ≡ encodeSide (map shapeTerms Ss)
+right-value r Ss h e = right-encoded r h ∙ ap encodeSide (shapes-terms right r Ss e)

@@ -11,7 +11,7 @@ use Rattle.terms.specs.declared.Form.{Form}
 use Rattle.terms.specs.declared.Form.the-variants.{Int, Str, Var}
 use Rattle.terms.specs.declared.Term.{Term}
 use Rattle.terms.specs.declared.Field.{Field}
-use Rattle.terms.specs.declared.Rule.{Rule}
+use Rattle.terms.specs.declared.RuleSide.{RuleSide}
 use Rattle.unifiers.specs.Shapes.{right}
 use Rattle.sides.specs.Sides.{numbersOfSide, sided}
 
@@ -35,5 +35,5 @@ mapFirst g n s = map g (take n s) ++ drop n s
 abbrev pub rightField : Field → Field
 rightField f = record { n = f .n; terms = mapFirst rightTerm (f .n) (f .terms) }
 
-abbrev pub rightRule : Rule → Rule
+abbrev pub rightRule : RuleSide → RuleSide
 rightRule r = record { n = r .n; fields = mapFirst rightField (r .n) (r .fields) }

@@ -9,7 +9,7 @@ use Rattle.bytes.specs.Bytes.{indexOf}
 use Rattle.text.specs.Ascii.{ascii, newline}
 use Rattle.text.specs.Numbers.{digitsOf}
 use Rattle.text.specs.Terms.{OurTerm}
-use Rattle.text.specs.Read.{Outcome, refused, accepted, readRule}
+use Rattle.text.specs.Read.{Outcome, refused, accepted, readSide}
 use Rattle.solving.specs.Answers.{linesFor}
 use Rattle.sizes.specs.Sizes.{sizeOf}
 use Rattle.search_text.specs.Found.{mostRecords, mostBytes, foundText}
@@ -69,7 +69,7 @@ unfoldable pub lineText : List ℕ → List ℕ
 lineText t =
     cond (ltb longestLine (length t)) (ascii "line too long" ++ newline)
     (cond (hasTab (roomPart t)) (ascii "bad line" ++ newline)
-    (searchText (fieldIn (readRule (leftPart t))) (fieldIn (readRule (rightPart t))) (sizeOf mostRecords (rowPart t)) (sizeOf mostBytes (roomPart t))))
+    (searchText (fieldIn (readSide (leftPart t))) (fieldIn (readSide (rightPart t))) (sizeOf mostRecords (rowPart t)) (sizeOf mostBytes (roomPart t))))
 
 abbrev pub titleText : ℕ → List ℕ
 titleText k = ascii "search " ++ digitsOf k ++ newline

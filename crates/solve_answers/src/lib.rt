@@ -4,7 +4,7 @@ ghost use mathlib.Core.Path.{_≡_};
 ghost use mathlib.Core.List.{[]};
 ghost use Prim.Native.Nat.{_≤_};
 ghost use lib.ListN.{length};
-ghost use Rattle.text.specs.Read.{readRule};
+ghost use Rattle.text.specs.Read.{readSide};
 ghost use Rattle.accepted.specs.Accepted.{countedField};
 ghost use Rattle.writing.specs.Answers.{Writes};
 ghost use Rattle.pieces.specs.Placed.{Placed};
@@ -31,7 +31,7 @@ fn no_field() -> Field
 
 // The one field of a rule text. A refused text says the rule with no fields.
 fn read_field(text: &[u8]) -> Field
-    ensures { λ f. ⌜ countedField f ≡ fieldIn (readRule (now (text .entry))) ⌝ }
+    ensures { λ f. ⌜ countedField f ≡ fieldIn (readSide (now (text .entry))) ⌝ }
 {
     let read = reading::read_rule(text);
     let rule = read.rule;

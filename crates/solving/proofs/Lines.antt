@@ -19,7 +19,7 @@ use Rattle.theory.specs.Fillings.{Filling, Typed, fill, Occurs}
 use Rattle.text.specs.Ascii.{newline}
 use Rattle.text.specs.Terms.{Con, int, str, OurTerm}
 use Rattle.text.specs.Plain.{TermOk, plain}
-use Rattle.text.specs.Limits.{TermIn, IsRule}
+use Rattle.text.specs.Limits.{TermIn, IsLeft}
 use Rattle.instance.specs.Constants.{consts}
 use Rattle.unifiers.specs.Substitutions.{Subst}
 use Rattle.unifiers.specs.Shapes.{fixed, free, Side, left, right, of}
@@ -133,7 +133,7 @@ module _ (θ : Subst Con Kind ℕ ℕ) where
       subst (λ (c : Binding). θ (c .kind) (c .number) ≡ c .value) (v .2) refl
 
 -- what is listed occurs in the one field
-occurs-in : (f : List OurTerm) → IsRule (f ∷ []) → (k : Kind) (n : ℕ) → List·Memᴰ (k, n) (variables (f ∷ [])) → Occurs k n f
+occurs-in : (f : List OurTerm) → IsLeft (f ∷ []) → (k : Kind) (n : ℕ) → List·Memᴰ (k, n) (variables (f ∷ [])) → Occurs k n f
 occurs-in f is k n i = only (in-variables (f ∷ []) (is .0 .3) k n .0 i)
   where
     only : Occurs k n f ⊎ ⊥ → Occurs k n f
@@ -142,7 +142,7 @@ occurs-in f is k n i = only (in-variables (f ∷ []) (is .0 .3) k n .0 i)
 
 -- ---- the theorems
 
-module _ (f g : List OurTerm) (is-f : IsRule (f ∷ [])) (is-g : IsRule (g ∷ [])) (room : ℕ) (xs : List (Bindings setting))
+module _ (f g : List OurTerm) (is-f : IsLeft (f ∷ [])) (is-g : IsLeft (g ∷ [])) (room : ℕ) (xs : List (Bindings setting))
     (is : found room f g ≡ answers xs) where
   -- an answer's values have document 01's constants only
   values-ours : All (λ σ. (t : Tm setting) → StandsIn setting (fieldOn left f) (fieldOn right g) t → All Ours (σ t)) xs
@@ -153,7 +153,7 @@ module _ (f g : List OurTerm) (is-f : IsRule (f ∷ [])) (is-g : IsRule (g ∷ [
   pub lines-writable : All WritableAnswer (map (answerLine f g) xs)
   lines-writable = go xs values-ours
     where
-      side : (d : Side) (e : List OurTerm) → IsRule (e ∷ []) → (σ : Bindings setting) → ((t : Tm setting) → List·Memᴰ t (fieldOn d e) → All Ours (σ t))
+      side : (d : Side) (e : List OurTerm) → IsLeft (e ∷ []) → (σ : Bindings setting) → ((t : Tm setting) → List·Memᴰ t (fieldOn d e) → All Ours (σ t))
           → All WritableBinding (map (bindingOf (shownOn d f g σ)) (variables (e ∷ [])))
       side d e is σ h = bindings-writable (shownOn d f g σ) (variables (e ∷ [])) (λ v i.
           subst (λ (m : List (TermOver basics consts (Mark ℕ))). All TermOk (map (rename (numberIn f g σ)) m)) (sym (value-on d σ (v .0) (v .1)))
@@ -195,7 +195,7 @@ module _ (f g : List OurTerm) (is-f : IsRule (f ∷ [])) (is-g : IsRule (g ∷ [
         (c .2 .0, c .2 .1, at f is-f (shownOn left f g (c .0)) φ (c .2 .0) (c .2 .2), at g is-g (shownOn right f g (c .0)) ψ (c .2 .0) (c .2 .3)),
       )
     where
-      at : (h : List OurTerm) → IsRule (h ∷ []) → (θ : Subst Con Kind ℕ ℕ) (φ χ : Filling Con Kind ℕ)
+      at : (h : List OurTerm) → IsLeft (h ∷ []) → (θ : Subst Con Kind ℕ ℕ) (φ χ : Filling Con Kind ℕ)
           → ((k : Kind) (n : ℕ) → Occurs k n h → φ k n ≡ fill χ (θ k n))
           → (b : Binding) → List·Memᴰ b (map (bindingOf θ) (variables (h ∷ []))) → φ (b .kind) (b .number) ≡ fill χ (b .value)
       at h is θ φ χ k b i =

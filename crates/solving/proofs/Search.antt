@@ -17,7 +17,7 @@ use Rattle.theory.specs.Terms.{con, var}
 use Rattle.theory.specs.Seqs.{concat-map}
 use Rattle.theory.specs.Linear.{lists, LeftLinear}
 use Rattle.text.specs.Terms.{Con, OurTerm}
-use Rattle.text.specs.Limits.{TermIn, IsRule}
+use Rattle.text.specs.Limits.{TermIn, IsLeft}
 use Rattle.instance.specs.Constants.{consts}
 use Rattle.instance.specs.Matching.{Matches}
 use Rattle.instance.proofs.Linear.{left-linear}
@@ -47,7 +47,7 @@ abbrev pub Instance : List OurTerm → Bindings setting → List Con → Type 0
 Instance f σ w = InstanceOf basics consts ℕ-discrete numbers sixteenAbove f σ w
 
 -- two fields that stand on the left sides of accepted rules
-module _ (f g : List OurTerm) (is-f : IsRule (f ∷ [])) (is-g : IsRule (g ∷ [])) where
+module _ (f g : List OurTerm) (is-f : IsLeft (f ∷ [])) (is-g : IsLeft (g ∷ [])) where
   linear-f : LeftLinear (f ∷ [])
   linear-f = left-linear (f ∷ []) (is-f .1)
 

@@ -22,7 +22,7 @@ use Rattle.theory.specs.Seqs.{concat-map}
 use Rattle.theory.specs.Fillings.{Filling, Typed, value, fill, Occurs}
 use Rattle.theory.specs.Matching.{Matches}
 use Rattle.text.specs.Terms.{Con, OurTerm}
-use Rattle.text.specs.Limits.{TermIn, IsRule}
+use Rattle.text.specs.Limits.{TermIn, IsLeft}
 use Rattle.instance.specs.Constants.{consts}
 use Rattle.unifiers.specs.Substitutions.{substitute, TypedSubst, TermsOf}
 use Rattle.unifiers.specs.Shapes.{fixed, free, Side, left, right, side-eq, Variable, of}
@@ -211,7 +211,7 @@ InstanceOf f g σ φ ψ =
     × ((k : Kind) (n : ℕ) → Occurs k n f → φ k n ≡ fill χ (shownOn left f g σ k n))
     × ((k : Kind) (n : ℕ) → Occurs k n g → ψ k n ≡ fill χ (shownOn right f g σ k n))
 
-module _ (f g : List OurTerm) (is-f : IsRule (f ∷ [])) (is-g : IsRule (g ∷ [])) (room : ℕ) (xs : List (Bindings setting)) (is : found room f g ≡ answers xs) where
+module _ (f g : List OurTerm) (is-f : IsLeft (f ∷ [])) (is-g : IsLeft (g ∷ [])) (room : ℕ) (xs : List (Bindings setting)) (is : found room f g ≡ answers xs) where
   -- EVERY LINE'S VALUES solve the equation
   pub shown-solves : (σ : Bindings setting) → List·Memᴰ σ xs → Solution (f ∷ []) (g ∷ []) ℕ
   shown-solves σ i = shown-solution f g σ (all-mem (Solves setting (fieldOn left f) (fieldOn right g)) xs (answers-solve f g is-f is-g room xs is) σ i)
@@ -256,6 +256,6 @@ module _ (f g : List OurTerm) (is-f : IsRule (f ∷ [])) (is-g : IsRule (g ∷ [
           ∙ shown-at right k n (Memᴰ·append-right (valuesOn left f (c .0)) (Memᴰ·map (λ (v : listed.Variable). valueOf right (c .0) (v .0) (v .1)) (in-variables (g ∷ []) (is-g .0 .3) k n .1 (inl o)))) (inr (stands-on right k n g o))
 
 -- NO ANSWER, no solution
-pub shown-none : (f g : List OurTerm) → IsRule (f ∷ []) → IsRule (g ∷ []) → (room : ℕ) → found room f g ≡ answers []
+pub shown-none : (f g : List OurTerm) → IsLeft (f ∷ []) → IsLeft (g ∷ []) → (room : ℕ) → found room f g ≡ answers []
     → (φ ψ : Filling Con Kind ℕ) → Typed basics consts φ → Typed basics consts ψ → fill φ f ≡ fill ψ g → ⊥
 shown-none f g is-f is-g room is φ ψ t u e = List·Memᴰ·not-nil (shown-complete f g is-f is-g room [] is φ ψ t u e .1)

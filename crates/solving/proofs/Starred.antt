@@ -10,16 +10,16 @@ use Rattle.text.specs.Bytes.{digit?, begins, follows, first, holds}
 use Rattle.text.specs.Marks.{fifth?, many?, over?, clash?, clashOf?}
 use Rattle.text.specs.Ascii.{ascii, newline}
 use Rattle.text.specs.Terms.{OurTerm}
-use Rattle.text.specs.Read.{Outcome, refused, accepted, readRule}
+use Rattle.text.specs.Read.{Outcome, refused, accepted, readSide}
 use Rattle.solving.specs.Answers.{Lines, lines, nine, linesFor, bytesOf}
 
 -- the rule that is read, or the one with no fields
-abbrev ruleIn : Outcome → List (List OurTerm)
-ruleIn (refused r p) = []
-ruleIn (accepted x) = x
+abbrev sideIn : Outcome → List (List OurTerm)
+sideIn (refused r p) = []
+sideIn (accepted x) = x
 
 abbrev searched : ℕ → String → String → Lines
-searched room s t = linesFor room (ruleIn (readRule (ascii s))) (ruleIn (readRule (ascii t)))
+searched room s t = linesFor room (sideIn (readSide (ascii s))) (sideIn (readSide (ascii t)))
 
 pub record Case : Type 0 where
   pub left : String

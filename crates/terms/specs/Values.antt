@@ -11,7 +11,7 @@ use Rattle.terms.specs.declared.Form.{Form}
 use Rattle.terms.specs.declared.Form.the-variants.{Int, Str, Var}
 use Rattle.terms.specs.declared.Term.{Term}
 use Rattle.terms.specs.declared.Field.{Field}
-use Rattle.terms.specs.declared.Rule.{Rule}
+use Rattle.terms.specs.declared.RuleSide.{RuleSide}
 use Rattle.terms.specs.declared.SlipField.{SlipField}
 use Rattle.terms.specs.declared.Slip.{Slip}
 
@@ -31,8 +31,8 @@ viewTerms n ts = map viewTerm (take n ts)
 abbrev pub viewField : Field → List OurTerm
 viewField f = viewTerms (f .n) (f .terms)
 
-abbrev pub viewRule : Rule → List (List OurTerm)
-viewRule r = map viewField (take (r .n) (r .fields))
+abbrev pub viewSide : RuleSide → List (List OurTerm)
+viewSide r = map viewField (take (r .n) (r .fields))
 
 abbrev pub viewSlipField : SlipField → List OurTerm
 viewSlipField f = viewTerms (f .n) (f .terms)
@@ -53,8 +53,8 @@ blankTerm = record { form = Int 0; text = replicate longestString 0 }
 abbrev pub blankField : Field
 blankField = record { n = 0; terms = replicate (rule .width) blankTerm }
 
-abbrev pub blankRule : Rule
-blankRule = record { n = 0; fields = replicate mostFields blankField }
+abbrev pub blankSide : RuleSide
+blankSide = record { n = 0; fields = replicate mostFields blankField }
 
 abbrev pub blankSlipField : SlipField
 blankSlipField = record { n = 0; terms = replicate (slip .width) blankTerm }
@@ -73,8 +73,8 @@ encodeTerms w ts = pad w blankTerm (map encodeTerm ts)
 abbrev pub encodeField : List OurTerm → Field
 encodeField ts = record { n = length ts; terms = encodeTerms (rule .width) ts }
 
-abbrev pub encodeRule : List (List OurTerm) → Rule
-encodeRule r = record { n = length r; fields = pad mostFields blankField (map encodeField r) }
+abbrev pub encodeSide : List (List OurTerm) → RuleSide
+encodeSide r = record { n = length r; fields = pad mostFields blankField (map encodeField r) }
 
 abbrev pub encodeSlipField : List OurTerm → SlipField
 encodeSlipField ts = record { n = length ts; terms = encodeTerms (slip .width) ts }
@@ -83,5 +83,5 @@ abbrev pub encodeSlip : List (List OurTerm) → Slip
 encodeSlip s = record { n = length s; fields = pad mostFields blankSlipField (map encodeSlipField s) }
 
 -- the rule with one field
-abbrev pub oneField : Field → Rule
+abbrev pub oneField : Field → RuleSide
 oneField f = record { n = 1; fields = f ∷ (blankField ∷ (blankField ∷ (blankField ∷ []))) }

@@ -1,6 +1,6 @@
 // Terms, fields, rules and slips as values. A value's unused places are blank (every number zero), so that there is one value for one rule.
 ghost use mathlib.Core.Path.{_≡_};
-ghost use Rattle.terms.specs.Values.{blankTerm, blankField, blankRule, blankSlipField, blankSlip, oneField};
+ghost use Rattle.terms.specs.Values.{blankTerm, blankField, blankSide, blankSlipField, blankSlip, oneField};
 use order::Kind;
 
 // What a term is: an integer's value, a string's length (its bytes stand beside, since an enum holds no array), or a variable's type and number.
@@ -20,7 +20,7 @@ pub struct Field {
     pub terms: [Term; 16],
 }
 
-pub struct Rule {
+pub struct RuleSide {
     pub n: usize,
     pub fields: [Field; 4],
 }
@@ -56,11 +56,11 @@ pub fn blank_field() -> Field
 }
 
 // The rule with no fields.
-pub fn blank_rule() -> Rule
-    ensures { λ r. ⌜ r ≡ blankRule ⌝ }
+pub fn blank_side() -> RuleSide
+    ensures { λ r. ⌜ r ≡ blankSide ⌝ }
 {
     let f = blank_field();
-    Rule {
+    RuleSide {
         n: 0,
         fields: [f; 4],
     }
@@ -88,11 +88,11 @@ pub fn blank_slip() -> Slip
 }
 
 // The rule with this one field.
-pub fn one_field(f: Field) -> Rule
+pub fn one_field(f: Field) -> RuleSide
     ensures { λ r. ⌜ r ≡ oneField f ⌝ }
 {
     let b = blank_field();
-    Rule {
+    RuleSide {
         n: 1,
         fields: [f, b, b, b],
     }

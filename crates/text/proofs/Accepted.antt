@@ -16,9 +16,9 @@ use Rattle.text.specs.Numbers.{value}
 use Rattle.text.specs.Leftmost.{NoneOf, leftmost, LeftmostAt}
 use Rattle.text.specs.Marks.{Mark, marks, FifthField, TooMany, Over, MarkOver, IsVar, MarkVar}
 use Rattle.text.specs.Terms.{OurTerm, int, str, termOf, fieldOf, fieldsOf}
-use Rattle.text.specs.Read.{Reason, long, grammar, fields, terms, limits, linear, variable, Sort, rule, slip, Bad, bad?, placeOfMark, FirstBad, Refuses, said, Never, accepted, readRule, readSlip}
+use Rattle.text.specs.Read.{Reason, long, grammar, fields, terms, limits, linear, variable, Sort, rule, slip, Bad, bad?, placeOfMark, FirstBad, Refuses, said, Never, accepted, readSide, readSlip}
 use Rattle.text.specs.Plain.{rawOf, rawField, plain, TermOk, RuleOk}
-use Rattle.text.specs.Limits.{TermIn, Within, Linear, IsCon, IsRule, IsSlip}
+use Rattle.text.specs.Limits.{TermIn, Within, Linear, IsCon, IsLeft, IsSlip}
 use Rattle.text.proofs.Parse.{parse-complete, says-one}
 use Rattle.text.proofs.Place.{place2-is, place2-none}
 use Rattle.text.proofs.Numbers.{digits-value, digits-ten}
@@ -201,16 +201,16 @@ module _ (S : Sort) (w : ℕ) (same : S .width ≡ suc w) (r : List (List OurTer
   )
 
 -- a rule that is read is within the limits
-pub rule-read : (t : List ℕ) (r : List (List OurTerm)) → readRule t ≡ accepted r → IsRule r
+pub rule-read : (t : List ℕ) (r : List (List OurTerm)) → readSide t ≡ accepted r → IsLeft r
 rule-read t r e =
     let a = read-accepted rule t r .0 e in
     let n = a .0 in
     let b = base-to rule t (n .0, n .1 .0, n .1 .1 .0, n .1 .1 .1 .0, n .1 .1 .1 .1 .0) in
     let l = linear-marks (b .0) .0 (clean-to 16 linear t (b .0) (b .1) (n .1 .1 .1 .1 .1 .0)) in
-    subst IsRule (ap fieldsOf (sym (said-is t (b .0) (b .1))) ∙ a .1) (b .2, l)
+    subst IsLeft (ap fieldsOf (sym (said-is t (b .0) (b .1))) ∙ a .1) (b .2, l)
 
 -- and one within the limits is read from its plain text
-pub rule-plain : (r : List (List OurTerm)) → IsRule r → readRule (plain r) ≡ accepted r
+pub rule-plain : (r : List (List OurTerm)) → IsLeft r → readSide (plain r) ≡ accepted r
 rule-plain r h =
     let b = plain-base rule 15 refl r (h .0) (omega (arith, rule-length r (h .0))) in
     let s = plain-says r (rule-ok 16 r (h .0)) in
@@ -233,7 +233,7 @@ slip-plain r h =
     read-accepted slip (plain r) r .1 ((b .0, (b .1, (b .2, (b .3, (b .4, (l, tt)))))), plain-said r (rule-ok 64 r (h .0)))
 
 -- ACCEPTED is within the limits
-pub rule-iff : (r : List (List OurTerm)) → ((t : List ℕ) × (readRule t ≡ accepted r)) ↔ IsRule r
+pub rule-iff : (r : List (List OurTerm)) → ((t : List ℕ) × (readSide t ≡ accepted r)) ↔ IsLeft r
 rule-iff r = (λ h. rule-read (h .0) r (h .1), λ h. (plain r, rule-plain r h))
 
 pub slip-iff : (r : List (List OurTerm)) → ((t : List ℕ) × (readSlip t ≡ accepted r)) ↔ IsSlip r

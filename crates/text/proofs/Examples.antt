@@ -14,7 +14,7 @@ use Rattle.theory.specs.Terms.{con, var}
 use Rattle.text.specs.Bytes.{digit?, begins, follows, first, holds}
 use Rattle.text.specs.Marks.{fifth?, many?, over?, clash?, clashOf?}
 use Rattle.text.specs.Terms.{int, str}
-use Rattle.text.specs.Read.{long, grammar, fields, terms, limits, linear, variable, refused, accepted, readRule, readSlip}
+use Rattle.text.specs.Read.{long, grammar, fields, terms, limits, linear, variable, refused, accepted, readSide, readSlip}
 use Rattle.text.specs.Plain.{plain}
 
 unfoldable pub bytes : String → List ℕ
@@ -22,7 +22,7 @@ bytes S.[] = []
 bytes (S._∷_ c s) = code c ∷ bytes s
 
 pub rules :
-    map (λ (t : String). readRule (bytes t)) (
+    map (λ (t : String). readSide (bytes t)) (
     "2147483647"
     ∷ "2147483648"
     ∷ "0000000000"
@@ -90,7 +90,7 @@ unfolding bytes decLe decLt ℕ-discrete digit? begins follows first holds fifth
 slips = refl
 
 -- refusal 1 comes before 2; a text of 2048 bytes is not refused by it
-pub long-texts : readRule (replicate 2049 32) ∷ readRule (replicate 2048 48) ∷ readRule (replicate 2048 32) ∷ [] ≡ refused long 2048 ∷ refused limits 0 ∷ refused grammar 0 ∷ []
+pub long-texts : readSide (replicate 2049 32) ∷ readSide (replicate 2048 48) ∷ readSide (replicate 2048 32) ∷ [] ≡ refused long 2048 ∷ refused limits 0 ∷ refused grammar 0 ∷ []
 unfolding bytes decLe decLt ℕ-discrete digit? begins follows first holds fifth? many? over? any? clash? clashOf?
 long-texts = refl
 

@@ -12,7 +12,7 @@ use Rattle.text.specs.Numbers.{value}
 use Rattle.text.specs.Leftmost.{NoneOf}
 use Rattle.text.specs.Marks.{marks, FifthField, TooMany, Over, MarkOver}
 use Rattle.text.specs.Terms.{OurTerm}
-use Rattle.text.specs.Read.{fields, terms, limits, Sort, rule, slip, Bad, accepted, readRule, readSlip}
+use Rattle.text.specs.Read.{fields, terms, limits, Sort, rule, slip, Bad, accepted, readSide, readSlip}
 use Rattle.text.proofs.Numbers.{digits-ten, digits-one}
 use Rattle.text.proofs.Leftmost.{none-all}
 use Rattle.text.proofs.Read.{read-accepted}
@@ -55,7 +55,7 @@ base-length S t h =
     let r = raw-text (S .width) (g .0) (g .1 .0) (clean-to (S .width) fields t (g .0) (g .1) (h .2)) (clean-to (S .width) terms t (g .0) (g .1) (h .3)) (clean-to (S .width) limits t (g .0) (g .1) (h .4)) in
     (r .0, r .1, subst (λ (l : List ℕ). suc (length l) ≤ 18 * S .width + r .0 * (18 * S .width)) (sym (g .1 .1)) (r .2))
 
-pub rule-bytes : (t : List ℕ) (r : List (List OurTerm)) → readRule t ≡ accepted r → length t ≤ 1151
+pub rule-bytes : (t : List ℕ) (r : List (List OurTerm)) → readSide t ≡ accepted r → length t ≤ 1151
 rule-bytes t r e =
     let n = read-accepted rule t r .0 e .0 in
     let b = base-length rule t (n .0, n .1 .0, n .1 .1 .0, n .1 .1 .1 .0, n .1 .1 .1 .1 .0) in

@@ -7,7 +7,7 @@ use native.Mathlib.Omega.{arith}
 use native.Mathlib.Decide.{decLt}
 use lib.ListN.{length, length-append}
 use Rattle.text.specs.Grammar.{spell}
-use Rattle.text.specs.Read.{Reason, long, grammar, fields, terms, limits, linear, variable, number, Sort, rule, slip, FirstBad, Refuses, FirstReason, refused, read, readRule, readSlip}
+use Rattle.text.specs.Read.{Reason, long, grammar, fields, terms, limits, linear, variable, number, Sort, rule, slip, FirstBad, Refuses, FirstReason, refused, read, readSide, readSlip}
 use Rattle.text.proofs.Read.{read-refused}
 use Rattle.text.proofs.Sharp.{first-bad}
 
@@ -48,7 +48,7 @@ module _ (S : Sort) (others : List Reason) (is : S .order ≡ long ∷ others) (
           short (yes k) l = absurd (h .0 (S .bytes) (k, refl))
           short (no k) l = omega arith
 
-pub rule-place : (t : List ℕ) (r : Reason) (p : ℕ) → readRule t ≡ refused r p → p ≤ rule .bytes
+pub rule-place : (t : List ℕ) (r : Reason) (p : ℕ) → readSide t ≡ refused r p → p ≤ rule .bytes
 rule-place t r p e = place-most rule (grammar ∷ fields ∷ terms ∷ limits ∷ linear ∷ []) refl t r p e
 
 pub slip-place : (t : List ℕ) (r : Reason) (p : ℕ) → readSlip t ≡ refused r p → p ≤ slip .bytes

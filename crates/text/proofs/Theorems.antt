@@ -8,9 +8,9 @@ use native.Mathlib.Omega.{arith}
 use Rattle.lists.specs.Seqs.{All}
 use Rattle.text.specs.Grammar.{Raw, Says}
 use Rattle.text.specs.Terms.{OurTerm, fieldsOf}
-use Rattle.text.specs.Read.{Reason, long, grammar, fields, terms, limits, linear, variable, number, Sort, rule, slip, Refuses, NoReason, FirstReason, refused, accepted, read, readRule, readSlip, earlier}
+use Rattle.text.specs.Read.{Reason, long, grammar, fields, terms, limits, linear, variable, number, Sort, rule, slip, Refuses, NoReason, FirstReason, refused, accepted, read, readSide, readSlip, earlier}
 use Rattle.text.specs.Plain.{plain}
-use Rattle.text.specs.Limits.{IsRule}
+use Rattle.text.specs.Limits.{IsLeft}
 use Rattle.text.proofs.Read.{read-refused, read-accepted}
 use Rattle.text.proofs.Plain.{LeanField, lean-is-plain, plain-one}
 use Rattle.text.proofs.Accepted.{in-grammar, said-is, rule-read, rule-plain, rule-ok}
@@ -38,7 +38,7 @@ module _ (R : Reason → ℕ → Type 0) (r : Reason) (p : ℕ) where
       to rec (inr h) = ((h .0, rec (h .1) .0), rec (h .1) .1)
 
 -- REFUSED for r at p exactly when r applies at p and none that is tried before it applies anywhere
-pub rule-refused : (r : Reason) → r ≢ variable → (t : List ℕ) (p : ℕ) → (readRule t ≡ refused r p) ↔ (NoReason (Refuses rule t) (earlier r) × Refuses rule t r p)
+pub rule-refused : (r : Reason) → r ≢ variable → (t : List ℕ) (p : ℕ) → (readSide t ≡ refused r p) ↔ (NoReason (Refuses rule t) (earlier r) × Refuses rule t r p)
 rule-refused long n t p = Iff·trans (read-refused rule t long p) (reason-iff (Refuses rule t) long p [] (grammar ∷ fields ∷ terms ∷ limits ∷ linear ∷ []) (omega arith) (omega arith))
 rule-refused grammar n t p = Iff·trans (read-refused rule t grammar p) (reason-iff (Refuses rule t) grammar p (long ∷ []) (fields ∷ terms ∷ limits ∷ linear ∷ []) (omega arith) (omega arith))
 rule-refused fields n t p = Iff·trans (read-refused rule t fields p) (reason-iff (Refuses rule t) fields p (long ∷ grammar ∷ []) (terms ∷ limits ∷ linear ∷ []) (omega arith) (omega arith))
@@ -57,7 +57,7 @@ slip-refused linear n t p = absurd (n refl)
 slip-refused variable n t p = Iff·trans (read-refused slip t variable p) (reason-iff (Refuses slip t) variable p (long ∷ grammar ∷ fields ∷ terms ∷ limits ∷ []) [] (omega arith) (omega arith))
 
 -- a rule is never refused for a variable, a slip never for what is not linear
-pub rule-never : (t : List ℕ) (p : ℕ) → readRule t ≢ refused variable p
+pub rule-never : (t : List ℕ) (p : ℕ) → readSide t ≢ refused variable p
 rule-never t p e = not-tried (Refuses rule t) variable p (rule .order) (omega arith) (read-refused rule t variable p .0 e)
 
 pub slip-never : (t : List ℕ) (p : ℕ) → readSlip t ≢ refused linear p
@@ -74,22 +74,22 @@ module _ (S : Sort) (others : List Reason) (is : S .order ≡ long ∷ grammar �
           let g = in-grammar t ((subst (NoReason (Refuses S t)) is (a .0)) .1 .0) in
           (a .0, (g .0, g .1, ap fieldsOf (sym (said-is t (g .0) (g .1))) ∙ a .1))
 
-pub rule-accepted : (t : List ℕ) (r : List (List OurTerm)) → (readRule t ≡ accepted r) ↔ (NoReason (Refuses rule t) (rule .order) × ((x : List (List Raw)) × Says t x × (fieldsOf x ≡ r)))
+pub rule-accepted : (t : List ℕ) (r : List (List OurTerm)) → (readSide t ≡ accepted r) ↔ (NoReason (Refuses rule t) (rule .order) × ((x : List (List Raw)) × Says t x × (fieldsOf x ≡ r)))
 rule-accepted = accepted-says rule (fields ∷ terms ∷ limits ∷ linear ∷ []) refl
 
 pub slip-accepted : (t : List ℕ) (r : List (List OurTerm)) → (readSlip t ≡ accepted r) ↔ (NoReason (Refuses slip t) (slip .order) × ((x : List (List Raw)) × Says t x × (fieldsOf x ≡ r)))
 slip-accepted = accepted-says slip (fields ∷ terms ∷ limits ∷ variable ∷ []) refl
 
 -- THE ONE PLAIN TEXT: of all texts that are read as r, the plain text is the only one without needless `empty` and leading zeros
-pub one-plain : (t : List ℕ) (r : List (List OurTerm)) → readRule t ≡ accepted r → ((x : List (List Raw)) → Says t x → All LeanField x) → t ≡ plain r
+pub one-plain : (t : List ℕ) (r : List (List OurTerm)) → readSide t ≡ accepted r → ((x : List (List Raw)) → Says t x → All LeanField x) → t ≡ plain r
 one-plain t r e l =
     let a = rule-accepted t r .0 e .1 in
     lean-is-plain t (a .0) (a .1) (l (a .0) (a .1)) ∙ ap plain (a .2)
 
 -- READING THE PLAIN TEXT of what was read returns it
-pub read-again : (t : List ℕ) (r : List (List OurTerm)) → readRule t ≡ accepted r → readRule (plain r) ≡ accepted r
+pub read-again : (t : List ℕ) (r : List (List OurTerm)) → readSide t ≡ accepted r → readSide (plain r) ≡ accepted r
 read-again t r e = rule-plain r (rule-read t r e)
 
 -- PLAIN TEXT IS INJECTIVE on accepted rules
-pub plain-injective : (r s : List (List OurTerm)) → IsRule r → IsRule s → plain r ≡ plain s → r ≡ s
+pub plain-injective : (r s : List (List OurTerm)) → IsLeft r → IsLeft s → plain r ≡ plain s → r ≡ s
 plain-injective r s h k e = plain-one r s (rule-ok (rule .width) r (h .0)) (rule-ok (rule .width) s (k .0)) e

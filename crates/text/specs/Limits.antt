@@ -46,8 +46,8 @@ IsCon (con c) = Unit {0}
 IsCon (var k v) = ⊥
 
 -- the rules that reading returns
-abbrev pub IsRule : List (List OurTerm) → Type 0
-IsRule r = Within (rule .width) r × Linear r
+abbrev pub IsLeft : List (List OurTerm) → Type 0
+IsLeft r = Within (rule .width) r × Linear r
 
 -- the slips that reading returns
 abbrev pub IsSlip : List (List OurTerm) → Type 0

@@ -133,8 +133,8 @@ chain f (r ∷ rs) a = tell r (f r) (chain f rs a)
 abbrev pub read : Sort → List ℕ → Outcome
 read S t = chain (placeOf S t) (S .order) (fieldsOf (said t))
 
-abbrev pub readRule : List ℕ → Outcome
-readRule t = read rule t
+abbrev pub readSide : List ℕ → Outcome
+readSide t = read rule t
 
 abbrev pub readSlip : List ℕ → Outcome
 readSlip t = read slip t

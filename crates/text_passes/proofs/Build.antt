@@ -22,11 +22,11 @@ use Rattle.terms.specs.declared.Term.{Term}
 use Rattle.terms.specs.declared.Form.the-variants.{Int, Str, Var}
 use Rattle.terms.specs.declared.Field.{Field}
 use Rattle.terms.specs.declared.SlipField.{SlipField}
-use Rattle.terms.specs.Values.{pad, blankTerm, blankField, blankSlipField, encodeTerm, encodeField, encodeRule, encodeSlipField, encodeSlip}
+use Rattle.terms.specs.Values.{pad, blankTerm, blankField, blankSlipField, encodeTerm, encodeField, encodeSide, encodeSlipField, encodeSlip}
 use Rattle.scanning.specs.Pieces.{capped}
 use Rattle.text_terms.specs.Terms.{termFrom}
 use Rattle.text_terms.proofs.Copies.{pad-set}
-use Rattle.text_passes.specs.Build.{isEmpty, addRaw, pushField, addItem, pushSlipField, turns, ofRaw, turned, put, whole, builtRule, builtSlip}
+use Rattle.text_passes.specs.Build.{isEmpty, addRaw, pushField, addItem, pushSlipField, turns, ofRaw, turned, put, whole, builtSide, builtSlip}
 
 -- one more in the place behind the used ones, of what a list of A is encoded as
 module _ {A B : Type 0} (enc : A → B) (d : B) (w : ℕ) (s : List A) (a : A) (h : length s < w) where
@@ -166,7 +166,7 @@ add-rule ts r o h = adds-one (rule .width) ts h ruleField addRaw refl other r o
     other : (r : Raw) → isEmpty r ≡ false → addRaw (encodeField ts) r ≡ ruleField (with (rule .width) ts h (termFrom r))
     other r e = rw (e, lt-ltb (length ts) (rule .width) h)
 
-push-rule : (fs : List (List OurTerm)) (f : List OurTerm) → length fs < mostFields → pushField (encodeRule fs) (encodeField f) ≡ encodeRule (fs ++ f ∷ [])
+push-rule : (fs : List (List OurTerm)) (f : List OurTerm) → length fs < mostFields → pushField (encodeSide fs) (encodeField f) ≡ encodeSide (fs ++ f ∷ [])
 push-rule fs f h =
     rw (lt-ltb (length fs) mostFields h)
     (ap₂ (λ (n : ℕ) (l : List Field). record { n = n; fields = l }) (counted encodeField blankField mostFields fs f h) (stored encodeField blankField mostFields fs f h))
@@ -189,8 +189,8 @@ push-slip fs f h =
 abbrev pub Fits : ℕ → List (List Raw) → Type 0
 Fits w x = All (λ rs. All (λ r. Over r → ⊥) rs × (length rs ≤ w)) x × (length x ≤ mostFields)
 
-pub rule-built : (x : List (List Raw)) → TextOk x → Fits (rule .width) x → builtRule (marks x) ≡ encodeRule (fieldsOf x)
-rule-built x g f = built-is encodeField encodeRule blankField addRaw pushField (rule .width) refl add-rule push-rule x g (f .0) (f .1)
+pub rule-built : (x : List (List Raw)) → TextOk x → Fits (rule .width) x → builtSide (marks x) ≡ encodeSide (fieldsOf x)
+rule-built x g f = built-is encodeField encodeSide blankField addRaw pushField (rule .width) refl add-rule push-rule x g (f .0) (f .1)
 
 pub slip-built : (x : List (List Raw)) → TextOk x → Fits (slip .width) x → builtSlip (marks x) ≡ encodeSlip (fieldsOf x)
 slip-built x g f = built-is encodeSlipField encodeSlip blankSlipField addItem pushSlipField (slip .width) refl add-slip push-slip x g (f .0) (f .1)

@@ -1,4 +1,4 @@
--- The terms of a text put into fields, and the fields into a whole: the walk by hand of `build_rule` and of `build_slip`, once, over the names, types and values in which the two differ.
+-- The terms of a text put into fields, and the fields into a whole: the walk by hand of `build_side` and of `build_slip`, once, over the names, types and values in which the two differ.
 -- A text reader is moved from term to term. The measure is the number of bytes that are left.
 -- Assumes `Given`, and that the callees meet their contracts.
 use mathlib.Core.Path.{_≡_, refl, sym, ap, subst}

@@ -18,8 +18,8 @@ use Rattle.text.specs.Read.{rule}
 use Rattle.text.specs.Walk.{front, walkOn, walk, walked}
 use Rattle.terms.specs.declared.Term.{Term}
 use Rattle.terms.specs.declared.Field.{Field}
-use Rattle.terms.specs.declared.Rule.{Rule}
-use Rattle.terms.specs.Values.{blankField, blankRule}
+use Rattle.terms.specs.declared.RuleSide.{RuleSide}
+use Rattle.terms.specs.Values.{blankField, blankSide}
 use Rattle.sides.specs.Values.{rightTerm, mapFirst, rightField}
 use Rattle.scanning.specs.Pieces.{pieceOf}
 use Rattle.text_terms.specs.Terms.{termFrom}
@@ -27,7 +27,7 @@ use Rattle.tokens.specs.declared.Token.{Token}
 use Rattle.tokens.specs.declared.TokenField.{TokenField}
 use Rattle.tokens.specs.declared.TokenRule.{TokenRule}
 use Rattle.tokens.specs.Tokens.{blankTokens, blankTokenRule, constant, writtenAt, termOf, fieldOf, ruleOf}
-use Rattle.text_passes.specs.Build.{pushTerm, addRaw, pushField, turns, ofRaw, turned, put, builtRule}
+use Rattle.text_passes.specs.Build.{pushTerm, addRaw, pushField, turns, ofRaw, turned, put, builtSide}
 use Rattle.text_passes.specs.Tokens.{onSide, tokenAt, pushToken, addToken, pushTokens, builtTokens}
 
 -- ---- a count with its array of tokens, and one of what they stand for
@@ -82,7 +82,7 @@ module _ (right : Bool) (t o : List ℕ) where
   abbrev FieldAlike : TokenField → Field → Type 0
   FieldAlike f g = Alike right (termOf l r) rightTerm (rule .width) (f .n) (f .tokens) (g .n) (g .terms)
 
-  abbrev RuleAlike : TokenRule → Rule → Type 0
+  abbrev RuleAlike : TokenRule → RuleSide → Type 0
   RuleAlike x y = Alike right (fieldOf l r) rightField mostFields (x .n) (x .fields) (y .n) (y .fields)
 
   field-is : (f : TokenField) (g : Field) → FieldAlike f g → fieldOf l r f ≡ on right rightField g
@@ -92,7 +92,7 @@ module _ (right : Bool) (t o : List ℕ) where
       go true = refl
       go false = refl
 
-  rule-is : (x : TokenRule) (y : Rule) → RuleAlike x y → ruleOf l r x ≡ onSide right y
+  rule-is : (x : TokenRule) (y : RuleSide) → RuleAlike x y → ruleOf l r x ≡ onSide right y
   rule-is x y v = ap₂ (λ (n : ℕ) (fs : List Field). record { n = n; fields = fs }) (v .0) (v .2) ∙ go right
     where
       go : (d : Bool) → record { n = y .n; fields = firsts d rightField (y .n) (y .fields) } ≡ onSide d y
@@ -106,10 +106,10 @@ module _ (right : Bool) (t o : List ℕ) where
       go true = refl
       go false = refl
 
-  rule-none : RuleAlike blankTokenRule blankRule
+  rule-none : RuleAlike blankTokenRule blankSide
   rule-none = (refl, refl, go right)
     where
-      go : (d : Bool) → blankRule .fields ≡ firsts d rightField 0 (blankRule .fields)
+      go : (d : Bool) → blankSide .fields ≡ firsts d rightField 0 (blankSide .fields)
       go true = refl
       go false = refl
 
@@ -120,7 +120,7 @@ module _ (right : Bool) (t o : List ℕ) where
       go (yes h) = rw (lt-ltb (f .n) (rule .width) (omega (arith, v .0)), lt-ltb (g .n) (rule .width) h) (alike-one right (termOf l r) rightTerm (rule .width) (f .n) (f .tokens) (g .n) (g .terms) a u v h e)
       go (no h) = rw (le-ltb (f .n) (rule .width) (omega (arith, v .0)), le-ltb (g .n) (rule .width) (omega arith)) v
 
-  field-pushed : (x : TokenRule) (y : Rule) (f : TokenField) (g : Field) → RuleAlike x y → FieldAlike f g → RuleAlike (pushTokens x f) (pushField y g)
+  field-pushed : (x : TokenRule) (y : RuleSide) (f : TokenField) (g : Field) → RuleAlike x y → FieldAlike f g → RuleAlike (pushTokens x f) (pushField y g)
   field-pushed x y f g v u = go (decLt (y .n) mostFields)
     where
       go : Dec (y .n < mostFields) → RuleAlike (pushTokens x f) (pushField y g)
@@ -175,14 +175,14 @@ module _ (right : Bool) (t o : List ℕ) where
       go (raw-var k ds) e = token-pushed f g _ _ v e
       go raw-empty e = v
 
-  abbrev Both : TokenRule × TokenField → Rule × Field → Type 0
+  abbrev Both : TokenRule × TokenField → RuleSide × Field → Type 0
   Both b c = RuleAlike (b .0) (c .0) × FieldAlike (b .1) (c .1)
 
-  turned-both : (d : Bool) (b : TokenRule × TokenField) (c : Rule × Field) → Both b c → Both (turned blankTokens (addToken right) pushTokens d b) (turned blankField (ofRaw addRaw) pushField d c)
+  turned-both : (d : Bool) (b : TokenRule × TokenField) (c : RuleSide × Field) → Both b c → Both (turned blankTokens (addToken right) pushTokens d b) (turned blankField (ofRaw addRaw) pushField d c)
   turned-both true b c v = (field-pushed (b .0) (c .0) (b .1) (c .1) (v .0) (v .1), field-none)
   turned-both false b c v = v
 
-  puts : (ms : List Mark) (b : TokenRule × TokenField) (c : Rule × Field) → All Placed ms → Both b c → Both (foldl (put blankTokens (addToken right) pushTokens) b ms) (foldl (put blankField (ofRaw addRaw) pushField) c ms)
+  puts : (ms : List Mark) (b : TokenRule × TokenField) (c : RuleSide × Field) → All Placed ms → Both b c → Both (foldl (put blankTokens (addToken right) pushTokens) b ms) (foldl (put blankField (ofRaw addRaw) pushField) c ms)
   puts [] b c p v = v
   puts (m ∷ ms) b c p v =
       let d = turns (m .inField) (m .index) in
@@ -209,13 +209,13 @@ module _ (right : Bool) (t o : List ℕ) where
           choose (no h) = rec y (suc n) 1
 
   -- THE RULE
-  pub tokens-built : ruleOf l r (builtTokens right (walked t)) ≡ onSide right (builtRule (walked t))
+  pub tokens-built : ruleOf l r (builtTokens right (walked t)) ≡ onSide right (builtSide (walked t))
   tokens-built =
       let b = foldl (put blankTokens (addToken right) pushTokens) (blankTokenRule, blankTokens) (walked t) in
-      let c = foldl (put blankField (ofRaw addRaw) pushField) (blankRule, blankField) (walked t) in
-      let v = puts (walked t) (blankTokenRule, blankTokens) (blankRule, blankField) (all-placed (length t) t 0 1 1 refl) (rule-none, field-none) in
+      let c = foldl (put blankField (ofRaw addRaw) pushField) (blankSide, blankField) (walked t) in
+      let v = puts (walked t) (blankTokenRule, blankTokens) (blankSide, blankField) (all-placed (length t) t 0 1 1 refl) (rule-none, field-none) in
       rule-is (pushTokens (b .0) (b .1)) (pushField (c .0) (c .1)) (field-pushed (b .0) (c .0) (b .1) (c .1) (v .0) (v .1))
 
   -- a rule with no fields
-  pub tokens-blank : ruleOf l r blankTokenRule ≡ onSide right blankRule
-  tokens-blank = rule-is blankTokenRule blankRule rule-none
+  pub tokens-blank : ruleOf l r blankTokenRule ≡ onSide right blankSide
+  tokens-blank = rule-is blankTokenRule blankSide rule-none

@@ -11,10 +11,10 @@ use Rattle.text.specs.Marks.{Mark}
 use Rattle.text.specs.Read.{rule, slip}
 use Rattle.terms.specs.declared.Term.{Term}
 use Rattle.terms.specs.declared.Field.{Field}
-use Rattle.terms.specs.declared.Rule.{Rule}
+use Rattle.terms.specs.declared.RuleSide.{RuleSide}
 use Rattle.terms.specs.declared.SlipField.{SlipField}
 use Rattle.terms.specs.declared.Slip.{Slip}
-use Rattle.terms.specs.Values.{blankField, blankRule, blankSlipField, blankSlip}
+use Rattle.terms.specs.Values.{blankField, blankSide, blankSlipField, blankSlip}
 use Rattle.scanning.specs.declared.Spelled.{Spelled}
 use Rattle.scanning.specs.declared.Spelled.the-variants as spelled
 use Rattle.text_terms.specs.Terms.{termFrom}
@@ -39,7 +39,7 @@ pushTerm f t = cond (ltb (f .n) (rule .width)) (record { n = f .n + 1; terms = s
 abbrev pub addRaw : Field → Raw → Field
 addRaw f r = cond (isEmpty r) f (pushTerm f (termFrom r))
 
-abbrev pub pushField : Rule → Field → Rule
+abbrev pub pushField : RuleSide → Field → RuleSide
 pushField r f = cond (ltb (r .n) mostFields) (record { n = r .n + 1; fields = set (r .fields) (r .n) f }) r
 
 abbrev pub pushItem : SlipField → Term → SlipField
@@ -74,8 +74,8 @@ module _ {F R : Type 0} (blank : F) (add : F → Mark → F) (push : R → F →
   abbrev pub whole : Building → R
   whole b = push (b .0) (b .1)
 
-abbrev pub builtRule : List Mark → Rule
-builtRule ms = whole blankField (ofRaw addRaw) pushField (foldl (put blankField (ofRaw addRaw) pushField) (blankRule, blankField) ms)
+abbrev pub builtSide : List Mark → RuleSide
+builtSide ms = whole blankField (ofRaw addRaw) pushField (foldl (put blankField (ofRaw addRaw) pushField) (blankSide, blankField) ms)
 
 abbrev pub builtSlip : List Mark → Slip
 builtSlip ms = whole blankSlipField (ofRaw addItem) pushSlipField (foldl (put blankSlipField (ofRaw addItem) pushSlipField) (blankSlip, blankSlipField) ms)

@@ -6,15 +6,15 @@ use lib.Dec.{ltb}
 use lib.ListN.{length}
 use Rattle.text.specs.Read.{slip}
 use Rattle.text.specs.Walk.{walked}
-use Rattle.terms.specs.declared.Rule.{Rule}
+use Rattle.terms.specs.declared.RuleSide.{RuleSide}
 use Rattle.terms.specs.declared.Slip.{Slip}
-use Rattle.terms.specs.Values.{blankRule, blankSlip}
+use Rattle.terms.specs.Values.{blankSide, blankSlip}
 use Rattle.tokens.specs.declared.TokenRule.{TokenRule}
 use Rattle.tokens.specs.Tokens.{blankTokenRule}
 use Rattle.verdicts.specs.Verdicts.{sortOf}
 use Rattle.refusals.specs.declared.Survey.{Survey}
 use Rattle.refusals.specs.Refusals.{surveyMark, nothingYet}
-use Rattle.text_passes.specs.Build.{builtRule, builtSlip}
+use Rattle.text_passes.specs.Build.{builtSide, builtSlip}
 use Rattle.text_passes.specs.Tokens.{builtTokens}
 
 -- more bytes than document 01 lets a slip have, the longer of the two
@@ -24,8 +24,8 @@ tooLong t = ltb (slip .bytes) (length t)
 abbrev pub surveyIn : Bool → List ℕ → Survey
 surveyIn asSlip t = cond (tooLong t) nothingYet (foldl (surveyMark asSlip ((sortOf asSlip) .width)) nothingYet (walked t))
 
-abbrev pub ruleIn : List ℕ → Rule
-ruleIn t = cond (tooLong t) blankRule (builtRule (walked t))
+abbrev pub sideIn : List ℕ → RuleSide
+sideIn t = cond (tooLong t) blankSide (builtSide (walked t))
 
 abbrev pub slipIn : List ℕ → Slip
 slipIn t = cond (tooLong t) blankSlip (builtSlip (walked t))

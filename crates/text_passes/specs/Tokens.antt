@@ -10,7 +10,7 @@ use Rattle.order.specs.Values.{kindOf}
 use Rattle.text.specs.Sizes.{mostFields}
 use Rattle.text.specs.Marks.{Mark}
 use Rattle.text.specs.Read.{rule}
-use Rattle.terms.specs.declared.Rule.{Rule}
+use Rattle.terms.specs.declared.RuleSide.{RuleSide}
 use Rattle.sides.specs.Values.{rightNumber, rightRule}
 use Rattle.scanning.specs.declared.Piece.{Piece}
 use Rattle.scanning.specs.declared.Spelled.{Spelled}
@@ -24,7 +24,7 @@ use Rattle.tokens.specs.Tokens.{blankToken, variableToken, blankTokens, blankTo
 use Rattle.text_passes.specs.Build.{emptyBy, put, whole}
 
 -- a rule as the right or the left one of a pair
-abbrev pub onSide : Bool → Rule → Rule
+abbrev pub onSide : Bool → RuleSide → RuleSide
 onSide true r = rightRule r
 onSide false r = r
 

@@ -10,10 +10,10 @@ ghost use Rattle.scanning.specs.Pieces.{pieceOf};
 ghost use Rattle.verdicts.specs.Verdicts.{sortOf};
 ghost use Rattle.refusals.specs.Refusals.{surveyMark, nothingYet};
 ghost use Rattle.text_passes.specs.Places.{spelled, colonAt, behind, termAt, started, passed};
-ghost use Rattle.text_passes.specs.Build.{emptyBy, pushTerm, addRaw, pushField, pushItem, addItem, pushSlipField, turns, builtRule, builtSlip};
+ghost use Rattle.text_passes.specs.Build.{emptyBy, pushTerm, addRaw, pushField, pushItem, addItem, pushSlipField, turns, builtSide, builtSlip};
 ghost use Rattle.tokens.specs.Tokens.{blankTokens, blankTokenRule};
 ghost use Rattle.text_passes.specs.Tokens.{numberOn, tokenAt, pushToken, withToken, pushTokens, builtTokens};
-ghost use Rattle.text_passes.specs.Passes.{surveyIn, ruleIn, slipIn, tokensIn};
+ghost use Rattle.text_passes.specs.Passes.{surveyIn, sideIn, slipIn, tokensIn};
 use linearity::Lists;
 use order::Kind;
 use refusals::At;
@@ -21,7 +21,7 @@ use refusals::Survey;
 use scanning::Piece;
 use scanning::Spelled;
 use terms::Field;
-use terms::Rule;
+use terms::RuleSide;
 use terms::Slip;
 use terms::SlipField;
 use terms::Term;
@@ -182,7 +182,7 @@ fn push_term(f: Field, t: Term) -> Field
     g
 }
 
-fn push_field(r: Rule, f: Field) -> Rule
+fn push_field(r: RuleSide, f: Field) -> RuleSide
     ensures { λ s. ⌜ s ≡ pushField r f ⌝ }
 {
     let n = r.n;
@@ -243,11 +243,11 @@ fn is_turn(a: At) -> bool
 }
 
 // The rule that a text without refusals says.
-fn build_rule(text: &[u8]) -> Rule
+fn build_side(text: &[u8]) -> RuleSide
     requires { ⌜ length (now text) ≤ 8192 ⌝ }
-    ensures { λ r. ⌜ r ≡ builtRule (walked (now (text .entry))) ⌝ }
+    ensures { λ r. ⌜ r ≡ builtSide (walked (now (text .entry))) ⌝ }
 {
-    let mut rule = terms::blank_rule();
+    let mut rule = terms::blank_side();
     let mut field = terms::blank_field();
     let mut r = start(text);
     while has_term(r) {
@@ -407,13 +407,13 @@ pub fn survey(text: &[u8], slip: bool) -> Survey
 }
 
 // The rule that a text without refusals says.
-pub fn rule_in(text: &[u8]) -> Rule
-    ensures { λ r. ⌜ r ≡ ruleIn (now (text .entry)) ⌝ }
+pub fn side_in(text: &[u8]) -> RuleSide
+    ensures { λ r. ⌜ r ≡ sideIn (now (text .entry)) ⌝ }
 {
     if 8192 < text.len() {
-        return terms::blank_rule();
+        return terms::blank_side();
     }
-    build_rule(text)
+    build_side(text)
 }
 
 // The slip.

@@ -12,7 +12,7 @@ use Rattle.terms.specs.declared.Form.{Form}
 use Rattle.terms.specs.declared.Form.the-variants.{Int, Str, Var}
 use Rattle.terms.specs.declared.Term.{Term}
 use Rattle.terms.specs.declared.Field.{Field}
-use Rattle.terms.specs.declared.Rule.{Rule}
+use Rattle.terms.specs.declared.RuleSide.{RuleSide}
 use Rattle.terms.specs.Values.{blankTerm}
 use Rattle.atoms.specs.Atoms.{hasPlace, placeBy}
 use Rattle.shapes.specs.Shapes.{isList}
@@ -60,7 +60,7 @@ termOf l r t = termBy l r (t .what)
 abbrev pub fieldOf : List ℕ → List ℕ → TokenField → Field
 fieldOf l r f = record { n = f .n; terms = map (termOf l r) (f .tokens) }
 
-abbrev pub ruleOf : List ℕ → List ℕ → TokenRule → Rule
+abbrev pub ruleOf : List ℕ → List ℕ → TokenRule → RuleSide
 ruleOf l r x = record { n = x .n; fields = map (fieldOf l r) (x .fields) }
 
 -- ---- list variables; `list-is` of proofs/Tokens says that it is the term that is one

@@ -5,7 +5,7 @@ use mathlib.Core.Option.{Option, none, some}
 use Prim.Native.Nat.{ℕ}
 use lib.ListN.{length}
 use Rattle.text.specs.Told.{byRoom}
-use Rattle.text.specs.Read.{number, Outcome, refused, accepted, readRule}
+use Rattle.text.specs.Read.{number, Outcome, refused, accepted, readSide}
 use Rattle.writing.specs.Answers.{after}
 use Rattle.listing.specs.Overlaps.{linesOf, overlapText}
 use Rattle.overlaps.specs.Answers.{ruleOf}
@@ -38,5 +38,5 @@ listingOf left right room =
 
 -- WHAT THE LIBRARY PROMISES of the texts t and u and the lent bytes `old`: the answer, and what the bytes are afterwards
 pub record LibraryLists (t u old : List ℕ) (r : Listing) (new : List ℕ) : Type 0 where
-  pub answer : r ≡ listingOf (readRule t) (readRule u) (length old)
-  pub bytes : new ≡ after (overlapText (ruleOf (readRule t)) (ruleOf (readRule u))) old
+  pub answer : r ≡ listingOf (readSide t) (readSide u) (length old)
+  pub bytes : new ≡ after (overlapText (ruleOf (readSide t)) (ruleOf (readSide u))) old

@@ -2,7 +2,7 @@
 // Numbers and byte slices cross the boundary, and structs of numbers in C's layout; to C a slice is a pointer and a length.
 // A name belongs to the whole program, as in C, so each begins with the library's.
 ghost use mathlib.Core.Path.{_≡_};
-ghost use Rattle.text.specs.Read.{readRule};
+ghost use Rattle.text.specs.Read.{readSide};
 ghost use Rattle.yopobrush.specs.Answers.{readingOf, LibraryLists};
 ghost use Rattle.yopobrush.specs.Values.{readingBy, listingBy};
 use overlaps::Listed;
@@ -64,7 +64,7 @@ fn listing_of(left: Reading, right: Reading, listed: Listed) -> Listing
 // Reads a rule text and says how it is read.
 #[no_mangle]
 pub extern "C" fn yopobrush_read_rule(text: &[u8]) -> Reading
-    ensures { λ r. ⌜ r ≡ readingOf (readRule (now (text .entry))) ⌝ }
+    ensures { λ r. ⌜ r ≡ readingOf (readSide (now (text .entry))) ⌝ }
 {
     let read = reading::read_rule(text);
     let verdict = read.verdict;

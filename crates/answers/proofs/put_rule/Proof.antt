@@ -3,7 +3,7 @@ use mathlib.Core.Path.{sym}
 use lib.ListN.{replicate}
 use borrow.Author.Needs.{needs}
 use Rattle.text.specs.Plain.{plain}
-use Rattle.accepted.specs.Accepted.{countedRule}
+use Rattle.accepted.specs.Accepted.{countedLeft}
 use Rattle.pieces.proofs.Pieces.{written-long, written-count, written-front, placed-as}
 use Rattle.plain_text.proofs.Lengths.{plain-short}
 use Rattle.answers.proofs.put_rule.Statement.{statement}
@@ -21,12 +21,12 @@ size-of-requires c κs = search needs
 array-share-prefix-text : tie.Need-array-share-prefix-text
 array-share-prefix-text c =
     let z = c .before .before .before .before .before .args in
-    written-long (plain (countedRule (z .r))) (replicate 1151 0) (plain-short (z .r)) (c .size-of .ensures) (c .before .before .write-rule .ensures)
+    written-long (plain (countedLeft (z .r))) (replicate 1151 0) (plain-short (z .r)) (c .size-of .ensures) (c .before .before .write-rule .ensures)
 
 slice-aggregate-put-bytes : tie.Need-slice-aggregate-put-bytes
 slice-aggregate-put-bytes c =
     let z = c .before .before .before .before .before .before .args in
-    written-count (plain (countedRule (z .r))) (replicate 1151 0) (plain-short (z .r)) (c .before .size-of .ensures) (c .before .before .before .write-rule .ensures)
+    written-count (plain (countedLeft (z .r))) (replicate 1151 0) (plain-short (z .r)) (c .before .size-of .ensures) (c .before .before .before .write-rule .ensures)
 
 put-bytes-requires : tie.Need-put-bytes-requires
 put-bytes-requires c κs = search needs
@@ -37,7 +37,7 @@ same-length c = search needs
 returns : tie.Need-returns
 returns c =
     let z = c .before .before .before .before .before .before .before .before .before .before .args in
-    placed-as (z .at) (z .out .now) (sym (written-front (plain (countedRule (z .r))) (replicate 1151 0) (plain-short (z .r)) (c .before .before .before .before .before .size-of .ensures) (c .before .before .before .before .before .before .before .write-rule .ensures))) (c .before .before .put-bytes .ensures)
+    placed-as (z .at) (z .out .now) (sym (written-front (plain (countedLeft (z .r))) (replicate 1151 0) (plain-short (z .r)) (c .before .before .before .before .before .size-of .ensures) (c .before .before .before .before .before .before .before .write-rule .ensures))) (c .before .before .put-bytes .ensures)
 
 pub put-rule-spec : {M : Type 1} → statement M
 put-rule-spec =

@@ -5,7 +5,7 @@ use native.Mathlib.Omega.{arith}
 use borrow.Author.Needs.{needs}
 use borrow.Author.Tests.{not-true, not-false}
 use lib.ListN.{take}
-use Rattle.accepted.specs.Accepted.{acceptedRule}
+use Rattle.accepted.specs.Accepted.{acceptedLeft}
 use Rattle.accepted_slips.specs.Slips.{acceptedSlip}
 use Rattle.bindings.specs.declared.Filling.{Filling}
 use Rattle.matching.specs.declared.Match.{Match}
@@ -17,14 +17,14 @@ use Rattle.matching.proofs.match_rule.Tie as tie
 abbrev yesWith : Filling → Match
 yesWith x = record { yes = true; filling = x }
 
-is-rule-requires : tie.Need-is-rule-requires
-is-rule-requires c κs = search needs
+is-left-requires : tie.Need-is-left-requires
+is-left-requires c κs = search needs
 
 no-match-requires : tie.Need-no-match-requires
 no-match-requires c κs = search needs
 
 returns : tie.Need-returns
-returns c = c .no-match .ensures ∙ not-rule (c .before .before .before .args .rule) (c .before .before .before .args .slip) (sym (c .before .before .is-rule .ensures) ∙ not-true _ (c .before .if1 .taken))
+returns c = c .no-match .ensures ∙ not-rule (c .before .before .before .args .rule) (c .before .before .before .args .slip) (sym (c .before .before .is-left .ensures) ∙ not-true _ (c .before .if1 .taken))
 
 is-slip-requires : tie.Need-is-slip-requires
 is-slip-requires c κs = search needs
@@ -44,7 +44,7 @@ returns-3 : tie.Need-returns-3
 returns-3 c =
     let rule = c .before .before .before .before .before .before .before .before .args .rule in
     let slip = c .before .before .before .before .before .before .before .before .args .slip in
-    let a : acceptedRule rule ≡ true = sym (c .before .before .before .before .before .before .before .is-rule .ensures) ∙ not-false _ (c .before .before .before .before .before .before .if1 .left) in
+    let a : acceptedLeft rule ≡ true = sym (c .before .before .before .before .before .before .before .is-left .ensures) ∙ not-false _ (c .before .before .before .before .before .before .if1 .left) in
     let b : acceptedSlip slip ≡ true = sym (c .before .before .before .before .before .is-slip .ensures) ∙ not-false _ (c .before .before .before .before .if2 .left) in
     let n = c .before .if3 .taken in
     c .no-match3 .ensures ∙ says-counts rule slip a b (λ e. omega arith)
@@ -53,7 +53,7 @@ match-fields-requires : tie.Need-match-fields-requires
 match-fields-requires c κs =
     let rule = c .before .before .before .before .before .before .before .args .rule in
     let slip = c .before .before .before .before .before .before .before .args .slip in
-    let a : acceptedRule rule ≡ true = sym (c .before .before .before .before .before .before .is-rule .ensures) ∙ not-false _ (c .before .before .before .before .before .if1 .left) in
+    let a : acceptedLeft rule ≡ true = sym (c .before .before .before .before .before .before .is-left .ensures) ∙ not-false _ (c .before .before .before .before .before .if1 .left) in
     let b : acceptedSlip slip ≡ true = sym (c .before .before .before .before .is-slip .ensures) ∙ not-false _ (c .before .before .before .if2 .left) in
     let e = c .if3 .left in
     (at-most-four rule slip a b, omega arith)
@@ -65,7 +65,7 @@ returns-4 : tie.Need-returns-4
 returns-4 c =
     let rule = c .before .before .before .before .before .before .before .before .before .before .before .args .rule in
     let slip = c .before .before .before .before .before .before .before .before .before .before .before .args .slip in
-    let a : acceptedRule rule ≡ true = sym (c .before .before .before .before .before .before .before .before .before .before .is-rule .ensures) ∙ not-false _ (c .before .before .before .before .before .before .before .before .before .if1 .left) in
+    let a : acceptedLeft rule ≡ true = sym (c .before .before .before .before .before .before .before .before .before .before .is-left .ensures) ∙ not-false _ (c .before .before .before .before .before .before .before .before .before .if1 .left) in
     let b : acceptedSlip slip ≡ true = sym (c .before .before .before .before .before .before .before .before .is-slip .ensures) ∙ not-false _ (c .before .before .before .before .before .before .before .if2 .left) in
     let e = c .before .before .before .before .if3 .left in
     let t = c .before .before .before .match-fields in
@@ -78,7 +78,7 @@ run-fields-requires : tie.Need-run-fields-requires
 run-fields-requires c κs =
     let rule = c .before .before .before .before .before .before .before .before .before .before .before .args .rule in
     let slip = c .before .before .before .before .before .before .before .before .before .before .before .args .slip in
-    let a : acceptedRule rule ≡ true = sym (c .before .before .before .before .before .before .before .before .before .before .is-rule .ensures) ∙ not-false _ (c .before .before .before .before .before .before .before .before .before .if1 .left) in
+    let a : acceptedLeft rule ≡ true = sym (c .before .before .before .before .before .before .before .before .before .before .is-left .ensures) ∙ not-false _ (c .before .before .before .before .before .before .before .before .before .if1 .left) in
     let b : acceptedSlip slip ≡ true = sym (c .before .before .before .before .before .before .before .before .is-slip .ensures) ∙ not-false _ (c .before .before .before .before .before .before .before .if2 .left) in
     let e = c .before .before .before .before .if3 .left in
     (at-most-four rule slip a b, omega arith)
@@ -87,7 +87,7 @@ returns-5 : tie.Need-returns-5
 returns-5 c =
     let rule = c .before .before .before .before .before .before .before .before .before .before .before .before .args .rule in
     let slip = c .before .before .before .before .before .before .before .before .before .before .before .before .args .slip in
-    let a : acceptedRule rule ≡ true = sym (c .before .before .before .before .before .before .before .before .before .before .before .is-rule .ensures) ∙ not-false _ (c .before .before .before .before .before .before .before .before .before .before .if1 .left) in
+    let a : acceptedLeft rule ≡ true = sym (c .before .before .before .before .before .before .before .before .before .before .before .is-left .ensures) ∙ not-false _ (c .before .before .before .before .before .before .before .before .before .before .if1 .left) in
     let b : acceptedSlip slip ≡ true = sym (c .before .before .before .before .before .before .before .before .before .is-slip .ensures) ∙ not-false _ (c .before .before .before .before .before .before .before .before .if2 .left) in
     let e = c .before .before .before .before .before .if3 .left in
     let t = c .before .before .before .before .match-fields in
@@ -98,7 +98,7 @@ pub match-rule-spec : {M : Type 1} → statement M
 match-rule-spec =
     tie.close
     (tie.spec
-    is-rule-requires
+    is-left-requires
     no-match-requires
     returns
     is-slip-requires

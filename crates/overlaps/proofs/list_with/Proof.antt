@@ -2,7 +2,7 @@
 use mathlib.Core.Path.{_∙_}
 use lib.ListN.{replicate}
 use Rattle.text.specs.Plain.{plain}
-use Rattle.accepted.specs.Accepted.{countedRule}
+use Rattle.accepted.specs.Accepted.{countedLeft}
 use Rattle.pieces.proofs.Pieces.{written-long, written-count, written-front}
 use Rattle.plain_text.proofs.Lengths.{plain-short}
 use Rattle.overlaps.proofs.Texts.{values-listed, values-stored}
@@ -29,16 +29,16 @@ size-of-requires-2 : tie.Need-size-of-requires-2
 size-of-requires-2 c κs = search needs
 
 array-share-prefix-a : tie.Need-array-share-prefix-a
-array-share-prefix-a c = let v = c .before .before .before .before .before .before .before .before .before .before .args .left in written-long (plain (countedRule v)) (replicate 1151 0) (plain-short v) (c .before .before .before .before .size-of .ensures) (c .before .before .before .before .before .before .write-rule .ensures)
+array-share-prefix-a c = let v = c .before .before .before .before .before .before .before .before .before .before .args .left in written-long (plain (countedLeft v)) (replicate 1151 0) (plain-short v) (c .before .before .before .before .size-of .ensures) (c .before .before .before .before .before .before .write-rule .ensures)
 
 slice-aggregate-list-texts : tie.Need-slice-aggregate-list-texts
-slice-aggregate-list-texts c = let v = c .before .before .before .before .before .before .before .before .before .before .before .args .left in written-count (plain (countedRule v)) (replicate 1151 0) (plain-short v) (c .before .before .before .before .before .size-of .ensures) (c .before .before .before .before .before .before .before .write-rule .ensures)
+slice-aggregate-list-texts c = let v = c .before .before .before .before .before .before .before .before .before .before .before .args .left in written-count (plain (countedLeft v)) (replicate 1151 0) (plain-short v) (c .before .before .before .before .before .size-of .ensures) (c .before .before .before .before .before .before .before .write-rule .ensures)
 
 array-share-prefix-b : tie.Need-array-share-prefix-b
-array-share-prefix-b c = let v = c .before .before .before .before .before .before .before .before .before .before .before .args .right in written-long (plain (countedRule v)) (replicate 1151 0) (plain-short v) (c .before .size-of2 .ensures) (c .before .before .before .write-rule2 .ensures)
+array-share-prefix-b c = let v = c .before .before .before .before .before .before .before .before .before .before .before .args .right in written-long (plain (countedLeft v)) (replicate 1151 0) (plain-short v) (c .before .size-of2 .ensures) (c .before .before .before .write-rule2 .ensures)
 
 slice-aggregate-list-texts-2 : tie.Need-slice-aggregate-list-texts-2
-slice-aggregate-list-texts-2 c = let v = c .before .before .before .before .before .before .before .before .before .before .before .before .args .right in written-count (plain (countedRule v)) (replicate 1151 0) (plain-short v) (c .before .before .size-of2 .ensures) (c .before .before .before .before .write-rule2 .ensures)
+slice-aggregate-list-texts-2 c = let v = c .before .before .before .before .before .before .before .before .before .before .before .before .args .right in written-count (plain (countedLeft v)) (replicate 1151 0) (plain-short v) (c .before .before .size-of2 .ensures) (c .before .before .before .before .write-rule2 .ensures)
 
 list-texts-requires : tie.Need-list-texts-requires
 list-texts-requires c κs = search needs
@@ -57,8 +57,8 @@ returns c =
     let t = c .before .before .before .before .before .before .before .before .before .size-of2 .ensures in
     let v = c .before .before .before .before .before .before .before .before .before .before .before .before .before .before .before .write-rule .ensures in
     let w = c .before .before .before .before .before .before .before .before .before .before .before .write-rule2 .ensures in
-    let a = written-front (plain (countedRule (z .left))) (replicate 1151 0) (plain-short (z .left)) s v in
-    let b = written-front (plain (countedRule (z .right))) (replicate 1151 0) (plain-short (z .right)) t w in
+    let a = written-front (plain (countedLeft (z .left))) (replicate 1151 0) (plain-short (z .left)) s v in
+    let b = written-front (plain (countedLeft (z .right))) (replicate 1151 0) (plain-short (z .right)) t w in
     (values-listed (z .left) (z .right) a b (o .ensures .0), o .ensures .1 ∙ values-stored (z .left) (z .right) a b (z .room .now))
 
 pub list-with-spec : {M : Type 1} → statement M

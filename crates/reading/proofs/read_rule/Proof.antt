@@ -11,20 +11,20 @@ judge-requires c κs = search needs
 enum-told : tie.Need-enum-told
 enum-told c = search needs
 
-rule-in-requires : tie.Need-rule-in-requires
-rule-in-requires c κs = search needs
+side-in-requires : tie.Need-side-in-requires
+side-in-requires c κs = search needs
 
 enum-told-2 : tie.Need-enum-told-2
 enum-told-2 c = search needs
 
-blank-rule-requires : tie.Need-blank-rule-requires
-blank-rule-requires c κs = search needs
+blank-side-requires : tie.Need-blank-side-requires
+blank-side-requires c κs = search needs
 
 returns : tie.Need-returns
-returns c = rule-yes (c .before .before .before .before .before .args .text .now) (c .before .before .before .judge .result) (c .rule-in .result) (c .before .before .before .judge .ensures) (c .before .enum-told .given .1) (c .rule-in .ensures)
+returns c = rule-yes (c .before .before .before .before .before .args .text .now) (c .before .before .before .judge .result) (c .side-in .result) (c .before .before .before .judge .ensures) (c .before .enum-told .given .1) (c .side-in .ensures)
 
 returns-2 : tie.Need-returns-2
-returns-2 c = rule-no (c .before .before .before .before .before .args .text .now) (c .before .before .before .judge .result) (c .blank-rule .result) _ _ (c .before .before .before .judge .ensures) (c .before .enum-told2 .given .1) (c .blank-rule .ensures)
+returns-2 c = rule-no (c .before .before .before .before .before .args .text .now) (c .before .before .before .judge .result) (c .blank-side .result) _ _ (c .before .before .before .judge .ensures) (c .before .enum-told2 .given .1) (c .blank-side .ensures)
 
 pub read-rule-spec : {M : Type 1} → statement M
 read-rule-spec =
@@ -32,8 +32,8 @@ read-rule-spec =
     (tie.spec
     judge-requires
     enum-told
-    rule-in-requires
+    side-in-requires
     enum-told-2
-    blank-rule-requires
+    blank-side-requires
     returns
     returns-2)

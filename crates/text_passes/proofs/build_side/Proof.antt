@@ -1,4 +1,4 @@
--- `text_passes::build_rule` meets its contract: the walk by hand is `Building.antt`'s, at a rule's names, types and values.
+-- `text_passes::build_side` meets its contract: the walk by hand is `Building.antt`'s, at a rule's names, types and values.
 -- Assumes nothing.
 use mathlib.Core.Path.{_≡_, refl}
 use Prim.Native.Nat.{ℕ, _<_, _^_}
@@ -33,17 +33,17 @@ use denote.Triple.Table.{entered, cited}
 use denote.Triple.Walked.{says, needs, Stays, stay-none-slice, walkOf, goes-none-slice, ends-at, walked, walk-meets}
 use denote.Exit.{yes}
 use Rattle.text.specs.Walk.{walked as terms-of}
-use Rattle.terms.specs.declared.Rule.{Rule}
+use Rattle.terms.specs.declared.RuleSide.{RuleSide}
 use Rattle.terms.specs.declared.Field.{Field}
-use Rattle.terms.specs.Values.{blankRule, blankField}
-use Rattle.terms.proofs.Rule as N
-use Rattle.terms.proofs.Rule.Laws as N′
+use Rattle.terms.specs.Values.{blankSide, blankField}
+use Rattle.terms.proofs.RuleSide as N
+use Rattle.terms.proofs.RuleSide.Laws as N′
 use Rattle.terms.proofs.Field as G
 use Rattle.terms.proofs.Field.Laws as G′
-use Rattle.terms.proofs.blank_rule as blank-whole
-use Rattle.terms.proofs.blank_rule.Symbol as blank-whole-def
-use Rattle.terms.proofs.blank_rule.Symbol.{name as #terms·blank-rule}
-use Rattle.terms.proofs.blank_rule.Met as blank-whole-thm
+use Rattle.terms.proofs.blank_side as blank-whole
+use Rattle.terms.proofs.blank_side.Symbol as blank-whole-def
+use Rattle.terms.proofs.blank_side.Symbol.{name as #terms·blank-side}
+use Rattle.terms.proofs.blank_side.Met as blank-whole-thm
 use Rattle.terms.proofs.blank_field as blank-field
 use Rattle.terms.proofs.blank_field.Symbol as blank-field-def
 use Rattle.terms.proofs.blank_field.Symbol.{name as #terms·blank-field}
@@ -55,7 +55,7 @@ use Rattle.scanning.proofs.Piece.Laws as O′
 use Rattle.walks.proofs.Returns.{Spelt, Good, Returns, Met, returns-of, returns-plain}
 use Rattle.refusals.specs.declared.At.{At}
 use Rattle.text_passes.specs.Places.{termAt}
-use Rattle.text_passes.specs.Build.{addRaw, ofRaw, pushField, builtRule}
+use Rattle.text_passes.specs.Build.{addRaw, ofRaw, pushField, builtSide}
 use Rattle.text_passes.proofs.Held.{mach-text, mach-piece, Text, Token, Piece-is}
 use Rattle.text_passes.proofs.Calls.{Start, HasTerm, Term, Passed, Kept}
 use Rattle.text_passes.proofs.Building.{Is-turn, walk}
@@ -82,10 +82,10 @@ use Rattle.text_passes.proofs.with_term.Met as with-thm
 use Rattle.text_passes.proofs.passed.Symbol as passed-def
 use Rattle.text_passes.proofs.passed.Symbol.{name as #text-passes·passed}
 use Rattle.text_passes.proofs.passed.Met as passed-thm
-use Rattle.text_passes.proofs.build_rule.Key.{name as #text-passes·build-rule}
-use Rattle.text_passes.proofs.build_rule as build
-use Rattle.text_passes.proofs.build_rule.Statement as stated
-use Rattle.text_passes.proofs.build_rule.Code as code
+use Rattle.text_passes.proofs.build_side.Key.{name as #text-passes·build-side}
+use Rattle.text_passes.proofs.build_side as build
+use Rattle.text_passes.proofs.build_side.Statement as stated
+use Rattle.text_passes.proofs.build_side.Code as code
 
 abbrev stayed : Stays (build.ended .signature .params) (build.ended .kept)
 stayed = (stay-none-slice (0 ∷ []) tt (plain (λ _. u8)) yes, tt)
@@ -108,7 +108,7 @@ module _ {M : Type 1} (𝓤 : URA M) (H : Heap 𝓤) (A : Atoms 𝓤) (W : Given
     abbrev Own : List (Item 𝓤)
     Own = Kept 𝓤 H A W mem run κ q s
 
-    exits : (x : Rule) → Good X x → x ≡ builtRule (terms-of (now s)) → ent 𝓤 (⋆ 𝓤 H A Own) (Post (X .val x))
+    exits : (x : RuleSide) → Good X x → x ≡ builtSide (terms-of (now s)) → ent 𝓤 (⋆ 𝓤 H A Own) (Post (X .val x))
     exits x gx is =
         qed W Own ∵ suffices ! _ (ends-at 𝓤 H A build.ended stayed (build.clauses 𝓤 H A mem run) W bound (X .val x) x (tt, tt) (tt, tt)) $ says ! is $
         move ! (1 ∷ []) $ frame ! $ nothing ! $ move ! (1 ∷ 0 ∷ []) $ fjoin ! $ frame ! $ owned ! N.the-row (Is N.the-row) (LL.makes N.the-type N′.the-plain 𝓤 H A) x _ gx $ done !
@@ -119,13 +119,13 @@ module _ {M : Type 1} (𝓤 : URA M) (H : Heap 𝓤) (A : Atoms 𝓤) (W : Given
 
     module _ (C : Calls 𝓤 H) where
       -- what the callees return
-      blank-rule-returns : Triple 𝓤 (C #terms·blank-rule) (Met 𝓤 H A blank-whole.ended (blank-whole.clauses 𝓤 H A mem run)) → Returns 𝓤 H A C #terms·blank-rule [] N.the-row blankRule [] (raw (emp 𝓤))
-      blank-rule-returns known = returns-plain 𝓤 H A blank-whole.ended (blank-whole.clauses 𝓤 H A mem run) C #terms·blank-rule known (tt, tt, tt, tt, tt) tt blankRule (λ z ws. id⊢ 𝓤 _) W (id⊢ 𝓤 _) (id⊢ 𝓤 _) (id⊢ 𝓤 _) tt tt
+      blank-rule-returns : Triple 𝓤 (C #terms·blank-side) (Met 𝓤 H A blank-whole.ended (blank-whole.clauses 𝓤 H A mem run)) → Returns 𝓤 H A C #terms·blank-side [] N.the-row blankSide [] (raw (emp 𝓤))
+      blank-rule-returns known = returns-plain 𝓤 H A blank-whole.ended (blank-whole.clauses 𝓤 H A mem run) C #terms·blank-side known (tt, tt, tt, tt, tt) tt blankSide (λ z ws. id⊢ 𝓤 _) W (id⊢ 𝓤 _) (id⊢ 𝓤 _) (id⊢ 𝓤 _) tt tt
 
       blank-field-returns : Triple 𝓤 (C #terms·blank-field) (Met 𝓤 H A blank-field.ended (blank-field.clauses 𝓤 H A mem run)) → Returns 𝓤 H A C #terms·blank-field [] G.the-row blankField [] (raw (emp 𝓤))
       blank-field-returns known = returns-plain 𝓤 H A blank-field.ended (blank-field.clauses 𝓤 H A mem run) C #terms·blank-field known (tt, tt, tt, tt, tt) tt blankField (λ z ws. id⊢ 𝓤 _) W (id⊢ 𝓤 _) (id⊢ 𝓤 _) (id⊢ 𝓤 _) tt tt
 
-      push-field-returns : Triple 𝓤 (C #text-passes·push-field) (Met 𝓤 H A push.ended (push.clauses 𝓤 H A mem run)) → (x : Rule) (f : Field) → Good X x → Good Y f
+      push-field-returns : Triple 𝓤 (C #text-passes·push-field) (Met 𝓤 H A push.ended (push.clauses 𝓤 H A mem run)) → (x : RuleSide) (f : Field) → Good X x → Good Y f
           → Returns 𝓤 H A C #text-passes·push-field (X .val x ∷ Y .val f ∷ []) N.the-row (pushField x f) [] (raw (emp 𝓤))
       push-field-returns known x f gx gf = returns-plain 𝓤 H A push.ended (push.clauses 𝓤 H A mem run) C #text-passes·push-field known (tt, tt, tt, (x, (f, tt)), (X .val x ∷ [], (Y .val f ∷ [], tt))) tt (pushField x f) (λ z ws. id⊢ 𝓤 _)
           W (id⊢ 𝓤 _) (id⊢ 𝓤 _) (id⊢ 𝓤 _) (LL.makes N.the-type N′.the-plain 𝓤 H A, (LL.makes G.the-type G′.the-plain 𝓤 H A, tt)) (gx, (gf, tt))
@@ -141,19 +141,19 @@ module _ {M : Type 1} (𝓤 : URA M) (H : Heap 𝓤) (A : Atoms 𝓤) (W : Given
     entry : ent 𝓤 (onEntry 𝓤 H A build.signature (κ, tt) (q, tt) (bound .0 .3) (bound .0 .4)) (⋆ 𝓤 H A Own)
     entry = qed W (Token 𝓤 κ q ∷ ‵ (owns (ShrSlice (named 0) κ u8 ∷ []) (bound .0 .3) (bound .0 .4)) ∷ []) ∵ move ! (1 ∷ []) $ fsplit ! $ move ! (1 ∷ []) $ drop ! $ done !
 
-pub build-rule-spec : {M : Type 1} → stated.statement M
+pub build-side-spec : {M : Type 1} → stated.statement M
 unfolding code.routine tablesOf
-build-rule-spec 𝓤 H 𝓜 𝓖 𝓡 =
+build-side-spec 𝓤 H 𝓜 𝓖 𝓡 =
     let A = 𝓖 .A in
     let W = givenOf 𝓤 H 𝓜 𝓖 in
     let 𝓣 = tablesOf 𝓤 H 𝓜 (tables 𝓤 H 𝓜 𝓡 code.env) in
     let clauses = build.clauses 𝓤 H A (𝓜 .mem) (𝓡 .run) in
     let goes = WpFn 𝓤 H (𝓣 .C) (𝓣 .Λ) code.function in
-    entered 𝓤 H (tripleOf 𝓤 H A build.signature (build.spec 𝓤 H A (𝓜 .mem) (𝓡 .run))) (tables 𝓤 H 𝓜 𝓡 code.env .C) (tables 𝓤 H 𝓜 𝓡 code.env .Λ) #text-passes·build-rule code.function (code.unfolded 𝓤 H 𝓜 𝓡)
+    entered 𝓤 H (tripleOf 𝓤 H A build.signature (build.spec 𝓤 H A (𝓜 .mem) (𝓡 .run))) (tables 𝓤 H 𝓜 𝓡 code.env .C) (tables 𝓤 H 𝓜 𝓡 code.env .Λ) #text-passes·build-side code.function (code.unfolded 𝓤 H 𝓜 𝓡)
     (walk-meets 𝓤 H A build.ended stayed W (goes-none-slice 𝓤 H A W 1 (0 ∷ []) tt (plain (λ _. u8)) yes, tt) clauses goes (WpFn-mono 𝓤 H (W .laws) 𝓣 code.function)
     (walked 𝓤 H A build.ended stayed clauses goes (λ κs. (slice-vals, tt)) (λ κs. (shr-slice-tells (named 0) (κs .0) u8, tt))
     (λ κs qs bounds a g are. needs 𝓤 _ _ (λ short. via 𝓤 _ (entry 𝓤 H A W (𝓜 .mem) (𝓡 .run) (κs .0) (qs .0) (a .0))
-    (walk 𝓤 H A W (𝓜 .mem) (𝓡 .run) (κs .0) (qs .0) (a .0) #terms·blank-rule #terms·blank-field #text-passes·push-field #text-passes·with-term (X 𝓤 H A W) (Y 𝓤 H A W) blankRule blankField (ofRaw addRaw) pushField
+    (walk 𝓤 H A W (𝓜 .mem) (𝓡 .run) (κs .0) (qs .0) (a .0) #terms·blank-side #terms·blank-field #text-passes·push-field #text-passes·with-term (X 𝓤 H A W) (Y 𝓤 H A W) blankSide blankField (ofRaw addRaw) pushField
     (Post 𝓤 H A W (𝓜 .mem) (𝓡 .run) (κs .0) (qs .0) (a .0)) (exits 𝓤 H A W (𝓜 .mem) (𝓡 .run) (κs .0) (qs .0) (a .0)) (are .0) short 𝓣
     (cited 𝓤 H (Start 𝓤 H A (𝓜 .mem) (𝓡 .run)) 𝓜 𝓡 code.env #text-passes·start start-def.routine code.calls-text-passes·start (start-thm.met 𝓤 H 𝓜 𝓖 𝓡))
     (cited 𝓤 H (HasTerm 𝓤 H A (𝓜 .mem) (𝓡 .run)) 𝓜 𝓡 code.env #text-passes·has-term has-term-def.routine code.calls-text-passes·has-term (has-term-thm.met 𝓤 H 𝓜 𝓖 𝓡))
@@ -161,7 +161,7 @@ build-rule-spec 𝓤 H 𝓜 𝓖 𝓡 =
     (cited 𝓤 H (Is-turn 𝓤 H A (𝓜 .mem) (𝓡 .run)) 𝓜 𝓡 code.env #text-passes·is-turn is-turn-def.routine code.calls-text-passes·is-turn (is-turn-thm.met 𝓤 H 𝓜 𝓖 𝓡))
     (cited 𝓤 H (Passed 𝓤 H A (𝓜 .mem) (𝓡 .run)) 𝓜 𝓡 code.env #text-passes·passed passed-def.routine code.calls-text-passes·passed (passed-thm.met 𝓤 H 𝓜 𝓖 𝓡))
     (blank-rule-returns 𝓤 H A W (𝓜 .mem) (𝓡 .run) (κs .0) (qs .0) (a .0) (𝓣 .C)
-    (cited 𝓤 H (Met 𝓤 H A blank-whole.ended (blank-whole.clauses 𝓤 H A (𝓜 .mem) (𝓡 .run))) 𝓜 𝓡 code.env #terms·blank-rule blank-whole-def.routine code.calls-terms·blank-rule (blank-whole-thm.met 𝓤 H 𝓜 𝓖 𝓡)))
+    (cited 𝓤 H (Met 𝓤 H A blank-whole.ended (blank-whole.clauses 𝓤 H A (𝓜 .mem) (𝓡 .run))) 𝓜 𝓡 code.env #terms·blank-side blank-whole-def.routine code.calls-terms·blank-side (blank-whole-thm.met 𝓤 H 𝓜 𝓖 𝓡)))
     (blank-field-returns 𝓤 H A W (𝓜 .mem) (𝓡 .run) (κs .0) (qs .0) (a .0) (𝓣 .C)
     (cited 𝓤 H (Met 𝓤 H A blank-field.ended (blank-field.clauses 𝓤 H A (𝓜 .mem) (𝓡 .run))) 𝓜 𝓡 code.env #terms·blank-field blank-field-def.routine code.calls-terms·blank-field (blank-field-thm.met 𝓤 H 𝓜 𝓖 𝓡)))
     (push-field-returns 𝓤 H A W (𝓜 .mem) (𝓡 .run) (κs .0) (qs .0) (a .0) (𝓣 .C)

@@ -1,9 +1,9 @@
--- `accepted::is_rule` meets its contract.
+-- `accepted::is_left` meets its contract.
 use borrow.Author.Tests.{lt-ltb, le-ltb, not-true, not-false}
 use native.Mathlib.Omega.{arith}
 use borrow.Author.Needs.{needs}
-use Rattle.accepted.proofs.is_rule.Statement.{statement}
-use Rattle.accepted.proofs.is_rule.Tie as tie
+use Rattle.accepted.proofs.is_left.Statement.{statement}
+use Rattle.accepted.proofs.is_left.Tie as tie
 
 returns : tie.Need-returns
 returns c = rw (le-ltb 0 (c .before .before .args .r .n) (omega arith))
@@ -20,6 +20,6 @@ is-linear-requires c κs = search needs
 returns-3 : tie.Need-returns-3
 returns-3 c = rw (lt-ltb 0 (c .before .before .before .before .before .args .r .n) (omega arith), ← c .before .before .has-fields .ensures, not-false (c .before .before .has-fields .result) (c .before .if2 .left)) (c .is-linear .ensures)
 
-pub is-rule-spec : {M : Type 1} → statement M
-is-rule-spec =
+pub is-left-spec : {M : Type 1} → statement M
+is-left-spec =
     tie.close (tie.spec returns has-fields-requires returns-2 is-linear-requires returns-3)
