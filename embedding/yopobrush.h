@@ -1,8 +1,9 @@
-/* Reading tinting rules and listing the overlaps of two: the functions of
- * libyopobrush.a, which `rt staticlib yopobrush` writes.
+/* Reading tinting rules, listing the overlaps of two, and carrying one out on
+ * a slip: the functions of libyopobrush.a, which `rt staticlib yopobrush`
+ * writes.
  *
  * No pointer may be null, also where its length is 0, and the bytes lent for
- * the list may share none with the texts. Nothing else is asked. A listing
+ * an answer may share none with the texts. Nothing else is asked. A listing
  * takes up to a megabyte of stack. */
 #ifndef YOPOBRUSH_H
 #define YOPOBRUSH_H
@@ -14,15 +15,17 @@
 extern "C" {
 #endif
 
-/* How a rule text is read: the number of its refusal, 1 to 6, and the place,
- * counted in bytes from 0; or 0 and 0, and then it is accepted. */
+/* How a text is read: the number of its refusal, for a rule 1 to 6 and 10, for
+ * a slip 1 to 5 and 7, and the place, counted in bytes from 0; or 0 and 0, and
+ * then it is accepted. */
 struct yopobrush_reading {
     uint64_t refusal;
     uint64_t place;
 };
 
 /* How each of two texts is read, and the overlap list of the rules that they
- * say; a text that is refused has no overlaps. The refusal is 0, or 8 where
+ * say, which looks at left sides only; a text that is refused has no
+ * overlaps. The refusal is 0, or 8 where
  * the list needs more bytes than are lent: then none is written. The counts
  * are the list's in both cases. */
 struct yopobrush_listing {
@@ -33,12 +36,41 @@ struct yopobrush_listing {
     uint64_t bytes;
 };
 
+/* What carrying out a rule on a slip answers. */
+enum yopobrush_answer {
+    YOPOBRUSH_NO = 0,        /* no match, or no right side: the slip unchanged */
+    YOPOBRUSH_YES = 1,       /* a match: the right side with the filling put in */
+    YOPOBRUSH_TOO_SMALL = 8, /* the text needs more bytes than are lent */
+    YOPOBRUSH_TOO_LONG = 11  /* a result field over 64 terms: the slip as given */
+};
+
+/* How a rule text and a slip text are read, what carrying out the one on the
+ * other answers (an `enum yopobrush_answer`), and how many bytes its text has:
+ * the plain text of the result after a yes, of the slip otherwise. With 8 none
+ * of them is written, and the count is what is needed. A rule text that is
+ * refused says a rule with no fields, which matches nothing: the answer is no.
+ * A slip text that is refused says the slip with no fields, whose plain text
+ * has no bytes. */
+struct yopobrush_carrying {
+    struct yopobrush_reading rule;
+    struct yopobrush_reading slip;
+    uint64_t answer;
+    uint64_t bytes;
+};
+
 struct yopobrush_reading yopobrush_read_rule(const uint8_t *text, size_t length);
 
 /* The lines go to the front of `out`; the bytes behind them stay. */
 struct yopobrush_listing yopobrush_list_overlaps(
     const uint8_t *left, size_t left_length,
     const uint8_t *right, size_t right_length,
+    uint8_t *out, size_t out_length);
+
+/* The text goes to the front of `out`; the bytes behind it stay. No text has
+ * more than 4,607 bytes. */
+struct yopobrush_carrying yopobrush_carry_out(
+    const uint8_t *rule, size_t rule_length,
+    const uint8_t *slip, size_t slip_length,
     uint8_t *out, size_t out_length);
 
 #ifdef __cplusplus

@@ -19,6 +19,16 @@ pub struct Listing {
     pub bytes: u64,
 }
 
+/// How each text is read; 0 for no, 1 for yes, 11 or 8; the bytes of the text
+/// that is written, or that has no room.
+#[repr(C)]
+pub struct Carrying {
+    pub rule: Reading,
+    pub slip: Reading,
+    pub answer: u64,
+    pub bytes: u64,
+}
+
 extern "C" {
     fn yopobrush_read_rule(text: *const u8, length: usize) -> Reading;
 
@@ -30,6 +40,15 @@ extern "C" {
         out: *mut u8,
         out_length: usize,
     ) -> Listing;
+
+    fn yopobrush_carry_out(
+        rule: *const u8,
+        rule_length: usize,
+        slip: *const u8,
+        slip_length: usize,
+        out: *mut u8,
+        out_length: usize,
+    ) -> Carrying;
 }
 
 pub fn read_rule(text: &[u8]) -> Reading {
@@ -47,6 +66,20 @@ pub fn list_overlaps(left: &[u8], right: &[u8], out: &mut [u8]) -> Listing {
             left.len(),
             right.as_ptr(),
             right.len(),
+            out.as_mut_ptr(),
+            out.len(),
+        )
+    }
+}
+
+pub fn carry_out(rule: &[u8], slip: &[u8], out: &mut [u8]) -> Carrying {
+    // SAFETY: as above.
+    unsafe {
+        yopobrush_carry_out(
+            rule.as_ptr(),
+            rule.len(),
+            slip.as_ptr(),
+            slip.len(),
             out.as_mut_ptr(),
             out.len(),
         )

@@ -1,6 +1,6 @@
-//! Reading tinting rules and listing the overlaps of two, through the static
-//! library `libyopobrush.a`, whose functions are proved to answer and to
-//! write exactly what their definitions say.
+//! Reading tinting rules, listing the overlaps of two, and carrying one out on
+//! a slip, through the static library `libyopobrush.a`, whose functions are
+//! proved to answer and to write exactly what their definitions say.
 //!
 //! ```
 //! let mut room = [0; 100];
@@ -22,13 +22,15 @@ use std::fmt;
 
 use boundary::Reading;
 
-/// Why a text is no rule: the number of the refusal, 1 to 6, and its place,
+/// Why a text is no rule or no slip: the number of the refusal and its place,
 /// counted in bytes from 0.
 ///
-/// 1: more than 2,048 bytes. 2: not the grammar. 3: a fifth field. 4: a
-/// seventeenth term in a field. 5: a value, digit count, variable number or
-/// string length over its limit. 6: a list variable that occurs earlier in
-/// the rule, or that follows another in its field.
+/// 1: more than 4,096 bytes, or 8,192 in a slip. 2: not the grammar. 3: a
+/// fifth field. 4: a seventeenth term in a field, or a sixty-fifth in a slip.
+/// 5: a value, digit count, variable number or string length over its limit.
+/// For a rule then 6: a list variable that occurs earlier in the left side, or
+/// that follows another in its field there; and 10: a right-side variable that
+/// the left side lacks. For a slip 7: a variable.
 #[derive(Clone, Copy, Debug, PartialEq, Eq, Hash)]
 pub struct Refusal {
     /// The refusal's number.
@@ -93,10 +95,11 @@ pub fn read_rule(text: &[u8]) -> Result<(), Refusal> {
     accepted(boundary::read_rule(text))
 }
 
-/// Writes the overlap list of the rules that two texts say to the front of
-/// `out`: a line for each entry, its fields, then what the variables of the
-/// left rule (`<`) and of the right one (`>`) are there. What stands behind
-/// the list is left as it was, and on an error all of `out` is.
+/// Writes the overlap list of the rules that two texts say, which looks at
+/// their left sides only, to the front of `out`: a line for each entry, its
+/// fields, then what the variables of the left rule (`<`) and of the right one
+/// (`>`) are there. What stands behind the list is left as it was, and on an
+/// error all of `out` is.
 ///
 /// # Errors
 ///
@@ -152,8 +155,111 @@ fn zeros(count: usize) -> Option<Vec<u8>> {
     Some(zeros)
 }
 
-/// No refusal has the number 0. Numbers and places are small: at most 6, and
-/// at most 2,048.
+/// What carrying out a rule on a slip answers.
+#[derive(Clone, Copy, Debug, PartialEq, Eq, Hash)]
+pub enum Answer {
+    /// The rule matches: the text is its right side with the filling put in.
+    Yes,
+    /// The rule does not match, or it has no right side: the text is the
+    /// slip's.
+    No,
+    /// A field of the result would have more than 64 terms, refusal 11: the
+    /// text is the slip's.
+    TooLong,
+}
+
+/// An answer and the size of its text.
+#[derive(Clone, Copy, Debug, PartialEq, Eq, Hash)]
+pub struct Carrying {
+    /// What carrying out answers.
+    pub answer: Answer,
+    /// How many bytes the plain text of the result, or of the slip, has.
+    pub bytes: usize,
+}
+
+/// Why a rule was not carried out on a slip.
+#[derive(Clone, Copy, Debug, PartialEq, Eq, Hash)]
+pub enum CarryError {
+    /// The rule text is no rule.
+    Rule(Refusal),
+    /// The rule text is a rule, and the slip text is no slip.
+    Slip(Refusal),
+    /// The text needs so many bytes, more than were lent: refusal 8.
+    TooSmall(usize),
+}
+
+impl fmt::Display for CarryError {
+    fn fmt(&self, out: &mut fmt::Formatter) -> fmt::Result {
+        match self {
+            CarryError::Rule(refusal) => write!(out, "rule {refusal}"),
+            CarryError::Slip(refusal) => write!(out, "slip {refusal}"),
+            CarryError::TooSmall(bytes) => write!(out, "{bytes} bytes are needed"),
+        }
+    }
+}
+
+impl std::error::Error for CarryError {}
+
+/// Carries out the rule that a text says on the slip that another says, and
+/// writes the plain text of the result, or of the unchanged slip, to the front
+/// of `out`. What stands behind it is left as it was, and where it has no room
+/// all of `out` is. A rule text that is refused changes no slip either, so the
+/// slip's plain text is written even then.
+///
+/// # Errors
+///
+/// A text that is refused, the rule first, or a text without room.
+///
+/// ```
+/// use yopobrush::{carry_out, Answer};
+///
+/// let mut room = [0; 100];
+/// let carrying = carry_out(b"a0:l0=>l0:a0", b"1:2:3", &mut room)?;
+/// assert_eq!(carrying.answer, Answer::Yes);
+/// assert_eq!(&room[..carrying.bytes], b"2:3:1");
+/// # Ok::<(), yopobrush::CarryError>(())
+/// ```
+pub fn carry_out(rule: &[u8], slip: &[u8], out: &mut [u8]) -> Result<Carrying, CarryError> {
+    let carried = boundary::carry_out(rule, slip, out);
+    accepted(carried.rule).map_err(CarryError::Rule)?;
+    accepted(carried.slip).map_err(CarryError::Slip)?;
+    let bytes = carried.bytes as usize;
+    let answer = match carried.answer {
+        0 => Answer::No,
+        1 => Answer::Yes,
+        11 => Answer::TooLong,
+        _ => return Err(CarryError::TooSmall(bytes)),
+    };
+    Ok(Carrying { answer, bytes })
+}
+
+/// What carrying out answers, with the plain text of the result or of the
+/// unchanged slip in memory of its own.
+///
+/// # Errors
+///
+/// As of [`carry_out`]; there is always room.
+///
+/// ```
+/// use yopobrush::{carried, Answer};
+///
+/// assert_eq!(carried(b"l0=>l0:9|empty", b"empty")?, (Answer::Yes, b"9|empty".to_vec()));
+/// assert_eq!(carried(b"1=>2", b"007")?, (Answer::No, b"7".to_vec()));
+/// # Ok::<(), yopobrush::CarryError>(())
+/// ```
+pub fn carried(rule: &[u8], slip: &[u8]) -> Result<(Answer, Vec<u8>), CarryError> {
+    let mut text = vec![0; LONGEST_SLIP];
+    let carrying = carry_out(rule, slip, &mut text)?;
+    text.truncate(carrying.bytes);
+    Ok((carrying.answer, text))
+}
+
+/// As many bytes as the plain text of a slip can have: four fields of 64
+/// strings of 15 bytes, with their quotes and separators.
+const LONGEST_SLIP: usize = 4607;
+
+/// No refusal has the number 0. Numbers and places are small: at most 10, and
+/// at most 8,192.
 fn accepted(reading: Reading) -> Result<(), Refusal> {
     if reading.refusal == 0 {
         return Ok(());

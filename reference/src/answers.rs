@@ -1,20 +1,21 @@
 //! What each program prints for one line of its input.
 
+use crate::carrying::{carry_out, Carried};
 use crate::matching::match_rule;
 use crate::overlaps::entries;
 use crate::reading::{read_rule, read_slip, Refusal};
-use crate::terms::Rule;
-use crate::writing::{entry_line, plain_filling, plain_rule};
+use crate::terms::{Rule, Slip};
+use crate::writing::{entry_line, plain_filling, plain_rule, plain_slip};
 
 mod solve;
 
 pub use solve::solve_answer;
 
 /// A rule, a tab and a slip, each as long as reading allows.
-const LONGEST_MATCH_LINE: usize = 10_241;
+const LONGEST_MATCH_LINE: usize = 12_289;
 
 /// Two rules, each as long as reading allows, and a tab.
-const LONGEST_PAIR_LINE: usize = 4_097;
+const LONGEST_PAIR_LINE: usize = 8_193;
 
 /// As many bytes of overlap lines as `pairs` has room for.
 const LONGEST_LIST: usize = 65_536;
@@ -41,22 +42,46 @@ pub fn matches_answer(number: usize, line: &[u8]) -> Vec<u8> {
 
 /// One line in any case.
 fn match_line(line: &[u8]) -> Vec<u8> {
-    if line.len() > LONGEST_MATCH_LINE {
-        return b"line too long\n".to_vec();
-    }
-    let (rule, slip) = divided(line);
-    let rule = match read_rule(rule) {
-        Ok(rule) => rule,
-        Err(refusal) => return refused("rule", refusal),
-    };
-    let slip = match read_slip(slip) {
-        Ok(slip) => slip,
-        Err(refusal) => return refused("slip", refusal),
+    let (rule, slip) = match rule_and_slip(line) {
+        Ok(both) => both,
+        Err(answer) => return answer,
     };
     match match_rule(&rule, &slip) {
         Some(filling) => [b"yes", plain_filling(&filling, "").as_slice(), b"\n"].concat(),
         None => b"no\n".to_vec(),
     }
+}
+
+/// For `carry`: a rule, a tab and a slip.
+pub fn carry_answer(number: usize, line: &[u8]) -> Vec<u8> {
+    let mut text = format!("carry {number}\n").into_bytes();
+    text.extend(carry_line(line));
+    text
+}
+
+/// One line in any case.
+fn carry_line(line: &[u8]) -> Vec<u8> {
+    let (rule, slip) = match rule_and_slip(line) {
+        Ok(both) => both,
+        Err(answer) => return answer,
+    };
+    let (answer, slip) = match carry_out(&rule, &slip) {
+        Carried::Yes(result) => ("yes", result),
+        Carried::No => ("no", slip),
+        Carried::TooLong => ("refusal 11", slip),
+    };
+    [answer.as_bytes(), b" ", &plain_slip(&slip), b"\n"].concat()
+}
+
+/// The two that a line has, or the answer where it has not both.
+fn rule_and_slip(line: &[u8]) -> Result<(Rule, Slip), Vec<u8>> {
+    if line.len() > LONGEST_MATCH_LINE {
+        return Err(b"line too long\n".to_vec());
+    }
+    let (rule, slip) = divided(line);
+    let rule = read_rule(rule).map_err(|refusal| refused("rule", refusal))?;
+    let slip = read_slip(slip).map_err(|refusal| refused("slip", refusal))?;
+    Ok((rule, slip))
 }
 
 /// For `pairs`: a rule, a tab and a rule.

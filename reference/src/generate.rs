@@ -1,57 +1,74 @@
 //! Seeded texts, right and wrong, on which two programs are compared. Each
-//! refusal of document 01 comes often, and so do the texts on either side of
+//! refusal of the documents comes often, and so do the texts on either side of
 //! each limit.
 
+pub mod carries;
 mod halves;
 pub mod large;
 pub mod matches;
 pub mod pairs;
 mod patterns;
+mod rights;
 pub mod searches;
 
 use crate::draw::Draw;
-use crate::terms::{Field, Kind, Rule, Slip, Term};
-use crate::writing::plain_fields;
+use crate::terms::{Field, Kind, Rule, Side, Slip, Term};
+use crate::writing::{plain_fields, plain_rule};
+use rights::{any_sides, right_side, with_arrow};
 
 /// The terms of a field, or the fields of a text, before they are joined.
 type Texts = Vec<Vec<u8>>;
+
+/// Draws a term.
+type Maker = fn(&mut Draw) -> Vec<u8>;
 
 const INTEGERS: [u32; 8] = [0, 1, 7, 10, 99, 999_999_999, 1_000_000_000, 2_147_483_647];
 
 const KINDS: [Kind; 4] = [Kind::Integer, Kind::String, Kind::Atom, Kind::List];
 
+/// What a string may have that is no arrow there, nor a part of one.
+const ARROWS_IN_STRINGS: [&[u8]; 6] = [b"=>", b"=", b">", b"1=>2", b"=>=>", b"i0=>i0|l0:1"];
+
 /// Bytes that some text of the grammar has outside strings.
-const GRAMMAR: &[u8] = b"0123456789:|\"isalempty";
+const GRAMMAR: &[u8] = b"0123456789:|\"isalempty=>";
 
 /// A line without its newline: any bytes but 10.
 pub fn any_line(draw: &mut Draw) -> Vec<u8> {
-    match draw.below(12) {
+    match draw.below(18) {
         0..=2 => readable(draw),
         3..=5 => {
             let text = readable(draw);
             damaged(text, draw)
         }
-        6 => {
+        6..=9 => offending(draw),
+        10 => of_size(draw),
+        11 => any_bytes(draw),
+        _ => any_sides(draw),
+    }
+}
+
+/// A text on either side of a limit, or of several, and mostly of the grammar.
+fn offending(draw: &mut Draw) -> Vec<u8> {
+    match draw.below(4) {
+        0 => {
             let fields = 1 + draw.below(4);
             text_of(fields, 4, edge_term, draw)
         }
-        7 => crowded(draw),
-        8 => {
+        1 => crowded(draw),
+        2 => {
             let fields = 1 + draw.below(5);
             text_of(fields, 3, list_term, draw)
         }
-        9 => mixed(draw),
-        10 => of_size(draw),
-        _ => any_bytes(draw),
+        _ => mixed(draw),
     }
 }
 
 /// A text in which a list variable often clashes, or any line.
 fn rarely_a_rule(draw: &mut Draw) -> Vec<u8> {
-    if draw.one_in(4) {
-        text_of(2, 4, list_term, draw)
-    } else {
-        any_line(draw)
+    match draw.below(8) {
+        0..=1 => text_of(2, 4, list_term, draw),
+        2..=3 => any_sides(draw),
+        _ => any_line(draw),
     }
 }
 
@@ -62,19 +79,23 @@ fn readable(draw: &mut Draw) -> Vec<u8> {
             let slip = any_slip(draw);
             loose_text(&slip.0, 64, draw)
         }
-        1 => {
-            let rule = any_rule(draw);
-            plain_fields(&rule.0)
-        }
+        1 => plain_rule(&any_rule(draw)),
         _ => {
             let rule = any_rule(draw);
-            loose_text(&rule.0, 16, draw)
+            loose_rule(&rule, draw)
         }
     }
 }
 
-/// Fields of atoms, with a list variable of its own in some of them.
+/// A rule, in every third with a right side.
 pub fn any_rule(draw: &mut Draw) -> Rule {
+    let left = any_left(draw);
+    let right = draw.one_in(3).then(|| right_side(&left, draw));
+    Rule { left, right }
+}
+
+/// Fields of atoms, with a list variable of its own in some of them.
+fn any_left(draw: &mut Draw) -> Side {
     let shift = draw.below(16);
     let field = |index: usize| {
         let mut terms: Field = (0..draw.below(17)).map(|_| any_atom(draw)).collect();
@@ -87,7 +108,7 @@ pub fn any_rule(draw: &mut Draw) -> Rule {
     };
     let mut fields: Vec<Field> = (0..4).map(field).collect();
     fields.truncate(1 + draw.below(4));
-    Rule(fields)
+    fields
 }
 
 pub fn any_slip(draw: &mut Draw) -> Slip {
@@ -113,12 +134,24 @@ fn any_constant(draw: &mut Draw) -> Term {
 }
 
 fn any_string(draw: &mut Draw) -> Term {
+    if draw.one_in(8) {
+        return Term::Str(draw.pick(&ARROWS_IN_STRINGS).to_vec());
+    }
     let byte = |draw: &mut Draw| match 32 + draw.below(95) as u8 {
         b'"' => b'~',
         other => other,
     };
     let length = draw.below(16);
     Term::Str((0..length).map(|_| byte(draw)).collect())
+}
+
+/// Another text of the same rule.
+pub fn loose_rule(rule: &Rule, draw: &mut Draw) -> Vec<u8> {
+    let left = loose_text(&rule.left, 16, draw);
+    match &rule.right {
+        Some(right) => with_arrow(left, loose_text(right, 16, draw)),
+        None => left,
+    }
 }
 
 /// Another text of the same fields: `empty` and leading zeros put in.
@@ -146,7 +179,7 @@ fn loose_term(term: &Term, draw: &mut Draw) -> Vec<u8> {
 }
 
 /// So many fields of 1 to `most` terms.
-fn text_of(fields: usize, most: usize, term: fn(&mut Draw) -> Vec<u8>, draw: &mut Draw) -> Vec<u8> {
+fn text_of(fields: usize, most: usize, term: Maker, draw: &mut Draw) -> Vec<u8> {
     let mut texts = Texts::new();
     for _ in 0..fields {
         let terms: Texts = (0..=draw.below(most)).map(|_| term(draw)).collect();
@@ -232,13 +265,19 @@ fn mixed(draw: &mut Draw) -> Vec<u8> {
 /// About as many bytes as are allowed, and sometimes many more.
 fn of_size(draw: &mut Draw) -> Vec<u8> {
     let size = match draw.below(40) {
-        0..=18 => 2046 + draw.below(5),
+        0..=15 => 4094 + draw.below(5),
+        16..=18 => 2046 + draw.below(5),
         19..=37 => 8190 + draw.below(5),
         38 => draw.below(20_000),
         _ => 65_000 + draw.below(2_000),
     };
-    let pattern = match draw.below(6) {
+    let pattern = match draw.below(8) {
         0 => b"1".to_vec(),
+        5 => b"1=>".to_vec(),
+        6 => {
+            let half = quoted(size / 2);
+            return with_arrow(half, quoted((size - size / 2).max(6) - 6));
+        }
         1 => b"1:".to_vec(),
         2 => b"empty|".to_vec(),
         3 => b"x".to_vec(),

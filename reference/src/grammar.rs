@@ -1,4 +1,4 @@
-//! The grammar of document 01 by recursive descent, sizes left out.
+//! The grammar of documents 01 and 02 by recursive descent, sizes left out.
 //!
 //! One byte always decides how to go on, so nothing is ever taken back and
 //! the descent gets stuck exactly at the first byte that no text of the
@@ -40,6 +40,10 @@ struct Rest<'a> {
 type Step<'a, T> = Result<(T, Rest<'a>), Stuck>;
 
 impl<'a> Rest<'a> {
+    fn start(bytes: &'a [u8]) -> Rest<'a> {
+        Rest { bytes, place: 0 }
+    }
+
     fn first(self) -> Option<u8> {
         self.bytes.first().copied()
     }
@@ -50,6 +54,15 @@ impl<'a> Rest<'a> {
 
     fn stuck<T>(self) -> Result<T, Stuck> {
         Err(Stuck(self.place))
+    }
+
+    /// What was read, if nothing is left.
+    fn done<T>(self, read: T) -> Result<T, Stuck> {
+        if self.is_done() {
+            Ok(read)
+        } else {
+            self.stuck()
+        }
     }
 
     /// The first `count` bytes, or all if there are fewer, and what follows.
@@ -70,18 +83,29 @@ impl<'a> Rest<'a> {
     }
 }
 
-/// The fields of a text, each with its terms; never fewer than one.
-pub(crate) fn fields(text: &[u8]) -> Result<Vec<Vec<Raw<'_>>>, Stuck> {
-    let start = Rest {
-        bytes: text,
-        place: 0,
-    };
-    let (fields, rest) = separated(start, b'|', field)?;
+/// One or more fields, each with its terms.
+pub(crate) type Fields<'a> = Vec<Vec<Raw<'a>>>;
+
+/// The fields of a slip text.
+pub(crate) fn slip(text: &[u8]) -> Result<Fields<'_>, Stuck> {
+    let (fields, rest) = fields(Rest::start(text))?;
+    rest.done(fields)
+}
+
+/// The sides of a rule text: the left one, and the right one where an arrow
+/// follows. Where a left side ends, an arrow is all that may come, and a
+/// string takes every byte up to its quote, so one inside is no arrow.
+pub(crate) fn rule(text: &[u8]) -> Result<Vec<Fields<'_>>, Stuck> {
+    let (left, rest) = fields(Rest::start(text))?;
     if rest.is_done() {
-        Ok(fields)
-    } else {
-        rest.stuck()
+        return Ok(vec![left]);
     }
+    let (right, rest) = fields(exactly(b"=>", rest)?)?;
+    rest.done(vec![left, right])
+}
+
+fn fields(rest: Rest) -> Step<Fields> {
+    separated(rest, b'|', field)
 }
 
 fn field(rest: Rest) -> Step<Vec<Raw>> {
@@ -149,14 +173,19 @@ fn variable(kind: Kind, rest: Rest) -> Step<Shape> {
     }
 }
 
-fn empty(mut rest: Rest) -> Step<Shape> {
-    for &byte in b"empty" {
+fn empty(rest: Rest) -> Step<Shape> {
+    Ok((Shape::Empty, exactly(b"empty", rest)?))
+}
+
+/// What follows these bytes, which have to come next.
+fn exactly<'a>(bytes: &[u8], mut rest: Rest<'a>) -> Result<Rest<'a>, Stuck> {
+    for &byte in bytes {
         match rest.after(byte) {
             Some(behind) => rest = behind,
             None => return rest.stuck(),
         }
     }
-    Ok((Shape::Empty, rest))
+    Ok(rest)
 }
 
 fn is_digit(byte: u8) -> bool {

@@ -1,17 +1,19 @@
-//! A second program for document 01, written from that document alone, so
-//! that its output can be held against the first one's. It shares no code
-//! and no tables with it.
+//! A second program for documents 01 and 02, written from these documents
+//! alone, so that its output can be held against the first one's. It shares
+//! no code and no tables with it.
 //!
 //! - [`terms`]: rules and slips as values.
 //! - [`reading`]: from text to values, with refusals.
 //! - [`writing`]: from values to plain text.
 //! - [`matching`]: a rule against a slip.
+//! - [`carrying`]: what a rule makes of a slip.
 //! - [`overlaps`]: which slips two rules share.
 //! - [`search`]: which values make two fields equal.
 //! - [`answers`]: what the programs print for a line.
 //! - [`generate`], [`draw`]: seeded texts on which the two are compared.
 
 pub mod answers;
+pub mod carrying;
 pub mod draw;
 pub mod generate;
 mod grammar;

@@ -3,19 +3,23 @@ use std::ffi::OsString;
 use std::io::{self, BufRead, BufWriter, Write};
 use std::process::ExitCode;
 
-use reference::answers::{matches_answer, pairs_answer, solve_answer, texts_answer};
+use reference::answers::{carry_answer, matches_answer, pairs_answer, solve_answer, texts_answer};
 use reference::draw::Draw;
-use reference::generate::{any_line, matches::match_line, pairs::pair_line, searches::search_line};
+use reference::generate::{
+    any_line, carries::carry_line, matches::match_line, pairs::pair_line, searches::search_line,
+};
 
-const USAGE: &str = "usage: reference read | match | pairs | solve
-       reference generate | generate-matches | generate-pairs | generate-solve SEED COUNT
+const USAGE: &str = "usage: reference read | match | carry | pairs | solve
+       reference generate | generate-matches | generate-carry | generate-pairs
+                 | generate-solve SEED COUNT
   read       read each line of standard input as a rule and as a slip
   match      match the rule with the slip behind the tab, line by line
+  carry      carry the rule out on the slip behind the tab, line by line
   pairs      list the overlaps of the rules on either side of the tab
   solve      search for what makes the fields on either side of the tab equal
   generate   write COUNT lines for `read`, the same for the same SEED
-  generate-matches, generate-pairs, generate-solve   write lines for `match`,
-             `pairs`, `solve`";
+  generate-matches, generate-carry, generate-pairs, generate-solve
+             write lines for `match`, `carry`, `pairs`, `solve`";
 
 /// What a program prints for a line, given the line's number from 1.
 type Answer = fn(usize, &[u8]) -> Vec<u8>;
@@ -34,6 +38,7 @@ fn main() -> ExitCode {
     match arguments.as_slice() {
         [command] if command == "read" => answer(texts_answer),
         [command] if command == "match" => answer(matches_answer),
+        [command] if command == "carry" => answer(carry_answer),
         [command] if command == "pairs" => answer(pairs_answer),
         [command] if command == "solve" => answer(solve_answer),
         [command, numbers @ ..] if command == "generate" => {
@@ -41,6 +46,9 @@ fn main() -> ExitCode {
         }
         [command, numbers @ ..] if command == "generate-matches" => {
             generate(numbers, match_line, Ending::SometimesOpen)
+        }
+        [command, numbers @ ..] if command == "generate-carry" => {
+            generate(numbers, carry_line, Ending::SometimesOpen)
         }
         [command, numbers @ ..] if command == "generate-pairs" => {
             generate(numbers, pair_line, Ending::SometimesOpen)

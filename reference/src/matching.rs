@@ -3,10 +3,10 @@
 
 use crate::terms::{Field, Filling, Kind, Rule, Slip, Term};
 
-/// The filling with which the rule matches the slip. By document 01 "there is
-/// never more than one".
+/// The filling with which the rule's left side matches the slip. By document
+/// 01 "there is never more than one".
 pub fn match_rule(rule: &Rule, slip: &Slip) -> Option<Filling> {
-    fillings(&rule.0, &slip.0).pop()
+    fillings(&rule.left, &slip.0).pop()
 }
 
 /// All fillings of the variables, each by its type, that turn the pattern

@@ -1,6 +1,6 @@
-//! The overlap list. Every choice of one layout a field has its graph drawn
-//! afresh, from all the fields chosen so far; no filling is handed on from
-//! field to field.
+//! The overlap list. It looks "at left sides only" (document 02). Every choice
+//! of one layout a field has its graph drawn afresh, from all the fields
+//! chosen so far; no filling is handed on from field to field.
 
 use crate::graph::{Class, Index, Parts, Points, Side};
 use crate::layouts::{layouts, Cut, Layout};
@@ -17,7 +17,7 @@ pub struct Entry {
 
 /// The entries in their order, each made when it is asked for.
 pub fn entries(left: &Rule, right: &Rule) -> impl Iterator<Item = Entry> {
-    let pair = Pair::new(left, right);
+    let pair = Pair::new(&left.left, &right.left);
     let choices = pair.choices().into_iter();
     choices.filter_map(move |choice| pair.entry(&choice))
 }
@@ -34,10 +34,10 @@ struct Pair {
 
 impl Pair {
     /// Without fields where the rules have different counts.
-    fn new(left: &Rule, right: &Rule) -> Pair {
+    fn new(left: &[Field], right: &[Field]) -> Pair {
         let mut pair = Pair::default();
-        if left.0.len() == right.0.len() {
-            for (left, right) in left.0.iter().zip(&right.0) {
+        if left.len() == right.len() {
+            for (left, right) in left.iter().zip(right) {
                 let cuts = [pair.cut(Side::Left, left), pair.cut(Side::Right, right)];
                 pair.fields.push(cuts);
             }

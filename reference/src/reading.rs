@@ -1,11 +1,12 @@
 //! Reading rules and slips. The refusals "are tried in that order, each over
 //! the whole text, and the leftmost place is reported" (document 01), so each
-//! is a pass of its own.
+//! is a pass of its own, over the left side and then over the right one.
 
+use std::collections::HashSet;
 use std::fmt;
 
-use crate::grammar::{self, Raw, Shape, Stuck};
-use crate::terms::{Field, Kind, Rule, Slip, Term};
+use crate::grammar::{self, Fields, Raw, Shape, Stuck};
+use crate::terms::{Kind, Name, Rule, Side, Slip, Term};
 
 const MOST_FIELDS: usize = 4;
 const MOST_DIGITS: usize = 10;
@@ -13,7 +14,7 @@ const LARGEST_INTEGER: u32 = 2_147_483_647;
 const LARGEST_VARIABLE: u32 = 15;
 const LONGEST_STRING: usize = 15;
 
-/// Why a text is not read, by document 01's number, and where.
+/// Why a text is not read, by the documents' number, and where.
 #[derive(Clone, Copy, Debug, PartialEq, Eq, Hash)]
 pub struct Refusal {
     pub number: u8,
@@ -35,7 +36,7 @@ struct Limits {
 }
 
 const RULE: Limits = Limits {
-    bytes: 2048,
+    bytes: 4096,
     terms: 16,
 };
 
@@ -51,26 +52,46 @@ struct Placed {
     term: Option<Term>,
 }
 
+/// The terms of one or more fields.
+type PlacedFields = Vec<Vec<Placed>>;
+
 pub fn read_rule(text: &[u8]) -> Result<Rule, Refusal> {
-    let fields = read_fields(text, &RULE)?;
-    refuse(6, surplus_list(&fields))?;
-    Ok(Rule(without_places(fields)))
+    refuse(1, too_long(text, &RULE))?;
+    let sides = within_limits(grammar::rule(text), &RULE)?;
+    let mut sides = sides.into_iter();
+    let (left, right) = (sides.next().unwrap_or_default(), sides.next());
+    refuse(6, surplus_list(&left))?;
+    let unknown = right.as_ref().and_then(|it| unknown_variable(&left, it));
+    refuse(10, unknown)?;
+    Ok(Rule {
+        left: without_places(left),
+        right: right.map(without_places),
+    })
 }
 
 pub fn read_slip(text: &[u8]) -> Result<Slip, Refusal> {
-    let fields = read_fields(text, &SLIP)?;
+    refuse(1, too_long(text, &SLIP))?;
+    let parsed = grammar::slip(text).map(|fields| vec![fields]);
+    let fields = within_limits(parsed, &SLIP)?.remove(0);
     refuse(7, first_variable(&fields))?;
     Ok(Slip(without_places(fields)))
 }
 
-/// Refusals 1 to 5, which rules and slips have in common.
-fn read_fields(text: &[u8], limits: &Limits) -> Result<Vec<Vec<Placed>>, Refusal> {
-    refuse(1, (text.len() > limits.bytes).then_some(limits.bytes))?;
-    let fields = grammar::fields(text).map_err(|Stuck(place)| Refusal { number: 2, place })?;
-    refuse(3, surplus_field(&fields))?;
-    refuse(4, surplus_term(&fields, limits.terms))?;
-    let sized_field = |field: &Vec<Raw>| field.iter().map(sized).collect();
-    fields.iter().map(sized_field).collect()
+fn too_long(text: &[u8], limits: &Limits) -> Option<usize> {
+    (text.len() > limits.bytes).then_some(limits.bytes)
+}
+
+/// Refusals 2 to 5, which rules and slips have in common, for all sides of a
+/// text: fields and terms are counted anew in each.
+fn within_limits(
+    parsed: Result<Vec<Fields>, Stuck>,
+    limits: &Limits,
+) -> Result<Vec<PlacedFields>, Refusal> {
+    let sides = parsed.map_err(|Stuck(place)| Refusal { number: 2, place })?;
+    let terms = |side: &Fields| surplus_term(side, limits.terms);
+    refuse(3, sides.iter().find_map(surplus_field))?;
+    refuse(4, sides.iter().find_map(terms))?;
+    sides.iter().map(sized_fields).collect()
 }
 
 /// Refuses by this number if there is a place for it.
@@ -82,16 +103,21 @@ fn refuse(number: u8, place: Option<usize>) -> Result<(), Refusal> {
 }
 
 /// The first byte of the fifth field, which is that of its first term.
-fn surplus_field(fields: &[Vec<Raw>]) -> Option<usize> {
+fn surplus_field(fields: &Fields) -> Option<usize> {
     let fifth = fields.get(MOST_FIELDS)?;
     fifth.first().map(|raw| raw.place)
 }
 
 /// The first term of any field that exceeds the number allowed; `empty`
 /// counts.
-fn surplus_term(fields: &[Vec<Raw>], most: usize) -> Option<usize> {
+fn surplus_term(fields: &Fields, most: usize) -> Option<usize> {
     let surplus = fields.iter().find_map(|field| field.get(most))?;
     Some(surplus.place)
+}
+
+fn sized_fields(fields: &Fields) -> Result<PlacedFields, Refusal> {
+    let sized_field = |field: &Vec<Raw>| field.iter().map(sized).collect();
+    fields.iter().map(sized_field).collect()
 }
 
 /// The term with its value, refused by 5 if it is over a limit.
@@ -134,7 +160,8 @@ fn value_up_to(limit: u32, digits: &[u8]) -> Option<u32> {
 }
 
 /// The first list variable "that occurs earlier in the rule, or that follows
-/// another in its field".
+/// another in its field". A right side's "may recur and share a field"
+/// (document 02).
 fn surplus_list(fields: &[Vec<Placed>]) -> Option<usize> {
     let mut earlier = Vec::new();
     for field in fields {
@@ -158,8 +185,21 @@ fn first_variable(fields: &[Vec<Placed>]) -> Option<usize> {
     Some(variable.place)
 }
 
+/// The first "right-side variable that the left lacks". The letter tells
+/// variables apart as the number does.
+fn unknown_variable(left: &[Vec<Placed>], right: &[Vec<Placed>]) -> Option<usize> {
+    let variable = |placed: &Placed| match placed.term {
+        Some(Term::Var(kind, number)) => Some((kind, number)),
+        _ => None,
+    };
+    let known: HashSet<Name> = left.iter().flatten().filter_map(variable).collect();
+    let is_unknown = |placed: &&Placed| variable(placed).is_some_and(|name| !known.contains(&name));
+    let unknown = right.iter().flatten().find(is_unknown)?;
+    Some(unknown.place)
+}
+
 /// The fields alone, each `empty` dropped.
-fn without_places(fields: Vec<Vec<Placed>>) -> Vec<Field> {
+fn without_places(fields: PlacedFields) -> Side {
     let terms = |field: Vec<Placed>| field.into_iter().filter_map(|placed| placed.term);
     fields
         .into_iter()

@@ -62,9 +62,35 @@ pub type Name = (Kind, u32);
 /// then by number.
 pub type Filling = BTreeMap<Name, Field>;
 
-/// The left side of a rule, field by field.
+/// One side of a rule, field by field.
+pub type Side = Vec<Field>;
+
+/// A rule: what it matches, and what it makes of that where it has a right
+/// side. Reading returns no right side without fields.
 #[derive(Clone, Debug, Default, PartialEq, Eq, Hash)]
-pub struct Rule(pub Vec<Field>);
+pub struct Rule {
+    pub left: Side,
+    pub right: Option<Side>,
+}
+
+impl Rule {
+    /// The rule that has a left side only.
+    pub fn of(left: Side) -> Rule {
+        Rule { left, right: None }
+    }
+}
+
+/// The fields with the value of each variable in its place. One without a
+/// value stands for itself.
+pub fn filled(fields: &[Field], filling: &Filling) -> Vec<Field> {
+    let value = |term: &Term| match term {
+        Term::Var(kind, number) => filling.get(&(*kind, *number)).cloned(),
+        _ => None,
+    };
+    let terms = |term: &Term| value(term).unwrap_or_else(|| vec![term.clone()]);
+    let field = |field: &Field| field.iter().flat_map(terms).collect();
+    fields.iter().map(field).collect()
+}
 
 /// A slip. Reading returns only slips without variables.
 #[derive(Clone, Debug, Default, PartialEq, Eq, Hash)]

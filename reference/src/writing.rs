@@ -10,7 +10,11 @@ use crate::terms::{Field, Filling, Rule, Slip, Term};
 /// as one with no fields", and that has no bytes. Since reading a readable
 /// rule's plain text returns it, reading back decides which ones those are.
 pub fn plain_rule(rule: &Rule) -> Vec<u8> {
-    let text = plain_fields(&rule.0);
+    let mut text = plain_fields(&rule.left);
+    if let Some(right) = &rule.right {
+        text.extend(b"=>");
+        text.extend(plain_fields(right));
+    }
     if read_rule(&text).as_ref() == Ok(rule) {
         text
     } else {

@@ -1,6 +1,6 @@
--- The accepted rules and fields are exactly those that some text is read as, one for each rule.
+-- The accepted left sides and fields are exactly those that some text is read as, one for each; the accepted right sides are those within the limits.
 -- `view-encode-..`: a value stands for what it was made of. `accepted-..`: an accepted value is the one of what it stands for, within the limits.
--- `rule-value-iff`, `field-value-iff`: the theorems.
+-- `side-value-iff`, `rule-value-iff`, `field-value-iff`: the theorems.
 use mathlib.Core.Path.{_≡_, refl, sym, _∙_, ap}
 use mathlib.Core.Logic.{_↔_}
 use mathlib.Core.Bool.{Bool, true, _&&_}
@@ -13,43 +13,55 @@ use lib.ListN.{length, getD}
 use Rattle.lists.specs.Seqs.{All, IsCons, all-map}
 use Rattle.text.specs.Sizes.{mostFields}
 use Rattle.text.specs.Terms.{OurTerm}
-use Rattle.text.specs.Read.{rule, Outcome, accepted, readSide}
+use Rattle.text.specs.Read.{rule, OutcomeOf, accepted, readSide}
 use Rattle.text.specs.Limits.{TermIn, Within, Linear, IsLeft}
 use Rattle.text.proofs.Accepted.{rule-iff}
 use Rattle.terms.specs.declared.Term.{Term}
 use Rattle.terms.specs.declared.Field.{Field}
 use Rattle.terms.specs.declared.RuleSide.{RuleSide}
-use Rattle.canonical.specs.Filled.{filledTo}
 use Rattle.linearity.specs.Lists.{linear}
 use Rattle.terms.specs.Values.{viewTerm, viewField, viewSide, blankField, blankSide, encodeTerm, encodeField, encodeSide, oneField}
-use Rattle.accepted.specs.Accepted.{fieldOk, fieldBlank, acceptedLeft, acceptedField}
+use Rattle.accepted.specs.Accepted.{fieldOk, fieldBlank, acceptedRight, acceptedLeft, acceptedField}
 use Rattle.lists.specs.Truths.{both-is}
 use Rattle.linearity.proofs.Linear.{linear-is, linear-field}
 use Rattle.canonical.proofs.Arrays.{Stands, encode-one, Counted, counted}
 use Rattle.canonical.proofs.Terms.{term-stands}
 
--- ---- fields and rules: a count and an array
+-- ---- fields and sides: a count and an array
 abbrev field-parts : Counted Term Field
-field-parts = record { count = λ f. f .n; places = λ f. f .terms; make = λ n ts. record { n = n; terms = ts }; make-parts = λ f. refl; count-make = λ n ts. refl; places-make = λ n ts. refl }
+field-parts =
+    record {
+      count = λ f. f .n;
+      places = λ f. f .terms;
+      make = λ n ts. record { n = n; terms = ts };
+      make-parts = λ f. refl;
+      count-make = λ n ts. refl;
+      places-make = λ n ts. refl;
+    }
 
-abbrev rule-parts : Counted Field RuleSide
-rule-parts = record { count = λ r. r .n; places = λ r. r .fields; make = λ n fs. record { n = n; fields = fs }; make-parts = λ r. refl; count-make = λ n fs. refl; places-make = λ n fs. refl }
+abbrev side-parts : Counted Field RuleSide
+side-parts =
+    record {
+      count = λ r. r .n;
+      places = λ r. r .fields;
+      make = λ n fs. record { n = n; fields = fs };
+      make-parts = λ r. refl;
+      count-make = λ n fs. refl;
+      places-make = λ n fs. refl;
+    }
 
--- a field's terms, a rule's fields: not too many, each within its limits
+-- a field's terms, a side's fields: not too many, each within its limits
 abbrev pub FieldIn : List OurTerm → Type 0
 FieldIn f = (length f ≤ rule .width) × All TermIn f
 
-abbrev pub RuleIn : List (List OurTerm) → Type 0
-RuleIn r = (length r ≤ mostFields) × All FieldIn r
-
-abbrev pub ruleOk : RuleSide → Bool
-ruleOk r = filledTo mostFields fieldOk fieldBlank (r .n) (r .fields)
+abbrev pub SideIn : List (List OurTerm) → Type 0
+SideIn r = (length r ≤ mostFields) × All FieldIn r
 
 pub field-stands : Stands viewField encodeField fieldOk fieldBlank blankField FieldIn
 field-stands = counted field-parts (rule .width) term-stands
 
-pub rule-stands : Stands viewSide encodeSide ruleOk (λ r. eqb (r .n) 0 && ruleOk r) blankSide RuleIn
-rule-stands = counted rule-parts mostFields field-stands
+pub side-stands : Stands viewSide encodeSide acceptedRight (λ r. eqb (r .n) 0 && acceptedRight r) blankSide SideIn
+side-stands = counted side-parts mostFields field-stands
 
 -- ---- the limits of document 01
 module _ {A : Type 0} where
@@ -72,7 +84,7 @@ within-is w r =
     let b = all-both (λ f. length f ≤ w) (All TermIn) r in
     (λ h. (h .0, h .1, b .1 (h .2, h .3)), λ h. (h .0, h .1, b .0 (h .2) .0, b .0 (h .2) .1))
 
-pub rule-is : (r : List (List OurTerm)) → IsLeft r ↔ (IsCons r × RuleIn r × Linear r)
+pub rule-is : (r : List (List OurTerm)) → IsLeft r ↔ (IsCons r × SideIn r × Linear r)
 rule-is r = let i = within-is (rule .width) r in (λ h. let j = i .0 (h .0) in (j .0, (j .1, j .2), h .1), λ h. (i .1 (h .0, h .1 .0, h .1 .1), h .2))
 
 -- ---- there and back
@@ -83,11 +95,25 @@ pub view-encode-field : (ts : List OurTerm) → length ts ≤ rule .width → Al
 view-encode-field ts k h = field-stands .view-encode ts (k, h)
 
 pub view-encode-rule : (r : List (List OurTerm)) → IsLeft r → viewSide (encodeSide r) ≡ r
-view-encode-rule r h = rule-stands .view-encode r (rule-is r .0 h .1)
+view-encode-rule r h = side-stands .view-encode r (rule-is r .0 h .1)
 
 -- THERE IS ONE VALUE for one rule
 pub encode-rule-one : (r s : List (List OurTerm)) → IsLeft r → IsLeft s → encodeSide r ≡ encodeSide s → r ≡ s
-encode-rule-one r s h k e = encode-one rule-stands r s (rule-is r .0 h .1) (rule-is s .0 k .1) e
+encode-rule-one r s h k e = encode-one side-stands r s (rule-is r .0 h .1) (rule-is s .0 k .1) e
+
+-- ---- A RIGHT SIDE: the accepted values are those of at most four fields within the limits, one for each
+pub view-encode-side : (y : List (List OurTerm)) → SideIn y → viewSide (encodeSide y) ≡ y
+view-encode-side y h = side-stands .view-encode y h
+
+pub encode-accepted-side : (y : List (List OurTerm)) → SideIn y → acceptedRight (encodeSide y) ≡ true
+encode-accepted-side y h = side-stands .encode-good y h
+
+pub accepted-side : (v : RuleSide) → acceptedRight v ≡ true → SideIn (viewSide v) × (encodeSide (viewSide v) ≡ v)
+accepted-side v h = (side-stands .view-in v h, side-stands .encode-view v h)
+
+pub side-value-iff : (v : RuleSide) → (acceptedRight v ≡ true) ↔ ((y : List (List OurTerm)) × SideIn y × (v ≡ encodeSide y))
+side-value-iff v =
+    (λ h. let a = accepted-side v h in (viewSide v, a .0, sym (a .1)), λ h. ap acceptedRight (h .2) ∙ encode-accepted-side (h .0) (h .1))
 
 -- ---- accepted
 -- a count over zero
@@ -98,31 +124,31 @@ pub encode-accepted-rule : (r : List (List OurTerm)) → IsLeft r → acceptedLe
 encode-accepted-rule r h =
     let i = rule-is r .0 h in
     let l : linear (viewSide (encodeSide r)) ≡ true = ap linear (view-encode-rule r h) ∙ linear-is r (h .0 .3) .1 (h .1) in
-    both-is (ltb 0 (length r)) (ruleOk (encodeSide r) && linear (viewSide (encodeSide r))) .1 (
+    both-is (ltb 0 (length r)) (acceptedRight (encodeSide r) && linear (viewSide (encodeSide r))) .1 (
       count-is (length r) r refl .1 (i .0),
-      both-is (ruleOk (encodeSide r)) (linear (viewSide (encodeSide r))) .1 (rule-stands .encode-good r (i .1), l),
+      both-is (acceptedRight (encodeSide r)) (linear (viewSide (encodeSide r))) .1 (side-stands .encode-good r (i .1), l),
     )
 
 pub accepted-rule : (v : RuleSide) → acceptedLeft v ≡ true → IsLeft (viewSide v) × (encodeSide (viewSide v) ≡ v)
 accepted-rule v h =
-    let p = both-is (ltb 0 (v .n)) (ruleOk v && linear (viewSide v)) .0 h in
-    let q = both-is (ruleOk v) (linear (viewSide v)) .0 (p .1) in
-    let e = rule-stands .encode-view v (q .0) in
-    let i = rule-stands .view-in v (q .0) in
+    let p = both-is (ltb 0 (v .n)) (acceptedRight v && linear (viewSide v)) .0 h in
+    let q = both-is (acceptedRight v) (linear (viewSide v)) .0 (p .1) in
+    let e = side-stands .encode-view v (q .0) in
+    let i = side-stands .view-in v (q .0) in
     let c = count-is (v .n) (viewSide v) (ap (λ (r : RuleSide). r .n) e) .0 (p .0) in
     let l = linear-is (viewSide v) (all-map FieldIn (All TermIn) (λ f k. k .1) (viewSide v) (i .1)) .0 (q .1) in
     (rule-is (viewSide v) .1 (c, i, l), e)
 
 -- ---- THE ACCEPTED VALUES are those that some text is read as
-abbrev pub ReadAs : {W : Type 0} → (List ℕ → Outcome) → (List (List OurTerm) → W) → W → Type 0
-ReadAs read encode v = (t : List ℕ) × (r : List (List OurTerm)) × (read t ≡ accepted r) × (v ≡ encode r)
+abbrev pub ReadAs : {W X : Type 0} → (List ℕ → OutcomeOf X) → (X → W) → W → Type 0
+ReadAs {W} {X} read encode v = (t : List ℕ) × (r : X) × (read t ≡ accepted r) × (v ≡ encode r)
 
-pub value-iff : {W : Type 0} (good : W → Bool) (view : W → List (List OurTerm)) (encode : List (List OurTerm) → W) (read : List ℕ → Outcome) (Is : List (List OurTerm) → Type 0)
-    → ((r : List (List OurTerm)) → ((t : List ℕ) × (read t ≡ accepted r)) ↔ Is r)
+pub value-iff : {W X : Type 0} (good : W → Bool) (view : W → X) (encode : X → W) (read : List ℕ → OutcomeOf X) (Is : X → Type 0)
+    → ((r : X) → ((t : List ℕ) × (read t ≡ accepted r)) ↔ Is r)
     → ((v : W) → good v ≡ true → Is (view v) × (encode (view v) ≡ v))
-    → ((r : List (List OurTerm)) → Is r → good (encode r) ≡ true)
+    → ((r : X) → Is r → good (encode r) ≡ true)
     → (v : W) → (good v ≡ true) ↔ ReadAs read encode v
-value-iff {W} good view encode read Is read-is from to v = (there, λ h. ap good (h .3) ∙ to (h .1) (read-is (h .1) .0 (h .0, h .2)))
+value-iff {W} {X} good view encode read Is read-is from to v = (there, λ h. ap good (h .3) ∙ to (h .1) (read-is (h .1) .0 (h .0, h .2)))
   where
     there : good v ≡ true → ReadAs read encode v
     there h =
@@ -145,7 +171,9 @@ one-rule r ts h m =
     let i = rule-is r .0 h in
     rule-is (ts ∷ []) .1 (tt, (omega arith, (all-mem FieldIn r ts (i .1 .1) m, tt)), linear-field r ts (i .2) m)
 
-pub field-value-iff : (f : Field) → (acceptedField f ≡ true) ↔ ((r : List (List OurTerm)) × (ts : List OurTerm) × IsLeft r × List·Memᴰ ts r × (f ≡ encodeField ts))
+pub field-value-iff : (f : Field)
+    → (acceptedField f ≡ true)
+    ↔ ((r : List (List OurTerm)) × (ts : List OurTerm) × IsLeft r × List·Memᴰ ts r × (f ≡ encodeField ts))
 field-value-iff f = (to, λ h. ap acceptedField (h .4) ∙ encode-accepted-field (h .1) (one-rule (h .0) (h .1) (h .2) (h .3)))
   where
     to : acceptedField f ≡ true → (r : List (List OurTerm)) × (ts : List OurTerm) × IsLeft r × List·Memᴰ ts r × (f ≡ encodeField ts)

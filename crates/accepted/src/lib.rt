@@ -1,12 +1,10 @@
-// Which rules and fields reading can return. Every other value counts as one with no fields.
+// Which sides of rules and which fields reading can return. Every other value counts as one with no fields.
 ghost use mathlib.Core.Path.{_≡_};
 ghost use mathlib.Core.Bool.{cond};
 ghost use Prim.Native.Nat.{min};
-ghost use Rattle.text.specs.Sizes.{mostFields};
 ghost use Rattle.terms.specs.Values.{viewTerm, viewField, viewSide};
 ghost use Rattle.linearity.specs.Lists.{addTerm, addField, linear};
-ghost use Rattle.canonical.specs.Filled.{filledTo};
-ghost use Rattle.accepted.specs.Accepted.{fieldOk, fieldBlank, acceptedLeft, acceptedField};
+ghost use Rattle.accepted.specs.Accepted.{fieldOk, fieldBlank, acceptedRight, acceptedLeft, acceptedField};
 use linearity::Lists;
 use order::Kind;
 use terms::Field;
@@ -44,8 +42,9 @@ fn is_field_place(f: Field, used: bool) -> bool
     has_terms(f)
 }
 
-fn has_fields(r: RuleSide) -> bool
-    ensures { λ b. ⌜ b ≡ filledTo mostFields fieldOk fieldBlank (r .n) (r .fields) ⌝ }
+// Whether reading can return this right side, or none.
+pub fn is_right(r: RuleSide) -> bool
+    ensures { λ b. ⌜ b ≡ acceptedRight r ⌝ }
 {
     let n = r.n;
     if 4 < n {
@@ -110,14 +109,14 @@ fn is_linear(r: RuleSide) -> bool
     l.ok
 }
 
-// Whether reading can return this rule.
+// Whether reading can return this left side.
 pub fn is_left(r: RuleSide) -> bool
     ensures { λ b. ⌜ b ≡ acceptedLeft r ⌝ }
 {
     if r.n == 0 {
         return false;
     }
-    if !has_fields(r) {
+    if !is_right(r) {
         return false;
     }
     is_linear(r)

@@ -8,43 +8,45 @@ use native.Mathlib.Decide.{decLt}
 use lib.ListN.{length, take, length-append}
 use lib.Seq.{length-take-le, take-all}
 use Rattle.text.specs.Ascii.{newline}
-use Rattle.text.specs.Plain.{plain}
-use Rattle.text.specs.Read.{Reason, long, rule, slip, Outcome, refused, accepted, readSide, readSlip}
+use Rattle.text.specs.Read.{Reason, long, rule, slip, OutcomeOf, Outcome, refused, accepted, readSlip}
 use Rattle.text.proofs.Read.{read-refused}
-use Rattle.text.proofs.Refused.{rule-place, slip-place}
-use Rattle.text.proofs.Accepted.{rule-read, rule-length}
+use Rattle.text.proofs.Refused.{slip-place}
+use Rattle.rules.specs.Read.{OurRule, readRule}
+use Rattle.rules.proofs.Read.{read-first}
+use Rattle.rules.proofs.Sharp.{rule-place}
+use Rattle.rules.proofs.Accepted.{rule-read, rule-length}
 use Rattle.pieces.proofs.Refusals.{number-at-length}
 use Rattle.answers.specs.Texts.{refusalText, ruleText, slipText, ruleAnswer, slipAnswer, textsAnswer}
 
 -- ---- answers
 
-refusal-length : (r : Reason) (p : ℕ) → p < 10000 → length (refusalText r p) ≤ 17
+refusal-length : (r : Reason) (p : ℕ) → p < 10000 → length (refusalText r p) ≤ 18
 refusal-length r p h = omega (arith, number-at-length r p h)
 
-rule-answer-length : (t : List ℕ) → length (ruleAnswer t) ≤ 1157
+rule-answer-length : (t : List ℕ) → length (ruleAnswer t) ≤ 2310
 unfolding ruleAnswer
-rule-answer-length t = omega (arith, length-append (ruleText (readSide t)) newline, go (readSide t) refl)
+rule-answer-length t = omega (arith, length-append (ruleText (readRule t)) newline, go (readRule t) refl)
   where
-    go : (o : Outcome) → readSide t ≡ o → length (ruleText o) ≤ 1151
-    go (refused r p) e = omega (arith, refusal-length r p (omega (arith, rule-place t r p e)))
-    go (accepted x) e = rule-length x (rule-read t x e .0)
+    go : (o : OutcomeOf OurRule) → readRule t ≡ o → length (ruleText o) ≤ 2304
+    go (refused r p) e = omega (arith, refusal-length r p (omega (arith, rule-place t r p e .1)))
+    go (accepted w) e = let h = rule-read t w e in rule-length (w .0) (w .1) (h .0) (h .1)
 
-slip-answer-length : (t : List ℕ) → length (slipAnswer t) ≤ 23
+slip-answer-length : (t : List ℕ) → length (slipAnswer t) ≤ 24
 unfolding slipAnswer
 slip-answer-length t = omega (arith, length-append (slipText (readSlip t)) newline, go (readSlip t) refl)
   where
-    go : (o : Outcome) → readSlip t ≡ o → length (slipText o) ≤ 17
+    go : (o : Outcome) → readSlip t ≡ o → length (slipText o) ≤ 18
     go (refused r p) e = refusal-length r p (omega (arith, slip-place t r p e))
     go (accepted x) e = omega arith
 
-pub texts-short : (t : List ℕ) → length (textsAnswer t) ≤ 1180
+pub texts-short : (t : List ℕ) → length (textsAnswer t) ≤ 2334
 unfolding textsAnswer
 texts-short t = omega (arith, length-append (ruleAnswer t) (slipAnswer t), rule-answer-length t, slip-answer-length t)
 
 -- ---- ONLY THE FIRST 8,193 BYTES of a line matter: a longer text is refused by 1 whatever it holds
 
-long-rule : (t : List ℕ) → rule .bytes < length t → readSide t ≡ refused long (rule .bytes)
-long-rule t h = read-refused rule t long (rule .bytes) .1 (inl (refl, (h, refl)))
+long-rule : (t : List ℕ) → rule .bytes < length t → readRule t ≡ refused long (rule .bytes)
+long-rule t h = read-first t long (rule .bytes) .1 (inl (refl, (h, refl)))
 
 long-slip : (t : List ℕ) → slip .bytes < length t → readSlip t ≡ refused long (slip .bytes)
 long-slip t h = read-refused slip t long (slip .bytes) .1 (inl (refl, (h, refl)))

@@ -2,15 +2,12 @@
 use mathlib.Core.Path.{_≡_, refl, sym, ap, _∙_}
 use mathlib.Core.List.{List, _++_}
 use Prim.Native.Nat.{ℕ}
-use Rattle.text.specs.Terms.{OurTerm}
-use Rattle.text.specs.Plain.{plain}
-use Rattle.text.specs.Limits.{IsLeft}
 use Rattle.text.specs.Read as read
-use Rattle.text.specs.Read.{Outcome, refused, accepted, readSide, readSlip}
-use Rattle.text.proofs.Accepted.{rule-read}
-use Rattle.terms.specs.Values.{encodeSide}
-use Rattle.accepted.specs.Accepted.{countedLeft}
-use Rattle.accepted.proofs.Accepted.{view-encode-rule, encode-accepted-rule}
+use Rattle.text.specs.Read.{OutcomeOf, Outcome, refused, accepted, readSlip}
+use Rattle.rules.specs.Read.{OurRule, readRule}
+use Rattle.rules.specs.Plain.{plainBoth}
+use Rattle.rules.proofs.Accepted.{rule-read}
+use Rattle.accepted_rules.proofs.Rules.{view-encode-rule}
 use Rattle.verdicts.specs.declared.Reason.{Reason}
 use Rattle.verdicts.specs.declared.Verdict.{Verdict}
 use Rattle.verdicts.specs.declared.Verdict.the-variants.{Accepted, Refused}
@@ -40,15 +37,12 @@ refused-is r p = rw number-is
 -- ---- what is read of a text
 
 -- the value that is returned is the one of the rule, so its plain text is the rule's
-plain-is : (r : List (List OurTerm)) → IsLeft r → plain (countedLeft (encodeSide r)) ≡ plain r
-plain-is r h = rw (encode-accepted-rule r h, view-encode-rule r h)
-
-rule-said : (t : List ℕ) → ruleSaid (ruleRead (readSide t)) ≡ ruleText (readSide t)
-rule-said t = go (readSide t) refl
+rule-said : (t : List ℕ) → ruleSaid (ruleRead (readRule t)) ≡ ruleText (readRule t)
+rule-said t = go (readRule t) refl
   where
-    go : (o : Outcome) → readSide t ≡ o → ruleSaid (ruleRead o) ≡ ruleText o
+    go : (o : OutcomeOf OurRule) → readRule t ≡ o → ruleSaid (ruleRead o) ≡ ruleText o
     go (refused r p) e = refused-is r p
-    go (accepted x) e = plain-is x (rule-read t x e)
+    go (accepted w) e = ap plainBoth (view-encode-rule w (rule-read t w e))
 
 slip-said : (t : List ℕ) → verdictText (slipRead (readSlip t) .verdict) (ascii "read") ≡ slipText (readSlip t)
 slip-said t = go (readSlip t)
@@ -59,7 +53,7 @@ slip-said t = go (readSlip t)
 
 -- ---- an answer's pieces, by the value that is returned
 
-pub rule-pieces : (t : List ℕ) (r : RuleRead) → r ≡ ruleRead (readSide t) → ruleAnswer t ≡ ascii "rule " ++ ruleSaid r ++ newline
+pub rule-pieces : (t : List ℕ) (r : RuleRead) → r ≡ ruleRead (readRule t) → ruleAnswer t ≡ ascii "rule " ++ ruleSaid r ++ newline
 unfolding ruleAnswer
 rule-pieces t r e = ap (λ (s : List ℕ). ascii "rule " ++ s ++ newline) (sym (ap ruleSaid e ∙ rule-said t))
 

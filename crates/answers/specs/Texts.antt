@@ -1,25 +1,26 @@
 -- What `texts` prints for one line: how the line is read as a rule, and how as a slip.
 use mathlib.Core.List.{List, _++_}
 use Prim.Native.Nat.{ℕ}
-use Rattle.text.specs.Plain.{plain}
-use Rattle.text.specs.Read.{Reason, number, Outcome, refused, accepted, readSide, readSlip}
+use Rattle.text.specs.Read.{Reason, number, OutcomeOf, Outcome, refused, accepted, readSlip}
+use Rattle.rules.specs.Read.{OurRule, readRule}
+use Rattle.rules.specs.Plain.{plainBoth}
 use Rattle.text.specs.Ascii.{ascii, newline}
 use Rattle.pieces.specs.Refusals.{numberAt}
 
 abbrev pub refusalText : Reason → ℕ → List ℕ
 refusalText r p = ascii "refused " ++ numberAt (number r) p
 
--- a rule that is read is shown by "its one plain text"
-abbrev pub ruleText : Outcome → List ℕ
+-- a rule that is read is shown by "its one plain text", with both sides where it has two
+abbrev pub ruleText : OutcomeOf OurRule → List ℕ
 ruleText (refused r p) = refusalText r p
-ruleText (accepted x) = plain x
+ruleText (accepted w) = plainBoth w
 
 abbrev pub slipText : Outcome → List ℕ
 slipText (refused r p) = refusalText r p
 slipText (accepted x) = ascii "read"
 
 unfoldable pub ruleAnswer : List ℕ → List ℕ
-ruleAnswer t = ascii "rule " ++ ruleText (readSide t) ++ newline
+ruleAnswer t = ascii "rule " ++ ruleText (readRule t) ++ newline
 
 unfoldable pub slipAnswer : List ℕ → List ℕ
 slipAnswer t = ascii "slip " ++ slipText (readSlip t) ++ newline

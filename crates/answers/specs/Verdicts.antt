@@ -1,8 +1,8 @@
 -- The same texts, from the values that the reading functions answer. `rule-said`, `slip-said` of proofs/Verdicts say that they are the same.
 use mathlib.Core.List.{List, _++_}
 use Prim.Native.Nat.{ℕ}
-use Rattle.text.specs.Plain.{plain}
-use Rattle.accepted.specs.Accepted.{countedLeft}
+use Rattle.rules.specs.Plain.{plainBoth}
+use Rattle.terms.specs.Values.{viewRule}
 use Rattle.verdicts.specs.declared.Verdict.{Verdict}
 use Rattle.verdicts.specs.declared.Verdict.the-variants.{Accepted, Refused}
 use Rattle.verdicts.specs.declared.Reason.{Reason}
@@ -20,4 +20,4 @@ verdictText Accepted t = t
 verdictText (Refused r p) t = refusedText r p
 
 abbrev pub ruleSaid : RuleRead → List ℕ
-ruleSaid r = verdictText (r .verdict) (plain (countedLeft (r .rule)))
+ruleSaid r = verdictText (r .verdict) (plainBoth (viewRule (r .rule)))

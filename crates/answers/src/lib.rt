@@ -2,15 +2,12 @@
 // The text is put together in room that is known to be enough, piece behind piece, and then given whole or not at all.
 ghost use mathlib.Core.Path.{_≡_};
 ghost use lib.ListN.{length};
-ghost use Rattle.text.specs.Plain.{plain};
-ghost use Rattle.accepted.specs.Accepted.{countedLeft};
 ghost use Rattle.writing.specs.Answers.{Writes};
 ghost use Rattle.text.specs.Ascii.{ascii, newline};
 ghost use Rattle.pieces.specs.Placed.{Placed};
 ghost use Rattle.answers.specs.Texts.{ruleAnswer, slipAnswer, textsAnswer};
 ghost use Rattle.answers.specs.Verdicts.{verdictText, ruleSaid};
 use reading::RuleRead;
-use terms::RuleSide;
 use verdicts::Verdict;
 use writing::Written;
 
@@ -22,15 +19,6 @@ fn put_newline(out: &mut [u8], at: usize) -> usize
     pieces::put_bytes(b"\n", out, at)
 }
 
-// A rule's plain text, which has at most 1,151 bytes.
-fn put_rule(r: RuleSide, out: &mut [u8], at: usize) -> usize
-    ensures { λ p. ⌜ Placed (plain (countedLeft r)) at (now (out .entry)) p (now (out .exit)) ⌝ }
-{
-    let mut text = [0u8; 1151];
-    let size = pieces::size_of(plain_text::write_rule(r, &mut text));
-    pieces::put_bytes(&text[..size], out, at)
-}
-
 // ---- `texts`
 
 fn put_rule_read(read: RuleRead, out: &mut [u8], at: usize) -> usize
@@ -39,7 +27,7 @@ fn put_rule_read(read: RuleRead, out: &mut [u8], at: usize) -> usize
     let verdict = read.verdict;
     let rule = read.rule;
     match verdict {
-        Verdict::Accepted => put_rule(rule, out, at),
+        Verdict::Accepted => rule_text::put_rule(rule, out, at),
         Verdict::Refused(reason, place) => line_pieces::put_refusal(
             b"refused ",
             reason,
@@ -85,11 +73,11 @@ fn put_slip_answer(line: &[u8], out: &mut [u8], at: usize) -> usize
     put_newline(out, b)
 }
 
-// Room for any answer of `texts`, which has at most 1,180 bytes.
-fn room() -> [u8; 1180]
-    ensures { λ r. ⌜ length r ≡ 1180 ⌝ }
+// Room for any answer of `texts`, which has at most 2,334 bytes.
+fn room() -> [u8; 2334]
+    ensures { λ r. ⌜ length r ≡ 2334 ⌝ }
 {
-    [0; 1180]
+    [0; 2334]
 }
 
 // The two lines that `texts` prints for a line.

@@ -1,5 +1,6 @@
 pub mod Texts
 pub mod Matching
+pub mod Carrying
 pub mod Searching
 pub mod Entries
 pub mod Overlaps

@@ -1,6 +1,6 @@
 -- THE STATIC LIBRARY: what is promised of reading and of the overlap list holds of what another program is answered and lent, of texts.
 -- Over what the contracts cite, for texts t and u, the lent bytes `old`, the answer r and the bytes `new` afterwards:
---     yopobrush::yopobrush_read_rule       answers `readingOf (readSide t)`
+--     yopobrush::yopobrush_read_rule       answers `readingOf (readRule t)`
 --     yopobrush::yopobrush_list_overlaps   `LibraryLists t u old r new`
 use mathlib.Core.Path.{_≡_, refl, sym, _∙_, ap, subst, subst₂}
 use mathlib.Core.Logic.{_≢_, _↔_, Iff·trans}
@@ -14,16 +14,18 @@ use lib.ListN.{length, take, drop}
 use borrow.Author.Tests.{le-leb, lt-leb, leb-false}
 use Rattle.text.specs.Terms.{OurTerm}
 use Rattle.text.specs.Limits.{IsLeft}
-use Rattle.text.specs.Read.{Reason, long, grammar, fields, terms, limits, linear, variable, number, Outcome, refused, accepted, readSide, earlier}
-use Rattle.text.specs.Read.{Refuses, NoReason, rule}
-use Rattle.text.proofs.Accepted.{rule-read}
+use Rattle.text.specs.Read.{Reason, long, grammar, fields, terms, limits, linear, variable, unknown, number}
+use Rattle.text.specs.Read.{OutcomeOf, refused, accepted, earlier, NoReason}
 use Rattle.text.proofs.Refused.{number-once}
-use Rattle.text.proofs.Theorems.{rule-refused}
+use Rattle.rules.specs.Read.{OurRule, RefusesRule, readRule}
+use Rattle.rules.proofs.Read.{rule-refused}
+use Rattle.rules.proofs.Accepted.{rule-read}
 use Rattle.listing.specs.Overlaps.{linesOf, overlapText}
 use Rattle.overlaps.proofs.Rules.{no-right, none-listed}
 use Rattle.yopobrush.specs.declared.Reading.{Reading}
 use Rattle.overlaps.specs.declared.Listed.the-variants.{Lines}
-use Rattle.overlaps.specs.Answers.{Lists, ruleOf}
+use Rattle.reading.specs.Answers.{leftSaid}
+use Rattle.overlaps.specs.Answers.{Lists}
 use Rattle.yopobrush.specs.declared.Listing.{Listing}
 use Rattle.yopobrush.specs.Answers.{readingOf, numbered, LibraryLists}
 use Rattle.demands.specs.Overlaps.{Demand3, rules-3}
@@ -42,35 +44,41 @@ not-zero terms e = omega arith
 not-zero limits e = omega arith
 not-zero linear e = omega arith
 not-zero variable e = omega arith
+not-zero unknown e = omega arith
 
-reading-refused : (o : Outcome) (r : Reason) (p : ℕ) → (readingOf o ≡ record { refusal = number r; place = p }) ↔ (o ≡ refused r p)
-reading-refused (refused s q) r p = (to, λ e. ap readingOf e)
+reading-refused : (o : OutcomeOf OurRule) (r : Reason) (p : ℕ)
+    → (readingOf o ≡ record { refusal = number r; place = p }) ↔ (o ≡ refused r p)
+reading-refused (refused s q) r p = (to, λ e. ap (λ (o : OutcomeOf OurRule). readingOf o) e)
   where
-    to : readingOf (refused s q) ≡ record { refusal = number r; place = p } → refused s q ≡ refused r p
+    to : readingOf {X = OurRule} (refused s q) ≡ record { refusal = number r; place = p }
+        → _≡_ {A = OutcomeOf OurRule} (refused s q) (refused r p)
     to e =
         let a : s ≡ r = number-once s r (ap (λ (a : Reading). a .refusal) e) in
         let b : q ≡ p = ap (λ (a : Reading). a .place) e in
         cc
-reading-refused (accepted x) r p = (λ e. absurd (not-zero r (sym (ap (λ (a : Reading). a .refusal) e))), λ e. ap readingOf e)
+reading-refused (accepted x) r p = (
+  λ e. absurd (not-zero r (sym (ap (λ (a : Reading). a .refusal) e))),
+  λ e. ap (λ (o : OutcomeOf OurRule). readingOf o) e,
+)
 
 -- DEMAND 1, "each refusal comes in its stated case only": the answer is r's number and the place p exactly when r applies there
 -- and none that is tried before it applies anywhere
 pub reading-refusals : (t : List ℕ) (r : Reason) (p : ℕ) → r ≢ variable
-    → (readingOf (readSide t) ≡ record { refusal = number r; place = p }) ↔ (NoReason (Refuses rule t) (earlier r) × Refuses rule t r p)
-reading-refusals t r p n = Iff·trans (reading-refused (readSide t) r p) (rule-refused r n t p)
+    → (readingOf (readRule t) ≡ record { refusal = number r; place = p }) ↔ (NoReason (RefusesRule t) (earlier r) × RefusesRule t r p)
+reading-refusals t r p n = Iff·trans (reading-refused (readRule t) r p) (rule-refused r n t p)
 
 -- the number is 0 exactly where a rule is read
-pub reading-accepted : (t : List ℕ) → (readingOf (readSide t) .refusal ≡ 0) ↔ ((x : List (List OurTerm)) × (readSide t ≡ accepted x))
-reading-accepted t = go (readSide t)
+pub reading-accepted : (t : List ℕ) → (readingOf (readRule t) .refusal ≡ 0) ↔ ((x : OurRule) × (readRule t ≡ accepted x))
+reading-accepted t = go (readRule t)
   where
-    go : (o : Outcome) → (readingOf o .refusal ≡ 0) ↔ ((x : List (List OurTerm)) × (o ≡ accepted x))
-    go (refused r p) = (λ e. absurd (not-zero r e), λ h. ap (λ (o : Outcome). readingOf o .refusal) (h .1))
+    go : (o : OutcomeOf OurRule) → (readingOf o .refusal ≡ 0) ↔ ((x : OurRule) × (o ≡ accepted x))
+    go (refused r p) = (λ e. absurd (not-zero r e), λ h. ap (λ (o : OutcomeOf OurRule). readingOf o .refusal) (h .1))
     go (accepted x) = (λ e. (x, refl), λ h. refl)
 
 -- ---- the overlap list
 
--- DEMAND 3 OF THE LIBRARY, of texts that are read as the rules x and y, in lent bytes that have room for the list: nothing is refused, the
--- counts are the list's, the first bytes, as many as are counted, are the list of demand 3, and the others are the old ones
+-- DEMAND 3 OF THE LIBRARY, of texts that are read as rules with the left sides x and y, in lent bytes that have room for the list: nothing
+-- is refused, the counts are the list's, the first bytes, as many as are counted, are the list of demand 3, and the others are the old ones
 pub record LibraryShared (B : Type 0) (x y : List (List OurTerm)) (old : List ℕ) (r : Listing) (new : List ℕ) : Type 0 where
   pub left : r .left ≡ accepting
   pub right : r .right ≡ accepting
@@ -83,18 +91,18 @@ pub record LibraryShared (B : Type 0) (x y : List (List OurTerm)) (old : List �
 -- document 01: "A refusal returns its number, its place and the rule with no fields", "A rule with no fields counts as having no entries":
 -- where a text is refused, the list has no entries and no bytes and is not refused itself, and the lent bytes stay
 pub record LibraryNone (t u old : List ℕ) (r : Listing) (new : List ℕ) : Type 0 where
-  pub answer : r ≡ record { left = readingOf (readSide t); right = readingOf (readSide u); refusal = 0; entries = 0; bytes = 0 }
+  pub answer : r ≡ record { left = readingOf (readRule t); right = readingOf (readRule u); refusal = 0; entries = 0; bytes = 0 }
   pub bytes : new ≡ old
 
 -- what is promised of the texts t and u
 pub record LibrarySharedSlips (t u old : List ℕ) (r : Listing) (new : List ℕ) : Type 0 where
-  pub shared : (x y : List (List OurTerm)) → readSide t ≡ accepted x → readSide u ≡ accepted y → length (overlapText x y) ≤ length old
-      → LibraryShared ℕ x y old r new
+  pub shared : (x y : OurRule) → readRule t ≡ accepted x → readRule u ≡ accepted y → length (overlapText (x .0) (y .0)) ≤ length old
+      → LibraryShared ℕ (x .0) (y .0) old r new
   -- "8: as in searching": exactly where more bytes are needed than lent, with the old bytes left
-  pub eight-only : (r .refusal ≡ 8) ↔ (length old < length (overlapText (ruleOf (readSide t)) (ruleOf (readSide u))))
+  pub eight-only : (r .refusal ≡ 8) ↔ (length old < length (overlapText (leftSaid (readRule t)) (leftSaid (readRule u))))
   pub refused-old : r .refusal ≡ 8 → new ≡ old
-  pub left-none : (s : Reason) (p : ℕ) → readSide t ≡ refused s p → LibraryNone t u old r new
-  pub right-none : (s : Reason) (p : ℕ) → readSide u ≡ refused s p → LibraryNone t u old r new
+  pub left-none : (s : Reason) (p : ℕ) → readRule t ≡ refused s p → LibraryNone t u old r new
+  pub right-none : (s : Reason) (p : ℕ) → readRule u ≡ refused s p → LibraryNone t u old r new
 
 -- the number told of a list is 8 where it has no room
 eight-numbered : (f : Bool) → (numbered (cond f none (some 8)) ≡ 8) ↔ (f ≡ false)
@@ -103,10 +111,10 @@ eight-numbered false = (λ e. refl, λ e. refl)
 
 module _ {t u old : List ℕ} {r : Listing} {new : List ℕ} (is : LibraryLists t u old r new) where
   abbrev x₀ : List (List OurTerm)
-  x₀ = ruleOf (readSide t)
+  x₀ = leftSaid (readRule t)
 
   abbrev y₀ : List (List OurTerm)
-  y₀ = ruleOf (readSide u)
+  y₀ = leftSaid (readRule u)
 
   abbrev size : ℕ
   size = length (overlapText x₀ y₀)
@@ -127,13 +135,15 @@ module _ {t u old : List ℕ} {r : Listing} {new : List ℕ} (is : LibraryLists 
   lists : size ≤ length old → Lists x₀ y₀ old (Lines (length (linesOf x₀ y₀)) size) new
   lists room = record { answer = rw (le-leb size (length old) room); bytes = is .bytes }
 
-  pub library-demand-3 : (B : Type 0) (x y : List (List OurTerm)) → readSide t ≡ accepted x → readSide u ≡ accepted y
-      → length (overlapText x y) ≤ length old → LibraryShared B x y old r new
+  pub library-demand-3 : (B : Type 0) (x y : OurRule) → readRule t ≡ accepted x → readRule u ≡ accepted y
+      → length (overlapText (x .0) (y .0)) ≤ length old → LibraryShared B (x .0) (y .0) old r new
   library-demand-3 B x y reads-t reads-u room =
-      let e : x₀ ≡ x = ap ruleOf reads-t in
-      let f : y₀ ≡ y = ap ruleOf reads-u in
+      let e : x₀ ≡ x .0 = ap leftSaid reads-t in
+      let f : y₀ ≡ y .0 = ap leftSaid reads-u in
       let fits : size ≤ length old = rw (reads-t, reads-u) room in
-      let l = rules-3 (lists fits) B (subst IsLeft (sym e) (rule-read t x reads-t)) (subst IsLeft (sym f) (rule-read u y reads-u)) fits in
+      let a : IsLeft x₀ = subst IsLeft (sym e) (rule-read t x reads-t .0) in
+      let b : IsLeft y₀ = subst IsLeft (sym f) (rule-read u y reads-u .0) in
+      let l = rules-3 (lists fits) B a b fits in
       subst₂ (λ (a b : List (List OurTerm)). LibraryShared B a b old r new) e f (
       record {
         left = ap (λ (a : Listing). a .left) (is .answer) ∙ ap readingOf reads-t;
@@ -158,6 +168,6 @@ module _ {t u old : List ℕ} {r : Listing} {new : List ℕ} (is : LibraryLists 
         shared = library-demand-3 ℕ;
         eight-only = too-few;
         refused-old = λ e. stays (too-few .0 e);
-        left-none = λ s p e. none-left (ap (λ (o : Outcome). linesOf (ruleOf o) y₀) e);
-        right-none = λ s p e. none-left (ap (λ (o : Outcome). linesOf x₀ (ruleOf o)) e ∙ no-right x₀);
+        left-none = λ s p e. none-left (ap (λ (o : OutcomeOf OurRule). linesOf (leftSaid o) y₀) e);
+        right-none = λ s p e. none-left (ap (λ (o : OutcomeOf OurRule). linesOf x₀ (leftSaid o)) e ∙ no-right x₀);
       }

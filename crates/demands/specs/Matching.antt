@@ -1,7 +1,9 @@
 -- DEMAND 2, its first sentence: "A rule matches a slip exactly when some filling of its variables, each by its type, makes the two equal
 -- under GP 2's associativity and unit laws."
--- Over the definition that the contract cites, for a rule value v and a slip value w:
---     matching::match_rule   answers `matchOf (countedLeft v) (countedSlip w)`
+-- Over the definitions that the contracts cite, for a rule value v, the value x of one side and a slip value w:
+--     matching::match_rule   answers `matchOf (countedRule v .0) (countedSlip w)`
+--     matching::match_side   answers `matchOf (countedLeft x) (countedSlip w)`
+-- A rule matches as its left side does; so the theorem is first had of one side, and then of the rule's left side.
 use mathlib.Core.Path.{_≡_, refl, sym, _∙_, ap, ap₂, subst}
 use mathlib.Core.Logic.{_↔_, Iff·trans, inl, inr}
 use mathlib.Core.Bool.{Bool, true, false, cond, false≢true}
@@ -22,19 +24,28 @@ use Rattle.text.specs.Grammar.{Raw, Says}
 use Rattle.text.specs.Sizes.{largestNumber}
 use Rattle.text.specs.Terms.{Con, OurTerm, fieldsOf}
 use Rattle.text.specs.Limits.{TermIn, IsCon, IsLeft, IsSlip}
-use Rattle.text.specs.Read.{Outcome, refused, accepted, readSide, readSlip}
+use Rattle.text.specs.Read.{OutcomeOf, Outcome, refused, accepted, readSide, readSlip}
 use Rattle.text.proofs.Parse.{says-one}
 use Rattle.text.proofs.Accepted.{rule-read, slip-read}
 use Rattle.text.proofs.Theorems.{rule-accepted, slip-accepted}
+use Rattle.rules.specs.Sides.{Sides, SaysRule}
+use Rattle.rules.specs.Place.{leftText}
+use Rattle.rules.specs.Marks.{leftSide}
+use Rattle.rules.specs.Read.{OurRule, readRule}
+use Rattle.rules.proofs.Accepted as rules
+use Rattle.rules.proofs.Left.{left-says, left-reads}
 use Rattle.instance.specs.Constants.{consts}
 use Rattle.instance.specs.Matching.{constants, Matches, matcher}
 use Rattle.instance.specs.Written.{writtenField}
 use Rattle.instance.proofs.Written.{written-matches, terms-matches}
 use Rattle.instance.proofs.Matching.{match-iff, match-is, match-yes, match-blank}
 use Rattle.terms.specs.declared.RuleSide.{RuleSide}
+use Rattle.terms.specs.declared.Rule.{Rule}
 use Rattle.terms.specs.declared.Slip.{Slip}
-use Rattle.terms.specs.Values.{blankTerm, encodeTerm, encodeSide, encodeSlip, viewSide, viewSlip}
+use Rattle.terms.specs.Values.{blankTerm, encodeTerm, encodeSide, encodeRule, encodeSlip, viewSide, viewSlip}
 use Rattle.accepted.specs.Accepted.{acceptedLeft, countedLeft}
+use Rattle.accepted_rules.specs.Rules.{acceptedRule, countedRule, leftValue}
+use Rattle.accepted_rules.proofs.Rules.{left-yes, left-encode, left-accepted, left-counted}
 use Rattle.accepted_slips.specs.Slips.{acceptedSlip, countedSlip}
 use Rattle.accepted.proofs.Accepted.{rule-is, accepted-rule, encode-accepted-rule, view-encode-rule}
 use Rattle.accepted_slips.proofs.Slips.{slip-is, accepted-slip, encode-accepted-slip, view-encode-slip}
@@ -124,20 +135,23 @@ module _ (rule : List (List OurTerm)) (is-rule : IsLeft rule) (slip : List (List
 
 -- ---- the answer
 
--- the text t is read as the rule value v, the text u as the slip value w
-abbrev pub ReadAsRule : List ℕ → RuleSide → Type 0
+-- the text t is read as the rule value v, the text u as the slip value w, and the text t of one side as the value v
+abbrev pub ReadAsRule : List ℕ → Rule → Type 0
 ReadAsRule t v = ReadsRule t (record { verdict = Accepted; rule = v })
 
 abbrev pub ReadAsSlip : List ℕ → Slip → Type 0
 ReadAsSlip u w = ReadsSlip u (record { verdict = Accepted; slip = w })
 
--- WHAT MATCHING ANSWERS of a rule value v and a slip value w
-pub record Matching (v : RuleSide) (w : Slip) (m : Match) : Type 0 where
+abbrev pub ReadAsSide : List ℕ → RuleSide → Type 0
+ReadAsSide t v = (r : List (List OurTerm)) × (readSide t ≡ accepted r) × (v ≡ encodeSide r)
+
+-- WHAT MATCHING ANSWERS of the value v of one side and a slip value w
+pub record SideMatching (v : RuleSide) (w : Slip) (m : Match) : Type 0 where
   -- DEMAND 2's sentence, of values that reading returns: their fields as one writes them, equal by the laws
   pub exactly : acceptedLeft v ≡ true → acceptedSlip w ≡ true
       → (m .yes ≡ true) ↔ MatchesByLaws basics consts (map expr (viewSide v)) (map expr (viewSlip w))
   -- the same as they are written: whatever texts t and u are read as the two, which say x and y
-  pub as-written : (t u : List ℕ) → ReadAsRule t v → ReadAsSlip u w → (x y : List (List Raw)) → Says t x → Says u y
+  pub as-written : (t u : List ℕ) → ReadAsSide t v → ReadAsSlip u w → (x y : List (List Raw)) → Says t x → Says u y
       → (m .yes ≡ true) ↔ MatchesByLaws basics consts (map writtenField x) (map writtenField y)
   -- and of the rule's terms and the slip's constants: some filling, each variable by its type, fills the one to the other
   pub on-terms : acceptedLeft v ≡ true → acceptedSlip w ≡ true → (m .yes ≡ true) ↔ Matches (viewSide v) (map constants (viewSlip w))
@@ -209,22 +223,13 @@ module _ (v : RuleSide) (w : Slip) (accepted-v : acceptedLeft v ≡ true) (accep
 abbrev SaysFields : List ℕ → List (List OurTerm) → Type 0
 SaysFields t r = (x : List (List Raw)) → Says t x → fieldsOf x ≡ r
 
-read-rule : (t : List ℕ) (v : RuleSide) → ReadAsRule t v → (acceptedLeft v ≡ true) × SaysFields t (viewSide v)
-read-rule t v reads = go (readSide t) refl reads
-  where
-    go : (a : Outcome) → readSide t ≡ a → record { verdict = Accepted; rule = v } ≡ ruleRead a
-        → (acceptedLeft v ≡ true) × SaysFields t (viewSide v)
-    go (refused o p) is e =
-        let d : Accepted ≡ Refused (reasonFrom o) p = ap (λ (r : RuleRead). r .verdict) e in
-        let z : _≡_ {A = ℕ} 0 1 = cc in
-        absurd (omega arith)
-    go (accepted r) is e =
-        let h = rule-read t r is in
-        let held : v ≡ encodeSide r = ap (λ (x : RuleRead). x .rule) e in
-        let said = rule-accepted t r .0 is .1 in (
-          ap acceptedLeft held ∙ encode-accepted-rule r h,
-          λ x says. ap fieldsOf (says-one t x (said .0) says (said .1)) ∙ said .2 ∙ sym (ap viewSide held ∙ view-encode-rule r h),
-        )
+read-side : (t : List ℕ) (v : RuleSide) → ReadAsSide t v → (acceptedLeft v ≡ true) × SaysFields t (viewSide v)
+read-side t v (r, is, held) =
+    let h = rule-read t r is in
+    let said = rule-accepted t r .0 is .1 in (
+      ap acceptedLeft held ∙ encode-accepted-rule r h,
+      λ x says. ap fieldsOf (says-one t x (said .0) says (said .1)) ∙ said .2 ∙ sym (ap viewSide held ∙ view-encode-rule r h),
+    )
 
 read-slip : (u : List ℕ) (w : Slip) → ReadAsSlip u w → (acceptedSlip w ≡ true) × SaysFields u (viewSlip w)
 read-slip u w reads = go (readSlip u) refl reads
@@ -249,19 +254,20 @@ no-is-blank [] s e = refl
 no-is-blank (f ∷ r) [] e = refl
 no-is-blank (f ∷ r) (w ∷ s) e = go (matcher (f ∷ r) (map constants (w ∷ s))) e
   where
-    go : (m : Option (Filling Con Kind ℕ)) → found (f ∷ r) (map constants (w ∷ s)) m .yes ≡ false → found (f ∷ r) (map constants (w ∷ s)) m ≡ noMatch
+    go : (m : Option (Filling Con Kind ℕ)) → found (f ∷ r) (map constants (w ∷ s)) m .yes ≡ false
+        → found (f ∷ r) (map constants (w ∷ s)) m ≡ noMatch
     go none y = refl
     go (some φ) y = absurd (false≢true (sym y))
 
--- MATCHING, of what the contract answers
-pub matching : (v : RuleSide) (w : Slip) (m : Match) → m ≡ matchOf (countedLeft v) (countedSlip w) → Matching v w m
-matching v w m is = subst (Matching v w) (sym is) of-answer
+-- MATCHING ONE SIDE, of what the contract answers
+pub side-matching : (v : RuleSide) (w : Slip) (m : Match) → m ≡ matchOf (countedLeft v) (countedSlip w) → SideMatching v w m
+side-matching v w m is = subst (SideMatching v w) (sym is) of-answer
   where
-    of-answer : Matching v w (matchOf (countedLeft v) (countedSlip w))
+    of-answer : SideMatching v w (matchOf (countedLeft v) (countedSlip w))
     of-answer = record {
       exactly = yes-laws v w;
       as-written = λ t u reads reads-slip x y says says-slip.
-          let a = read-rule t v reads in
+          let a = read-side t v reads in
           let b = read-slip u w reads-slip in
           yes-written v w (a .0) (b .0) x y (a .1 x says) (b .1 y says-slip);
       on-terms = yes-iff v w;
@@ -270,3 +276,72 @@ matching v w m is = subst (Matching v w) (sym is) of-answer
       unread-rule = λ e. sym (not-rule v w e);
       unread-slip = λ e. sym (not-slip v w e);
     }
+
+-- ---- rules
+
+-- WHAT MATCHING ANSWERS of a rule value v and a slip value w: the sentences of `SideMatching`, of the rule's left side
+pub record Matching (v : Rule) (w : Slip) (m : Match) : Type 0 where
+  -- DEMAND 2's sentence, of values that reading returns: the left side's fields and the slip's as one writes them, equal by the laws
+  pub exactly : acceptedRule v ≡ true → acceptedSlip w ≡ true
+      → (m .yes ≡ true) ↔ MatchesByLaws basics consts (map expr (viewSide (v .left))) (map expr (viewSlip w))
+  -- the same as they are written: whatever texts t and u are read as the two, which say s and y
+  pub as-written : (t u : List ℕ) → ReadAsRule t v → ReadAsSlip u w → (s : Sides) (y : List (List Raw)) → SaysRule t s → Says u y
+      → (m .yes ≡ true) ↔ MatchesByLaws basics consts (map writtenField (leftSide s)) (map writtenField y)
+  -- and of the left side's terms and the slip's constants: some filling, each variable by its type, fills the one to the other
+  pub on-terms : acceptedRule v ≡ true → acceptedSlip w ≡ true → (m .yes ≡ true) ↔ Matches (viewSide (v .left)) (map constants (viewSlip w))
+  -- the one filling, where the answer is yes
+  pub filling : acceptedRule v ≡ true → acceptedSlip w ≡ true → m .yes ≡ true
+      → (φ : Filling Con Kind ℕ) × Shows (viewSide (v .left)) (map constants (viewSlip w)) (m .filling) φ
+  -- "no with the blank filling (every number zero)"
+  pub no-blank : m .yes ≡ false → m ≡ noMatch
+  -- "A rule or slip with no fields gives no", and so does a value that no reading returns, also for its right side
+  pub unread-rule : acceptedRule v ≡ false → m ≡ noMatch
+  pub unread-slip : acceptedSlip w ≡ false → m ≡ noMatch
+  -- all of it is what is said of the left side
+  pub by-left : SideMatching (leftValue v) w m
+
+-- a text that is read as a value is read as some rule, whose value it is
+pub read-as-rule : (t : List ℕ) (v : Rule) → ReadAsRule t v → (r : OurRule) × (readRule t ≡ accepted r) × (v ≡ encodeRule r)
+read-as-rule t v reads = go (readRule t) refl reads
+  where
+    go : (a : OutcomeOf OurRule) → readRule t ≡ a → record { verdict = Accepted; rule = v } ≡ ruleRead a
+        → (r : OurRule) × (readRule t ≡ accepted r) × (v ≡ encodeRule r)
+    go (refused o p) is e =
+        let d : Accepted ≡ Refused (reasonFrom o) p = ap (λ (r : RuleRead). r .verdict) e in
+        let z : _≡_ {A = ℕ} 0 1 = cc in
+        absurd (omega arith)
+    go (accepted r) is e = (r, is, ap (λ (x : RuleRead). x .rule) e)
+
+-- then the text of its left side is read as the left side
+left-read : (t : List ℕ) (v : Rule) → ReadAsRule t v → ReadAsSide (leftText t) (leftValue v)
+left-read t v reads =
+    let r = read-as-rule t v reads in
+    (r .0 .0, left-reads t (r .0) (r .1), ap leftValue (r .2) ∙ left-encode (r .0) (rules.rule-read t (r .0) (r .1)))
+
+-- MATCHING, of what the contract answers
+pub matching : (v : Rule) (w : Slip) (m : Match) → m ≡ matchOf (countedRule v .0) (countedSlip w) → Matching v w m
+matching v w m is =
+    record {
+      exactly = λ h. along (λ (r : List (List OurTerm)). acceptedSlip w ≡ true
+          → (m .yes ≡ true) ↔ MatchesByLaws basics consts (map expr r) (map expr (viewSlip w))) h (side .exactly (as-left h));
+      as-written = λ t u reads reads-slip s y says says-slip.
+          side .as-written (leftText t) u (left-read t v reads) reads-slip (leftSide s) y (left-says t s says) says-slip;
+      on-terms = λ h. along (λ (r : List (List OurTerm)). acceptedSlip w ≡ true → (m .yes ≡ true) ↔ Matches r (map constants (viewSlip w)))
+          h (side .on-terms (as-left h));
+      filling = λ h. along (λ (r : List (List OurTerm)). acceptedSlip w ≡ true → m .yes ≡ true
+          → (φ : Filling Con Kind ℕ) × Shows r (map constants (viewSlip w)) (m .filling) φ) h (side .filling (as-left h));
+      no-blank = side .no-blank;
+      unread-rule = λ h. side .unread-rule (left-accepted v ∙ h);
+      unread-slip = side .unread-slip;
+      by-left = side;
+    }
+  where
+    side : SideMatching (leftValue v) w m
+    side = side-matching (leftValue v) w m (is ∙ ap (λ (r : List (List OurTerm)). matchOf r (countedSlip w)) (sym (left-counted v)))
+
+    as-left : acceptedRule v ≡ true → acceptedLeft (leftValue v) ≡ true
+    as-left h = left-accepted v ∙ h
+
+    -- what is said of the left side's value is said of the rule's own
+    along : (P : List (List OurTerm) → Type 0) → acceptedRule v ≡ true → P (viewSide (leftValue v)) → P (viewSide (v .left))
+    along P h = subst P (ap viewSide (left-yes v h))

@@ -2,11 +2,12 @@
 -- written exactly when both rules match it; it then fits that entry only, and both match it with the fillings that the entry shows. Every
 -- entry has a slip. No list of solutions, written with our terms, that covers all shared slips has fewer solutions than the returned entry
 -- count. The only premise is that the lent buffer has room for the whole list."
+-- Document 02: "Overlaps look at left sides only": the rules of the demand are the left sides, and a rule is accepted with both its sides.
 -- Over the relations that the contracts cite, for the lent bytes `old`, the answer r and the bytes `new` afterwards:
---     overlaps::list_overlaps   of rule values v and w   `Lists (countedLeft v) (countedLeft w) old r new`
+--     overlaps::list_overlaps   of rule values v and w   `Lists (countedRule v .0) (countedRule w .0) old r new`
 --     overlaps::list_texts      of texts t and u         `TextsList t u old r new`
 -- src/ has functions that call these and ensure what is said here.
-use mathlib.Core.Path.{_≡_, refl, sym, _∙_, ap, ap₂, subst}
+use mathlib.Core.Path.{_≡_, refl, sym, _∙_, ap, ap₂, subst, subst₂}
 use mathlib.Core.Logic.{_↔_, _⊎_, inl, inr, _≢_}
 use mathlib.Core.Bool.{Bool, true, false, cond}
 use mathlib.Core.Option.{Option, none, some}
@@ -24,8 +25,12 @@ use Rattle.theory.specs.Fillings.{Filling, Typed, fill}
 use Rattle.text.specs.Told.{Told}
 use Rattle.text.specs.Terms.{Con, OurTerm}
 use Rattle.text.specs.Limits.{IsLeft}
-use Rattle.text.specs.Read.{Reason, Outcome, refused, accepted, readSide}
-use Rattle.text.proofs.Accepted.{rule-read}
+use Rattle.text.specs.Read.{Reason, OutcomeOf, refused, accepted}
+use Rattle.rules.specs.Read.{OurRule, readRule}
+use Rattle.rules.specs.Place.{leftText}
+use Rattle.rules.proofs.Accepted.{rule-read}
+use Rattle.rules.proofs.Before.{one-sided}
+use Rattle.rules.proofs.Left.{left-reads}
 use Rattle.instance.specs.Constants.{consts}
 use Rattle.instance.specs.Matching.{Matches}
 use Rattle.listing.specs.Lines.{Line, listText, WritableLine}
@@ -33,16 +38,17 @@ use Rattle.listing.specs.Overlaps.{linesOf, overlapText}
 use Rattle.listing.specs.Fits.{OurSlip, Fits, Shows, Solution, Covers}
 use Rattle.listing.proofs.Lines.{lines-one}
 use Rattle.listing.proofs.Exact.{lines-exact, lines-once, lines-fillings, lines-slips, lines-least, lines-writable}
-use Rattle.terms.specs.declared.RuleSide.{RuleSide}
-use Rattle.terms.specs.Values.{viewSide, encodeSide}
-use Rattle.accepted.specs.Accepted.{acceptedLeft, countedLeft}
-use Rattle.accepted.proofs.Accepted.{accepted-rule, encode-accepted-rule, view-encode-rule, rule-value-iff}
+use Rattle.terms.specs.declared.Rule.{Rule}
+use Rattle.terms.specs.Values.{encodeRule}
+use Rattle.accepted_rules.specs.Rules.{acceptedRule, countedRule}
+use Rattle.accepted_rules.proofs.Rules.{accepted-rule, counted-yes, counted-no, counted-encode, rule-value-iff}
 use Rattle.verdicts.specs.declared.Verdict.the-variants.{Accepted, Refused}
 use Rattle.verdicts.specs.Verdicts.{reasonFrom, verdictOf}
+use Rattle.reading.specs.Answers.{leftSaid}
 use Rattle.overlaps.specs.declared.Listed.{Listed}
 use Rattle.overlaps.specs.declared.Listed.the-variants.{Lines, TooSmall}
 use Rattle.overlaps.specs.declared.TextsListed.{TextsListed}
-use Rattle.overlaps.specs.Answers.{told, Lists, TextsList, ruleOf}
+use Rattle.overlaps.specs.Answers.{told, Lists, TextsList}
 use Rattle.overlaps.proofs.Answers.{eight-iff, fits-iff, counts-are, written, kept}
 use Rattle.overlaps.proofs.Rules.{no-right, none-listed, lines-none}
 use Rattle.demands.specs.Entries.{Filled, lines-filled}
@@ -193,49 +199,46 @@ module _ {x y : List (List OurTerm)} {old : List ℕ} {r : Listed} {new : List �
 
 -- ---- of rule values, which no reading need have returned
 
-is-rule : (v : RuleSide) → acceptedLeft v ≡ true → IsLeft (countedLeft v)
-is-rule v h = along (accepted-rule v h .0)
-  where
-    along : IsLeft (viewSide v) → IsLeft (countedLeft v)
-    along k = rw (h) k
+is-left : (v : Rule) → acceptedRule v ≡ true → IsLeft (countedRule v .0)
+is-left v h = subst (λ (w : OurRule). IsLeft (w .0)) (sym (counted-yes v h)) (accepted-rule v h .0 .0)
 
-not-counted : (v : RuleSide) → acceptedLeft v ≡ false → countedLeft v ≡ []
-not-counted v e = ap (λ (b : Bool). cond b (viewSide v) []) e
+not-counted : (v : Rule) → acceptedRule v ≡ false → countedRule v .0 ≡ []
+not-counted v e = ap (λ (w : OurRule). w .0) (counted-no v e)
 
-module _ (v w : RuleSide) {old : List ℕ} {r : Listed} {new : List ℕ} (lists : Lists (countedLeft v) (countedLeft w) old r new) where
+module _ (v w : Rule) {old : List ℕ} {r : Listed} {new : List ℕ} (lists : Lists (countedRule v .0) (countedRule w .0) old r new) where
   -- THE THEOREM, of what `list_overlaps` answers and leaves
-  pub demand-3 : (B : Type 0) → acceptedLeft v ≡ true → acceptedLeft w ≡ true
-      → length (overlapText (countedLeft v) (countedLeft w)) ≤ length old → SharedSlips B (countedLeft v) (countedLeft w) old r new
-  demand-3 B a b room = rules-3 lists B (is-rule v a) (is-rule w b) room
+  pub demand-3 : (B : Type 0) → acceptedRule v ≡ true → acceptedRule w ≡ true
+      → length (overlapText (countedRule v .0) (countedRule w .0)) ≤ length old
+      → SharedSlips B (countedRule v .0) (countedRule w .0) old r new
+  demand-3 B a b room = rules-3 lists B (is-left v a) (is-left w b) room
 
-  pub not-accepted-left : acceptedLeft v ≡ false → NoneListed old r new
+  pub not-accepted-left : acceptedRule v ≡ false → NoneListed old r new
   not-accepted-left e = no-fields-left lists (not-counted v e)
 
-  pub not-accepted-right : acceptedLeft w ≡ false → NoneListed old r new
+  pub not-accepted-right : acceptedRule w ≡ false → NoneListed old r new
   not-accepted-right e = no-fields-right lists (not-counted w e)
 
 -- "In demand 3 a rule is accepted when reading some text returns it with fields"
-pub accepted-iff : (v : RuleSide)
-    → (acceptedLeft v ≡ true) ↔ ((t : List ℕ) × (x : List (List OurTerm)) × (readSide t ≡ accepted x) × (v ≡ encodeSide x))
+pub accepted-iff : (v : Rule) → (acceptedRule v ≡ true) ↔ ((t : List ℕ) × (x : OurRule) × (readRule t ≡ accepted x) × (v ≡ encodeRule x))
 accepted-iff = rule-value-iff
 
 -- a value that reading a text returns counts as the rule that the text says
-read-is : (t : List ℕ) (x : List (List OurTerm)) → readSide t ≡ accepted x → countedLeft (encodeSide x) ≡ x
-read-is t x e = let h = rule-read t x e in rw (encode-accepted-rule x h, view-encode-rule x h)
+read-is : (t : List ℕ) (x : OurRule) → readRule t ≡ accepted x → countedRule (encodeRule x) .0 ≡ x .0
+read-is t x e = ap (λ (w : OurRule). w .0) (counted-encode x (rule-read t x e))
 
 -- the same of the values that reading the texts t and u returns
-pub values-demand-3 : (B : Type 0) (t u : List ℕ) (x y : List (List OurTerm)) {old : List ℕ} {r : Listed} {new : List ℕ}
-    → readSide t ≡ accepted x → readSide u ≡ accepted y
-    → Lists (countedLeft (encodeSide x)) (countedLeft (encodeSide y)) old r new → length (overlapText x y) ≤ length old
-    → SharedSlips B x y old r new
+pub values-demand-3 : (B : Type 0) (t u : List ℕ) (x y : OurRule) {old : List ℕ} {r : Listed} {new : List ℕ}
+    → readRule t ≡ accepted x → readRule u ≡ accepted y
+    → Lists (countedRule (encodeRule x) .0) (countedRule (encodeRule y) .0) old r new → length (overlapText (x .0) (y .0)) ≤ length old
+    → SharedSlips B (x .0) (y .0) old r new
 values-demand-3 B t u x y {old} {r} {new} reads-t reads-u lists room =
-    rules-3 (subst (λ (z : List (List OurTerm)). Lists x z old r new) (read-is u y reads-u)
-    (subst (λ (z : List (List OurTerm)). Lists z (countedLeft (encodeSide y)) old r new) (read-is t x reads-t) lists))
-    B (rule-read t x reads-t) (rule-read u y reads-u) room
+    rules-3 (subst (λ (z : List (List OurTerm)). Lists (x .0) z old r new) (read-is u y reads-u)
+    (subst (λ (z : List (List OurTerm)). Lists z (countedRule (encodeRule y) .0) old r new) (read-is t x reads-t) lists))
+    B (rule-read t x reads-t .0) (rule-read u y reads-u .0) room
 
 -- ---- of texts
 
--- what is answered of two texts that are read as the rules x and y, and what the lent bytes hold
+-- what is answered of two texts that are read as rules with the left sides x and y, and what the lent bytes hold
 pub record TextsShared (B : Type 0) (x y : List (List OurTerm)) (old : List ℕ) (r : TextsListed) (new : List ℕ) : Type 0 where
   pub left : r .left ≡ Accepted
   pub right : r .right ≡ Accepted
@@ -243,31 +246,60 @@ pub record TextsShared (B : Type 0) (x y : List (List OurTerm)) (old : List ℕ)
 
 module _ (t u : List ℕ) {old : List ℕ} {r : TextsListed} {new : List ℕ} (lists : TextsList t u old r new) where
   -- THE THEOREM, of what `list_texts` answers and leaves
-  pub texts-demand-3 : (B : Type 0) (x y : List (List OurTerm)) → readSide t ≡ accepted x → readSide u ≡ accepted y
-      → length (overlapText x y) ≤ length old → TextsShared B x y old r new
+  pub texts-demand-3 : (B : Type 0) (x y : OurRule) → readRule t ≡ accepted x → readRule u ≡ accepted y
+      → length (overlapText (x .0) (y .0)) ≤ length old → TextsShared B (x .0) (y .0) old r new
   texts-demand-3 B x y reads-t reads-u room =
       record {
         left = lists .left ∙ ap verdictOf reads-t;
         right = lists .right ∙ ap verdictOf reads-u;
-        shared = rules-3 said B (rule-read t x reads-t) (rule-read u y reads-u) room;
+        shared = rules-3 said B (rule-read t x reads-t .0) (rule-read u y reads-u .0) room;
       }
     where
-      said : Lists x y old (r .listed) new
-      said = subst (λ (o : Outcome). Lists x (ruleOf o) old (r .listed) new) reads-u
-          (subst (λ (o : Outcome). Lists (ruleOf o) (ruleOf (readSide u)) old (r .listed) new) reads-t (lists .listed))
+      said : Lists (x .0) (y .0) old (r .listed) new
+      said = subst (λ (o : OutcomeOf OurRule). Lists (x .0) (leftSaid o) old (r .listed) new) reads-u
+          (subst (λ (o : OutcomeOf OurRule). Lists (leftSaid o) (leftSaid (readRule u)) old (r .listed) new) reads-t (lists .listed))
+
+-- document 02: "Overlaps look at left sides only, so the list that our shops rely on is the same": texts that are read as rules have the
+-- list that the texts of their left sides have
+pub left-sides-only : (t u : List ℕ) (x y : OurRule) {old : List ℕ} {r : TextsListed} {new : List ℕ}
+    → readRule t ≡ accepted x → readRule u ≡ accepted y → TextsList t u old r new ↔ TextsList (leftText t) (leftText u) old r new
+left-sides-only t u x y {old} {r} {new} reads-t reads-u = (
+  λ h. record {
+    left = h .left ∙ verdicts t x reads-t;
+    right = h .right ∙ verdicts u y reads-u;
+    listed = both (said t x reads-t) (said u y reads-u) (h .listed);
+  },
+  λ h. record {
+    left = h .left ∙ sym (verdicts t x reads-t);
+    right = h .right ∙ sym (verdicts u y reads-u);
+    listed = both (sym (said t x reads-t)) (sym (said u y reads-u)) (h .listed);
+  },
+)
+  where
+    alone : (s : List ℕ) (w : OurRule) → readRule s ≡ accepted w → readRule (leftText s) ≡ accepted (w .0, [])
+    alone s w e = one-sided (leftText s) (w .0) .1 (left-reads s w e)
+
+    verdicts : (s : List ℕ) (w : OurRule) → readRule s ≡ accepted w → verdictOf (readRule s) ≡ verdictOf (readRule (leftText s))
+    verdicts s w e = ap verdictOf e ∙ sym (ap verdictOf (alone s w e))
+
+    said : (s : List ℕ) (w : OurRule) → readRule s ≡ accepted w → leftSaid (readRule s) ≡ leftSaid (readRule (leftText s))
+    said s w e = ap leftSaid e ∙ sym (ap leftSaid (alone s w e))
+
+    both : {a b c d : List (List OurTerm)} → a ≡ b → c ≡ d → Lists a c old (r .listed) new → Lists b d old (r .listed) new
+    both e f h = subst₂ (λ (k l : List (List OurTerm)). Lists k l old (r .listed) new) e f h
 
 -- ---- what src/ ensures
 
 -- demand 3 of `list_overlaps`, at the numbers as names: of whatever two values, the answer and the lent bytes
-pub record ListsSharedSlips (v w : RuleSide) (old : List ℕ) (r : Listed) (new : List ℕ) : Type 0 where
-  pub shared : acceptedLeft v ≡ true → acceptedLeft w ≡ true → length (overlapText (countedLeft v) (countedLeft w)) ≤ length old
-      → SharedSlips ℕ (countedLeft v) (countedLeft w) old r new
-  pub by-room : RefusedByRoom (countedLeft v) (countedLeft w) old r new
-  pub left-none : acceptedLeft v ≡ false → NoneListed old r new
-  pub right-none : acceptedLeft w ≡ false → NoneListed old r new
-  pub other-count : length (countedLeft v) ≢ length (countedLeft w) → NoneListed old r new
+pub record ListsSharedSlips (v w : Rule) (old : List ℕ) (r : Listed) (new : List ℕ) : Type 0 where
+  pub shared : acceptedRule v ≡ true → acceptedRule w ≡ true → length (overlapText (countedRule v .0) (countedRule w .0)) ≤ length old
+      → SharedSlips ℕ (countedRule v .0) (countedRule w .0) old r new
+  pub by-room : RefusedByRoom (countedRule v .0) (countedRule w .0) old r new
+  pub left-none : acceptedRule v ≡ false → NoneListed old r new
+  pub right-none : acceptedRule w ≡ false → NoneListed old r new
+  pub other-count : length (countedRule v .0) ≢ length (countedRule w .0) → NoneListed old r new
 
-pub lists-shared : (v w : RuleSide) {old : List ℕ} {r : Listed} {new : List ℕ} → Lists (countedLeft v) (countedLeft w) old r new
+pub lists-shared : (v w : Rule) {old : List ℕ} {r : Listed} {new : List ℕ} → Lists (countedRule v .0) (countedRule w .0) old r new
     → ListsSharedSlips v w old r new
 lists-shared v w h =
     record {
@@ -280,12 +312,12 @@ lists-shared v w h =
 
 -- and of `list_texts`: of whatever two texts. "A refusal returns its number, its place and the rule with no fields", which has no entries
 pub record TextsSharedSlips (t u old : List ℕ) (r : TextsListed) (new : List ℕ) : Type 0 where
-  pub shared : (x y : List (List OurTerm)) → readSide t ≡ accepted x → readSide u ≡ accepted y → length (overlapText x y) ≤ length old
-      → TextsShared ℕ x y old r new
-  pub by-room : RefusedByRoom (ruleOf (readSide t)) (ruleOf (readSide u)) old (r .listed) new
-  pub left-refused : (s : Reason) (p : ℕ) → readSide t ≡ refused s p
+  pub shared : (x y : OurRule) → readRule t ≡ accepted x → readRule u ≡ accepted y → length (overlapText (x .0) (y .0)) ≤ length old
+      → TextsShared ℕ (x .0) (y .0) old r new
+  pub by-room : RefusedByRoom (leftSaid (readRule t)) (leftSaid (readRule u)) old (r .listed) new
+  pub left-refused : (s : Reason) (p : ℕ) → readRule t ≡ refused s p
       → (r .left ≡ Refused (reasonFrom s) p) × NoneListed old (r .listed) new
-  pub right-refused : (s : Reason) (p : ℕ) → readSide u ≡ refused s p
+  pub right-refused : (s : Reason) (p : ℕ) → readRule u ≡ refused s p
       → (r .right ≡ Refused (reasonFrom s) p) × NoneListed old (r .listed) new
 
 pub texts-shared : (t u : List ℕ) {old : List ℕ} {r : TextsListed} {new : List ℕ} → TextsList t u old r new
@@ -294,6 +326,6 @@ texts-shared t u h =
     record {
       shared = texts-demand-3 t u h ℕ;
       by-room = eight-demanded (h .listed);
-      left-refused = λ s p e. (h .left ∙ ap verdictOf e, no-fields-left (h .listed) (ap ruleOf e));
-      right-refused = λ s p e. (h .right ∙ ap verdictOf e, no-fields-right (h .listed) (ap ruleOf e));
+      left-refused = λ s p e. (h .left ∙ ap verdictOf e, no-fields-left (h .listed) (ap leftSaid e));
+      right-refused = λ s p e. (h .right ∙ ap verdictOf e, no-fields-right (h .listed) (ap leftSaid e));
     }

@@ -16,9 +16,10 @@ use Rattle.bytes.specs.Bytes.{indexOf}
 use Rattle.text.specs.Ascii.{ascii, newline}
 use Rattle.text.specs.Numbers.{digitsOf}
 use Rattle.text.specs.Terms.{OurTerm}
-use Rattle.text.specs.Read.{Reason, number, Outcome, refused, accepted, readSide, rule}
-use Rattle.text.proofs.Accepted.{rule-read}
-use Rattle.text.proofs.Theorems.{rule-accepted}
+use Rattle.text.specs.Read.{Reason, number, OutcomeOf, refused, accepted, rule}
+use Rattle.rules.specs.Read.{OurRule, readRule}
+use Rattle.rules.proofs.Read.{rule-accepted}
+use Rattle.rules.proofs.Accepted.{rule-read}
 use Rattle.writing.specs.declared.Written.{Written}
 use Rattle.writing.specs.Answers.{told, Writes}
 use Rattle.pieces.specs.Refusals.{numberAt}
@@ -51,8 +52,8 @@ prints {text} {old} {r} {new} is room =
 
 -- ---- what is said of a line
 
--- a text that is read as a rule has at most 2,048 bytes
-read-short : (t : List ℕ) (x : List (List OurTerm)) → readSide t ≡ accepted x → length t ≤ rule .bytes
+-- a text that is read as a rule has at most 4,096 bytes
+read-short : (t : List ℕ) (x : OurRule) → readRule t ≡ accepted x → length t ≤ rule .bytes
 read-short t x e = go (decLt (rule .bytes) (length t))
   where
     go : Dec (rule .bytes < length t) → length t ≤ rule .bytes
@@ -60,25 +61,25 @@ read-short t x e = go (decLt (rule .bytes) (length t))
     go (no h) = omega arith
 
 -- so a line of two of them is not too long
-both-short : (t : List ℕ) (x y : List (List OurTerm)) → readSide (leftPart t) ≡ accepted x → readSide (rightPart t) ≡ accepted y
+both-short : (t : List ℕ) (x y : OurRule) → readRule (leftPart t) ≡ accepted x → readRule (rightPart t) ≡ accepted y
     → length t ≤ longestLine
 both-short t x y e f =
     let i = indexOf tab t in
     omega (arith, read-short (leftPart t) x e, read-short (rightPart t) y f, length-take i t, length-drop (suc i) t)
 
-short-said : (t : List ℕ) → length t ≤ longestLine → lineText t ≡ readText (readSide (leftPart t)) (readSide (rightPart t))
+short-said : (t : List ℕ) → length t ≤ longestLine → lineText t ≡ readText (readRule (leftPart t)) (readRule (rightPart t))
 unfolding lineText
 short-said t h =
-    let both = readText (readSide (leftPart t)) (readSide (rightPart t)) in
+    let both = readText (readRule (leftPart t)) (readRule (rightPart t)) in
     ap (λ (b : Bool). cond b (ascii "line too long" ++ newline) both) (le-ltb longestLine (length t) h)
 
-both-said : (t : List ℕ) (x y : List (List OurTerm)) → readSide (leftPart t) ≡ accepted x → readSide (rightPart t) ≡ accepted y
-    → lineText t ≡ listedText (overlapText x y)
+both-said : (t : List ℕ) (x y : OurRule) → readRule (leftPart t) ≡ accepted x → readRule (rightPart t) ≡ accepted y
+    → lineText t ≡ listedText (overlapText (x .0) (y .0))
 both-said t x y e f = short-said t (both-short t x y e f) ∙ ap₂ readText e f
 
 -- ---- the theorems, for line number k, the line t and lent bytes that have room for the answer
 
--- the title, and under it the list of demand 3 of the rules x and y
+-- the title, and under it the list of demand 3 of rules with the left sides x and y
 pub record PrintsShared (B : Type 0) (k : ℕ) (x y : List (List OurTerm)) (old : List ℕ) (r : Written) (new : List ℕ) : Type 0 where
   pub list : List ℕ
   pub demanded : Demand3 B x y (length (linesOf x y)) list
@@ -91,33 +92,33 @@ module _ (k : ℕ) (t : List ℕ) {old : List ℕ} {r : Written} {new : List ℕ
   said e = subst (λ (l : List ℕ). Prints (titleText k ++ l) old r new) e (prints is room)
 
   -- of a line whose two parts are read as the rules x and y, with a list of at most 65,536 bytes
-  pub pair-demand-3 : (B : Type 0) (x y : List (List OurTerm))
-      → readSide (leftPart t) ≡ accepted x → readSide (rightPart t) ≡ accepted y → length (overlapText x y) ≤ mostBytes
-      → PrintsShared B k x y old r new
+  pub pair-demand-3 : (B : Type 0) (x y : OurRule)
+      → readRule (leftPart t) ≡ accepted x → readRule (rightPart t) ≡ accepted y → length (overlapText (x .0) (y .0)) ≤ mostBytes
+      → PrintsShared B k (x .0) (y .0) old r new
   pair-demand-3 B x y e f fits =
       record {
-        list = overlapText x y;
-        demanded = of-rules B x y (rule-read (leftPart t) x e) (rule-read (rightPart t) y f);
-        printed = said (both-said t x y e f ∙ rw (le-leb (length (overlapText x y)) mostBytes fits));
+        list = overlapText (x .0) (y .0);
+        demanded = of-rules B (x .0) (y .0) (rule-read (leftPart t) x e .0) (rule-read (rightPart t) y f .0);
+        printed = said (both-said t x y e f ∙ rw (le-leb (length (overlapText (x .0) (y .0))) mostBytes fits));
       }
 
   -- "`too long B` where B bytes exceed its 65,536"
-  pub pair-long : (x y : List (List OurTerm)) → readSide (leftPart t) ≡ accepted x → readSide (rightPart t) ≡ accepted y
-      → mostBytes < length (overlapText x y)
-      → Prints (titleText k ++ (ascii "too long " ++ digitsOf (length (overlapText x y)) ++ newline)) old r new
-  pair-long x y e f more = said (both-said t x y e f ∙ rw (lt-leb (length (overlapText x y)) mostBytes more))
+  pub pair-long : (x y : OurRule) → readRule (leftPart t) ≡ accepted x → readRule (rightPart t) ≡ accepted y
+      → mostBytes < length (overlapText (x .0) (y .0))
+      → Prints (titleText k ++ (ascii "too long " ++ digitsOf (length (overlapText (x .0) (y .0))) ++ newline)) old r new
+  pair-long x y e f more = said (both-said t x y e f ∙ rw (lt-leb (length (overlapText (x .0) (y .0))) mostBytes more))
 
   -- "`refused left N at P`, or else `refused right N at P`, N the number and P the place"
-  pub pair-left-refused : (s : Reason) (p : ℕ) → length t ≤ longestLine → readSide (leftPart t) ≡ refused s p
+  pub pair-left-refused : (s : Reason) (p : ℕ) → length t ≤ longestLine → readRule (leftPart t) ≡ refused s p
       → Prints (titleText k ++ (ascii "refused left " ++ numberAt (number s) p ++ newline)) old r new
-  pair-left-refused s p h e = said (short-said t h ∙ ap (λ (o : Outcome). readText o (readSide (rightPart t))) e)
+  pair-left-refused s p h e = said (short-said t h ∙ ap (λ (o : OutcomeOf OurRule). readText o (readRule (rightPart t))) e)
 
-  pub pair-right-refused : (x : List (List OurTerm)) (s : Reason) (p : ℕ) → length t ≤ longestLine
-      → readSide (leftPart t) ≡ accepted x → readSide (rightPart t) ≡ refused s p
+  pub pair-right-refused : (x : OurRule) (s : Reason) (p : ℕ) → length t ≤ longestLine
+      → readRule (leftPart t) ≡ accepted x → readRule (rightPart t) ≡ refused s p
       → Prints (titleText k ++ (ascii "refused right " ++ numberAt (number s) p ++ newline)) old r new
   pair-right-refused x s p h e f = said (short-said t h ∙ ap₂ readText e f)
 
-  -- "`line too long` beyond 4,097 bytes, the newline not counted"
+  -- "`line too long` beyond" document 02's 8,193 bytes, "the newline not counted"
   pub pair-line-long : longestLine < length t → Prints (titleText k ++ (ascii "line too long" ++ newline)) old r new
   pair-line-long h = said (line-long t h)
 
@@ -125,15 +126,15 @@ module _ (k : ℕ) (t : List ℕ) {old : List ℕ} {r : Written} {new : List ℕ
 
 -- of `pair_answer`: of whatever line, demand 3 at the numbers as names, or the line in the list's place
 pub record PairSaid (k : ℕ) (t old : List ℕ) (r : Written) (new : List ℕ) : Type 0 where
-  pub shared : (x y : List (List OurTerm)) → readSide (leftPart t) ≡ accepted x → readSide (rightPart t) ≡ accepted y
-      → length (overlapText x y) ≤ mostBytes → PrintsShared ℕ k x y old r new
-  pub too-long : (x y : List (List OurTerm)) → readSide (leftPart t) ≡ accepted x → readSide (rightPart t) ≡ accepted y
-      → mostBytes < length (overlapText x y)
-      → Prints (titleText k ++ (ascii "too long " ++ digitsOf (length (overlapText x y)) ++ newline)) old r new
-  pub left-refused : (s : Reason) (p : ℕ) → length t ≤ longestLine → readSide (leftPart t) ≡ refused s p
+  pub shared : (x y : OurRule) → readRule (leftPart t) ≡ accepted x → readRule (rightPart t) ≡ accepted y
+      → length (overlapText (x .0) (y .0)) ≤ mostBytes → PrintsShared ℕ k (x .0) (y .0) old r new
+  pub too-long : (x y : OurRule) → readRule (leftPart t) ≡ accepted x → readRule (rightPart t) ≡ accepted y
+      → mostBytes < length (overlapText (x .0) (y .0))
+      → Prints (titleText k ++ (ascii "too long " ++ digitsOf (length (overlapText (x .0) (y .0))) ++ newline)) old r new
+  pub left-refused : (s : Reason) (p : ℕ) → length t ≤ longestLine → readRule (leftPart t) ≡ refused s p
       → Prints (titleText k ++ (ascii "refused left " ++ numberAt (number s) p ++ newline)) old r new
-  pub right-refused : (x : List (List OurTerm)) (s : Reason) (p : ℕ) → length t ≤ longestLine
-      → readSide (leftPart t) ≡ accepted x → readSide (rightPart t) ≡ refused s p
+  pub right-refused : (x : OurRule) (s : Reason) (p : ℕ) → length t ≤ longestLine
+      → readRule (leftPart t) ≡ accepted x → readRule (rightPart t) ≡ refused s p
       → Prints (titleText k ++ (ascii "refused right " ++ numberAt (number s) p ++ newline)) old r new
   pub line-long : longestLine < length t → Prints (titleText k ++ (ascii "line too long" ++ newline)) old r new
 

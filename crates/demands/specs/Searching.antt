@@ -10,7 +10,8 @@ use mathlib.Core.Path.{_≡_, refl, sym, _∙_, ap, ap₂, subst}
 use mathlib.Core.Logic.{_≢_, _↔_, _⊎_, inl, inr}
 use mathlib.Core.Bool.{Bool, true, false, cond}
 use mathlib.Core.Option.{Option, none, some, Option·none-ne-some, Option·some-injective}
-use mathlib.Core.List.{List, [], _∷_, _++_, map, map-append, head-eq-of-cons-eq, tail-eq-of-cons-eq, nil≢cons, cons≢nil, List·Memᴰ, List·Memᴰ·not-nil}
+use mathlib.Core.List.{List, [], _∷_, _++_, map, map-append, head-eq-of-cons-eq, tail-eq-of-cons-eq, nil≢cons, cons≢nil}
+use mathlib.Core.List.{List·Memᴰ, List·Memᴰ·not-nil}
 use Prim.Native.Nat.{ℕ, suc, _≤_, _<_}
 use native.Mathlib.Omega.{arith}
 use native.Mathlib.Nat.{lt-of-not-le}
@@ -30,7 +31,9 @@ use Rattle.text.specs.Told.{Told}
 use Rattle.text.specs.Grammar.{Raw, Says}
 use Rattle.text.specs.Terms.{Con, OurTerm, fieldsOf}
 use Rattle.text.specs.Limits.{IsLeft}
-use Rattle.text.specs.Read.{accepted, readSide}
+use Rattle.text.specs.Read.{accepted}
+use Rattle.rules.specs.Read.{readRule}
+use Rattle.rules.proofs.Before.{one-sided}
 use Rattle.text.proofs.Told.{eight-iff, fits-iff}
 use Rattle.text.proofs.Parse.{says-one}
 use Rattle.text.proofs.Theorems.{rule-accepted}
@@ -52,7 +55,8 @@ use Rattle.searching.proofs.Ends as ends
 use Rattle.searching.proofs.Used.{used-is}
 use Rattle.searching.proofs.Peak as peaks
 use Rattle.searching.proofs.Peak.{peak-most, peak-met, refused-peak}
-use Rattle.solving.specs.Answers.{setting, fieldOn, AnswerLine, lineText, linesText, WritableAnswer, Gives, InstanceOfLine, answerLine, Lines as Found, lines, nine, linesFor, linesOf, bytesOf}
+use Rattle.solving.specs.Answers.{setting, fieldOn, AnswerLine, lineText, linesText, WritableAnswer, Gives, InstanceOfLine, answerLine}
+use Rattle.solving.specs.Answers.{Lines as Found, lines, nine, linesFor, linesOf, bytesOf}
 use Rattle.solving.proofs.Search.{equation-linear}
 use Rattle.solving.proofs.Shown as shown
 use Rattle.solving.proofs.Shown.{lines-answers, nine-peak}
@@ -428,12 +432,12 @@ cons-once (c ∷ a) [] e = absurd (cons≢nil e)
 cons-once (c ∷ a) (d ∷ b) e = ap₂ (λ (x : Con) (l : List Con). x ∷ l) (con-once (head-eq-of-cons-eq e))
     (cons-once a b (tail-eq-of-cons-eq e))
 
--- texts t and u that say one field each, x and y, and are read as the fields f and g
-module _ (t u : List ℕ) (f g : List OurTerm) (reads-t : readSide t ≡ accepted (f ∷ [])) (reads-u : readSide u ≡ accepted (g ∷ []))
+-- texts t and u that say one field each, x and y, and are read as rules with the fields f and g and without right side
+module _ (t u : List ℕ) (f g : List OurTerm) (reads-t : readRule t ≡ accepted (f ∷ [], [])) (reads-u : readRule u ≡ accepted (g ∷ [], []))
     (x y : List Raw) (says-t : Says t (x ∷ [])) (says-u : Says u (y ∷ [])) where
-  said : (s : List ℕ) (e : List OurTerm) (z : List Raw) → readSide s ≡ accepted (e ∷ []) → Says s (z ∷ []) → flat (writtenField z) ≡ e
+  said : (s : List ℕ) (e : List OurTerm) (z : List Raw) → readRule s ≡ accepted (e ∷ [], []) → Says s (z ∷ []) → flat (writtenField z) ≡ e
   said s e z reads says =
-      let a = rule-accepted s (e ∷ []) .0 reads .1 in
+      let a = rule-accepted s (e ∷ []) .0 (one-sided s (e ∷ []) .0 reads) .1 in
       flat-field z ∙ head-eq-of-cons-eq (ap fieldsOf (says-one s (z ∷ []) (a .0) says (a .1)) ∙ a .2)
 
   -- what is put for the terms of the two expressions makes them equal by the laws exactly when it makes the fields' terms the same

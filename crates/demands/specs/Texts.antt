@@ -1,35 +1,48 @@
 -- What is promised of reading and writing rules and slips, over the relations that the contracts cite:
---     reading::read_rule       returns r with `ReadsRule t r`
---     reading::read_slip       returns r with `ReadsSlip t r`
---     plain_text::write_rule   answers r and leaves `new` with `Writes (plain (countedLeft v)) old r new`
+--     reading::read_rule      returns r with `ReadsRule t r`
+--     reading::read_slip      returns r with `ReadsSlip t r`
+--     rule_text::write_rule   answers r and leaves `new` with `Writes (plainBoth (countedRule v)) old r new`
+--     slip_text::write_slip   answers r and leaves `new` with `Writes (plain (countedSlip v)) old r new`
 use mathlib.Core.Path.{_≡_, refl, sym, _∙_, ap, subst}
-use mathlib.Core.Logic.{_≢_, _↔_, Iff·trans}
+use mathlib.Core.Logic.{_≢_, _↔_, _⊎_, inl, inr, Iff·trans}
 use mathlib.Core.Bool.{Bool, true, false, cond}
-use mathlib.Core.Option.{Option, none, some, IsSome}
+use mathlib.Core.Option.{none, some, Option·some-ne-none}
 use mathlib.Core.List.{List, [], _∷_, _++_}
-use Prim.Native.Nat.{ℕ, _≤_, _<_}
+use Prim.Native.Nat.{ℕ, suc, _≤_, _<_}
 use native.Mathlib.Omega.{arith}
-use native.Mathlib.Decide.{ℕ-discrete}
 use lib.Dec.{leb}
 use lib.ListN.{length, take, drop}
 use lib.Seq.{take-at, drop-at}
 use borrow.Author.Tests.{le-leb, lt-leb}
+use Rattle.lists.specs.Seqs.{All, all-map}
+use Rattle.order.specs.Types.{Kind}
 use Rattle.text.specs.Told.{Told}
-use Rattle.text.specs.Grammar.{Raw, Says}
+use Rattle.text.specs.Grammar.{Raw, raw-var, Says}
+use Rattle.text.specs.Numbers.{value}
 use Rattle.text.specs.Terms.{OurTerm, fieldsOf}
-use Rattle.text.specs.Read.{Reason, long, grammar, fields, terms, limits, linear, variable, number, Sort, rule, slip, earlier}
-use Rattle.text.specs.Read.{Outcome, refused, accepted, read, readSide, readSlip, Refuses, NoReason}
+use Rattle.text.specs.Read.{Reason, long, grammar, fields, terms, limits, linear, variable, unknown, number, slip, earlier}
+use Rattle.text.specs.Read.{OutcomeOf, Outcome, refused, accepted, readSide, readSlip, Refuses, NoReason}
 use Rattle.text.specs.Marks.{Over, NotLinear, IsVar}
 use Rattle.text.specs.Sharp.{FirstBadMark}
 use Rattle.text.specs.Plain.{plain}
-use Rattle.text.proofs.Accepted.{rule-read, rule-plain}
 use Rattle.text.proofs.Sharp.{first-bad}
 use Rattle.text.proofs.Told.{eight-iff, fits-iff}
-use Rattle.text.proofs.Theorems.{rule-refused, slip-refused, rule-never, slip-never, rule-accepted, slip-accepted, plain-injective}
-use Rattle.terms.specs.declared.RuleSide.{RuleSide}
-use Rattle.terms.specs.Values.{viewSide, blankSide, blankSlip, encodeSide, encodeSlip}
-use Rattle.accepted.specs.Accepted.{acceptedLeft, countedLeft}
-use Rattle.accepted.proofs.Accepted.{accepted-rule, encode-accepted-rule, view-encode-rule}
+use Rattle.text.proofs.Theorems.{slip-refused, slip-never, slip-accepted}
+use Rattle.rules.specs.Sides.{Sides, SaysRule}
+use Rattle.rules.specs.Place.{cut}
+use Rattle.rules.specs.Marks.{leftSide, Has}
+use Rattle.rules.specs.Read.{OurRule, order, RefusesRule, bothFields, readRule}
+use Rattle.rules.specs.Sharp.{FirstBadTerm}
+use Rattle.rules.specs.Plain.{plainBoth}
+use Rattle.rules.specs.Judge.{asRule}
+use Rattle.rules.proofs.Read.{rule-refused, never-seven, rule-accepted}
+use Rattle.rules.proofs.Sharp.{first-in}
+use Rattle.rules.proofs.Before.{NoEqual, read-before, no-arrow}
+use Rattle.terms.specs.declared.Rule.{Rule}
+use Rattle.terms.specs.declared.Slip.{Slip}
+use Rattle.terms.specs.Values.{blankRule, blankSlip, encodeRule, encodeSlip}
+use Rattle.accepted_rules.specs.Rules.{acceptedRule, countedRule}
+use Rattle.accepted_slips.specs.Slips.{acceptedSlip, countedSlip}
 use Rattle.verdicts.specs.declared.Verdict.{Verdict}
 use Rattle.verdicts.specs.declared.Verdict.the-variants.{Accepted}
 use Rattle.verdicts.specs.Verdicts.{verdictOf, told, refusal, noRefusal}
@@ -40,113 +53,130 @@ use Rattle.reading.specs.Answers.{ruleRead, slipRead, ReadsRule, ReadsSlip}
 use Rattle.writing.specs.declared.Written.{Written}
 use Rattle.writing.specs.Answers.{after, Writes}
 use Rattle.writing.specs.Answers as writing
+use Rattle.rule_text.proofs.Again as rules
+use Rattle.slip_text.proofs.Again as slips
 
 -- ---- reading
 
--- u holds the fields that t says
-abbrev pub Holds : {Value : Type 0} → (List (List OurTerm) → Value) → List ℕ → Value → Type 0
-Holds held t u = (x : List (List Raw)) × Says t x × (u ≡ held (fieldsOf x))
+-- u holds what t says: of rules both sides' fields, of slips the fields
+abbrev pub HoldsRule : List ℕ → Rule → Type 0
+HoldsRule t u = (s : Sides) × SaysRule t s × (u ≡ encodeRule (bothFields s))
 
--- WHAT READING RETURNS of a text t: a verdict, and a value v. Rules and slips differ in the sort S, in the refusal `other` that the other
--- sort has, in the value with no fields, and in how a value holds fields.
-pub record Reading (S : Sort) (other : Reason) {Value : Type 0} (blank : Value) (held : List (List OurTerm) → Value)
-    (t : List ℕ) (verdict : Verdict) (v : Value) : Type 0 where
+abbrev pub HoldsSlip : List ℕ → Slip → Type 0
+HoldsSlip t u = (x : List (List Raw)) × Says t x × (u ≡ encodeSlip (fieldsOf x))
+
+-- WHAT READING RETURNS of a text: a verdict, and a value v. Rules and slips differ in what it is for a refusal to apply to the text at a
+-- place, in the refusals that are tried, in their order, in those that only the other sort has, in what stands at a refusal's place, in the
+-- value with no fields, and in how a value holds what the text says.
+pub record Reading (Applies : Reason → ℕ → Type 0) (tried others : List Reason) (Stands : Reason → ℕ → Type 0)
+    {Value : Type 0} (blank : Value) (Holds : Value → Type 0) (verdict : Verdict) (v : Value) : Type 0 where
   -- DEMAND 1, "each refusal comes in its stated case only": the number of o and the place p are told exactly when o applies at p and none
-  -- that is tried before it applies anywhere. What it is for a refusal to apply: `Refuses`, over the grammar.
-  pub refusals : (o : Reason) → o ≢ other → (p : ℕ)
-      → (told verdict ≡ refusal o p) ↔ (NoReason (Refuses S t) (earlier o) × Refuses S t o p)
-  -- a rule is never refused by 7, a slip never by 6
-  pub never : told verdict .number ≢ some (number other)
+  -- that is tried before it applies anywhere
+  pub refusals : (o : Reason) → All (λ s. o ≢ s) others → (p : ℕ)
+      → (told verdict ≡ refusal o p) ↔ (NoReason Applies (earlier o) × Applies o p)
+  -- a rule is never refused by 7, a slip never by 6 or 10
+  pub never : All (λ s. told verdict .number ≢ some (number s)) others
   -- "A refusal returns its number, its place and the rule with no fields"
   pub beside : told verdict .number ≢ none → v ≡ blank
-  -- nothing is told and the value is u, exactly when no refusal applies anywhere and u holds the fields that t says
-  pub accepts : (u : Value) → ((told verdict ≡ noRefusal) × (v ≡ u)) ↔ (NoReason (Refuses S t) (S .order) × Holds held t u)
-  -- 3 to 7 stand where they are told: "a fifth field, at its first byte", a term just past the limit, a size over its limit, a list
-  -- variable that may not stand there, a variable. Which term of the text it is: `FirstBadMark`.
-  pub places : (o : Reason) → 3 ≤ number o → (p : ℕ) → told verdict ≡ refusal o p → FirstBadMark (S .width) o t p
+  -- nothing is told and the value is u, exactly when no refusal applies anywhere and u holds what the text says
+  pub accepts : (u : Value) → ((told verdict ≡ noRefusal) × (v ≡ u)) ↔ (NoReason Applies tried × Holds u)
+  -- 3 to 7 and 10 stand where they are told: "a fifth field, at its first byte", a term just past the limit, a size over its limit, a list
+  -- variable that may not stand there, a variable, a right-side variable that the left side lacks
+  pub places : (o : Reason) → 3 ≤ number o → (p : ℕ) → told verdict ≡ refusal o p → Stands o p
 
+-- of a rule text. What it is for a refusal to apply: `RefusesRule`, over the grammar of rule texts; document 02: refusal 10 "is tried after
+-- 6". Which term of the text stands at the place: `FirstBadTerm`.
 abbrev pub RuleReading : List ℕ → RuleRead → Type 0
-RuleReading t r = Reading rule variable blankSide encodeSide t (r .verdict) (r .rule)
+RuleReading t r =
+    Reading (RefusesRule t) order (variable ∷ []) (λ o p. FirstBadTerm o t p) blankRule (HoldsRule t) (r .verdict) (r .rule)
 
+-- of a slip text: `Refuses`, over the grammar of one side, which "has no `=>`", and `FirstBadMark`
 abbrev pub SlipReading : List ℕ → SlipRead → Type 0
-SlipReading t r = Reading slip linear blankSlip encodeSlip t (r .verdict) (r .slip)
+SlipReading t r =
+    Reading (Refuses slip t) (slip .order) (linear ∷ unknown ∷ []) (λ o p. FirstBadMark 64 o t p) blankSlip (HoldsSlip t)
+    (r .verdict) (r .slip)
 
 -- "the rule with no fields", "The slip with no fields"
-pub blank-rule : blankSide .n ≡ 0
-blank-rule = refl
+pub blank-rule : (blankRule .left .n ≡ 0) × (blankRule .right .n ≡ 0)
+blank-rule = (refl, refl)
 
 pub blank-slip : blankSlip .n ≡ 0
 blank-slip = refl
 
-some≢none : {a : ℕ} → _≡_ {A = Option ℕ} (some a) none → ⊥
-some≢none e = subst IsSome e tt
-
-module _ (S : Sort) (other : Reason) {Value : Type 0} (blank : Value) (held : List (List OurTerm) → Value) where
-  abbrev valueOf : Outcome → Value
+-- a text that says S, of which X is read, as the value that holds it
+module _ {S X Value : Type 0} (Applies : Reason → ℕ → Type 0) (tried others : List Reason) (Stands : Reason → ℕ → Type 0)
+    (SaysIt : S → Type 0) (of : S → X) (blank : Value) (held : X → Value) where
+  abbrev valueOf : OutcomeOf X → Value
   valueOf (refused o p) = blank
   valueOf (accepted x) = held x
 
-  module _ (t : List ℕ)
-      (law : (o : Reason) → o ≢ other → (p : ℕ) → (read S t ≡ refused o p) ↔ (NoReason (Refuses S t) (earlier o) × Refuses S t o p))
-      (not-other : (p : ℕ) → read S t ≢ refused other p)
-      (law-accepted : (r : List (List OurTerm))
-      → (read S t ≡ accepted r) ↔ (NoReason (Refuses S t) (S .order) × ((x : List (List Raw)) × Says t x × (fieldsOf x ≡ r))))
+  abbrev Holding : Value → Type 0
+  Holding u = (s : S) × SaysIt s × (u ≡ held (of s))
+
+  module _ (out : OutcomeOf X)
+      (law : (o : Reason) → All (λ s. o ≢ s) others → (p : ℕ) → (out ≡ refused o p) ↔ (NoReason Applies (earlier o) × Applies o p))
+      (not-others : All (λ s. (p : ℕ) → out ≢ refused s p) others)
+      (law-accepted : (x : X) → (out ≡ accepted x) ↔ (NoReason Applies tried × ((s : S) × SaysIt s × (of s ≡ x))))
+      (law-places : (o : Reason) → 3 ≤ number o → (p : ℕ) → out ≡ refused o p → Stands o p)
     where
-      -- a refusal from 3 on is one of a term
-      of-term : (o : Reason) → 3 ≤ number o → (p : ℕ) → Refuses S t o p → FirstBadMark (S .width) o t p
-      of-term long h p r = absurd (omega (arith, h))
-      of-term grammar h p r = absurd (omega (arith, h))
-      of-term fields h p r = first-bad (S .width) fields t p .0 r
-      of-term terms h p r = first-bad (S .width) terms t p .0 r
-      of-term limits h p r = first-bad (S .width) limits t p .0 r
-      of-term linear h p r = first-bad (S .width) linear t p .0 r
-      of-term variable h p r = first-bad (S .width) variable t p .0 r
+      never-told : (o : Reason) → ((p : ℕ) → out ≢ refused o p) → (a : OutcomeOf X) → out ≡ a → told (verdictOf a) .number ≢ some (number o)
+      never-told o n (refused s p) is e = n p (is ∙ ap (λ (r : Reason). refused r p) (told-number s o p e))
+      never-told o n (accepted x) is e = Option·some-ne-none (number o) (sym e)
 
-      never-told : (a : Outcome) → read S t ≡ a → told (verdictOf a) .number ≢ some (number other)
-      never-told (refused o p) is e = not-other p (is ∙ ap (λ (s : Reason). refused s p) (told-number o other p e))
-      never-told (accepted x) is e = some≢none (sym e)
-
-      is-blank : (a : Outcome) → told (verdictOf a) .number ≢ none → valueOf a ≡ blank
+      is-blank : (a : OutcomeOf X) → told (verdictOf a) .number ≢ none → valueOf a ≡ blank
       is-blank (refused o p) n = refl
       is-blank (accepted x) n = absurd (n refl)
 
-      accepts-to : (a : Outcome) → read S t ≡ a → (u : Value) → told (verdictOf a) ≡ noRefusal → valueOf a ≡ u
-          → NoReason (Refuses S t) (S .order) × Holds held t u
-      accepts-to (refused o p) is u e h = absurd (some≢none (ap (λ (x : Told). x .number) e))
-      accepts-to (accepted r) is u e h = let k = law-accepted r .0 is in (k .0, (k .1 .0, k .1 .1, sym h ∙ ap held (sym (k .1 .2))))
+      accepts-to : (a : OutcomeOf X) → out ≡ a → (u : Value) → told (verdictOf a) ≡ noRefusal → valueOf a ≡ u
+          → NoReason Applies tried × Holding u
+      accepts-to (refused o p) is u e h = absurd (Option·some-ne-none _ (ap (λ (x : Told). x .number) e))
+      accepts-to (accepted x) is u e h = let k = law-accepted x .0 is in (k .0, (k .1 .0, k .1 .1, sym h ∙ ap held (sym (k .1 .2))))
 
-      reading-of : Reading S other blank held t (verdictOf (read S t)) (valueOf (read S t))
+      accepts-from : (u : Value) → NoReason Applies tried × Holding u → (told (verdictOf out) ≡ noRefusal) × (valueOf out ≡ u)
+      accepts-from u h =
+          let is = law-accepted (of (h .1 .0)) .1 (h .0, (h .1 .0, h .1 .1, refl)) in
+          (ap (λ (a : OutcomeOf X). told (verdictOf a)) is, ap valueOf is ∙ sym (h .1 .2))
+
+      reading-of : Reading Applies tried others Stands blank Holding (verdictOf out) (valueOf out)
       reading-of = record {
-        refusals = λ o n p. Iff·trans (told-refused o p (read S t)) (law o n p);
-        never = never-told (read S t) refl;
-        beside = is-blank (read S t);
-        accepts = λ u. (λ h. accepts-to (read S t) refl u (h .0) (h .1), λ h. accepts-from u h);
-        places = place-of;
+        refusals = λ o n p. Iff·trans (told-refused o p out) (law o n p);
+        never = all-map (λ s. (p : ℕ) → out ≢ refused s p) (λ s. told (verdictOf out) .number ≢ some (number s))
+            (λ s n. never-told s n out refl) others not-others;
+        beside = is-blank out;
+        accepts = λ u. (λ h. accepts-to out refl u (h .0) (h .1), accepts-from u);
+        places = λ o h p e. law-places o h p (told-refused o p out .0 e);
       }
-        where
-          accepts-from : (u : Value) → NoReason (Refuses S t) (S .order) × Holds held t u
-              → (told (verdictOf (read S t)) ≡ noRefusal) × (valueOf (read S t) ≡ u)
-          accepts-from u h =
-              let is = law-accepted (fieldsOf (h .1 .0)) .1 (h .0, (h .1 .0, h .1 .1, refl)) in
-              (ap (λ (a : Outcome). told (verdictOf a)) is, ap valueOf is ∙ sym (h .1 .2))
-
-          place-of : (o : Reason) → 3 ≤ number o → (p : ℕ) → told (verdictOf (read S t)) ≡ refusal o p → FirstBadMark (S .width) o t p
-          place-of o h p e = go (ℕ-discrete (number o) (number other))
-            where
-              go : Dec (number o ≡ number other) → FirstBadMark (S .width) o t p
-              go (yes same) = absurd (never-told (read S t) refl (ap (λ (x : Told). x .number) e ∙ ap some same))
-              go (no n) = of-term o h p (law o (λ same. n (ap number same)) p .0 (told-refused o p (read S t) .0 e) .1)
 
 -- READING A RULE
 pub rule-reading : (t : List ℕ) (r : RuleRead) → ReadsRule t r → RuleReading t r
-rule-reading t r reads = subst (RuleReading t) (sym reads) (go (readSide t) of-text)
+rule-reading t r reads = subst (RuleReading t) (sym reads) (go (readRule t) of-text)
   where
-    of-text : let a = readSide t in
-        Reading rule variable blankSide encodeSide t (verdictOf a) (valueOf rule variable blankSide encodeSide a)
-    of-text = reading-of rule variable blankSide encodeSide t (λ o n p. rule-refused o n t p) (rule-never t) (rule-accepted t)
+    applies : (o : Reason) → number o ≢ 7 → (p : ℕ) → readRule t ≡ refused o p → RefusesRule t o p
+    applies o n p e = rule-refused o (λ i. n (ap number i)) t p .0 e .1
 
-    go : (a : Outcome) → Reading rule variable blankSide encodeSide t (verdictOf a) (valueOf rule variable blankSide encodeSide a)
-        → RuleReading t (ruleRead a)
+    -- a refusal from 3 on is one of a term
+    place : (o : Reason) → 3 ≤ number o → (p : ℕ) → readRule t ≡ refused o p → FirstBadTerm o t p
+    place long h p e = absurd (omega (arith, h))
+    place grammar h p e = absurd (omega (arith, h))
+    place fields h p e = first-in fields t p .0 (applies fields (λ i. omega arith) p e)
+    place terms h p e = first-in terms t p .0 (applies terms (λ i. omega arith) p e)
+    place limits h p e = first-in limits t p .0 (applies limits (λ i. omega arith) p e)
+    place linear h p e = first-in linear t p .0 (applies linear (λ i. omega arith) p e)
+    place variable h p e = absurd (never-seven t p e)
+    place unknown h p e = first-in unknown t p .0 (applies unknown (λ i. omega arith) p e)
+
+    Read : OutcomeOf OurRule → Type 0
+    Read a =
+        Reading (RefusesRule t) order (variable ∷ []) (λ o p. FirstBadTerm o t p) blankRule (HoldsRule t)
+        (verdictOf a)
+        (valueOf (RefusesRule t) order (variable ∷ []) (λ o p. FirstBadTerm o t p) (SaysRule t) bothFields blankRule encodeRule a)
+
+    of-text : Read (readRule t)
+    of-text =
+        reading-of (RefusesRule t) order (variable ∷ []) (λ o p. FirstBadTerm o t p) (SaysRule t) bothFields blankRule encodeRule
+        (readRule t) (λ o n p. rule-refused o (n .0) t p) (never-seven t, tt) (rule-accepted t) place
+
+    go : (a : OutcomeOf OurRule) → Read a → RuleReading t (ruleRead a)
     go (refused o p) h = h
     go (accepted x) h = h
 
@@ -154,33 +184,83 @@ rule-reading t r reads = subst (RuleReading t) (sym reads) (go (readSide t) of-t
 pub slip-reading : (t : List ℕ) (r : SlipRead) → ReadsSlip t r → SlipReading t r
 slip-reading t r reads = subst (SlipReading t) (sym reads) (go (readSlip t) of-text)
   where
-    of-text : let a = readSlip t in
-        Reading slip linear blankSlip encodeSlip t (verdictOf a) (valueOf slip linear blankSlip encodeSlip a)
-    of-text = reading-of slip linear blankSlip encodeSlip t (λ o n p. slip-refused o n t p) (slip-never t) (slip-accepted t)
+    applies : (o : Reason) → number o ≢ 6 → (p : ℕ) → readSlip t ≡ refused o p → Refuses slip t o p
+    applies o n p e = slip-refused o (λ i. n (ap number i)) t p .0 e .1
 
-    go : (a : Outcome) → Reading slip linear blankSlip encodeSlip t (verdictOf a) (valueOf slip linear blankSlip encodeSlip a)
-        → SlipReading t (slipRead a)
+    never-ten : (p : ℕ) → readSlip t ≢ refused unknown p
+    never-ten p e = applies unknown (λ i. omega arith) p e .2 .1 .3
+
+    place : (o : Reason) → 3 ≤ number o → (p : ℕ) → readSlip t ≡ refused o p → FirstBadMark 64 o t p
+    place long h p e = absurd (omega (arith, h))
+    place grammar h p e = absurd (omega (arith, h))
+    place fields h p e = first-bad 64 fields t p .0 (applies fields (λ i. omega arith) p e)
+    place terms h p e = first-bad 64 terms t p .0 (applies terms (λ i. omega arith) p e)
+    place limits h p e = first-bad 64 limits t p .0 (applies limits (λ i. omega arith) p e)
+    place linear h p e = absurd (slip-never t p e)
+    place variable h p e = first-bad 64 variable t p .0 (applies variable (λ i. omega arith) p e)
+    place unknown h p e = absurd (never-ten p e)
+
+    Read : Outcome → Type 0
+    Read a =
+        Reading (Refuses slip t) (slip .order) (linear ∷ unknown ∷ []) (λ o p. FirstBadMark 64 o t p) blankSlip (HoldsSlip t)
+        (verdictOf a)
+        (valueOf (Refuses slip t) (slip .order) (linear ∷ unknown ∷ []) (λ o p. FirstBadMark 64 o t p) (Says t) fieldsOf
+        blankSlip encodeSlip a)
+
+    of-text : Read (readSlip t)
+    of-text =
+        reading-of (Refuses slip t) (slip .order) (linear ∷ unknown ∷ []) (λ o p. FirstBadMark 64 o t p) (Says t) fieldsOf
+        blankSlip encodeSlip (readSlip t) (λ o n p. slip-refused o (n .0) t p) (slip-never t, (never-ten, tt)) (slip-accepted t) place
+
+    go : (a : Outcome) → Read a → SlipReading t (slipRead a)
     go (refused o p) h = h
     go (accepted x) h = h
+
+-- ---- a text without an arrow is read as before
+
+module _ (t : List ℕ) (r : RuleRead) (reads : ReadsRule t r) where
+  -- A TEXT IN WHICH NO `=` STANDS BEHIND A SIDE is read as document 01 reads it, as a rule without right side
+  pub reads-before : NoEqual t → r ≡ ruleRead (asRule (readSide t))
+  reads-before free = reads ∙ ap ruleRead (read-before t free)
+
+  -- so is one that says no arrow, or it is refused by 2 in both readings: here behind the `=` at which document 01's reading stops
+  pub reads-no-arrow : cut t ≡ none
+      → (r ≡ ruleRead (asRule (readSide t)))
+      ⊎ ((p : ℕ) × (readSide t ≡ refused grammar p) × (told (r .verdict) ≡ refusal grammar (suc p)))
+  reads-no-arrow free = go (no-arrow t free)
+    where
+      go : (readRule t ≡ asRule (readSide t)) ⊎ ((p : ℕ) × (readSide t ≡ refused grammar p) × (readRule t ≡ refused grammar (suc p)))
+          → (r ≡ ruleRead (asRule (readSide t)))
+          ⊎ ((p : ℕ) × (readSide t ≡ refused grammar p) × (told (r .verdict) ≡ refusal grammar (suc p)))
+      go (inl e) = inl (reads ∙ ap ruleRead e)
+      go (inr h) = inr (h .0, h .1, ap (λ (a : RuleRead). told (a .verdict)) (reads ∙ ap ruleRead (h .2)))
 
 -- ---- the places, number by number
 
 module _ (t : List ℕ) (r : RuleRead) (reads : ReadsRule t r) (p : ℕ) where
-  -- 3: "a fifth field, at its first byte"
-  pub rule-three : told (r .verdict) ≡ refusal fields p → (b : FirstBadMark 16 fields t p) × (b .mark .inField ≡ 5) × (b .mark .index ≡ 1)
+  -- 3: "a fifth field, at its first byte"; of either side
+  pub rule-three : told (r .verdict) ≡ refusal fields p → (b : FirstBadTerm fields t p) × (b .mark .inField ≡ 5) × (b .mark .index ≡ 1)
   rule-three e = let b = rule-reading t r reads .places fields (omega arith) p e in (b, b .stated .0, b .stated .1)
 
-  -- 4: "a seventeenth term in a field"
-  pub rule-four : told (r .verdict) ≡ refusal terms p → (b : FirstBadMark 16 terms t p) × (b .mark .index ≡ 17)
+  -- 4: "a seventeenth term in a field"; of either side
+  pub rule-four : told (r .verdict) ≡ refusal terms p → (b : FirstBadTerm terms t p) × (b .mark .index ≡ 17)
   rule-four e = let b = rule-reading t r reads .places terms (omega arith) p e in (b, b .stated)
 
   -- 5: "a value, digit count, variable number or string length over its limit"
-  pub rule-five : told (r .verdict) ≡ refusal limits p → (b : FirstBadMark 16 limits t p) × Over (b .mark .raw)
+  pub rule-five : told (r .verdict) ≡ refusal limits p → (b : FirstBadTerm limits t p) × Over (b .mark .raw)
   rule-five e = let b = rule-reading t r reads .places limits (omega arith) p e in (b, b .stated)
 
   -- 6: "a list variable that occurs earlier in the rule, or that follows another in its field"
-  pub rule-six : told (r .verdict) ≡ refusal linear p → (b : FirstBadMark 16 linear t p) × NotLinear (b .earlier) (b .mark)
+  pub rule-six : told (r .verdict) ≡ refusal linear p → (b : FirstBadTerm linear t p) × NotLinear (b .earlier) (b .mark)
   rule-six e = let b = rule-reading t r reads .places linear (omega arith) p e in (b, b .stated)
+
+  -- 10: "a right-side variable that the left lacks, at its first byte": of the letter k and the number that ds says
+  pub rule-ten : told (r .verdict) ≡ refusal unknown p
+      → (b : FirstBadTerm unknown t p) × (k : Kind) × (ds : List ℕ) × (b .mark .raw ≡ raw-var k ds)
+      × (Has k (value ds) (fieldsOf (leftSide (b .said))) → ⊥)
+  rule-ten e =
+      let b = rule-reading t r reads .places unknown (omega arith) p e in
+      (b, b .stated .0, b .stated .1, b .stated .2, b .stated .3)
 
 module _ (t : List ℕ) (r : SlipRead) (reads : ReadsSlip t r) (p : ℕ) where
   pub slip-three : told (r .verdict) ≡ refusal fields p → (b : FirstBadMark 64 fields t p) × (b .mark .inField ≡ 5) × (b .mark .index ≡ 1)
@@ -199,35 +279,42 @@ module _ (t : List ℕ) (r : SlipRead) (reads : ReadsSlip t r) (p : ℕ) where
 
 -- ---- plain text
 
-counted-accepted : (v : RuleSide) → acceptedLeft v ≡ true → countedLeft v ≡ viewSide v
-counted-accepted v h = ap (λ (b : Bool). cond b (viewSide v) []) h
-
 -- READING A RULE'S PLAIN TEXT returns the rule
-pub read-written : (v : RuleSide) → acceptedLeft v ≡ true → ruleRead (readSide (plain (countedLeft v))) ≡ record { verdict = Accepted; rule = v }
+pub read-written : (v : Rule) → acceptedRule v ≡ true
+    → ruleRead (readRule (plainBoth (countedRule v))) ≡ record { verdict = Accepted; rule = v }
 read-written v h =
-    let a = accepted-rule v h in
-    ap (λ (r : List (List OurTerm)). ruleRead (readSide (plain r))) (counted-accepted v h)
-    ∙ ap ruleRead (rule-plain (viewSide v) (a .0))
-    ∙ ap (λ (w : RuleSide). record { verdict = Accepted; rule = w }) (a .1)
+    let a = rules.read-written v h in
+    ap ruleRead (a .0) ∙ ap (λ (w : Rule). record { verdict = Accepted; rule = w }) (a .1)
 
--- EVERY TEXT that is read as r is written as the one plain text of r
-pub written-once : (t : List ℕ) (r : List (List OurTerm)) → readSide t ≡ accepted r → plain (countedLeft (encodeSide r)) ≡ plain r
-written-once t r e =
-    let h = rule-read t r e in
-    ap plain (counted-accepted (encodeSide r) (encode-accepted-rule r h) ∙ view-encode-rule r h)
+-- EVERY TEXT that is read as w is written as the one plain text of w
+pub written-once : (t : List ℕ) (w : OurRule) → readRule t ≡ accepted w → plainBoth (countedRule (encodeRule w)) ≡ plainBoth w
+written-once = rules.written-once
 
 -- PLAIN TEXT IS INJECTIVE on accepted rules
-pub written-injective : (v w : RuleSide) → acceptedLeft v ≡ true → acceptedLeft w ≡ true → plain (countedLeft v) ≡ plain (countedLeft w) → v ≡ w
-written-injective v w h k e =
-    let a = accepted-rule v h in
-    let b = accepted-rule w k in
-    sym (a .1)
-    ∙ ap encodeSide (plain-injective (viewSide v) (viewSide w) (a .0) (b .0) (ap plain (sym (counted-accepted v h)) ∙ e ∙ ap plain (counted-accepted w k)))
-    ∙ b .1
+pub written-injective : (v w : Rule) → acceptedRule v ≡ true → acceptedRule w ≡ true
+    → plainBoth (countedRule v) ≡ plainBoth (countedRule w) → v ≡ w
+written-injective = rules.written-injective
 
 -- A VALUE THAT NO READING RETURNS writes no bytes
-pub unread-nothing : (v : RuleSide) → acceptedLeft v ≡ false → plain (countedLeft v) ≡ []
-unread-nothing v h = ap (λ (b : Bool). plain (cond b (viewSide v) [])) h
+pub unread-nothing : (v : Rule) → acceptedRule v ≡ false → plainBoth (countedRule v) ≡ []
+unread-nothing = rules.unread-nothing
+
+-- THE SAME OF SLIPS
+pub slip-read-written : (v : Slip) → acceptedSlip v ≡ true
+    → slipRead (readSlip (plain (countedSlip v))) ≡ record { verdict = Accepted; slip = v }
+slip-read-written v h =
+    let a = slips.read-written v h in
+    ap slipRead (a .0) ∙ ap (λ (w : Slip). record { verdict = Accepted; slip = w }) (a .1)
+
+pub slip-written-once : (t : List ℕ) (x : List (List OurTerm)) → readSlip t ≡ accepted x → plain (countedSlip (encodeSlip x)) ≡ plain x
+slip-written-once = slips.written-once
+
+pub slip-written-injective : (v w : Slip) → acceptedSlip v ≡ true → acceptedSlip w ≡ true
+    → plain (countedSlip v) ≡ plain (countedSlip w) → v ≡ w
+slip-written-injective = slips.written-injective
+
+pub slip-unread-nothing : (v : Slip) → acceptedSlip v ≡ false → plain (countedSlip v) ≡ []
+slip-unread-nothing = slips.unread-nothing
 
 -- ---- writing
 
@@ -260,30 +347,57 @@ text-writing text old r new w =
     left : length text ≤ length old → new ≡ text ++ drop (length text) old
     left h = w .bytes ∙ by (le-leb (length text) (length old) h)
 
--- WRITING A RULE, and reading what was written: "Reading that text returns the rule"
-pub record RuleWriting (v : RuleSide) (old : List ℕ) (r : Written) (new : List ℕ) : Type 0 where
-  pub written : Writing (plain (countedLeft v)) old r new
-  pub again : acceptedLeft v ≡ true → length (plain (countedLeft v)) ≤ length old
-      → (a : RuleRead) → ReadsRule (take (length (plain (countedLeft v))) new) a → (told (a .verdict) ≡ noRefusal) × (a .rule ≡ v)
+-- WRITING A VALUE, and reading what was written: whether some reading returns it, its plain text, and what reading that text returns
+pub record WritingOf (readable : Bool) (text : List ℕ) (Again : List ℕ → Type 0) (old : List ℕ) (r : Written) (new : List ℕ) : Type 0 where
+  pub written : Writing text old r new
+  -- "Reading that text returns the rule": the bytes written are read again
+  pub again : readable ≡ true → length text ≤ length old → Again (take (length text) new)
   -- "A rule .. that no reading can return counts there as one with no fields; writing such a rule gives no bytes"
-  pub unread : acceptedLeft v ≡ false → (plain (countedLeft v) ≡ []) × (new ≡ old)
+  pub unread : readable ≡ false → (text ≡ []) × (new ≡ old)
 
-pub rule-writing : (v : RuleSide) (old : List ℕ) (r : Written) (new : List ℕ) → Writes (plain (countedLeft v)) old r new
-    → RuleWriting v old r new
-rule-writing v old r new w =
+-- a text that is read as the rule v, or as the slip v
+abbrev pub AgainRule : Rule → List ℕ → Type 0
+AgainRule v t = (a : RuleRead) → ReadsRule t a → (told (a .verdict) ≡ noRefusal) × (a .rule ≡ v)
+
+abbrev pub AgainSlip : Slip → List ℕ → Type 0
+AgainSlip v t = (a : SlipRead) → ReadsSlip t a → (told (a .verdict) ≡ noRefusal) × (a .slip ≡ v)
+
+abbrev pub RuleWriting : Rule → List ℕ → Written → List ℕ → Type 0
+RuleWriting v old r new = WritingOf (acceptedRule v) (plainBoth (countedRule v)) (AgainRule v) old r new
+
+abbrev pub SlipWriting : Slip → List ℕ → Written → List ℕ → Type 0
+SlipWriting v old r new = WritingOf (acceptedSlip v) (plain (countedSlip v)) (AgainSlip v) old r new
+
+writing-of : (readable : Bool) (text : List ℕ) (Again : List ℕ → Type 0) (old : List ℕ) (r : Written) (new : List ℕ)
+    → (readable ≡ true → Again text) → (readable ≡ false → text ≡ []) → Writes text old r new → WritingOf readable text Again old r new
+writing-of readable text Again old r new back nothing w =
     record {
       written = x;
-      again = reads-back;
+      again = λ h room. subst Again (sym (x .front room)) (back h);
       unread = λ h.
-          let e = unread-nothing v h in
+          let e = nothing h in
           (e, w .bytes ∙ ap (λ (t : List ℕ). after t old) e ∙ ap (λ (c : Bool). cond c old old) (le-leb 0 (length old) (omega arith)));
     }
   where
-    x : Writing (plain (countedLeft v)) old r new
-    x = text-writing (plain (countedLeft v)) old r new w
+    x : Writing text old r new
+    x = text-writing text old r new w
 
-    reads-back : acceptedLeft v ≡ true → length (plain (countedLeft v)) ≤ length old
-        → (a : RuleRead) → ReadsRule (take (length (plain (countedLeft v))) new) a → (told (a .verdict) ≡ noRefusal) × (a .rule ≡ v)
-    reads-back h room a reads =
-        let e = reads ∙ ap (λ (t : List ℕ). ruleRead (readSide t)) (x .front room) ∙ read-written v h in
-        (ap (λ (b : RuleRead). told (b .verdict)) e, ap (λ (b : RuleRead). b .rule) e)
+-- WRITING A RULE
+pub rule-writing : (v : Rule) (old : List ℕ) (r : Written) (new : List ℕ) → Writes (plainBoth (countedRule v)) old r new
+    → RuleWriting v old r new
+rule-writing v old r new =
+    writing-of (acceptedRule v) (plainBoth (countedRule v)) (AgainRule v) old r new
+    (λ h a reads.
+    let e = reads ∙ read-written v h in
+    (ap (λ (b : RuleRead). told (b .verdict)) e, ap (λ (b : RuleRead). b .rule) e))
+    (unread-nothing v)
+
+-- WRITING A SLIP
+pub slip-writing : (v : Slip) (old : List ℕ) (r : Written) (new : List ℕ) → Writes (plain (countedSlip v)) old r new
+    → SlipWriting v old r new
+slip-writing v old r new =
+    writing-of (acceptedSlip v) (plain (countedSlip v)) (AgainSlip v) old r new
+    (λ h a reads.
+    let e = reads ∙ slip-read-written v h in
+    (ap (λ (b : SlipRead). told (b .verdict)) e, ap (λ (b : SlipRead). b .slip) e))
+    (slip-unread-nothing v)

@@ -3,12 +3,14 @@
 // says less does not pass here.
 ghost use mathlib.Core.Path.{_≡_};
 ghost use Rattle.overlaps.specs.Answers.{textsRoom};
-ghost use Rattle.demands.specs.Texts.{RuleReading, SlipReading, RuleWriting};
+ghost use Rattle.demands.specs.Texts.{RuleReading, SlipReading, RuleWriting, SlipWriting};
 ghost use Rattle.demands.specs.Matching.{Matching};
+ghost use Rattle.demands.specs.Carrying.{Carrying};
 ghost use Rattle.demands.specs.Searching.{SearchDemand};
 ghost use Rattle.demands.specs.Overlaps.{ListsSharedSlips, TextsSharedSlips};
 ghost use Rattle.demands.specs.Pairs.{PairSharedSlips};
 ghost use Rattle.demands.specs.Library.{LibrarySharedSlips};
+use carrying::Carried;
 use matching::Match;
 use overlaps::Listed;
 use overlaps::TextsListed;
@@ -17,14 +19,15 @@ use reading::RuleRead;
 use reading::SlipRead;
 use search::Searched;
 use terms::Field;
-use terms::RuleSide;
+use terms::Rule;
 use terms::Slip;
 use writing::Written;
 use yopobrush::Listing;
 
 // ---- reading and writing
 
-// Each refusal in its stated case only, at its place; what stands beside it has no fields; else the fields that the text says.
+// Each refusal in its stated case only, at its place; what stands beside it has no fields; else the fields that the text says,
+// of a rule's both sides.
 pub fn read_rule(text: &[u8]) -> RuleRead
     ensures { λ r. ⌜ RuleReading (now (text .entry)) r ⌝ }
 {
@@ -37,20 +40,35 @@ pub fn read_slip(text: &[u8]) -> SlipRead
     reading::read_slip(text)
 }
 
-// The plain text and the old bytes behind it, or refusal 8 and all old bytes; read again, the text gives the rule.
-pub fn write_rule(r: RuleSide, out: &mut [u8]) -> Written
+// The plain text and the old bytes behind it, or refusal 8 and all old bytes; read again, the text gives the rule, or the slip.
+pub fn write_rule(r: Rule, out: &mut [u8]) -> Written
     ensures { λ w. ⌜ RuleWriting r (now (out .entry)) w (now (out .exit)) ⌝ }
 {
-    plain_text::write_rule(r, out)
+    rule_text::write_rule(r, out)
+}
+
+pub fn write_slip(s: Slip, out: &mut [u8]) -> Written
+    ensures { λ w. ⌜ SlipWriting s (now (out .entry)) w (now (out .exit)) ⌝ }
+{
+    slip_text::write_slip(s, out)
 }
 
 // ---- demand 2, matching
 
-// Yes exactly when some filling makes the two equal by GP 2's laws; then the one filling is shown, and else none.
-pub fn match_rule(rule: RuleSide, slip: Slip) -> Match
+// Yes exactly when some filling makes the left side and the slip equal by GP 2's laws; then the one filling is shown, and else none.
+pub fn match_rule(rule: Rule, slip: Slip) -> Match
     ensures { λ m. ⌜ Matching rule slip m ⌝ }
 {
     matching::match_rule(rule, slip)
+}
+
+// ---- carrying out
+
+// Yes with the right side and the filling put in; no or refusal 11 with the slip as given.
+pub fn carry_out(rule: Rule, slip: Slip) -> Carried
+    ensures { λ c. ⌜ Carrying rule slip c ⌝ }
+{
+    carrying::carry_out(rule, slip)
 }
 
 // ---- demand 2, the search
@@ -64,8 +82,8 @@ pub fn search(left: Field, right: Field, row: &mut [Problem], out: &mut [u8]) ->
 
 // ---- demand 3
 
-// The list of two rule values.
-pub fn list_overlaps(left: RuleSide, right: RuleSide, out: &mut [u8]) -> Listed
+// The list of two rule values, which is that of their left sides.
+pub fn list_overlaps(left: Rule, right: Rule, out: &mut [u8]) -> Listed
     ensures { λ r. ⌜ ListsSharedSlips left right (now (out .entry)) r (now (out .exit)) ⌝ }
 {
     overlaps::list_overlaps(left, right, out)

@@ -9,6 +9,7 @@ use Rattle.bytes.specs.Bytes.{indexAfter, indexOf}
 use Rattle.text.specs.Ascii.{ascii, newline}
 use Rattle.text.specs.Bytes.{digit?, begins, follows, first, holds}
 use Rattle.text.specs.Marks.{fifth?, many?, over?, clash?, clashOf?}
+use Rattle.rules.specs.Marks.{occurs?, has?}
 use Rattle.match_answers.specs.Matches.{lineText, matchAnswer}
 
 -- a line and what is said of it
@@ -30,6 +31,11 @@ table =
     record { line = "1:l0:2|s0\t1:5:6:7:2|\"=\""; said = "yes s0=\"=\" l0=5:6:7" } ∷
     record { line = "empty\tempty"; said = "yes" } ∷
     record { line = "1|2\t1"; said = "no" } ∷
+    -- a rule with a right side matches by its left side; refusal 10 is the rule's
+    record { line = "i0:l0=>l0:l0|i0\t1:2"; said = "yes i0=1 l0=2" } ∷
+    record { line = "i0=>i0\t\"a\""; said = "no" } ∷
+    record { line = "i0=>a0\t1=>1"; said = "refused rule 10 at 4" } ∷
+    record { line = "i0=>i0\t1=>1"; said = "refused slip 2 at 1" } ∷
     -- the rule's refusal goes before the slip's
     record { line = "l0:l1\ti0"; said = "refused rule 6 at 3" } ∷
     record { line = "1\ti0"; said = "refused slip 7 at 0" } ∷
@@ -40,14 +46,14 @@ table =
     []
 
 pub lines-said : map (λ (c : Case). lineText (ascii (c .line))) table ≡ map (λ (c : Case). ascii (c .said)) table
-unfolding lineText indexAfter indexOf decLe decLt ℕ-discrete digit? begins follows first holds fifth? many? over? any? clash? clashOf?
+unfolding lineText indexAfter indexOf decLe decLt ℕ-discrete digit? begins follows first holds fifth? many? over? any? clash? clashOf? occurs? has?
 lines-said = refl
 
 -- a line of as many bytes as it may have is read, and one of one more is not
-pub long-lines : map lineText (replicate 10241 49 ∷ replicate 10242 49 ∷ []) ≡ ascii "refused rule 1 at 2048" ∷ ascii "line too long" ∷ []
-unfolding lineText indexAfter indexOf decLe decLt ℕ-discrete digit? begins follows first holds fifth? many? over? any? clash? clashOf?
+pub long-lines : map lineText (replicate 12289 49 ∷ replicate 12290 49 ∷ []) ≡ ascii "refused rule 1 at 4096" ∷ ascii "line too long" ∷ []
+unfolding lineText indexAfter indexOf decLe decLt ℕ-discrete digit? begins follows first holds fifth? many? over? any? clash? clashOf? occurs? has?
 long-lines = refl
 
 pub two-lines : matchAnswer 12 (ascii "i0\t5") ≡ ascii "match 12" ++ newline ++ ascii "yes i0=5" ++ newline
-unfolding matchAnswer lineText indexAfter indexOf decLe decLt ℕ-discrete digit? begins follows first holds fifth? many? over? any? clash? clashOf?
+unfolding matchAnswer lineText indexAfter indexOf decLe decLt ℕ-discrete digit? begins follows first holds fifth? many? over? any? clash? clashOf? occurs? has?
 two-lines = refl

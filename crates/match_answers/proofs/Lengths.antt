@@ -21,9 +21,12 @@ use Rattle.text.specs.Terms.{Con, OurTerm}
 use Rattle.text.specs.Numbers.{digitsOf}
 use Rattle.text.specs.Plain.{termText, fieldText}
 use Rattle.text.specs.Limits.{IsLeft, IsSlip}
-use Rattle.text.specs.Read.{Outcome, refused, accepted, readSide, readSlip}
-use Rattle.text.proofs.Accepted.{spell-short, field-length, rule-read, slip-read}
-use Rattle.text.proofs.Refused.{rule-place, slip-place}
+use Rattle.text.specs.Read.{OutcomeOf, Outcome, refused, accepted, readSlip}
+use Rattle.text.proofs.Accepted.{spell-short, field-length, slip-read}
+use Rattle.text.proofs.Refused.{slip-place}
+use Rattle.rules.specs.Read.{OurRule, readRule}
+use Rattle.rules.proofs.Accepted.{rule-read}
+use Rattle.rules.proofs.Sharp.{rule-place}
 use Rattle.instance.specs.Matching.{constants, matcher}
 use Rattle.matching.proofs.Runs.{atom-value, value-long}
 use Rattle.writing.proofs.Digits.{digits-most, digits-64}
@@ -97,19 +100,19 @@ found-short x y h k = go (matcher x (map constants y)) refl
     go none e = omega arith
     go (some φ) e = omega (arith, values-short x y h k φ e)
 
-read-short : (t u : List ℕ) → length (readText (readSide t) (readSlip u)) ≤ 19555
-read-short t u = go (readSide t) (readSlip u) refl refl
+read-short : (t u : List ℕ) → length (readText (readRule t) (readSlip u)) ≤ 19555
+read-short t u = go (readRule t) (readSlip u) refl refl
   where
-    go : (o p : Outcome) → readSide t ≡ o → readSlip u ≡ p → length (readText o p) ≤ 19555
-    go (refused r i) p e f = omega (arith, number-at-length r i (omega (arith, rule-place t r i e)))
-    go (accepted x) (refused r i) e f = omega (arith, number-at-length r i (omega (arith, slip-place u r i f)))
-    go (accepted x) (accepted y) e f = found-short x y (rule-read t x e) (slip-read u y f)
+    go : (o : OutcomeOf OurRule) (p : Outcome) → readRule t ≡ o → readSlip u ≡ p → length (readText o p) ≤ 19555
+    go (refused r i) p e f = omega (arith, number-at-length r i (omega (arith, rule-place t r i e .1)))
+    go (accepted w) (refused r i) e f = omega (arith, number-at-length r i (omega (arith, slip-place u r i f)))
+    go (accepted w) (accepted y) e f = found-short (w .0) y (rule-read t w e .0) (slip-read u y f)
 
 line-short : (t : List ℕ) → length (lineText t) ≤ 19555
 unfolding lineText
 line-short t = go (ltb longestLine (length t))
   where
-    go : (b : Bool) → length (cond b (ascii "line too long") (readText (readSide (rulePart t)) (readSlip (slipPart t)))) ≤ 19555
+    go : (b : Bool) → length (cond b (ascii "line too long") (readText (readRule (rulePart t)) (readSlip (slipPart t)))) ≤ 19555
     go true = omega arith
     go false = read-short (rulePart t) (slipPart t)
 
@@ -118,7 +121,7 @@ unfolding matchAnswer
 answer-short k t h =
     omega (arith, length-append (titleText k ++ lineText t) newline, length-append (titleText k) (lineText t), length-append (ascii "match " ++ digitsOf k) newline, line-short t, digits-64 k h)
 
--- ---- ONLY THE FIRST 10,242 BYTES of a line matter: a longer one is too long whatever it holds
+-- ---- ONLY THE FIRST 12,290 BYTES of a line matter: a longer one is too long whatever it holds
 
 pub line-long : (t : List ℕ) → longestLine < length t → lineText t ≡ ascii "line too long"
 unfolding lineText

@@ -2,12 +2,12 @@
 use mathlib.Core.Path.{_≡_, refl, sym, ap, ap₂, _∙_, subst}
 use mathlib.Core.Bool.{Bool, true, false, cond}
 use mathlib.Core.Option.{Option, none, some}
-use mathlib.Core.List.{List, [], _∷_, _++_, map, map-map, append-nil}
+use mathlib.Core.List.{List, [], _∷_, _++_, map, append-nil}
 use Prim.Native.Nat.{ℕ, zero, suc, _+_, _-_, _<_, _≤_, min}
 use native.Mathlib.Omega.{arith}
 use native.Mathlib.Decide.{decLe}
 use borrow.Author.Tests.{le-ltb}
-use lib.ListN.{length, getD, take, drop, replicate, length-drop, drop-of-length-le}
+use lib.ListN.{length, take, drop, length-drop, drop-of-length-le}
 use lib.Seq.{take-all}
 use Rattle.bytes.specs.Bytes.{indexOf}
 use Rattle.lists.specs.Seqs.{All, Any}
@@ -20,13 +20,14 @@ use Rattle.theory.proofs.Seqs.{concat-map-append}
 use Rattle.text.specs.Ascii.{ascii}
 use Rattle.text.specs.Terms.{Con, OurTerm}
 use Rattle.text.specs.Plain.{termText, fieldText}
-use Rattle.text.specs.Limits.{TermIn, IsCon, IsLeft, IsSlip}
-use Rattle.text.specs.Read.{Outcome, refused, accepted, readSide, readSlip}
-use Rattle.text.proofs.Accepted.{rule-read, slip-read}
+use Rattle.text.specs.Limits.{TermIn, IsLeft, IsSlip}
+use Rattle.text.specs.Read.{OutcomeOf, Outcome, refused, accepted, readSlip}
+use Rattle.text.proofs.Accepted.{slip-read}
+use Rattle.rules.specs.Read.{OurRule, readRule}
+use Rattle.rules.proofs.Accepted.{rule-read}
 use Rattle.instance.specs.Matching.{constants, matcher}
-use Rattle.instance.proofs.Matching.{constants-are}
 use Rattle.terms.specs.declared.Term.{Term}
-use Rattle.terms.specs.Values.{blankTerm, blankSlipField, viewTerm, encodeTerm, encodeSlipField, encodeSide, encodeSlip}
+use Rattle.terms.specs.Values.{viewTerm, encodeSide, encodeSlip}
 use Rattle.accepted.specs.Accepted.{countedLeft}
 use Rattle.accepted_slips.specs.Slips.{countedSlip}
 use Rattle.accepted.proofs.Accepted.{view-encode-term, view-encode-rule, encode-accepted-rule}
@@ -35,8 +36,8 @@ use Rattle.bindings.specs.declared.Filling.{Filling as FillingValue}
 use Rattle.matching.specs.Answers.{valueTerm, encodeValues, runsOf, found, matchOf, itemsAt}
 use Rattle.bindings.specs.Values.{atomOf, runOf}
 use Rattle.bindings.specs.declared.Run.{Run}
-use Rattle.field_match.specs.Fields.{itemsOf}
-use Rattle.matching.proofs.Agree.{enc, unpadded}
+use Rattle.matching.proofs.Agree.{enc}
+use Rattle.matching.proofs.Items.{run-terms}
 use Rattle.matching.proofs.Accept.{with-fields}
 use Rattle.matching.proofs.Runs.{run-items, atom-at, atom-value, value-all}
 use Rattle.reading.specs.declared.RuleRead.{RuleRead}
@@ -49,40 +50,6 @@ use Rattle.pieces.specs.Refusals.{numberAt}
 use Rattle.match_answers.specs.Matches.{longestLine, rulePart, slipPart, valueText, foundText, readText, lineText}
 use Rattle.match_text.specs.Values.{runText, saidValue, nameText, saidVariable, saidKind, saidValues, saidMatch}
 use Rattle.match_answers.specs.Values.{saidReads}
-
--- ---- lists
-
-part-map : {A B : Type 0} (g : A → B) (n i : ℕ) (l : List A) → take n (drop i (map g l)) ≡ map g (take n (drop i l))
-part-map g n zero l = front n l
-  where
-    front : (n : ℕ) (l : List _) → take n (map g l) ≡ map g (take n l)
-    front zero l = refl
-    front (suc n) [] = refl
-    front (suc n) (x ∷ l) = ap (λ (t : List _). g x ∷ t) (front n l)
-part-map g zero (suc i) [] = refl
-part-map g (suc n) (suc i) [] = refl
-part-map g n (suc i) (x ∷ l) = part-map g n i l
-
-getD-blank : {A : Type 0} (n i : ℕ) (a : A) → getD (replicate n a) i a ≡ a
-getD-blank zero i a = refl
-getD-blank (suc n) zero a = refl
-getD-blank (suc n) (suc i) a = getD-blank n i a
-
--- a member of a padded array
-padded-at : {A B : Type 0} (g : A → B) (d : A) (n : ℕ) (l : List A) (i : ℕ) → getD (map g l ++ replicate n (g d)) i (g d) ≡ g (getD l i d)
-padded-at g d n [] i = getD-blank n i (g d)
-padded-at g d n (x ∷ l) zero = refl
-padded-at g d n (x ∷ l) (suc i) = padded-at g d n l i
-
-all-at : {A : Type 0} (P : A → Type 0) (d : A) (l : List A) (i : ℕ) → P d → All P l → P (getD l i d)
-all-at P d [] i p h = p
-all-at P d (x ∷ l) zero p h = h .0
-all-at P d (x ∷ l) (suc i) p h = all-at P d l i p (h .1)
-
-constants-at : (l : List (List OurTerm)) (i : ℕ) → getD (map constants l) i [] ≡ constants (getD l i [])
-constants-at [] i = refl
-constants-at (f ∷ l) zero = refl
-constants-at (f ∷ l) (suc i) = constants-at l i
 
 -- ---- constants within their limits
 
@@ -131,18 +98,9 @@ module _ (x y : List (List OurTerm)) (is-rule : IsLeft x) (is-slip : IsSlip y) (
       ∙ sym (append-nil (termText (con (v .0))))
       ∙ ap (λ (l : List Con). fieldText (map con l)) (sym (v .1))
 
-  items-at : (j : ℕ) → itemsOf (getD ((encodeSlip y) .fields) j blankSlipField) ≡ map enc (getD ws j [])
-  items-at j =
-      ap itemsOf (padded-at encodeSlipField [] (4 - length (map encodeSlipField y)) y j)
-      ∙ unpadded 64 blankTerm encodeTerm (getD y j [])
-      ∙ ap (map encodeTerm) (sym (constants-are (getD y j []) (all-at (All IsCon) [] y j tt (is-slip .1))))
-      ∙ map-map encodeTerm con (constants (getD y j []))
-      ∙ ap (map enc) (sym (constants-at y j))
-
   run-said : (r : Run) (v : List Con) → itemsAt ws r ≡ v → All ConIn v → runText (encodeSlip y) r ≡ fieldText (map con v)
   run-said r v e i =
-      ap (λ (l : List Term). fieldText (map viewTerm (take (r .count) (drop (r .start) l)))) (items-at (r .field))
-      ∙ ap (λ (l : List Term). fieldText (map viewTerm l)) (part-map enc (r .count) (r .start) (getD ws (r .field) []) ∙ ap (map enc) e)
+      ap (λ (l : List Term). fieldText (map viewTerm l)) (run-terms y (is-slip .1) r ∙ ap (map enc) e)
       ∙ ap fieldText (viewed v i)
 
   value-said : (k : Kind) (n : ℕ) → n ≤ 15 → Any (Occurs k n) x → saidValue k n (encodeSlip y) filling ≡ fieldText (map con (φ k n))
@@ -226,13 +184,13 @@ module _ (x y : List (List OurTerm)) (is-rule : IsLeft x) (is-slip : IsSlip y) w
       go none e = refl
       go (some φ) e = ap (λ (t : List ℕ). ascii "yes" ++ t) (values-said φ e)
 
-pub reads-said : (t u : List ℕ) → saidReads (ruleRead (readSide t)) (slipRead (readSlip u)) ≡ readText (readSide t) (readSlip u)
-reads-said t u = go (readSide t) (readSlip u) refl refl
+pub reads-said : (t u : List ℕ) → saidReads (ruleRead (readRule t)) (slipRead (readSlip u)) ≡ readText (readRule t) (readSlip u)
+reads-said t u = go (readRule t) (readSlip u) refl refl
   where
-    go : (o p : Outcome) → readSide t ≡ o → readSlip u ≡ p → saidReads (ruleRead o) (slipRead p) ≡ readText o p
+    go : (o : OutcomeOf OurRule) (p : Outcome) → readRule t ≡ o → readSlip u ≡ p → saidReads (ruleRead o) (slipRead p) ≡ readText o p
     go (refused r i) p e f = ap (λ (n : ℕ). ascii "refused rule " ++ numberAt n i) (number-is r)
-    go (accepted x) (refused r i) e f = ap (λ (n : ℕ). ascii "refused slip " ++ numberAt n i) (number-is r)
-    go (accepted x) (accepted y) e f = match-said x y (rule-read t x e) (slip-read u y f)
+    go (accepted w) (refused r i) e f = ap (λ (n : ℕ). ascii "refused slip " ++ numberAt n i) (number-is r)
+    go (accepted w) (accepted y) e f = match-said (w .0) y (rule-read t w e .0) (slip-read u y f)
 
 -- ---- a line
 
@@ -245,9 +203,10 @@ module _ (t : List ℕ) (tab rest : ℕ) (is-tab : tab ≡ indexOf 9 t) (is-rest
       go (yes h) = ap (λ (i : ℕ). drop i t) (let e : rest ≡ suc (indexOf 9 t) = omega arith in e)
       go (no h) = drop-of-length-le t {i = rest} (omega arith) ∙ sym (drop-of-length-le t {i = suc (indexOf 9 t)} (omega arith))
 
-  pub line-said : (r : RuleRead) (s : SlipRead) → length t ≤ longestLine → r ≡ ruleRead (readSide (take tab t)) → s ≡ slipRead (readSlip (take (length t - rest) (drop rest t))) → lineText t ≡ saidReads r s
+  pub line-said : (r : RuleRead) (s : SlipRead) → length t ≤ longestLine → r ≡ ruleRead (readRule (take tab t))
+      → s ≡ slipRead (readSlip (take (length t - rest) (drop rest t))) → lineText t ≡ saidReads r s
   unfolding lineText
   line-said r s h is-r is-s =
-      ap (λ (b : Bool). cond b (ascii "line too long") (readText (readSide (rulePart t)) (readSlip (slipPart t)))) (le-ltb longestLine (length t) h)
+      ap (λ (b : Bool). cond b (ascii "line too long") (readText (readRule (rulePart t)) (readSlip (slipPart t)))) (le-ltb longestLine (length t) h)
       ∙ sym (reads-said (rulePart t) (slipPart t))
-      ∙ ap₂ saidReads (sym (is-r ∙ ap (λ (i : ℕ). ruleRead (readSide (take i t))) is-tab)) (sym (is-s ∙ ap (λ (u : List ℕ). slipRead (readSlip u)) slip-part))
+      ∙ ap₂ saidReads (sym (is-r ∙ ap (λ (i : ℕ). ruleRead (readRule (take i t))) is-tab)) (sym (is-s ∙ ap (λ (u : List ℕ). slipRead (readSlip u)) slip-part))

@@ -13,7 +13,8 @@ use Rattle.theory.specs.Fillings.{Filling}
 use Rattle.text.specs.Terms.{Con, OurTerm}
 use Rattle.text.specs.Numbers.{digitsOf}
 use Rattle.text.specs.Plain.{termText, fieldText}
-use Rattle.text.specs.Read.{number, Outcome, refused, accepted, readSide, readSlip}
+use Rattle.text.specs.Read.{number, OutcomeOf, Outcome, refused, accepted, readSlip}
+use Rattle.rules.specs.Read.{OurRule, readRule}
 use Rattle.instance.specs.Matching.{constants, matcher}
 use Rattle.listing.specs.Variables.{Variable, variables}
 use Rattle.text.specs.Ascii.{ascii, newline}
@@ -21,9 +22,9 @@ use Rattle.pieces.specs.Refusals.{numberAt}
 
 -- ---- a line
 
--- the longest rule, the tab, the longest slip: 2,048 and 1 and 8,192 bytes
+-- the longest rule, the tab, the longest slip: 4,096 and 1 and 8,192 bytes
 abbrev pub longestLine : ℕ
-longestLine = 10241
+longestLine = 12289
 
 -- byte 9
 abbrev pub tab : ℕ
@@ -47,14 +48,14 @@ abbrev pub foundText : List (List OurTerm) → Option (Filling Con Kind ℕ) →
 foundText rule none = ascii "no"
 foundText rule (some φ) = ascii "yes" ++ concat-map (valueText φ) (variables rule)
 
--- the rule's refusal goes before the slip's
-abbrev pub readText : Outcome → Outcome → List ℕ
+-- the rule's refusal goes before the slip's; a rule matches by its left side, whatever its right side
+abbrev pub readText : OutcomeOf OurRule → Outcome → List ℕ
 readText (refused r p) o = ascii "refused rule " ++ numberAt (number r) p
 readText (accepted rule) (refused r p) = ascii "refused slip " ++ numberAt (number r) p
-readText (accepted rule) (accepted slip) = foundText rule (matcher rule (map constants slip))
+readText (accepted rule) (accepted slip) = foundText (rule .0) (matcher (rule .0) (map constants slip))
 
 unfoldable pub lineText : List ℕ → List ℕ
-lineText t = cond (ltb longestLine (length t)) (ascii "line too long") (readText (readSide (rulePart t)) (readSlip (slipPart t)))
+lineText t = cond (ltb longestLine (length t)) (ascii "line too long") (readText (readRule (rulePart t)) (readSlip (slipPart t)))
 
 abbrev pub titleText : ℕ → List ℕ
 titleText k = ascii "match " ++ digitsOf k ++ newline

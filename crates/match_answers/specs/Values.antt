@@ -19,9 +19,9 @@ abbrev pub verdictText : List ℕ → Verdict → List ℕ → List ℕ
 verdictText words Accepted t = t
 verdictText words (Refused r p) t = words ++ numberAt (numberOf r) p
 
--- the slip, against a rule; both, as they were read
+-- the slip, against a rule's left side; both, as they were read
 abbrev pub saidSlip : RuleSide → SlipRead → List ℕ
 saidSlip r s = verdictText (ascii "refused slip ") (s .verdict) (saidMatch r (s .slip) (matchOf (countedLeft r) (countedSlip (s .slip))))
 
 abbrev pub saidReads : RuleRead → SlipRead → List ℕ
-saidReads r s = verdictText (ascii "refused rule ") (r .verdict) (saidSlip (r .rule) s)
+saidReads r s = verdictText (ascii "refused rule ") (r .verdict) (saidSlip (r .rule .left) s)

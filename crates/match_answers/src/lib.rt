@@ -14,7 +14,7 @@ use writing::Written;
 
 // ---- pieces: each is put at a place of the room, and returns the place behind it
 
-// What is said of a slip that was read, or of its refusal.
+// What is said of a slip that was read, against a rule's left side, or of its refusal.
 fn put_slip_read(r: RuleSide, read: SlipRead, out: &mut [u8], at: usize) -> usize
     ensures { λ p. ⌜ Placed (saidSlip r read) at (now (out .entry)) p (now (out .exit)) ⌝ }
 {
@@ -37,9 +37,9 @@ fn put_reads(rule: RuleRead, slip: SlipRead, out: &mut [u8], at: usize) -> usize
     ensures { λ p. ⌜ Placed (saidReads rule slip) at (now (out .entry)) p (now (out .exit)) ⌝ }
 {
     let verdict = rule.verdict;
-    let r = rule.rule;
+    let value = rule.rule;
     match verdict {
-        Verdict::Accepted => put_slip_read(r, slip, out, at),
+        Verdict::Accepted => put_slip_read(value.left, slip, out, at),
         Verdict::Refused(reason, place) => line_pieces::put_refusal(
             b"refused rule ",
             reason,
@@ -50,12 +50,12 @@ fn put_reads(rule: RuleRead, slip: SlipRead, out: &mut [u8], at: usize) -> usize
     }
 }
 
-// What is said of a line. The longest rule, the tab and the longest slip have 10,241 bytes.
+// What is said of a line. The longest rule, the tab and the longest slip have 12,289 bytes.
 fn put_line(line: &[u8], out: &mut [u8], at: usize) -> usize
     ensures { λ r. ⌜ Placed (lineText (now (line .entry))) at (now (out .entry)) r (now (out .exit)) ⌝ }
 {
     let n = line.len();
-    if 10241 < n {
+    if 12289 < n {
         return pieces::put_bytes(b"line too long", out, at);
     }
     let tab = pieces::tab_place(line);

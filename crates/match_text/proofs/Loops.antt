@@ -1,6 +1,5 @@
--- The loops over a rule's terms, over the items of a run and over the numbers of variables. Assumes nothing.
-use mathlib.Core.Path.{_≡_, refl, sym, ap, _∙_}
-use mathlib.Core.Bool.{Bool, true, false, _||_}
+-- The loops over the items of a run and over the numbers of variables. Assumes nothing.
+use mathlib.Core.Path.{_≡_, sym, ap, _∙_}
 use mathlib.Core.List.{List, [], _∷_, _++_, map}
 use Prim.Native.Nat.{ℕ, suc, _+_, _-_, _<_, _≤_, min}
 use native.Mathlib.Numerals.{add-one}
@@ -8,52 +7,15 @@ use native.Mathlib.Omega.{arith}
 use native.Mathlib.Decide.{decLe}
 use lib.ListN.{length, getD, take, drop, length-take, length-drop, drop-of-length-le}
 use lib.Seq.{take-all, take-take, take-add, drop-at, length-take-le}
-use Rattle.order.specs.Types.{Kind}
 use Rattle.theory.specs.Seqs.{concat-map}
 use Rattle.text.specs.Grammar.{colons}
 use Rattle.text.specs.Plain.{rawOf, termText, fieldText}
 use Rattle.terms.specs.declared.Term.{Term}
-use Rattle.terms.specs.declared.Field.{Field}
 use Rattle.terms.specs.declared.SlipField.{SlipField}
-use Rattle.terms.specs.Values.{viewTerm, viewField}
+use Rattle.terms.specs.Values.{viewTerm}
 use Rattle.field_match.proofs.Walks.{here}
-use Rattle.listing.specs.Variables.{numbersFrom, isVariable, inField, occurs}
+use Rattle.listing.specs.Variables.{numbersFrom}
 use Rattle.match_text.specs.Values.{itemsFrom}
-
--- ---- whether some member passes a test
-
-abbrev pub some : {A : Type 0} → (A → Bool) → List A → Bool
-some test [] = false
-some test (x ∷ l) = test x || some test l
-
-pub some-term : (k : Kind) (n : ℕ) (l : List Term) → inField k n (map viewTerm l) ≡ some (λ (t : Term). isVariable k n (viewTerm t)) l
-some-term k n [] = refl
-some-term k n (t ∷ l) = ap (λ (b : Bool). isVariable k n (viewTerm t) || b) (some-term k n l)
-
-pub some-field : (k : Kind) (n : ℕ) (l : List Field) → occurs k n (map viewField l) ≡ some (λ (f : Field). inField k n (viewField f)) l
-some-field k n [] = refl
-some-field k n (f ∷ l) = ap (λ (b : Bool). inField k n (viewField f) || b) (some-field k n l)
-
-module _ {A : Type 0} (test : A → Bool) (n : ℕ) (s : List A) (w : ℕ) where
-  -- none of the first i passed
-  abbrev pub Unmet : ℕ → Type 0
-  Unmet i = (length s ≡ w) × (some test (take n s) ≡ some test (drop i (take n s)))
-
-  pub unmet-none : length s ≡ w → Unmet 0
-  unmet-none e = (e, refl)
-
-  module _ (i : ℕ) (d : A) (b : Bool) (u : Unmet i) (h : i < min n w) (is-b : b ≡ test (getD s i d)) where
-    one : some test (take n s) ≡ b || some test (drop (i + 1) (take n s))
-    one = u .1 ∙ ap (some test) (here n s i d (omega arith) (omega (arith, u .0))) ∙ ap (λ (x : Bool). x || some test (drop (i + 1) (take n s))) (sym is-b)
-
-    pub unmet-one : b ≡ false → Unmet (i + 1)
-    unmet-one e = (u .0, one ∙ ap (λ (x : Bool). x || some test (drop (i + 1) (take n s))) e)
-
-    pub met : b ≡ true → true ≡ some test (take n s)
-    met e = sym (one ∙ ap (λ (x : Bool). x || some test (drop (i + 1) (take n s))) e)
-
-  pub unmet-all : (i : ℕ) → Unmet i → min n w ≤ i → false ≡ some test (take n s)
-  unmet-all i u h = sym (u .1 ∙ ap (some test) (drop-of-length-le (take n s) {i = i} (omega (arith, length-take n s, u .0))))
 
 -- ---- the items of a run
 

@@ -1,38 +1,21 @@
 -- The texts that are made of values, case by case as code makes them. Assumes nothing.
 use mathlib.Core.Path.{_≡_, refl, sym, ap, _∙_}
-use mathlib.Core.Bool.{Bool, true, false, cond, not, _&&_, false≢true}
+use mathlib.Core.Bool.{Bool, true, false, cond, not, false≢true}
 use mathlib.Core.List.{List, [], _++_}
 use Prim.Native.Nat.{ℕ}
 use borrow.Author.Tests.{not-true, not-false}
-use lib.Dec.{eqb}
-use Rattle.order.specs.declared.Kind.{Kind as KindValue}
 use Rattle.order.specs.Order.{basic, list}
 use Rattle.order.specs.Types.{integer, string, atom, Kind, same}
-use Rattle.order.specs.Values.{kindOf}
 use Rattle.text.specs.Plain.{termText}
-use Rattle.terms.specs.declared.Form.{Form}
-use Rattle.terms.specs.declared.Form.the-variants.{Var}
 use Rattle.terms.specs.declared.RuleSide.{RuleSide}
 use Rattle.terms.specs.declared.Slip.{Slip}
-use Rattle.terms.specs.Values.{viewForm, viewTerm, viewSide}
+use Rattle.terms.specs.Values.{viewTerm, viewSide}
 use Rattle.bindings.specs.declared.Filling.{Filling}
 use Rattle.matching.specs.declared.Match.{Match}
 use Rattle.bindings.specs.Values.{atomOf, runOf}
-use Rattle.listing.specs.Variables.{isVariable, occurs}
+use Rattle.listing.specs.Variables.{occurs}
 use Rattle.text.specs.Ascii.{ascii}
 use Rattle.match_text.specs.Values.{runText, saidValue, nameText, saidVariable, saidValues, saidMatch}
-
--- ---- a variable against one of the rule
-
-module _ (k : Kind) (n : ℕ) (f : Form) (s : List ℕ) (j : KindValue) (m : ℕ) (b : Bool) (is-f : f ≡ Var j m) (is-b : b ≡ same k (kindOf j)) where
-  by : (x : Bool) → b ≡ x → x && eqb n m ≡ isVariable k n (viewForm f s)
-  by x e = ap (λ (y : Bool). y && eqb n m) (sym e ∙ is-b) ∙ ap (λ (g : Form). isVariable k n (viewForm g s)) (sym is-f)
-
-  pub other-kind : not b ≡ true → false ≡ isVariable k n (viewForm f s)
-  other-kind e = by false (not-true b e)
-
-  pub same-kind : not b ≡ false → eqb n m ≡ isVariable k n (viewForm f s)
-  same-kind e = by true (not-false b e)
 
 -- ---- a value, by its kind
 

@@ -5,17 +5,15 @@ ghost use Prim.Native.Nat.{min};
 ghost use lib.ListN.{getD};
 ghost use Rattle.order.specs.Values.{kindOf};
 ghost use Rattle.text.specs.Plain.{fieldText};
-ghost use Rattle.terms.specs.Values.{blankSlipField, viewTerm, viewField, viewSide};
+ghost use Rattle.terms.specs.Values.{blankSlipField, viewTerm};
 ghost use Rattle.accepted.specs.Accepted.{countedLeft};
 ghost use Rattle.accepted_slips.specs.Slips.{countedSlip};
 ghost use Rattle.matching.specs.Answers.{matchOf};
-ghost use Rattle.listing.specs.Variables.{isVariable, inField, occurs};
 ghost use Rattle.pieces.specs.Placed.{Placed};
 ghost use Rattle.match_text.specs.Values.{itemsFrom, runText, saidValue, nameText, saidVariable, saidKind, saidValues, saidMatch};
 use bindings::Filling;
 use bindings::Run;
 use order::Kind;
-use terms::Field;
 use terms::Form;
 use terms::RuleSide;
 use terms::Slip;
@@ -27,52 +25,6 @@ fn at_most(n: usize, places: usize) -> usize
     ensures { λ r. ⌜ r ≡ min n places ⌝ }
 {
     if n < places { n } else { places }
-}
-
-// ---- which variables a rule has
-
-fn is_variable(t: Term, k: Kind, n: u8) -> bool
-    ensures { λ r. ⌜ r ≡ isVariable (kindOf k) n (viewTerm t) ⌝ }
-{
-    let form = t.form;
-    match form {
-        Form::Int(_) => false,
-        Form::Str(_) => false,
-        Form::Var(j, m) => {
-            if !order::same_kind(k, j) {
-                return false;
-            }
-            n == m
-        }
-    }
-}
-
-fn in_field(f: Field, k: Kind, n: u8) -> bool
-    ensures { λ r. ⌜ r ≡ inField (kindOf k) n (viewField f) ⌝ }
-{
-    let terms = at_most(f.n, 16);
-    let mut i: usize = 0;
-    while i < terms {
-        if is_variable(f.terms[i], k, n) {
-            return true;
-        }
-        i += 1;
-    }
-    false
-}
-
-fn has_variable(r: RuleSide, k: Kind, n: u8) -> bool
-    ensures { λ b. ⌜ b ≡ occurs (kindOf k) n (viewSide r) ⌝ }
-{
-    let fields = at_most(r.n, 4);
-    let mut i: usize = 0;
-    while i < fields {
-        if in_field(r.fields[i], k, n) {
-            return true;
-        }
-        i += 1;
-    }
-    false
 }
 
 // ---- values: each piece is put at a place, and returns the place behind it
@@ -138,10 +90,18 @@ fn put_name(k: Kind, n: u8, out: &mut [u8], at: usize) -> usize
 }
 
 // A variable's name and value; of one that the rule lacks nothing.
-fn put_variable(k: Kind, n: u8, r: RuleSide, s: Slip, x: Filling, out: &mut [u8], at: usize) -> usize
+fn put_variable(
+    k: Kind,
+    n: u8,
+    r: RuleSide,
+    s: Slip,
+    x: Filling,
+    out: &mut [u8],
+    at: usize,
+) -> usize
     ensures { λ p. ⌜ Placed (saidVariable r s x (kindOf k) n) at (now (out .entry)) p (now (out .exit)) ⌝ }
 {
-    if !has_variable(r, k, n) {
+    if !occurrence::has_variable(r, k, n) {
         return at;
     }
     let a = put_name(k, n, out, at);
@@ -174,7 +134,7 @@ fn put_values(r: RuleSide, s: Slip, x: Filling, out: &mut [u8], at: usize) -> us
 pub fn put_match(r: RuleSide, s: Slip, out: &mut [u8], at: usize) -> usize
     ensures { λ p. ⌜ Placed (saidMatch r s (matchOf (countedLeft r) (countedSlip s))) at (now (out .entry)) p (now (out .exit)) ⌝ }
 {
-    let m = matching::match_rule(r, s);
+    let m = matching::match_side(r, s);
     if !m.yes {
         return pieces::put_bytes(b"no", out, at);
     }

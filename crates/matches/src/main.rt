@@ -40,10 +40,10 @@ fn answer_all(chunk: &mut [u8], line: &mut [u8], buffer: &mut [u8]) {
     lines::finish(s, buffer);
 }
 
-// Of a line no more than 10,242 bytes are kept: with more it is too long whatever they are (`cut-same` of match_answers' proofs/Lengths).
+// Of a line no more than 12,290 bytes are kept: with more it is too long whatever they are (`cut-same` of match_answers' proofs/Lengths).
 fn main() {
     let mut chunk = io::large_buffer();
-    let mut line = [0u8; 10242];
+    let mut line = [0u8; 12290];
     let mut buffer = io::large_buffer();
     answer_all(&mut chunk, &mut line, &mut buffer);
 }

@@ -3,3 +3,4 @@ pub mod Agree
 pub mod Found
 pub mod Accept
 pub mod Runs
+pub mod Items

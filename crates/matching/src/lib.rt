@@ -4,6 +4,7 @@ ghost use Prim.Native.Nat.{_-_, _≤_, min};
 ghost use Rattle.matching.specs.Tests.{fieldsTested, noValues, withRun, runsIn, runsAll};
 ghost use Rattle.matching.specs.Answers.{fillingOf, matchOf, noMatch};
 ghost use Rattle.accepted.specs.Accepted.{countedLeft};
+ghost use Rattle.accepted_rules.specs.Rules.{countedRule};
 ghost use Rattle.accepted_slips.specs.Slips.{countedSlip};
 ghost use lib.ListN.{take};
 use bindings::Filling;
@@ -13,6 +14,7 @@ use item_match::Tested;
 use order::Kind;
 use terms::Field;
 use terms::Form;
+use terms::Rule;
 use terms::RuleSide;
 use terms::Slip;
 use terms::SlipField;
@@ -154,8 +156,8 @@ fn no_match() -> Match
     }
 }
 
-// Whether the rule matches the slip, and with which filling. What no reading returns has no fields, and matches nothing.
-pub fn match_rule(rule: RuleSide, slip: Slip) -> Match
+// Whether this left side matches the slip, and with which filling. What no reading returns has no fields, and matches nothing.
+pub fn match_side(rule: RuleSide, slip: Slip) -> Match
     ensures { λ m. ⌜ m ≡ matchOf (countedLeft rule) (countedSlip slip) ⌝ }
 {
     if !accepted::is_left(rule) {
@@ -176,4 +178,11 @@ pub fn match_rule(rule: RuleSide, slip: Slip) -> Match
         yes: true,
         filling: run_fields(rule, slip, x),
     }
+}
+
+// Whether the rule matches the slip: its left side does. A rule whose right side no reading returns has no fields either.
+pub fn match_rule(rule: Rule, slip: Slip) -> Match
+    ensures { λ m. ⌜ m ≡ matchOf ((countedRule rule) .0) (countedSlip slip) ⌝ }
+{
+    match_side(accepted_rules::left_of(rule), slip)
 }

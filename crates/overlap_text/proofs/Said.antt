@@ -5,29 +5,30 @@ use Prim.Native.Nat.{ℕ, _≤_, _<_}
 use native.Mathlib.Omega.{arith}
 use borrow.Author.Tests.{le-leb, lt-leb}
 use Rattle.text.specs.Ascii.{ascii, newline}
-use Rattle.text.specs.Read.{Outcome, refused, accepted}
+use Rattle.text.specs.Read.{OutcomeOf, refused, accepted}
+use Rattle.rules.specs.Read.{OurRule}
 use Rattle.verdicts.specs.declared.Reason.{Reason}
 use Rattle.verdicts.specs.declared.Verdict.the-variants.{Accepted, Refused}
 use Rattle.verdicts.specs.Verdicts.{reasonFrom, numberOf, verdictOf}
 use Rattle.verdicts.proofs.Verdicts.{number-is}
 use Rattle.listing.specs.Overlaps.{linesOf, overlapText}
-use Rattle.overlaps.specs.Answers.{ruleOf}
+use Rattle.reading.specs.Answers.{leftSaid}
 use Rattle.overlaps.proofs.Rules.{no-right}
 use Rattle.pieces.specs.Refusals.{numberAt}
 use Rattle.overlap_text.specs.Texts.{mostBytes, listedText, readText, textsIn}
 
 -- with as many bytes as it may have all is said
-pub in-room : (k : ℕ) (o p : Outcome) → mostBytes ≤ k → textsIn k o p ≡ readText o p
+pub in-room : (k : ℕ) (o p : OutcomeOf OurRule) → mostBytes ≤ k → textsIn k o p ≡ readText o p
 in-room k o p h = rw (le-leb mostBytes k h)
 
-pub no-room : (k : ℕ) (o p : Outcome) → k < mostBytes → textsIn k o p ≡ []
+pub no-room : (k : ℕ) (o p : OutcomeOf OurRule) → k < mostBytes → textsIn k o p ≡ []
 no-room k o p h = rw (lt-leb mostBytes k h)
 
-module _ (o p : Outcome) where
+module _ (o p : OutcomeOf OurRule) where
   pub left-said : (r : Reason) (i : ℕ) → verdictOf o ≡ Refused r i → readText o p ≡ ascii "refused left " ++ numberAt (numberOf r) i ++ newline
   left-said r i e = go o e
     where
-      go : (q : Outcome) → verdictOf q ≡ Refused r i → readText q p ≡ ascii "refused left " ++ numberAt (numberOf r) i ++ newline
+      go : (q : OutcomeOf OurRule) → verdictOf q ≡ Refused r i → readText q p ≡ ascii "refused left " ++ numberAt (numberOf r) i ++ newline
       go (refused s k) h =
           let a : reasonFrom s ≡ r = cc in
           let b : k ≡ i = cc in
@@ -38,7 +39,8 @@ module _ (o p : Outcome) where
       → readText o p ≡ ascii "refused right " ++ numberAt (numberOf r) i ++ newline
   right-said r i e f = go o p e f
     where
-      go : (q w : Outcome) → verdictOf q ≡ Accepted → verdictOf w ≡ Refused r i → readText q w ≡ ascii "refused right " ++ numberAt (numberOf r) i ++ newline
+      go : (q w : OutcomeOf OurRule) → verdictOf q ≡ Accepted → verdictOf w ≡ Refused r i
+          → readText q w ≡ ascii "refused right " ++ numberAt (numberOf r) i ++ newline
       go (refused s k) w g h = let z : _≡_ {A = ℕ} 0 1 = cc in absurd (omega arith)
       go (accepted x) (accepted y) g h = let z : _≡_ {A = ℕ} 0 1 = cc in absurd (omega arith)
       go (accepted x) (refused s k) g h =
@@ -46,25 +48,25 @@ module _ (o p : Outcome) where
           let b : k ≡ i = cc in
           ap₂ (λ (m n : ℕ). ascii "refused right " ++ numberAt m n ++ newline) (sym (number-is s) ∙ ap numberOf a) b
 
-  pub both-said : verdictOf o ≡ Accepted → verdictOf p ≡ Accepted → readText o p ≡ listedText (overlapText (ruleOf o) (ruleOf p))
+  pub both-said : verdictOf o ≡ Accepted → verdictOf p ≡ Accepted → readText o p ≡ listedText (overlapText (leftSaid o) (leftSaid p))
   both-said e f = go o p e f
     where
-      go : (q w : Outcome) → verdictOf q ≡ Accepted → verdictOf w ≡ Accepted → readText q w ≡ listedText (overlapText (ruleOf q) (ruleOf w))
+      go : (q w : OutcomeOf OurRule) → verdictOf q ≡ Accepted → verdictOf w ≡ Accepted → readText q w ≡ listedText (overlapText (leftSaid q) (leftSaid w))
       go (refused s k) w g h = let z : _≡_ {A = ℕ} 0 1 = cc in absurd (omega arith)
       go (accepted x) (refused s k) g h = let z : _≡_ {A = ℕ} 0 1 = cc in absurd (omega arith)
       go (accepted x) (accepted y) g h = refl
 
   -- a text that is refused has no overlaps
-  pub no-lines-left : (r : Reason) (i : ℕ) → verdictOf o ≡ Refused r i → linesOf (ruleOf o) (ruleOf p) ≡ []
+  pub no-lines-left : (r : Reason) (i : ℕ) → verdictOf o ≡ Refused r i → linesOf (leftSaid o) (leftSaid p) ≡ []
   no-lines-left r i e = go o e
     where
-      go : (q : Outcome) → verdictOf q ≡ Refused r i → linesOf (ruleOf q) (ruleOf p) ≡ []
+      go : (q : OutcomeOf OurRule) → verdictOf q ≡ Refused r i → linesOf (leftSaid q) (leftSaid p) ≡ []
       go (refused s k) h = refl
       go (accepted x) h = let z : _≡_ {A = ℕ} 0 1 = cc in absurd (omega arith)
 
-  pub no-lines-right : (r : Reason) (i : ℕ) → verdictOf p ≡ Refused r i → linesOf (ruleOf o) (ruleOf p) ≡ []
+  pub no-lines-right : (r : Reason) (i : ℕ) → verdictOf p ≡ Refused r i → linesOf (leftSaid o) (leftSaid p) ≡ []
   no-lines-right r i e = go p e
     where
-      go : (q : Outcome) → verdictOf q ≡ Refused r i → linesOf (ruleOf o) (ruleOf q) ≡ []
-      go (refused s k) h = no-right (ruleOf o)
+      go : (q : OutcomeOf OurRule) → verdictOf q ≡ Refused r i → linesOf (leftSaid o) (leftSaid q) ≡ []
+      go (refused s k) h = no-right (leftSaid o)
       go (accepted x) h = let z : _≡_ {A = ℕ} 0 1 = cc in absurd (omega arith)

@@ -6,13 +6,15 @@ use native.Mathlib.Omega.{arith}
 use lib.ListN.{length, take, drop}
 use Rattle.text.specs.Ascii.{ascii, newline}
 use Rattle.text.specs.Numbers.{digitsOf}
-use Rattle.text.specs.Read.{Outcome, readSide}
+use Rattle.text.specs.Read.{OutcomeOf}
+use Rattle.rules.specs.Read.{OurRule, readRule}
 use Rattle.verdicts.specs.declared.Reason.{Reason}
 use Rattle.verdicts.specs.declared.Verdict.the-variants.{Accepted, Refused}
-use Rattle.verdicts.specs.Verdicts.{numberOf, verdictOf}
+use Rattle.verdicts.specs.Verdicts.{numberOf}
+use Rattle.reading.specs.Answers.{leftSaid}
 use Rattle.overlaps.specs.declared.Listed.the-variants.{Lines, TooSmall}
 use Rattle.overlaps.specs.declared.TextsListed.{TextsListed}
-use Rattle.overlaps.specs.Answers.{TextsList, ruleOf}
+use Rattle.overlaps.specs.Answers.{TextsList}
 use Rattle.pieces.specs.Placed.{Placed}
 use Rattle.pieces.specs.Refusals.{numberAt}
 use Rattle.entry_parts.proofs.Pieces.{Piece, piece-as}
@@ -22,18 +24,18 @@ use Rattle.overlap_text.proofs.Said.{left-said, right-said, both-said, 
 use Rattle.overlap_text.proofs.Values.{refusal-short}
 
 module _ (s u : List ℕ) (old : List ℕ) (at n : ℕ) (is-n : n ≡ mostBytes) (room : at + mostBytes ≤ length old) where
-  abbrev o : Outcome
-  o = readSide s
+  abbrev o : OutcomeOf OurRule
+  o = readRule s
 
-  abbrev p : Outcome
-  p = readSide u
+  abbrev p : OutcomeOf OurRule
+  p = readRule u
 
   -- the bytes that are lent, and the whole room with m in their place
   abbrev part : List ℕ
   part = take n (drop at old)
 
   abbrev whole : List ℕ → List ℕ
-  whole m = roomWith (ruleOf o) (ruleOf p) old at n is-n room m
+  whole m = roomWith (leftSaid o) (leftSaid p) old at n is-n room m
 
   module _ {t : TextsListed} {m : List ℕ} (is : TextsList s u part t m) where
     module _ (r : Reason) (i : ℕ) (small : i < 18446744073709551616) {e : ℕ} {new : List ℕ} where
@@ -42,7 +44,7 @@ module _ (s u : List ℕ) (old : List ℕ) (at n : ℕ) (is-n : n ≡ mostBytes)
       left-refused h q =
           let v = sym (is .left) ∙ h in
           let text = ascii "refused left " ++ numberAt (numberOf r) i ++ newline in
-          let untouched = none-put (ruleOf o) (ruleOf p) old at n is-n room (is .listed .bytes) (no-lines-left o p r i v) in
+          let untouched = none-put (leftSaid o) (leftSaid p) old at n is-n room (is .listed .bytes) (no-lines-left o p r i v) in
           let there = subst (λ (l : List ℕ). Placed text at l e new) untouched q in
           piece-as mostBytes at old (left-said o p r i v) (there, refusal-short (ascii "refused left ") r i (omega arith) small)
 
@@ -51,21 +53,21 @@ module _ (s u : List ℕ) (old : List ℕ) (at n : ℕ) (is-n : n ≡ mostBytes)
       right-refused a h q =
           let v = sym (is .right) ∙ h in
           let text = ascii "refused right " ++ numberAt (numberOf r) i ++ newline in
-          let untouched = none-put (ruleOf o) (ruleOf p) old at n is-n room (is .listed .bytes) (no-lines-right o p r i v) in
+          let untouched = none-put (leftSaid o) (leftSaid p) old at n is-n room (is .listed .bytes) (no-lines-right o p r i v) in
           let there = subst (λ (l : List ℕ). Placed text at l e new) untouched q in
           piece-as mostBytes at old (right-said o p r i (sym (is .left) ∙ a) v) (there, refusal-short (ascii "refused right ") r i (omega arith) small)
 
     pub texts-in : (e b : ℕ) → t .listed ≡ Lines e b → at + b ≤ length old
-    texts-in e b h = list-in (ruleOf o) (ruleOf p) old at n is-n room (is .listed) e b h
+    texts-in e b h = list-in (leftSaid o) (leftSaid p) old at n is-n room (is .listed) e b h
 
     module _ (a : t .left ≡ Accepted) (c : t .right ≡ Accepted) (e b : ℕ) where
       pub texts-put : t .listed ≡ Lines e b → Piece mostBytes (readText o p) at old (at + b) (whole m)
       texts-put h =
           piece-as mostBytes at old (both-said o p (sym (is .left) ∙ a) (sym (is .right) ∙ c))
-          (list-put (ruleOf o) (ruleOf p) old at n is-n room (is .listed) e b h)
+          (list-put (leftSaid o) (leftSaid p) old at n is-n room (is .listed) e b h)
 
       pub texts-long : t .listed ≡ TooSmall e b → b < 18446744073709551616 → {k : ℕ} {new : List ℕ}
           → Placed (ascii "too long " ++ digitsOf b ++ newline) at (whole m) k new → Piece mostBytes (readText o p) at old k new
       texts-long h small q =
           piece-as mostBytes at old (both-said o p (sym (is .left) ∙ a) (sym (is .right) ∙ c))
-          (list-refused (ruleOf o) (ruleOf p) old at n is-n room (is .listed) e b h small q)
+          (list-refused (leftSaid o) (leftSaid p) old at n is-n room (is .listed) e b h small q)

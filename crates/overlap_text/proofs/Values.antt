@@ -3,16 +3,16 @@ use mathlib.Core.List.{List, _++_}
 use Prim.Native.Nat.{ℕ, _≤_, _<_}
 use native.Mathlib.Omega.{arith}
 use lib.ListN.{length, length-append}
-use Rattle.text.specs.Ascii.{ascii, newline}
-use Rattle.text.specs.Numbers.{digitsOf}
-use Rattle.writing.proofs.Digits.{digits-most, digits-64}
+use Rattle.text.specs.Ascii.{newline}
+use Rattle.writing.proofs.Digits.{digits-64}
 use Rattle.verdicts.specs.declared.Reason.{Reason}
-use Rattle.verdicts.specs.declared.Reason.the-variants.{Long, Grammar, Fields, Terms, Limits, Linear, Variable}
+use Rattle.verdicts.specs.declared.Reason.the-variants.{Long, Grammar, Fields, Terms, Limits, Linear, Variable, Unknown}
 use Rattle.verdicts.specs.Verdicts.{numberOf}
 use Rattle.pieces.specs.Refusals.{numberAt}
+use Rattle.pieces.proofs.Refusals.{number-at-most}
 use Rattle.overlap_text.specs.Texts.{mostBytes}
 
-number-small : (r : Reason) → numberOf r < 10
+number-small : (r : Reason) → numberOf r < 100
 number-small Long = omega arith
 number-small Grammar = omega arith
 number-small Fields = omega arith
@@ -20,8 +20,11 @@ number-small Terms = omega arith
 number-small Limits = omega arith
 number-small Linear = omega arith
 number-small Variable = omega arith
+number-small Unknown = omega arith
 
-pub refusal-short : (words : List ℕ) (r : Reason) (p : ℕ) → length words ≤ 14 → p < 18446744073709551616 → length (words ++ numberAt (numberOf r) p ++ newline) ≤ mostBytes
+pub refusal-short : (words : List ℕ) (r : Reason) (p : ℕ) → length words ≤ 14 → p < 18446744073709551616
+    → length (words ++ numberAt (numberOf r) p ++ newline) ≤ mostBytes
 refusal-short words r p h k =
-    let n = digitsOf (numberOf r) in
-    omega (arith, length-append (words ++ numberAt (numberOf r) p) newline, length-append words (numberAt (numberOf r) p), length-append (n ++ ascii " at ") (digitsOf p), length-append n (ascii " at "), digits-most 0 (numberOf r) (number-small r), digits-64 p k)
+    let a = length-append (words ++ numberAt (numberOf r) p) newline in
+    let b = length-append words (numberAt (numberOf r) p) in
+    omega (arith, a, b, number-at-most (numberOf r) p 20 (number-small r) (digits-64 p k))

@@ -6,7 +6,8 @@ use lib.Dec.{leb}
 use lib.ListN.{length}
 use Rattle.text.specs.Ascii.{ascii, newline}
 use Rattle.text.specs.Numbers.{digitsOf}
-use Rattle.text.specs.Read.{number, Outcome, refused, accepted, readSide}
+use Rattle.text.specs.Read.{number, OutcomeOf, refused, accepted}
+use Rattle.rules.specs.Read.{OurRule, readRule}
 use Rattle.listing.specs.Overlaps.{overlapText}
 use Rattle.pieces.specs.Refusals.{numberAt}
 use Rattle.overlaps.specs.Answers.{textsRoom}
@@ -19,14 +20,14 @@ mostBytes = 65536
 abbrev pub listedText : List ℕ → List ℕ
 listedText t = cond (leb (length t) mostBytes) t (ascii "too long " ++ digitsOf (length t) ++ newline)
 
--- "`refused left N at P`, or else `refused right N at P`, N the number and P the place"
-abbrev pub readText : Outcome → Outcome → List ℕ
+-- "`refused left N at P`, or else `refused right N at P`, N the number and P the place"; the overlaps are those of the left sides
+abbrev pub readText : OutcomeOf OurRule → OutcomeOf OurRule → List ℕ
 readText (refused r p) o = ascii "refused left " ++ numberAt (number r) p ++ newline
 readText (accepted left) (refused r p) = ascii "refused right " ++ numberAt (number r) p ++ newline
-readText (accepted left) (accepted right) = listedText (overlapText left right)
+readText (accepted left) (accepted right) = listedText (overlapText (left .0) (right .0))
 
 -- the same where k bytes are left for it: with fewer than it may have nothing is said
-abbrev pub textsIn : ℕ → Outcome → Outcome → List ℕ
+abbrev pub textsIn : ℕ → OutcomeOf OurRule → OutcomeOf OurRule → List ℕ
 textsIn k o p = cond (leb mostBytes k) (readText o p) []
 
 -- the room that is lent for the lister's work where k bytes are left: as the list leaves it, and as it was where nothing is said
@@ -36,10 +37,10 @@ roomBy k t u room = cond (leb mostBytes k) (textsRoom t u room) room
 -- ---- of texts, and of the bytes from a place on
 
 abbrev pub saidOf : List ℕ → List ℕ → List ℕ
-saidOf t u = readText (readSide t) (readSide u)
+saidOf t u = readText (readRule t) (readRule u)
 
 abbrev pub saidIn : List ℕ → ℕ → List ℕ → List ℕ → List ℕ
-saidIn old at t u = textsIn (length old - at) (readSide t) (readSide u)
+saidIn old at t u = textsIn (length old - at) (readRule t) (readRule u)
 
 abbrev pub roomIn : List ℕ → ℕ → List ℕ → List ℕ → List ℕ → List ℕ
 roomIn old at t u room = roomBy (length old - at) t u room

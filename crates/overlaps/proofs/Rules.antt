@@ -36,7 +36,7 @@ use Rattle.pieces.specs.Stored.{bytesOf, storeAll}
 use Rattle.overlaps.specs.Listing.{allLines, AsRead}
 use Rattle.tokens.specs.declared.TokenRule.{TokenRule}
 use Rattle.tokens.specs.Tokens.{ruleOf}
-use Rattle.overlaps.specs.Pairs.{saidRule, Said}
+use Rattle.overlaps.specs.Pairs.{saidSide, Said}
 use Rattle.overlaps.specs.Answers.{told, Lists, ListsLines, roomAfter}
 use Rattle.overlaps.proofs.Entries.{Raw, rawFrom}
 use Rattle.overlaps.proofs.Lines.{lines-are}
@@ -169,30 +169,30 @@ same-accepted v w h k e = (h .0 k, h .1 (λ z. k (e ∙ z)))
 -- ---- what two texts say, given by the tokens of each
 
 module _ (l r : List ℕ) (x y : TokenRule) (said : Said l r x y) where
-  left-count : x .n ≡ saidRule l .n
+  left-count : x .n ≡ saidSide l .n
   left-count = ap (λ (v : RuleSide). v .n) (said .0)
 
-  right-count : y .n ≡ saidRule r .n
+  right-count : y .n ≡ saidSide r .n
   right-count = ap (λ (v : RuleSide). v .n) (said .1)
 
-  pub said-none : x .n ≡ 0 → linesOf (countedLeft (saidRule l)) (countedLeft (saidRule r)) ≡ []
-  said-none e = nothing-left (saidRule l) (saidRule r) (sym left-count ∙ e)
+  pub said-none : x .n ≡ 0 → linesOf (countedLeft (saidSide l)) (countedLeft (saidSide r)) ≡ []
+  said-none e = nothing-left (saidSide l) (saidSide r) (sym left-count ∙ e)
 
-  module _ (read : AsRead (saidRule l) × AsRead (saidRule r)) (n : x .n ≢ 0) where
-    present : saidRule l .n ≢ 0
+  module _ (read : AsRead (saidSide l) × AsRead (saidSide r)) (n : x .n ≢ 0) where
+    present : saidSide l .n ≢ 0
     present e = n (left-count ∙ e)
 
     pub said-four : x .n ≤ 4
-    said-four = omega (arith, left-count, at-most-four (saidRule l) (read .0 present))
+    said-four = omega (arith, left-count, at-most-four (saidSide l) (read .0 present))
 
-    pub said-differ : x .n ≢ y .n → linesOf (countedLeft (saidRule l)) (countedLeft (saidRule r)) ≡ []
-    said-differ m = counts-differ (saidRule l) (saidRule r) read present (λ e. m (left-count ∙ e ∙ sym right-count))
+    pub said-differ : x .n ≢ y .n → linesOf (countedLeft (saidSide l)) (countedLeft (saidSide r)) ≡ []
+    said-differ m = counts-differ (saidSide l) (saidSide r) read present (λ e. m (left-count ∙ e ∙ sym right-count))
 
     -- the lines that are listed are those of the rules that the texts say
     pub said-lines : x .n ≡ y .n
-        → allLines (record { left = ruleOf l r x; sided = ruleOf l r y }) ≡ map lineText (linesOf (countedLeft (saidRule l)) (countedLeft (saidRule r)))
+        → allLines (record { left = ruleOf l r x; sided = ruleOf l r y }) ≡ map lineText (linesOf (countedLeft (saidSide l)) (countedLeft (saidSide r)))
     said-lines same =
-        let counts : saidRule l .n ≡ saidRule r .n = sym left-count ∙ same ∙ right-count in
-        let a = same-accepted (saidRule l) (saidRule r) read present counts in
+        let counts : saidSide l .n ≡ saidSide r .n = sym left-count ∙ same ∙ right-count in
+        let a = same-accepted (saidSide l) (saidSide r) read present counts in
         ap (λ (v : RuleSide). allLines (record { left = v; sided = ruleOf l r y })) (said .0)
-        ∙ lines (saidRule l) (saidRule r) (a .0) (a .1) counts (ruleOf l r y) (said .1)
+        ∙ lines (saidSide l) (saidSide r) (a .0) (a .1) counts (ruleOf l r y) (said .1)

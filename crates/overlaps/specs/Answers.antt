@@ -8,14 +8,15 @@ use Prim.Native.Nat.{ℕ}
 use lib.ListN.{length}
 use Rattle.text.specs.Told.{Told, byRoom}
 use Rattle.text.specs.Terms.{OurTerm}
-use Rattle.text.specs.Read.{Outcome, refused, accepted, readSide}
+use Rattle.rules.specs.Read.{readRule}
 use Rattle.verdicts.specs.Verdicts.{verdictOf}
+use Rattle.reading.specs.Answers.{leftSaid}
 use Rattle.accepted.specs.Accepted.{countedLeft}
 use Rattle.writing.specs.Answers.{after}
 use Rattle.pieces.specs.Stored.{bytesOf, storeAll}
 use Rattle.listing.specs.Lines.{lineText}
 use Rattle.listing.specs.Overlaps.{linesOf, overlapText}
-use Rattle.overlaps.specs.Pairs.{saidRule}
+use Rattle.overlaps.specs.Pairs.{saidSide}
 use Rattle.overlaps.specs.declared.Listed.{Listed}
 use Rattle.overlaps.specs.declared.Listed.the-variants.{Lines, TooSmall}
 use Rattle.overlaps.specs.declared.TextsListed.{TextsListed}
@@ -26,7 +27,7 @@ abbrev pub told : Listed → Told
 told (Lines n b) = record { number = none; values = n ∷ b ∷ [] }
 told (TooSmall n b) = record { number = some 8; values = n ∷ b ∷ [] }
 
--- WHAT LISTING PROMISES of the rules x and y and the lent bytes `old`: the answer, and what the bytes are afterwards
+-- WHAT LISTING PROMISES of the rules with the left sides x and y and the lent bytes `old`: the answer, and what the bytes are afterwards
 pub record Lists (x y : List (List OurTerm)) (old : List ℕ) (r : Listed) (new : List ℕ) : Type 0 where
   pub answer : told r ≡ byRoom (length (overlapText x y)) (length old) (length (linesOf x y) ∷ length (overlapText x y) ∷ [])
   pub bytes : new ≡ after (overlapText x y) old
@@ -37,26 +38,21 @@ roomAfter x y room = storeAll (map lineText (linesOf x y)) 0 room
 
 -- ---- of texts
 
--- "A refusal returns its number, its place and the rule with no fields"
-abbrev pub ruleOf : Outcome → List (List OurTerm)
-ruleOf (refused r p) = []
-ruleOf (accepted x) = x
-
--- WHAT LISTING PROMISES of the texts t and u: how each is read, and the list of the rules that they say
+-- WHAT LISTING PROMISES of the texts t and u: how each is read, and the list of the left sides of the rules that they say
 pub record TextsList (t u old : List ℕ) (r : TextsListed) (new : List ℕ) : Type 0 where
-  pub left : r .left ≡ verdictOf (readSide t)
-  pub right : r .right ≡ verdictOf (readSide u)
-  pub listed : Lists (ruleOf (readSide t)) (ruleOf (readSide u)) old (r .listed) new
+  pub left : r .left ≡ verdictOf (readRule t)
+  pub right : r .right ≡ verdictOf (readRule u)
+  pub listed : Lists (leftSaid (readRule t)) (leftSaid (readRule u)) old (r .listed) new
 
 abbrev pub textsRoom : List ℕ → List ℕ → List ℕ → List ℕ
-textsRoom t u room = roomAfter (ruleOf (readSide t)) (ruleOf (readSide u)) room
+textsRoom t u room = roomAfter (leftSaid (readRule t)) (leftSaid (readRule u)) room
 
--- the same of the values that the texts say
+-- the same of the values that the left sides' texts say
 abbrev pub SaidLists : List ℕ → List ℕ → List ℕ → Listed → List ℕ → Type 0
-SaidLists t u old r new = Lists (countedLeft (saidRule t)) (countedLeft (saidRule u)) old r new
+SaidLists t u old r new = Lists (countedLeft (saidSide t)) (countedLeft (saidSide u)) old r new
 
 abbrev pub saidRoom : List ℕ → List ℕ → List ℕ → List ℕ
-saidRoom t u room = roomAfter (countedLeft (saidRule t)) (countedLeft (saidRule u)) room
+saidRoom t u room = roomAfter (countedLeft (saidSide t)) (countedLeft (saidSide u)) room
 
 -- ---- of lines as bytes: `lines-list` of proofs/Rules says that they are listed as `Lists` has it
 

@@ -1,11 +1,13 @@
-// Listing the overlaps of two rules: every choice of one candidate a field that nothing kills, the first field slowest.
-// The rules are worked on as tokens: a constant is a place of one of the two texts, which go along wherever constants are compared
+// Listing the overlaps of two rules, which are those of their left sides: every choice of one candidate a field that nothing kills,
+// the first field slowest.
+// The sides are worked on as tokens: a constant is a place of one of the two sides' texts, which go along wherever constants are compared
 // or written.
 ghost use mathlib.Core.Path.{_≡_};
 ghost use mathlib.Core.List.{[], _∷_};
 ghost use Prim.Native.Nat.{_-_, _+_, _≤_, _<_, min};
 ghost use lib.ListN.{length};
 ghost use Rattle.accepted.specs.Accepted.{countedLeft};
+ghost use Rattle.accepted_rules.specs.Rules.{countedRule};
 ghost use Rattle.entry_lines.specs.Lines.{lineBound};
 ghost use Rattle.overlaps.specs.Pairs.{Said};
 ghost use Rattle.pieces.specs.Stored.{storeAll};
@@ -14,12 +16,13 @@ ghost use Rattle.overlaps.specs.Listing.{candidateOf, noTally, Stores, l
 ghost use Rattle.overlaps.specs.Answers.{Lists, ListsLines, TextsList, SaidLists, roomAfter, textsRoom, saidRoom};
 use candidates::Span;
 use choices::Choice;
+use terms::Rule;
 use terms::RuleSide;
 use token_fillings::Fillings;
 use tokens::TokenRule;
 use verdicts::Verdict;
 
-// The two rules as tokens, the right one's variables kept apart from the left one's.
+// The left sides of the two rules as tokens, the right rule's variables kept apart from the left one's.
 pub struct TokenPair {
     pub left: TokenRule,
     pub right: TokenRule,
@@ -221,7 +224,7 @@ fn list_pair(p: TokenPair, left: &[u8], right: &[u8], room: &mut [u8], out: &mut
     Listed::Lines(t.entries, n)
 }
 
-// The list of the rules that two texts say, which their tokens stand for. A text that is refused says the rule with no fields.
+// The list of the left sides that two texts say, which their tokens stand for. A text that is refused says the side with no fields.
 fn list_tokens(
     l: TokenRule,
     r: TokenRule,
@@ -245,16 +248,16 @@ fn list_tokens(
 }
 
 // THE OVERLAP LIST of the rules that two texts say, and how each is read: every choice of one candidate a field that nothing kills,
-// a line for each, the first field slowest. Rules with different field counts have no entries, and a text that is refused says
-// the rule with no fields, which has none.
+// a line for each, the first field slowest. What a rule makes of a slip is no part of it, so only the bytes of each left side go along.
+// Rules with different field counts have no entries, and a text that is refused says the rule with no fields, which has none.
 // The room is for the work: one that has as many bytes as `out` saves making the list twice.
 pub fn list_texts(left: &[u8], right: &[u8], room: &mut [u8], out: &mut [u8]) -> TextsListed
     ensures { λ r. ⌜ TextsList (now (left .entry)) (now (right .entry)) (now (out .entry)) r (now (out .exit)) ⌝ }
     ensures { λ _. ⌜ now (room .exit) ≡ textsRoom (now (left .entry)) (now (right .entry)) (now (room .entry)) ⌝ }
 {
-    let l = reading::read_tokens(left, false);
-    let r = reading::read_tokens(right, true);
-    let listed = list_tokens(l.rule, r.rule, left, right, room, out);
+    let l = reading::read_left(left, false);
+    let r = reading::read_left(right, true);
+    let listed = list_tokens(l.rule, r.rule, &left[..l.end], &right[..r.end], room, out);
     let left_verdict = l.verdict;
     let right_verdict = r.verdict;
     TextsListed {
@@ -264,23 +267,33 @@ pub fn list_texts(left: &[u8], right: &[u8], room: &mut [u8], out: &mut [u8]) ->
     }
 }
 
-// The list of two rule values: that of their plain texts, which have at most 1,151 bytes. What no reading returns has no text,
+// The list of two left sides: that of their plain texts, which have at most 1,151 bytes. What no reading returns has no text,
 // and so no overlaps.
-pub fn list_with(left: RuleSide, right: RuleSide, room: &mut [u8], out: &mut [u8]) -> Listed
+fn list_sides(left: RuleSide, right: RuleSide, room: &mut [u8], out: &mut [u8]) -> Listed
     ensures { λ r. ⌜ Lists (countedLeft left) (countedLeft right) (now (out .entry)) r (now (out .exit)) ⌝ }
     ensures { λ _. ⌜ now (room .exit) ≡ roomAfter (countedLeft left) (countedLeft right) (now (room .entry)) ⌝ }
 {
     let mut a = [0u8; 1151];
     let mut b = [0u8; 1151];
-    let n = pieces::size_of(plain_text::write_rule(left, &mut a));
-    let m = pieces::size_of(plain_text::write_rule(right, &mut b));
+    let n = pieces::size_of(plain_text::write_side(left, &mut a));
+    let m = pieces::size_of(plain_text::write_side(right, &mut b));
     let said = list_texts(&a[..n], &b[..m], room, out);
     said.listed
 }
 
+// The list of two rule values: a value counts as one with no fields also where only its right side is none that reading returns.
+pub fn list_with(left: Rule, right: Rule, room: &mut [u8], out: &mut [u8]) -> Listed
+    ensures { λ r. ⌜ Lists ((countedRule left) .0) ((countedRule right) .0) (now (out .entry)) r (now (out .exit)) ⌝ }
+    ensures { λ _. ⌜ now (room .exit) ≡ roomAfter ((countedRule left) .0) ((countedRule right) .0) (now (room .entry)) ⌝ }
+{
+    let x = accepted_rules::left_of(left);
+    let y = accepted_rules::left_of(right);
+    list_sides(x, y, room, out)
+}
+
 // The same with no room but the lent bytes.
-pub fn list_overlaps(left: RuleSide, right: RuleSide, out: &mut [u8]) -> Listed
-    ensures { λ r. ⌜ Lists (countedLeft left) (countedLeft right) (now (out .entry)) r (now (out .exit)) ⌝ }
+pub fn list_overlaps(left: Rule, right: Rule, out: &mut [u8]) -> Listed
+    ensures { λ r. ⌜ Lists ((countedRule left) .0) ((countedRule right) .0) (now (out .entry)) r (now (out .exit)) ⌝ }
 {
     let mut room = [0u8; 1];
     list_with(left, right, &mut room, out)

@@ -10,7 +10,7 @@ use lib.ListN.{length, take, drop, length-drop, drop-of-length-le}
 use lib.Seq.{take-all}
 use Rattle.bytes.specs.Bytes.{indexOf}
 use Rattle.text.specs.Ascii.{ascii, newline}
-use Rattle.text.specs.Read.{readSide}
+use Rattle.rules.specs.Read.{readRule}
 use Rattle.overlaps.specs.Answers.{textsRoom}
 use Rattle.overlap_text.specs.Texts.{mostBytes, readText, textsIn, roomBy}
 use Rattle.overlap_text.proofs.Said.{in-room}
@@ -26,12 +26,13 @@ module _ (t : List ℕ) (tab rest : ℕ) (is-tab : tab ≡ indexOf 9 t) (is-rest
       go (no h) = drop-of-length-le t {i = rest} (omega arith) ∙ sym (drop-of-length-le t {i = suc (indexOf 9 t)} (omega arith))
 
   -- put where k bytes are left
-  pub line-said : (k : ℕ) → length t ≤ longestLine → mostBytes ≤ k → lineText t ≡ textsIn k (readSide (take tab t)) (readSide (take (length t - rest) (drop rest t)))
+  pub line-said : (k : ℕ) → length t ≤ longestLine → mostBytes ≤ k
+      → lineText t ≡ textsIn k (readRule (take tab t)) (readRule (take (length t - rest) (drop rest t)))
   unfolding lineText
   line-said k h room =
-      ap (λ (b : Bool). cond b (ascii "line too long" ++ newline) (readText (readSide (leftPart t)) (readSide (rightPart t)))) (le-ltb longestLine (length t) h)
-      ∙ ap₂ (λ (a b : List ℕ). readText (readSide a) (readSide b)) (ap (λ (i : ℕ). take i t) (sym is-tab)) (sym right-part)
-      ∙ sym (in-room k (readSide (take tab t)) (readSide (take (length t - rest) (drop rest t))) room)
+      ap (λ (b : Bool). cond b (ascii "line too long" ++ newline) (readText (readRule (leftPart t)) (readRule (rightPart t)))) (le-ltb longestLine (length t) h)
+      ∙ ap₂ (λ (a b : List ℕ). readText (readRule a) (readRule b)) (ap (λ (i : ℕ). take i t) (sym is-tab)) (sym right-part)
+      ∙ sym (in-room k (readRule (take tab t)) (readRule (take (length t - rest) (drop rest t))) room)
 
   -- what the lister leaves in the room
   pub line-room : (k : ℕ) (room : List ℕ) → length t ≤ longestLine → mostBytes ≤ k

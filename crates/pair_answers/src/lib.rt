@@ -13,7 +13,7 @@ use writing::Written;
 
 // ---- pieces: each is put at a place of the room, and returns the place behind it
 
-// What is said of a line. Two of the longest rules and the tab have 4,097 bytes.
+// What is said of a line. Two of the longest rules and the tab have 8,193 bytes.
 fn put_line(line: &[u8], room: &mut [u8], out: &mut [u8], at: usize) -> usize
     requires { ⌜ at + mostBytes ≤ length (now out) ⌝ }
     ensures { λ r. ⌜ Placed (lineText (now (line .entry))) at (now (out .entry)) r (now (out .exit)) ⌝ }
@@ -21,7 +21,7 @@ fn put_line(line: &[u8], room: &mut [u8], out: &mut [u8], at: usize) -> usize
     ensures { λ _. ⌜ now (room .exit) ≡ lineRoom (now (line .entry)) (now (room .entry)) ⌝ }
 {
     let n = line.len();
-    if 4097 < n {
+    if 8193 < n {
         return pieces::put_bytes(b"line too long\n", out, at);
     }
     let tab = pieces::tab_place(line);

@@ -61,10 +61,10 @@ fn answer_all(
 }
 
 // The buffers are made once, and lent for every line.
-// Of a line no more than 4,098 bytes are kept: with more it is too long whatever they are (`cut-same` of pair_answers' proofs/Lengths).
+// Of a line no more than 8,194 bytes are kept: with more it is too long whatever they are (`cut-same` of pair_answers' proofs/Lengths).
 fn main() {
     let mut chunk = io::large_buffer();
-    let mut line = [0u8; 4098];
+    let mut line = [0u8; 8194];
     let mut room = io::large_buffer();
     let mut text = [0u8; 65562];
     let mut buffer = io::large_buffer();

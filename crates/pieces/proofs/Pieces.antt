@@ -15,7 +15,6 @@ use Rattle.text.specs.Told.{Told, byRoom}
 use Rattle.text.proofs.Told.{fits-iff}
 use Rattle.writing.specs.declared.Written.{Written}
 use Rattle.writing.specs.declared.Written.the-variants.{Bytes, TooSmall}
-use Rattle.writing.specs.Room.{Room, Put}
 use Rattle.writing.specs.Answers.{told, Writes}
 use Rattle.writing.proofs.Stores.{sets-append}
 use Rattle.pieces.specs.Sizes.{sizeOf}
@@ -89,10 +88,6 @@ placed-as at l e q = (q .0 ∙ ap (λ (t : List ℕ). placeBehind t at l) (sym e
 pub byte-left : (s : List ℕ) (at : ℕ) (l : List ℕ) (i p : ℕ) (m : List ℕ) → i < length s → p < length m → Left s at l (drop i s) p m → Left s at l (drop (i + 1) s) (p + 1) (set m p (getD s i 0))
 byte-left s at l i p m h k q =
     left-next s at l (getD s i 0 ∷ []) (drop (i + 1) s) (rest-as s at l p m (drop-cons s i 0 h ∙ rw add-one) q) (omega arith, refl)
-
--- where there is room, the whole text is stored, and the place is the one behind it
-pub put-is : (t : List ℕ) (at : ℕ) (l : List ℕ) {p : ℕ} {m : List ℕ} → Room t at l → Placed t at l p m → Put t at l p m
-put-is t at l h q = (omega (arith, q .0), q .1)
 
 -- ---- the front of a buffer
 

@@ -18,5 +18,5 @@ module _ (r : RuleSide) where
   pub of-none : (l : List ℕ) → acceptedLeft r ≡ false → Writes (plain (countedLeft r)) l (Bytes 0) l
   of-none l e = rw e (wrote [] l (omega arith) refl refl)
 
-  pub of-rule : (l : List ℕ) {w : Written} {m : List ℕ} → acceptedLeft r ≡ true → Writes (plain (viewSide r)) l w m → Writes (plain (countedLeft r)) l w m
-  of-rule l e h = rw e h
+  pub of-side : (l : List ℕ) {w : Written} {m : List ℕ} → acceptedLeft r ≡ true → Writes (plain (viewSide r)) l w m → Writes (plain (countedLeft r)) l w m
+  of-side l e h = rw e h

@@ -1,4 +1,4 @@
--- How long the plain text of a rule value can be.
+-- How long the plain text of a side can be.
 use mathlib.Core.Path.{_≡_, refl}
 use mathlib.Core.Bool.{Bool, true, false, cond}
 use mathlib.Core.List.{[]}
@@ -12,10 +12,13 @@ use Rattle.terms.specs.Values.{viewSide}
 use Rattle.accepted.specs.Accepted.{acceptedLeft, countedLeft}
 use Rattle.accepted.proofs.Accepted.{accepted-rule}
 
+pub left-short : (r : RuleSide) → acceptedLeft r ≡ true → length (plain (viewSide r)) ≤ 1151
+left-short r e = rule-length (viewSide r) (accepted-rule r e .0 .0)
+
 -- what is written of a value: its plain text, or nothing
 pub plain-short : (r : RuleSide) → length (plain (countedLeft r)) ≤ 1151
 plain-short r = go (acceptedLeft r) refl
   where
     go : (b : Bool) → acceptedLeft r ≡ b → length (plain (cond b (viewSide r) [])) ≤ 1151
-    go true e = rule-length (viewSide r) (accepted-rule r e .0 .0)
+    go true e = left-short r e
     go false e = omega arith

@@ -1,14 +1,14 @@
-// Plain text: a rule's one text, into lent bytes.
+// Plain text: the one text of a rule's side, into lent bytes.
 // Document 01: "Writing a rule gives its one plain text: no `empty` unless the field has no terms, integers without leading zeros."
-// The bytes are counted first, so that a buffer that is too small keeps its old bytes (refusal 8); then they are written into room that is known.
+// The text is put together in room that is known to be enough, piece behind piece, and then given whole or not at all (refusal 8).
 ghost use mathlib.Core.Path.{_≡_};
-ghost use Prim.Native.Nat.{_≤_, min};
+ghost use Prim.Native.Nat.{min};
 ghost use lib.ListN.{length};
 ghost use Rattle.text.specs.Plain.{fieldText, plain};
 ghost use Rattle.terms.specs.Values.{viewField, viewSide};
 ghost use Rattle.accepted.specs.Accepted.{countedLeft};
-ghost use Rattle.writing.specs.Room.{Room, Put};
 ghost use Rattle.writing.specs.Answers.{Writes};
+ghost use Rattle.pieces.specs.Placed.{Placed};
 use terms::Field;
 use terms::RuleSide;
 use writing::Written;
@@ -20,47 +20,11 @@ fn at_most(n: usize, most: usize) -> usize
     if n < most { n } else { most }
 }
 
-// ---- how many bytes. Each count has a bound beside it, so that the sums of counts can't wrap.
+// ---- pieces: each is put at a place, and returns the place behind it
 
-// The terms with a `:` between them, or the five bytes of `empty`.
-fn field_size(f: Field) -> usize
-    ensures { λ r. ⌜ (r ≡ length (fieldText (viewField f))) × (r ≤ 287) ⌝ }
-{
-    let n = at_most(f.n, 16);
-    if n == 0 {
-        return 5;
-    }
-    let mut size = writing::term_size(f.terms[0]);
-    let mut i: usize = 1;
-    while i < n {
-        size += 1 + writing::term_size(f.terms[i]);
-        i += 1;
-    }
-    size
-}
-
-// The fields with a `|` between them. The longest plain text of a rule has 1,151 bytes.
-fn rule_size(r: RuleSide) -> usize
-    ensures { λ s. ⌜ (s ≡ length (plain (viewSide r))) × (s ≤ 1151) ⌝ }
-{
-    let n = at_most(r.n, 4);
-    if n == 0 {
-        return 0;
-    }
-    let mut size = field_size(r.fields[0]);
-    let mut i: usize = 1;
-    while i < n {
-        size += 1 + field_size(r.fields[i]);
-        i += 1;
-    }
-    size
-}
-
-// ---- the bytes, into room that is known; each returns the place behind them
-
+// The terms with a `:` between them, or `empty`.
 fn put_field(f: Field, out: &mut [u8], at: usize) -> usize
-    requires { ⌜ Room (fieldText (viewField f)) at (now out) ⌝ }
-    ensures { λ r. ⌜ Put (fieldText (viewField f)) at (now (out .entry)) r (now (out .exit)) ⌝ }
+    ensures { λ r. ⌜ Placed (fieldText (viewField f)) at (now (out .entry)) r (now (out .exit)) ⌝ }
 {
     let n = at_most(f.n, 16);
     if n == 0 {
@@ -69,16 +33,16 @@ fn put_field(f: Field, out: &mut [u8], at: usize) -> usize
     let mut p = pieces::put_term(f.terms[0], out, at);
     let mut i: usize = 1;
     while i < n {
-        out[p] = b':';
-        p = pieces::put_term(f.terms[i], out, p + 1);
+        let a = pieces::put_bytes(b":", out, p);
+        p = pieces::put_term(f.terms[i], out, a);
         i += 1;
     }
     p
 }
 
-fn put_rule(r: RuleSide, out: &mut [u8], at: usize) -> usize
-    requires { ⌜ Room (plain (viewSide r)) at (now out) ⌝ }
-    ensures { λ p. ⌜ Put (plain (viewSide r)) at (now (out .entry)) p (now (out .exit)) ⌝ }
+// The fields with a `|` between them, of any value.
+pub fn put_side(r: RuleSide, out: &mut [u8], at: usize) -> usize
+    ensures { λ p. ⌜ Placed (plain (viewSide r)) at (now (out .entry)) p (now (out .exit)) ⌝ }
 {
     let n = at_most(r.n, 4);
     if n == 0 {
@@ -87,26 +51,31 @@ fn put_rule(r: RuleSide, out: &mut [u8], at: usize) -> usize
     let mut p = put_field(r.fields[0], out, at);
     let mut i: usize = 1;
     while i < n {
-        out[p] = b'|';
-        p = put_field(r.fields[i], out, p + 1);
+        let a = pieces::put_bytes(b"|", out, p);
+        p = put_field(r.fields[i], out, a);
         i += 1;
     }
     p
 }
 
-// ---- the public functions
+// ---- a left side
 
-// A rule's plain text. Document 01: a value that no reading can return "counts there as one with no fields; writing such a rule gives no bytes".
-pub fn write_rule(r: RuleSide, out: &mut [u8]) -> Written
+// Room for any side's plain text, which has at most 1,151 bytes.
+fn room() -> [u8; 1151]
+    ensures { λ r. ⌜ length r ≡ 1151 ⌝ }
+{
+    [0; 1151]
+}
+
+// A left side's plain text. Document 01: a value that no reading can return "counts there as one with no fields; writing such a
+// rule gives no bytes".
+pub fn write_side(r: RuleSide, out: &mut [u8]) -> Written
     ensures { λ w. ⌜ Writes (plain (countedLeft r)) (now (out .entry)) w (now (out .exit)) ⌝ }
 {
     if !accepted::is_left(r) {
         return Written::Bytes(0);
     }
-    let need = rule_size(r);
-    // Document 01: "Too small a buffer is refused by 8", and its old bytes stay.
-    if out.len() < need {
-        return Written::TooSmall(need);
-    }
-    Written::Bytes(put_rule(r, out, 0))
+    let mut text = room();
+    let n = put_side(r, &mut text, 0);
+    pieces::give(&text[..n], out)
 }

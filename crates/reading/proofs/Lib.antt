@@ -1,2 +1,3 @@
 pub mod Verdicts
-pub mod Tokens
+pub mod Rules
+pub mod Values

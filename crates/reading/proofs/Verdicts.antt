@@ -1,10 +1,10 @@
 -- What the code does case by case is reading.
-use mathlib.Core.Path.{_≡_, refl, sym, _∙_, ap, ap₂, subst}
+use mathlib.Core.Path.{_≡_, refl, sym, _∙_, ap, ap₂}
 use mathlib.Core.Logic.{if-pos, if-neg}
 use mathlib.Core.Bool.{Bool, true, false}
 use mathlib.Core.Option.{Option, none, some}
 use mathlib.Core.List.{List, [], _∷_, foldl}
-use Prim.Native.Nat.{ℕ, zero, suc, _-_, _<_, _≤_}
+use Prim.Native.Nat.{ℕ, _<_, _≤_}
 use native.Mathlib.Omega.{arith}
 use native.Mathlib.Decide.{decLt}
 use lib.ListN.{length}
@@ -14,29 +14,29 @@ use Rattle.text.specs.Machine.{place2}
 use Rattle.text.specs.Marks.{Mark, marks, FifthField, TooMany, MarkOver, Over}
 use Rattle.text.specs.Terms.{OurTerm, fieldsOf}
 use Rattle.text.specs.Walk.{walked}
-use Rattle.text.specs.Read.{Reason, long, grammar, fields, terms, limits, Sort, rule, slip, Refuses, said, placeOf, NoReason, Outcome, refused, accepted, tell, chain, read, readSide, readSlip}
+use Rattle.text.specs.Read.{Reason, long, grammar, fields, terms, limits, Sort, slip, said, firstBad, placeOf, Outcome, refused, accepted, tell, chain, read, readSlip}
 use Rattle.text.proofs.Place.{place2-none}
 use Rattle.text.proofs.Walk.{walk-says}
 use Rattle.text.proofs.Leftmost.{none-all}
 use Rattle.text.proofs.Fields.{few-to, width-to, each}
 use Rattle.text.proofs.Read.{read-accepted}
 use Rattle.text.proofs.Accepted.{Base, in-grammar, said-is, clean-to}
-use Rattle.terms.specs.declared.RuleSide.{RuleSide}
 use Rattle.terms.specs.declared.Slip.{Slip}
-use Rattle.terms.specs.Values.{blankSide, blankSlip}
+use Rattle.terms.specs.Values.{blankSlip}
 use Rattle.scanning.specs.declared.Found.{Found}
 use Rattle.scanning.specs.declared.Found.the-variants as found
 use Rattle.scanning.specs.Places.{foundOf}
+use Rattle.splitting.proofs.Splits.{found-at, found-none}
 use Rattle.verdicts.specs.declared.Verdict.{Verdict}
 use Rattle.verdicts.specs.declared.Verdict.the-variants.{Accepted, Refused}
 use Rattle.refusals.specs.declared.Survey.{Survey}
-use Rattle.text_passes.specs.Build.{builtSide, builtSlip}
-use Rattle.text_passes.specs.Passes.{surveyIn, sideIn, slipIn}
-use Rattle.verdicts.specs.Verdicts.{sortOf, reasonFrom, verdictOf, reasons, refusedAt}
-use Rattle.refusals.specs.Refusals.{surveyMark, nothingYet, told}
-use Rattle.refusals.proofs.Refusals.{tellAll, survey-is}
-use Rattle.reading.specs.Answers.{ruleRead, slipRead}
-use Rattle.text_passes.proofs.Build.{Fits, rule-built, slip-built}
+use Rattle.text_passes.specs.Build.{builtSlip}
+use Rattle.text_passes.specs.Passes.{surveyIn, slipIn}
+use Rattle.verdicts.specs.Verdicts.{sortOf, reasonFrom, verdictOf}
+use Rattle.refusals.specs.Refusals.{surveyMark, nothingYet}
+use Rattle.refusals.proofs.Refusals.{reasons, survey-is}
+use Rattle.reading.specs.Answers.{slipRead}
+use Rattle.text_passes.proofs.Build.{Fits, slip-built}
 use Rattle.text_passes.proofs.Passes.{is-short}
 
 -- ---- the verdict, refusal by refusal
@@ -66,43 +66,31 @@ module _ (s : Bool) (t : List ℕ) where
   read-grammar p h e = short h ∙ ap (λ (q : Option ℕ). tell grammar q rest) e
 
   -- in one pass, where the text is of the grammar
-  read-survey : length t ≤ S .bytes → place2 t ≡ none → read S t ≡ told s (foldl (surveyMark s (S .width)) nothingYet (walked t)) (accepted (fieldsOf (said t)))
+  read-survey : length t ≤ S .bytes → place2 t ≡ none → (foldl (surveyMark s (S .width)) nothingYet (walked t)) .verdict ≡ verdictOf (read S t)
   read-survey h e =
       let g = place2-none t .1 e in
       let x = g .0 in
-      short h
-      ∙ ap (λ (q : Option ℕ). tell grammar q rest) e
-      ∙ chained s
-      ∙ ap (λ (y : List (List Raw)). tellAll (S .width) [] (marks y) (reasons s) (accepted (fieldsOf (said t)))) (said-is t x (g .1))
-      ∙ sym (survey-is s (S .width) x (accepted (fieldsOf (said t))) (g .1 .0 .1))
-      ∙ ap (λ (ms : List Mark). told s (foldl (surveyMark s (S .width)) nothingYet ms) (accepted (fieldsOf (said t)))) (sym (walk-says t x (g .1)))
+      ap (λ (ms : List Mark). (foldl (surveyMark s (S .width)) nothingYet ms) .verdict) (walk-says t x (g .1))
+      ∙ survey-is s (S .width) x (fieldsOf (said t)) (g .1 .0 .1)
+      ∙ ap (λ (y : List (List Raw)). verdictOf (chain (λ (r : Reason). firstBad (S .width) r y) (reasons s) (fieldsOf (said t)))) (sym (said-is t x (g .1)))
+      ∙ ap verdictOf (sym (short h ∙ ap (λ (q : Option ℕ). tell grammar q rest) e ∙ chained s))
     where
-      chained : (s : Bool) → chain (placeOf (sortOf s) t) (reasons s) (fieldsOf (said t)) ≡ tellAll ((sortOf s) .width) [] (marks (said t)) (reasons s) (accepted (fieldsOf (said t)))
+      chained : (s : Bool) → chain (placeOf (sortOf s) t) (reasons s) (fieldsOf (said t)) ≡ chain (λ (r : Reason). firstBad ((sortOf s) .width) r (said t)) (reasons s) (fieldsOf (said t))
       chained true = refl
       chained false = refl
 
 -- ---- from outcomes to answers
 
--- which fields are accepted plays no part in the verdict
-verdict-same : (rs : List Reason) (j p : ℕ) (x y : List (List OurTerm)) → verdictOf (refusedAt rs j p (accepted x)) ≡ verdictOf (refusedAt rs j p (accepted y))
-verdict-same [] j p x y = refl
-verdict-same (r ∷ rs) zero p x y = refl
-verdict-same (r ∷ rs) (suc j) p x y = verdict-same rs j p x y
-
-rule-refused : (o : Outcome) (v : Verdict) (r : _) (p : ℕ) → v ≡ verdictOf o → v ≡ Refused r p → ruleRead o ≡ record { verdict = v; rule = blankSide }
-rule-refused (refused r p) v r′ p′ e q = ap (λ (z : Verdict). record { verdict = z; rule = blankSide }) (sym e)
-rule-refused (accepted x) v r′ p′ e q = let z : _≡_ {A = ℕ} 0 1 = cc in absurd (omega arith)
-
 slip-refused : (o : Outcome) (v : Verdict) (r : _) (p : ℕ) → v ≡ verdictOf o → v ≡ Refused r p → slipRead o ≡ record { verdict = v; slip = blankSlip }
 slip-refused (refused r p) v r′ p′ e q = ap (λ (z : Verdict). record { verdict = z; slip = blankSlip }) (sym e)
 slip-refused (accepted x) v r′ p′ e q = let z : _≡_ {A = ℕ} 0 1 = cc in absurd (omega arith)
 
-accepted-out : (o : Outcome) → Accepted ≡ verdictOf o → (x : List (List OurTerm)) × (o ≡ accepted x)
+pub accepted-out : (o : Outcome) → Accepted ≡ verdictOf o → (x : List (List OurTerm)) × (o ≡ accepted x)
 accepted-out (refused r p) e = let z : _≡_ {A = ℕ} 0 1 = cc in absurd (omega arith)
 accepted-out (accepted x) e = (x, refl)
 
 -- a text that is refused for none of the first five says fields that fit
-fits : (S : Sort) (t : List ℕ) → Base S t → (x : List (List Raw)) → Says t x → Fits (S .width) x
+pub fits : (S : Sort) (t : List ℕ) → Base S t → (x : List (List Raw)) → Says t x → Fits (S .width) x
 fits S t h x s =
     let w = S .width in
     let a = clean-to w fields t x s (h .2) in
@@ -117,76 +105,53 @@ fits S t h x s =
     both (f ∷ y) p q = ((p .0, q .0), both y (p .1) (q .1))
 
 -- what is accepted is what was built
-module _ (s : Bool) (t : List ℕ) (e : Accepted ≡ verdictOf (read (sortOf s) t)) where
-  accepts : (x : List (List Raw)) × Says t x × Fits ((sortOf s) .width) x × (read (sortOf s) t ≡ accepted (fieldsOf x)) × (walked t ≡ marks x)
-  accepts =
-      let a = accepted-out (read (sortOf s) t) e in
-      let r = read-accepted (sortOf s) t (a .0) .0 (a .1) in
-      let n = subst (NoReason (Refuses (sortOf s) t)) (order-is s) (r .0) in
-      let g = in-grammar t (n .1 .0) in
-      let b : Base (sortOf s) t = (n .0, n .1 .0, n .1 .1 .0, n .1 .1 .1 .0, n .1 .1 .1 .1 .0) in
-      (g .0, g .1, fits (sortOf s) t b (g .0) (g .1), a .1 ∙ ap accepted (sym (r .1) ∙ ap fieldsOf (said-is t (g .0) (g .1))), walk-says t (g .0) (g .1))
-
-rule-accepted : (t : List ℕ) → Accepted ≡ verdictOf (readSide t) → record { verdict = Accepted; rule = builtSide (walked t) } ≡ ruleRead (readSide t)
-rule-accepted t e =
-    let a = accepts false t e in
-    ap (λ (r : _). record { verdict = Accepted; rule = r }) (ap builtSide (a .4) ∙ rule-built (a .0) (a .1 .0) (a .2)) ∙ ap ruleRead (sym (a .3))
-
 slip-accepted : (t : List ℕ) → Accepted ≡ verdictOf (readSlip t) → record { verdict = Accepted; slip = builtSlip (walked t) } ≡ slipRead (readSlip t)
 slip-accepted t e =
-    let a = accepts true t e in
-    ap (λ (r : _). record { verdict = Accepted; slip = r }) (ap builtSlip (a .4) ∙ slip-built (a .0) (a .1 .0) (a .2)) ∙ ap slipRead (sym (a .3))
+    let a = accepted-out (readSlip t) e in
+    let r = read-accepted slip t (a .0) .0 (a .1) in
+    let n = r .0 in
+    let g = in-grammar t (n .1 .0) in
+    let b : Base slip t = (n .0, n .1 .0, n .1 .1 .0, n .1 .1 .1 .0, n .1 .1 .1 .1 .0) in
+    let says = a .1 ∙ ap accepted (sym (r .1) ∙ ap fieldsOf (said-is t (g .0) (g .1))) in
+    ap (λ (v : Slip). record { verdict = Accepted; slip = v }) (ap builtSlip (walk-says t (g .0) (g .1)) ∙ slip-built (g .0) (g .1 .0) (fits slip t b (g .0) (g .1)))
+    ∙ ap slipRead (sym says)
 
 -- ---- the steps of the code
 
-found-at : (o : Option ℕ) (f : Found) (p : ℕ) → f ≡ foundOf o → f ≡ found.At p → o ≡ some p
-found-at none f p e q = let z : _≡_ {A = ℕ} 0 1 = cc in absurd (omega arith)
-found-at (some n) f p e q = let z : n ≡ p = cc in ap some z
-
-found-none : (o : Option ℕ) (f : Found) → f ≡ foundOf o → f ≡ found.Nothing → o ≡ none
-found-none none f e q = refl
-found-none (some n) f e q = let z : _≡_ {A = ℕ} 0 1 = cc in absurd (omega arith)
-
-pub bytes-small : (s : Bool) → (sortOf s) .bytes ≤ slip .bytes
-bytes-small true = omega arith
-bytes-small false = omega arith
-
-module _ (s : Bool) (t : List ℕ) (b : ℕ) (is-b : b ≡ (sortOf s) .bytes) where
-  pub judged-long : b < length t → Refused (reasonFrom long) b ≡ verdictOf (read (sortOf s) t)
-  judged-long h = ap (Refused (reasonFrom long)) is-b ∙ ap verdictOf (sym (read-long s t (omega arith)))
-
-  pub judged-grammar : (f : Found) (p : ℕ) → length t ≤ b → f ≡ foundOf (place2 t) → f ≡ found.At p → Refused (reasonFrom grammar) p ≡ verdictOf (read (sortOf s) t)
-  judged-grammar f p h e q = ap verdictOf (sym (read-grammar s t p (omega arith) (found-at (place2 t) f p e q)))
-
-  pub judged-survey : (f : Found) (y : Survey) (v : Verdict) → length t ≤ b → f ≡ foundOf (place2 t) → f ≡ found.Nothing
-      → y ≡ surveyIn s t → v ≡ verdictOf (told s y (accepted [])) → v ≡ verdictOf (read (sortOf s) t)
-  judged-survey f y v h e q is-y is-v =
-      let whole : y ≡ foldl (surveyMark s ((sortOf s) .width)) nothingYet (walked t) = is-y ∙ rw (is-short t (let m = bytes-small s in omega arith)) in
-      is-v
-      ∙ verdict-same (reasons s) (y .reason - 3) (y .place) [] (fieldsOf (said t))
-      ∙ ap (λ (x : Survey). verdictOf (told s x (accepted (fieldsOf (said t))))) whole
-      ∙ ap verdictOf (sym (read-survey s t (omega arith) (found-none (place2 t) f e q)))
-
-pub accepted-short : (s : Bool) (t : List ℕ) (v : Verdict) → v ≡ verdictOf (read (sortOf s) t) → v ≡ Accepted → length t ≤ slip .bytes
-accepted-short s t v e q = go (decLt ((sortOf s) .bytes) (length t))
+-- a text of the grammar, in one pass
+pub surveyed-is : (s : Bool) (t : List ℕ) → length t ≤ (sortOf s) .bytes → place2 t ≡ none → (surveyIn s t) .verdict ≡ verdictOf (read (sortOf s) t)
+surveyed-is s t h e =
+    let whole : surveyIn s t ≡ foldl (surveyMark s ((sortOf s) .width)) nothingYet (walked t) = rw (is-short t (bytes-small s h)) in
+    ap (λ (x : Survey). x .verdict) whole ∙ read-survey s t h e
   where
-    go : Dec ((sortOf s) .bytes < length t) → length t ≤ slip .bytes
-    go (yes h) = let z = e ∙ ap verdictOf (read-long s t h) in let o : _≡_ {A = ℕ} 0 1 = cc in absurd (omega arith)
-    go (no n) = let b = bytes-small s in omega arith
+    bytes-small : (s : Bool) → length t ≤ (sortOf s) .bytes → length t ≤ slip .bytes
+    bytes-small true h = h
+    bytes-small false h = omega arith
 
--- the answers
-pub rule-yes : (t : List ℕ) (v : Verdict) (r : RuleSide) → v ≡ verdictOf (readSide t) → v ≡ Accepted → r ≡ sideIn t → record { verdict = v; rule = r } ≡ ruleRead (readSide t)
-rule-yes t v r e q b =
-    ap₂ (λ (x : Verdict) (y : RuleSide). record { verdict = x; rule = y }) q (b ∙ rw (is-short t (accepted-short false t v e q)))
-    ∙ rule-accepted t (sym q ∙ e)
+module _ (t : List ℕ) where
+  pub slip-long : slip .bytes < length t → Refused (reasonFrom long) (slip .bytes) ≡ verdictOf (readSlip t)
+  slip-long h = ap verdictOf (sym (read-long true t h))
 
-pub rule-no : (t : List ℕ) (v : Verdict) (r : RuleSide) (k : _) (p : ℕ) → v ≡ verdictOf (readSide t) → v ≡ Refused k p → r ≡ blankSide → record { verdict = v; rule = r } ≡ ruleRead (readSide t)
-rule-no t v r k p e q b = ap (λ (y : RuleSide). record { verdict = v; rule = y }) b ∙ sym (rule-refused (readSide t) v k p e q)
+  pub slip-grammar : (f : Found) (p : ℕ) → length t ≤ slip .bytes → f ≡ foundOf (place2 t) → f ≡ found.At p
+      → Refused (reasonFrom grammar) p ≡ verdictOf (readSlip t)
+  slip-grammar f p h e q = ap verdictOf (sym (read-grammar true t p h (found-at (place2 t) f p e q)))
 
-pub slip-yes : (t : List ℕ) (v : Verdict) (r : Slip) → v ≡ verdictOf (readSlip t) → v ≡ Accepted → r ≡ slipIn t → record { verdict = v; slip = r } ≡ slipRead (readSlip t)
-slip-yes t v r e q b =
-    ap₂ (λ (x : Verdict) (y : Slip). record { verdict = x; slip = y }) q (b ∙ rw (is-short t (accepted-short true t v e q)))
-    ∙ slip-accepted t (sym q ∙ e)
+  pub slip-survey : (f : Found) (y : Survey) → length t ≤ slip .bytes → f ≡ foundOf (place2 t) → f ≡ found.Nothing → y ≡ surveyIn true t
+      → y .verdict ≡ verdictOf (readSlip t)
+  slip-survey f y h e q is-y = ap (λ (x : Survey). x .verdict) is-y ∙ surveyed-is true t h (found-none (place2 t) f e q)
 
-pub slip-no : (t : List ℕ) (v : Verdict) (r : Slip) (k : _) (p : ℕ) → v ≡ verdictOf (readSlip t) → v ≡ Refused k p → r ≡ blankSlip → record { verdict = v; slip = r } ≡ slipRead (readSlip t)
-slip-no t v r k p e q b = ap (λ (y : Slip). record { verdict = v; slip = y }) b ∙ sym (slip-refused (readSlip t) v k p e q)
+  slip-short : (v : Verdict) → v ≡ verdictOf (readSlip t) → v ≡ Accepted → length t ≤ slip .bytes
+  slip-short v e q = go (decLt (slip .bytes) (length t))
+    where
+      go : Dec (slip .bytes < length t) → length t ≤ slip .bytes
+      go (yes h) = let z = e ∙ ap verdictOf (read-long true t h) in let o : _≡_ {A = ℕ} 0 1 = cc in absurd (omega arith)
+      go (no n) = omega arith
+
+  -- the answers
+  pub slip-yes : (v : Verdict) (r : Slip) → v ≡ verdictOf (readSlip t) → v ≡ Accepted → r ≡ slipIn t → record { verdict = v; slip = r } ≡ slipRead (readSlip t)
+  slip-yes v r e q b =
+      ap₂ (λ (x : Verdict) (y : Slip). record { verdict = x; slip = y }) q (b ∙ rw (is-short t (slip-short v e q))) ∙ slip-accepted t (sym q ∙ e)
+
+  pub slip-no : (v : Verdict) (r : Slip) (k : _) (p : ℕ) → v ≡ verdictOf (readSlip t) → v ≡ Refused k p → r ≡ blankSlip
+      → record { verdict = v; slip = r } ≡ slipRead (readSlip t)
+  slip-no v r k p e q b = ap (λ (y : Slip). record { verdict = v; slip = y }) b ∙ sym (slip-refused (readSlip t) v k p e q)

@@ -1,18 +1,24 @@
--- What the reading functions answer, in document 01's numbers and values.
+-- What the reading functions answer, in the documents' numbers and values.
 use mathlib.Core.Path.{_≡_}
-use mathlib.Core.List.{List}
-use Prim.Native.Nat.{ℕ}
-use Rattle.text.specs.Read.{Outcome, refused, accepted, readSide, readSlip}
-use Rattle.terms.specs.Values.{blankSide, blankSlip, encodeSide, encodeSlip}
+use mathlib.Core.Bool.{Bool, cond}
+use mathlib.Core.List.{List, []}
+use Prim.Native.Nat.{ℕ, _≤_}
+use lib.ListN.{length, take}
+use Rattle.text.specs.Read.{OutcomeOf, Outcome, refused, accepted, OurFields, readSide, readSlip}
+use Rattle.rules.specs.Read.{OurRule, readRule}
+use Rattle.terms.specs.Values.{blankRule, blankSlip, encodeSide, encodeRule, encodeSlip}
+use Rattle.tokens.specs.Tokens.{ruleOf}
+use Rattle.text_passes.specs.Tokens.{onSide}
 use Rattle.verdicts.specs.declared.Verdict.the-variants.{Accepted, Refused}
-use Rattle.verdicts.specs.Verdicts.{reasonFrom}
+use Rattle.verdicts.specs.Verdicts.{reasonFrom, verdictOf}
 use Rattle.reading.specs.declared.RuleRead.{RuleRead}
 use Rattle.reading.specs.declared.SlipRead.{SlipRead}
+use Rattle.reading.specs.declared.LeftRead.{LeftRead}
 
 -- document 01: "A refusal returns its number, its place and the rule with no fields"
-abbrev pub ruleRead : Outcome → RuleRead
-ruleRead (refused r p) = record { verdict = Refused (reasonFrom r) p; rule = blankSide }
-ruleRead (accepted x) = record { verdict = Accepted; rule = encodeSide x }
+abbrev pub ruleRead : OutcomeOf OurRule → RuleRead
+ruleRead (refused r p) = record { verdict = Refused (reasonFrom r) p; rule = blankRule }
+ruleRead (accepted w) = record { verdict = Accepted; rule = encodeRule w }
 
 -- "The slip with no fields is returned"
 abbrev pub slipRead : Outcome → SlipRead
@@ -21,7 +27,29 @@ slipRead (accepted x) = record { verdict = Accepted; slip = encodeSlip x }
 
 -- WHAT READING PROMISES of a text t and what is returned of it. `demands/specs/Texts` says what follows from it.
 abbrev pub ReadsRule : List ℕ → RuleRead → Type 0
-ReadsRule t r = r ≡ ruleRead (readSide t)
+ReadsRule t r = r ≡ ruleRead (readRule t)
 
 abbrev pub ReadsSlip : List ℕ → SlipRead → Type 0
 ReadsSlip t r = r ≡ slipRead (readSlip t)
+
+-- ---- a rule's left side alone
+
+-- the fields that a side's text says, none where it is refused
+abbrev pub sideSaid : Outcome → OurFields
+sideSaid (refused r p) = []
+sideSaid (accepted x) = x
+
+-- the left side's fields of what a rule text says, none where it is refused
+abbrev pub leftSaid : OutcomeOf OurRule → OurFields
+leftSaid (refused r p) = []
+leftSaid (accepted w) = w .0
+
+-- how the whole text is read; the part of it that is the left side's text, none of it where the text is refused; and that the tokens stand
+-- for that side, as the right text of a pair or as the left one, whatever the other text is
+pub record ReadsLeft (right : Bool) (t : List ℕ) (r : LeftRead) : Type 0 where
+  pub verdict : r .verdict ≡ verdictOf (readRule t)
+  pub inside : r .end ≤ length t
+  pub left : sideSaid (readSide (take (r .end) t)) ≡ leftSaid (readRule t)
+  pub tokens : (o : List ℕ)
+      → ruleOf (cond right o (take (r .end) t)) (cond right (take (r .end) t) o) (r .rule)
+      ≡ onSide right (encodeSide (leftSaid (readRule t)))

@@ -1,15 +1,19 @@
-// Reading a rule and a slip: the grammar first, then one pass that meets every other refusal, then the value, or a rule's tokens.
+// Reading a rule and a slip: the grammar first, then one pass over each side that meets every other refusal of one side, then refusal 10,
+// then the value, or the tokens of a rule's left side.
 ghost use mathlib.Core.Path.{_≡_};
-ghost use mathlib.Core.Bool.{cond};
-ghost use mathlib.Core.List.{List};
-ghost use Prim.Native.Nat.{ℕ};
-ghost use Rattle.text.specs.Read.{read, readSide};
-ghost use Rattle.verdicts.specs.Verdicts.{sortOf, verdictOf};
-ghost use Rattle.tokens.specs.Tokens.{ruleOf};
-ghost use Rattle.text_passes.specs.Tokens.{onSide};
-ghost use Rattle.reading.specs.Answers.{ruleRead, ReadsRule, ReadsSlip};
+ghost use Prim.Native.Nat.{_≤_};
+ghost use lib.ListN.{length};
+ghost use Rattle.text.specs.Read.{readSlip};
+ghost use Rattle.rules.specs.Read.{readRule};
+ghost use Rattle.verdicts.specs.Verdicts.{verdictOf};
+ghost use Rattle.splitting.specs.Splits.{splitOf};
+ghost use Rattle.splitting.specs.declared.Split.the-variants.{Two};
+ghost use Rattle.verdicts.specs.declared.Verdict.the-variants.{Accepted};
+ghost use Rattle.reading.specs.Answers.{ruleRead, ReadsRule, ReadsSlip, ReadsLeft};
+ghost use Rattle.reading.specs.Sides.{rightOf, unknownOf, PlacedIn, FoundIn, endOf};
 use scanning::Found;
-use terms::RuleSide;
+use splitting::Split;
+use terms::Rule;
 use terms::Slip;
 use tokens::TokenRule;
 use verdicts::Reason;
@@ -17,7 +21,7 @@ use verdicts::Verdict;
 
 pub struct RuleRead {
     pub verdict: Verdict,
-    pub rule: RuleSide,
+    pub rule: Rule,
 }
 
 pub struct SlipRead {
@@ -25,48 +29,25 @@ pub struct SlipRead {
     pub slip: Slip,
 }
 
-pub struct TokensRead {
+// How a rule text is read, how many bytes its left side has, and the left side's tokens.
+pub struct LeftRead {
     pub verdict: Verdict,
+    pub end: usize,
     pub rule: TokenRule,
 }
 
-fn bytes_of(slip: bool) -> usize
-    ensures { λ r. ⌜ r ≡ (sortOf slip) .bytes ⌝ }
-{
-    if slip { 8192 } else { 2048 }
-}
+// ---- slips
 
-// Document 01's refusals of a rule or a slip, in their order.
-fn judge(text: &[u8], slip: bool) -> Verdict
-    ensures { λ r. ⌜ r ≡ verdictOf (read (sortOf slip) (now (text .entry))) ⌝ }
+// Document 01's refusals of a slip, in their order.
+fn judge_slip(text: &[u8]) -> Verdict
+    ensures { λ r. ⌜ r ≡ verdictOf (readSlip (now (text .entry))) ⌝ }
 {
-    let limit = bytes_of(slip);
-    if limit < text.len() {
-        return Verdict::Refused(Reason::Long, limit);
+    if 8192 < text.len() {
+        return Verdict::Refused(Reason::Long, 8192);
     }
     match scanning::grammar_place(text) {
         Found::At(p) => Verdict::Refused(Reason::Grammar, p),
-        Found::Nothing => {
-            let s = text_passes::survey(text, slip);
-            verdicts::verdict_of(slip, s.reason, s.place)
-        }
-    }
-}
-
-// Reads a rule: the rule, or why and where the text is refused with the rule that has no fields.
-pub fn read_rule(text: &[u8]) -> RuleRead
-    ensures { λ r. ⌜ ReadsRule (now (text .entry)) r ⌝ }
-{
-    let verdict = judge(text, false);
-    match verdict {
-        Verdict::Accepted => RuleRead {
-            verdict: verdict,
-            rule: text_passes::side_in(text),
-        },
-        Verdict::Refused(_, _) => RuleRead {
-            verdict: verdict,
-            rule: terms::blank_side(),
-        },
+        Found::Nothing => text_passes::survey(text, true).verdict,
     }
 }
 
@@ -74,7 +55,7 @@ pub fn read_rule(text: &[u8]) -> RuleRead
 pub fn read_slip(text: &[u8]) -> SlipRead
     ensures { λ r. ⌜ ReadsSlip (now (text .entry)) r ⌝ }
 {
-    let verdict = judge(text, true);
+    let verdict = judge_slip(text);
     match verdict {
         Verdict::Accepted => SlipRead {
             verdict: verdict,
@@ -87,19 +68,143 @@ pub fn read_slip(text: &[u8]) -> SlipRead
     }
 }
 
-// Reads a rule as tokens: as the right text of a pair its atom variables have numbers 16 higher, and its constants are places of the right text.
-pub fn read_tokens(text: &[u8], right: bool) -> TokensRead
-    ensures { λ r. ⌜ r .verdict ≡ (ruleRead (readSide (now (text .entry)))) .verdict ⌝ }
-    ensures { λ r. ⌜ ((o : List ℕ) → ruleOf (cond right o (now (text .entry))) (cond right (now (text .entry)) o) (r .rule) ≡ onSide right ((ruleRead (readSide (now (text .entry)))) .rule)) ⌝ }
+// ---- rules
+
+// What the right side's survey says of the whole text: its list variables may recur and share a field, and it begins at place d.
+fn right_verdict(v: Verdict, d: usize) -> Verdict
+    requires { ⌜ (d ≤ 8192) × PlacedIn 8192 v ⌝ }
+    ensures { λ r. ⌜ r ≡ rightOf d v ⌝ }
 {
-    let verdict = judge(text, false);
-    match verdict {
-        Verdict::Accepted => TokensRead {
-            verdict: verdict,
-            rule: text_passes::tokens_in(text, right),
+    match v {
+        Verdict::Accepted => Verdict::Accepted,
+        Verdict::Refused(r, p) => {
+            if verdicts::number(r) == 6 {
+                return Verdict::Accepted;
+            }
+            Verdict::Refused(r, d + p)
+        }
+    }
+}
+
+// Refusal 10: the first variable of the right side, which begins at place d, that the left side lacks.
+fn unknown_verdict(f: Found, d: usize) -> Verdict
+    requires { ⌜ (d ≤ 8192) × FoundIn 8192 f ⌝ }
+    ensures { λ r. ⌜ r ≡ unknownOf d f ⌝ }
+{
+    match f {
+        Found::At(q) => Verdict::Refused(Reason::Unknown, d + q),
+        Found::Nothing => Verdict::Accepted,
+    }
+}
+
+// The refusals from 3 on of a text with an arrow behind p bytes.
+fn judge_two(text: &[u8], p: usize) -> Verdict
+    requires { ⌜ (length (now text) ≤ 4096) × (splitOf (now text) ≡ Two p) ⌝ }
+    ensures { λ r. ⌜ r ≡ verdictOf (readRule (now (text .entry))) ⌝ }
+{
+    let d = p + 2;
+    let l = text_passes::survey(&text[..p], false);
+    let r = text_passes::survey(&text[d..], false);
+    let left = l.verdict;
+    let right = r.verdict;
+    let both = verdicts::first(left, right_verdict(right, d));
+    match both {
+        Verdict::Accepted => {
+            let side = text_passes::side_in(&text[..p]);
+            unknown_verdict(text_passes::unknown_in(&text[d..], side), d)
+        }
+        Verdict::Refused(_, _) => both,
+    }
+}
+
+// The documents' refusals of a rule, in their order.
+fn judge_rule(text: &[u8], split: Split) -> Verdict
+    requires { ⌜ split ≡ splitOf (now text) ⌝ }
+    ensures { λ r. ⌜ r ≡ verdictOf (readRule (now (text .entry))) ⌝ }
+{
+    if 4096 < text.len() {
+        return Verdict::Refused(Reason::Long, 4096);
+    }
+    match split {
+        Split::Stops(p) => Verdict::Refused(Reason::Grammar, p),
+        Split::One => text_passes::survey(text, false).verdict,
+        Split::Two(p) => judge_two(text, p),
+    }
+}
+
+// The rule that a text without refusals says, with an arrow behind p bytes.
+fn two_sides(text: &[u8], p: usize) -> Rule
+    requires { ⌜ (splitOf (now text) ≡ Two p) × (verdictOf (readRule (now text)) ≡ Accepted) ⌝ }
+    ensures { λ r. ⌜ r ≡ (ruleRead (readRule (now (text .entry)))) .rule ⌝ }
+{
+    let left = text_passes::side_in(&text[..p]);
+    let right = text_passes::side_in(&text[p + 2..]);
+    Rule { left, right }
+}
+
+// The rule that a text without refusals says.
+fn rule_of(text: &[u8], split: Split) -> Rule
+    requires { ⌜ (split ≡ splitOf (now text)) × (verdictOf (readRule (now text)) ≡ Accepted) ⌝ }
+    ensures { λ r. ⌜ r ≡ (ruleRead (readRule (now (text .entry)))) .rule ⌝ }
+{
+    match split {
+        Split::Stops(_) => terms::blank_rule(),
+        Split::One => Rule {
+            left: text_passes::side_in(text),
+            right: terms::blank_side(),
         },
-        Verdict::Refused(_, _) => TokensRead {
+        Split::Two(p) => two_sides(text, p),
+    }
+}
+
+// Reads a rule: the rule, or why and where the text is refused with the rule that has no fields.
+pub fn read_rule(text: &[u8]) -> RuleRead
+    ensures { λ r. ⌜ ReadsRule (now (text .entry)) r ⌝ }
+{
+    let split = splitting::split_of(text);
+    let verdict = judge_rule(text, split);
+    match verdict {
+        Verdict::Accepted => RuleRead {
             verdict: verdict,
+            rule: rule_of(text, split),
+        },
+        Verdict::Refused(_, _) => RuleRead {
+            verdict: verdict,
+            rule: terms::blank_rule(),
+        },
+    }
+}
+
+// How many bytes the left side of a rule text has.
+fn left_end(text: &[u8], split: Split) -> usize
+    ensures { λ r. ⌜ r ≡ endOf (length (now (text .entry))) split ⌝ }
+{
+    match split {
+        Split::Stops(_) => 0,
+        Split::One => text.len(),
+        Split::Two(p) => p,
+    }
+}
+
+// Reads a rule's left side as tokens: as the right text of a pair its atom variables have numbers 16 higher, and its constants are places of
+// the right text.
+pub fn read_left(text: &[u8], right: bool) -> LeftRead
+    ensures { λ r. ⌜ ReadsLeft right (now (text .entry)) r ⌝ }
+{
+    let split = splitting::split_of(text);
+    let verdict = judge_rule(text, split);
+    match verdict {
+        Verdict::Accepted => {
+            let end = left_end(text, split);
+            LeftRead {
+                verdict: verdict,
+                end: end,
+                rule: text_passes::tokens_in(&text[..end], right),
+            }
+        }
+        Verdict::Refused(_, _) => LeftRead {
+            verdict: verdict,
+            end: 0,
             rule: text_passes::blank_token_rule(),
         },
     }

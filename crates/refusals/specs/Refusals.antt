@@ -1,6 +1,6 @@
--- All refusals from 3 on in one pass: the lowest number that some term meets, and the place of the first that meets it.
+-- All refusals from 3 on in one pass: the first of them that some term meets, and the place of the first that meets it.
 -- `survey-is` of proofs/Refusals says that this is the first refusal that applies, at its leftmost place.
-use mathlib.Core.Bool.{Bool, true, false, cond, _||_}
+use mathlib.Core.Bool.{Bool, true, false, cond, not, _||_}
 use Prim.Native.Nat.{ℕ}
 use lib.Dec.{eqb, ltb}
 use Rattle.order.specs.Order.{basic, list}
@@ -8,14 +8,17 @@ use Rattle.order.specs.Types.{Kind}
 use Rattle.order.specs.Values.{kindOf}
 use Rattle.text.specs.Sizes.{mostDigits, largestInteger, longestString, largestNumber, mostFields}
 use Rattle.text.specs.Marks.{Mark}
-use Rattle.text.specs.Read.{Outcome}
 use Rattle.linearity.specs.declared.Lists.{Lists}
 use Rattle.linearity.specs.Lists.{noLists, nextField, stillOk, addList}
 use Rattle.scanning.specs.declared.Piece.{Piece}
 use Rattle.scanning.specs.declared.Spelled.{Spelled}
 use Rattle.scanning.specs.declared.Spelled.the-variants.{Int, Str, Var, Empty}
 use Rattle.scanning.specs.Pieces.{pieceOf}
-use Rattle.verdicts.specs.Verdicts.{outcome}
+use Rattle.verdicts.specs.declared.Reason.{Reason}
+use Rattle.verdicts.specs.declared.Reason.the-variants.{Fields, Terms, Limits, Linear, Variable}
+use Rattle.verdicts.specs.declared.Verdict.{Verdict}
+use Rattle.verdicts.specs.declared.Verdict.the-variants.{Accepted, Refused}
+use Rattle.verdicts.specs.Verdicts.{firstOf}
 use Rattle.refusals.specs.declared.At.{At}
 use Rattle.refusals.specs.declared.Survey.{Survey}
 
@@ -33,26 +36,35 @@ abbrev pub isList : Kind → Bool
 isList (basic k) = false
 isList list = true
 
--- the refusal that is tried last: of a rule 6, where left-linearity is lost; of a slip 7, a variable. Here both are 6, and 7 is none.
-abbrev pub linearBy : Spelled → ℕ → Lists → ℕ
-linearBy Int v l = 7
-linearBy Str v l = 7
-linearBy (Var k) v l = cond (isList (kindOf k)) (cond (stillOk l v) 7 6) 7
-linearBy Empty v l = 7
+-- refusal 6: a list variable with which left-linearity is lost
+abbrev pub clashBy : Spelled → ℕ → Lists → Bool
+clashBy Int v l = false
+clashBy Str v l = false
+clashBy (Var k) v l = cond (isList (kindOf k)) (not (stillOk l v)) false
+clashBy Empty v l = false
 
-abbrev pub variableBy : Spelled → ℕ
-variableBy Int = 7
-variableBy Str = 7
-variableBy (Var k) = 6
-variableBy Empty = 7
+-- refusal 7: a variable
+abbrev pub variableBy : Spelled → Bool
+variableBy Int = false
+variableBy Str = false
+variableBy (Var k) = true
+variableBy Empty = false
 
-abbrev pub lastBy : Bool → Piece → Lists → ℕ
-lastBy true p l = variableBy (p .what)
-lastBy false p l = linearBy (p .what) (p .value) l
+-- the refusal that is tried last: of a slip 7, of a rule 6
+abbrev pub lastBad : Bool → Piece → Lists → Bool
+lastBad true p l = variableBy (p .what)
+lastBad false p l = clashBy (p .what) (p .value) l
 
--- the lowest number that a term meets
-abbrev pub severity : Bool → ℕ → At → Piece → Lists → ℕ
-severity slip w a p l = cond (ltb mostFields (a .field)) 3 (cond (ltb w (a .index)) 4 (cond (overPiece p) 5 (lastBy slip p l)))
+abbrev pub lastReason : Bool → Reason
+lastReason true = Variable
+lastReason false = Linear
+
+-- the first refusal that a term meets, at its place
+abbrev pub met : Bool → ℕ → At → Piece → Lists → Verdict
+met slip w a p l =
+    cond (ltb mostFields (a .field)) (Refused Fields (a .place))
+    (cond (ltb w (a .index)) (Refused Terms (a .place))
+    (cond (overPiece p) (Refused Limits (a .place)) (cond (lastBad slip p l) (Refused (lastReason slip) (a .place)) Accepted)))
 
 -- the list variables with this term
 abbrev pub addBy : Spelled → ℕ → Lists → Lists
@@ -65,11 +77,11 @@ addBy Empty v l = l
 abbrev pub listsAt : At → Lists → Lists
 listsAt a l = cond (eqb (a .index) 1) (nextField l) l
 
-abbrev pub noted : ℕ → At → Lists → Survey → Survey
-noted k a l s = cond (ltb k (s .reason)) (record { reason = k; place = a .place; lists = l }) (record { reason = s .reason; place = s .place; lists = l })
-
+-- the survey with one term more
 abbrev pub surveyed : Bool → ℕ → Survey → At → Piece → Survey
-surveyed slip w s a p = noted (severity slip w a p (listsAt a (s .lists))) a (addBy (p .what) (p .value) (listsAt a (s .lists))) s
+surveyed slip w s a p =
+    let l = listsAt a (s .lists) in
+    record { verdict = firstOf (s .verdict) (met slip w a p l); lists = addBy (p .what) (p .value) l }
 
 abbrev pub atOf : Mark → At
 atOf m = record { place = m .place; field = m .inField; index = m .index }
@@ -77,9 +89,6 @@ atOf m = record { place = m .place; field = m .inField; index = m .index }
 abbrev pub surveyMark : Bool → ℕ → Survey → Mark → Survey
 surveyMark slip w s m = surveyed slip w s (atOf m) (pieceOf (m .raw))
 
+-- before the first term
 abbrev pub nothingYet : Survey
-nothingYet = record { reason = 7; place = 0; lists = noLists }
-
--- what the survey of a text says
-abbrev pub told : Bool → Survey → Outcome → Outcome
-told slip s o = outcome slip (s .reason) (s .place) o
+nothingYet = record { verdict = Accepted; lists = noLists }

@@ -1,12 +1,14 @@
-// Which refusal from 3 on a written term meets, and the lowest over the terms of a text so far.
+// Which refusal from 3 on a written term meets, and the first that is tried over the terms of a text so far.
 ghost use mathlib.Core.Path.{_≡_};
 ghost use Rattle.order.specs.Values.{kindOf};
 ghost use Rattle.verdicts.specs.Verdicts.{sortOf};
-ghost use Rattle.refusals.specs.Refusals.{overPiece, isList, linearBy, variableBy, severity, addBy, listsAt, surveyed};
+ghost use Rattle.refusals.specs.Refusals.{overPiece, isList, clashBy, variableBy, lastBad, lastReason, met, addBy, listsAt, surveyed};
 use linearity::Lists;
 use order::Kind;
 use scanning::Piece;
 use scanning::Spelled;
+use verdicts::Reason;
+use verdicts::Verdict;
 
 // Where a term stands: its first byte, the number of its field and its number there, both from 1.
 pub struct At {
@@ -15,11 +17,9 @@ pub struct At {
     pub index: usize,
 }
 
-// The lowest refusal from 3 on that a term has met (6 is the last that is tried, 7 is none),
-// the place of the first that met it, and the list variables so far.
+// The first refusal from 3 on that a term has met, at the place of the first term that met it, and the list variables so far.
 pub struct Survey {
-    pub reason: u8,
-    pub place: usize,
+    pub verdict: Verdict,
     pub lists: Lists,
 }
 
@@ -55,54 +55,74 @@ fn is_list(k: Kind) -> bool
 }
 
 // Refusal 6: a list variable that loses left-linearity.
-fn linear_refusal(p: Piece, l: Lists) -> u8
-    ensures { λ r. ⌜ r ≡ linearBy (p .what) (p .value) l ⌝ }
+fn is_clash(p: Piece, l: Lists) -> bool
+    ensures { λ r. ⌜ r ≡ clashBy (p .what) (p .value) l ⌝ }
 {
     let what = p.what;
     let v = p.value;
     match what {
-        Spelled::Int => 7,
-        Spelled::Str => 7,
+        Spelled::Int => false,
+        Spelled::Str => false,
         Spelled::Var(k) => {
             if !is_list(k) {
-                return 7;
+                return false;
             }
-            if l.add(v as usize).ok { 7 } else { 6 }
+            !l.add(v as usize).ok
         }
-        Spelled::Empty => 7,
+        Spelled::Empty => false,
     }
 }
 
 // Refusal 7: a variable in a slip.
-fn variable_refusal(p: Piece) -> u8
+fn is_variable(p: Piece) -> bool
     ensures { λ r. ⌜ r ≡ variableBy (p .what) ⌝ }
 {
     let what = p.what;
     match what {
-        Spelled::Int => 7,
-        Spelled::Str => 7,
-        Spelled::Var(_) => 6,
-        Spelled::Empty => 7,
+        Spelled::Int => false,
+        Spelled::Str => false,
+        Spelled::Var(_) => true,
+        Spelled::Empty => false,
     }
 }
 
-// The lowest refusal from 3 on that a term meets.
-fn severity(slip: bool, width: usize, a: At, p: Piece, l: Lists) -> u8
-    ensures { λ r. ⌜ r ≡ severity slip width a p l ⌝ }
+// Whether a term meets the refusal that is tried last: of a slip 7, of a rule 6.
+fn is_last(slip: bool, p: Piece, l: Lists) -> bool
+    ensures { λ r. ⌜ r ≡ lastBad slip p l ⌝ }
+{
+    if slip {
+        return is_variable(p);
+    }
+    is_clash(p, l)
+}
+
+fn last_reason(slip: bool) -> Reason
+    ensures { λ r. ⌜ r ≡ lastReason slip ⌝ }
+{
+    if slip {
+        Reason::Variable
+    } else {
+        Reason::Linear
+    }
+}
+
+// The first refusal from 3 on that a term meets, at its place.
+fn met(slip: bool, width: usize, a: At, p: Piece, l: Lists) -> Verdict
+    ensures { λ r. ⌜ r ≡ met slip width a p l ⌝ }
 {
     if 4 < a.field {
-        return 3;
+        return Verdict::Refused(Reason::Fields, a.place);
     }
     if width < a.index {
-        return 4;
+        return Verdict::Refused(Reason::Terms, a.place);
     }
     if is_over(p) {
-        return 5;
+        return Verdict::Refused(Reason::Limits, a.place);
     }
-    if slip {
-        return variable_refusal(p);
+    if is_last(slip, p, l) {
+        return Verdict::Refused(last_reason(slip), a.place);
     }
-    linear_refusal(p, l)
+    Verdict::Accepted
 }
 
 fn add_piece(l: Lists, p: Piece) -> Lists
@@ -146,18 +166,12 @@ pub fn note(s: Survey, slip: bool, a: At, p: Piece) -> Survey
     let before = s.lists;
     let lists = lists_at(a, before);
     let width = width_of(slip);
-    let reason = severity(slip, width, a, p, lists);
+    let here = met(slip, width, a, p, lists);
+    let so_far = s.verdict;
+    let verdict = verdicts::first(so_far, here);
     let after = add_piece(lists, p);
-    if reason < s.reason {
-        return Survey {
-            reason: reason,
-            place: a.place,
-            lists: after,
-        };
-    }
     Survey {
-        reason: s.reason,
-        place: s.place,
+        verdict,
         lists: after,
     }
 }

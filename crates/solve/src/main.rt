@@ -40,10 +40,10 @@ fn answer_all(chunk: &mut [u8], line: &mut [u8], buffer: &mut [u8]) {
     lines::finish(s, buffer);
 }
 
-// Of a line no more than 4,109 bytes are kept: with more it is too long whatever they are (`cut-same` of solve_answers' proofs/Lengths).
+// Of a line no more than 8,205 bytes are kept: with more it is too long whatever they are (`cut-same` of solve_answers' proofs/Lengths).
 fn main() {
     let mut chunk = io::large_buffer();
-    let mut line = [0u8; 4109];
+    let mut line = [0u8; 8205];
     let mut buffer = io::large_buffer();
     answer_all(&mut chunk, &mut line, &mut buffer);
 }

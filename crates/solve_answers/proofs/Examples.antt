@@ -10,6 +10,7 @@ use Rattle.bytes.specs.Bytes.{indexAfter, indexOf}
 use Rattle.text.specs.Ascii.{ascii, newline}
 use Rattle.text.specs.Bytes.{digit?, begins, follows, first, holds}
 use Rattle.text.specs.Marks.{fifth?, many?, over?, clash?, clashOf?}
+use Rattle.rules.specs.Marks.{occurs?, has?}
 use Rattle.solve_answers.specs.Solve.{lineText, solveAnswer}
 
 -- a line and what is said of it
@@ -39,6 +40,9 @@ table =
     record { line = "i0|i0\ti0\t0\t0"; said = "refusal 0 lines 0 bytes 0" ∷ [] } ∷
     record { line = "i0\ti01"; said = "refusal 0 lines 0 bytes 0" ∷ [] } ∷
     record { line = ""; said = "refusal 0 lines 0 bytes 0" ∷ [] } ∷
+    -- nor is a rule with a right side, on either side of the search
+    record { line = "2=>2\t2\t0\t0"; said = "refusal 0 lines 0 bytes 0" ∷ [] } ∷
+    record { line = "2\t2=>2\t0\t0"; said = "refusal 0 lines 0 bytes 0" ∷ [] } ∷
     -- the limits of the sizes, and the order of the faults
     record { line = "i0\ts0\t640\t131072"; said = "refusal 0 lines 0 bytes 0" ∷ [] } ∷
     record { line = "i0\ts0\t641\t131073"; said = "bad row" ∷ [] } ∷
@@ -49,15 +53,15 @@ table =
     []
 
 pub lines-said : map (λ (c : Case). lineText (ascii (c .line))) table ≡ map (λ (c : Case). printed (c .said)) table
-unfolding lineText indexAfter indexOf decLe decLt ℕ-discrete digit? begins follows first holds fifth? many? over? any? clash? clashOf?
+unfolding lineText indexAfter indexOf decLe decLt ℕ-discrete digit? begins follows first holds fifth? many? over? any? clash? clashOf? occurs? has?
 lines-said = refl
 
 -- a line of as many bytes as it may have is read, and one of one more is not
-pub long-lines : map lineText (replicate 4108 49 ∷ replicate 4109 49 ∷ []) ≡ printed ("refusal 0 lines 0 bytes 0" ∷ []) ∷ printed ("line too long" ∷ []) ∷ []
-unfolding lineText indexAfter indexOf decLe decLt ℕ-discrete digit? begins follows first holds fifth? many? over? any? clash? clashOf?
+pub long-lines : map lineText (replicate 8204 49 ∷ replicate 8205 49 ∷ []) ≡ printed ("refusal 0 lines 0 bytes 0" ∷ []) ∷ printed ("line too long" ∷ []) ∷ []
+unfolding lineText indexAfter indexOf decLe decLt ℕ-discrete digit? begins follows first holds fifth? many? over? any? clash? clashOf? occurs? has?
 long-lines = refl
 
 pub two-lines : solveAnswer 9 (ascii "i0\t2:l0") ++ solveAnswer 10 (ascii "i0\ts0")
     ≡ printed ("search 9" ∷ "refusal 0 lines 1 bytes 16" ∷ "<i0=2 >l0=empty" ∷ "search 10" ∷ "refusal 0 lines 0 bytes 0" ∷ [])
-unfolding solveAnswer lineText indexAfter indexOf decLe decLt ℕ-discrete digit? begins follows first holds fifth? many? over? any? clash? clashOf?
+unfolding solveAnswer lineText indexAfter indexOf decLe decLt ℕ-discrete digit? begins follows first holds fifth? many? over? any? clash? clashOf? occurs? has?
 two-lines = refl

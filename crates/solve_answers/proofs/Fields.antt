@@ -4,37 +4,69 @@ use mathlib.Core.List.{List, [], _∷_}
 use Prim.Native.Nat.{ℕ}
 use native.Mathlib.Omega.{arith}
 use lib.ListN.{getD}
-use Rattle.text.specs.Terms.{OurTerm}
+use Rattle.text.specs.Read.{OutcomeOf, refused, accepted, OurFields}
 use Rattle.text.specs.Limits.{IsLeft}
-use Rattle.text.specs.Read.{Outcome, refused, accepted, readSide}
-use Rattle.text.proofs.Accepted.{rule-read}
+use Rattle.rules.specs.Read.{OurRule, readRule}
+use Rattle.rules.proofs.Accepted.{rule-read}
 use Rattle.terms.specs.declared.Field.{Field}
 use Rattle.terms.specs.Values.{encodeSide}
 use Rattle.accepted.specs.Accepted.{countedLeft, countedField}
 use Rattle.accepted.proofs.Accepted.{view-encode-rule, encode-accepted-rule}
 use Rattle.reading.specs.declared.RuleRead.{RuleRead}
 use Rattle.reading.specs.Answers.{ruleRead}
-use Rattle.solve_answers.specs.Solve.{fieldIn}
+use Rattle.solve_answers.specs.Solve.{oneField, fieldIn}
 
-counted-rule : (x : List (List OurTerm)) → IsLeft x → countedLeft (encodeSide x) ≡ x
-counted-rule x h = rw (encode-accepted-rule x h, view-encode-rule x h)
+counted-side : (x : OurFields) → IsLeft x → countedLeft (encodeSide x) ≡ x
+counted-side x h = rw (encode-accepted-rule x h, view-encode-rule x h)
 
-module _ (t : List ℕ) (v : RuleRead) (is-v : v ≡ ruleRead (readSide t)) where
-  pub one-field : (d : Field) → v .rule .n ≡ 1 → countedField (getD (v .rule .fields) 0 d) ≡ fieldIn (readSide t)
-  one-field d h =
-      ap (λ (w : RuleRead). countedField (getD (w .rule .fields) 0 d)) is-v ∙ go (readSide t) refl (sym (ap (λ (w : RuleRead). w .rule .n) is-v) ∙ h)
+-- ---- by the counts of both sides
+
+one-field-of : (x y : OurFields) (d : Field) → IsLeft x → encodeSide y .n ≡ 0 → encodeSide x .n ≡ 1
+    → countedField (getD (encodeSide x .fields) 0 d) ≡ oneField x y
+one-field-of [] y d h r l = absurd (omega arith)
+one-field-of (f ∷ []) [] d h r l = counted-side (f ∷ []) h
+one-field-of (f ∷ []) (g ∷ y) d h r l = absurd (omega arith)
+one-field-of (f ∷ (g ∷ x)) y d h r l = absurd (omega arith)
+
+no-right-of : (x y : OurFields) → (encodeSide y .n ≡ 0 → ⊥) → oneField x y ≡ []
+no-right-of [] y r = refl
+no-right-of (f ∷ []) [] r = absurd (r refl)
+no-right-of (f ∷ []) (g ∷ y) r = refl
+no-right-of (f ∷ (g ∷ x)) y r = refl
+
+no-one-of : (x y : OurFields) → (encodeSide x .n ≡ 1 → ⊥) → oneField x y ≡ []
+no-one-of [] y l = refl
+no-one-of (f ∷ []) y l = absurd (l refl)
+no-one-of (f ∷ (g ∷ x)) y l = refl
+
+-- ---- of what reading returns
+
+module _ (t : List ℕ) (v : RuleRead) (is-v : v ≡ ruleRead (readRule t)) where
+  right-n : v .rule .right .n ≡ ruleRead (readRule t) .rule .right .n
+  right-n = ap (λ (w : RuleRead). w .rule .right .n) is-v
+
+  left-n : v .rule .left .n ≡ ruleRead (readRule t) .rule .left .n
+  left-n = ap (λ (w : RuleRead). w .rule .left .n) is-v
+
+  pub one-field : (d : Field) → v .rule .right .n ≡ 0 → v .rule .left .n ≡ 1 → countedField (getD (v .rule .left .fields) 0 d) ≡ fieldIn (readRule t)
+  one-field d r l =
+      ap (λ (w : RuleRead). countedField (getD (w .rule .left .fields) 0 d)) is-v ∙ go (readRule t) refl (sym right-n ∙ r) (sym left-n ∙ l)
     where
-      go : (o : Outcome) → readSide t ≡ o → ruleRead o .rule .n ≡ 1 → countedField (getD (ruleRead o .rule .fields) 0 d) ≡ fieldIn o
-      go (refused r p) e k = absurd (omega arith)
-      go (accepted []) e k = absurd (omega arith)
-      go (accepted (f ∷ [])) e k = counted-rule (f ∷ []) (rule-read t (f ∷ []) e)
-      go (accepted (f ∷ (g ∷ r))) e k = absurd (omega arith)
+      go : (o : OutcomeOf OurRule) → readRule t ≡ o → ruleRead o .rule .right .n ≡ 0 → ruleRead o .rule .left .n ≡ 1
+          → countedField (getD (ruleRead o .rule .left .fields) 0 d) ≡ fieldIn o
+      go (refused q p) e r l = absurd (omega arith)
+      go (accepted w) e r l = one-field-of (w .0) (w .1) d (rule-read t w e .0) r l
 
-  pub no-one-field : (v .rule .n ≡ 1 → ⊥) → fieldIn (readSide t) ≡ []
-  no-one-field h = go (readSide t) (λ k. h (ap (λ (w : RuleRead). w .rule .n) is-v ∙ k))
+  pub with-right : (v .rule .right .n ≡ 0 → ⊥) → fieldIn (readRule t) ≡ []
+  with-right h = go (readRule t) (λ k. h (right-n ∙ k))
     where
-      go : (o : Outcome) → (ruleRead o .rule .n ≡ 1 → ⊥) → fieldIn o ≡ []
+      go : (o : OutcomeOf OurRule) → (ruleRead o .rule .right .n ≡ 0 → ⊥) → fieldIn o ≡ []
       go (refused r p) k = refl
-      go (accepted []) k = refl
-      go (accepted (f ∷ [])) k = absurd (k refl)
-      go (accepted (f ∷ (g ∷ r))) k = refl
+      go (accepted w) k = no-right-of (w .0) (w .1) k
+
+  pub no-one-field : (v .rule .left .n ≡ 1 → ⊥) → fieldIn (readRule t) ≡ []
+  no-one-field h = go (readRule t) (λ k. h (left-n ∙ k))
+    where
+      go : (o : OutcomeOf OurRule) → (ruleRead o .rule .left .n ≡ 1 → ⊥) → fieldIn o ≡ []
+      go (refused r p) k = refl
+      go (accepted w) k = no-one-of (w .0) (w .1) k

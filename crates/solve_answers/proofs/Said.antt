@@ -11,7 +11,7 @@ use lib.Seq.{take-all, length-take-le}
 use Rattle.bytes.specs.Bytes.{indexOf}
 use Rattle.text.specs.Ascii.{ascii, newline}
 use Rattle.text.specs.Terms.{OurTerm}
-use Rattle.text.specs.Read.{readSide}
+use Rattle.rules.specs.Read.{readRule}
 use Rattle.sizes.specs.Sizes.{sizeOf}
 use Rattle.search_text.specs.Found.{mostRecords, mostBytes}
 use Rattle.solve_answers.specs.Solve.{longestLine, part, behind, fieldIn, searchText, lineText}
@@ -46,11 +46,11 @@ module _ (t : List ℕ) (tab rest : ℕ) (is-tab : tab ≡ indexOf 9 t) (is-rest
     pub no-tab-there : length t - rest ≤ k → sizesText left right t ≡ searchText left right (sizeOf mostRecords here) (sizeOf mostBytes there)
     no-tab-there h = rw (sym there-is, sym here-is) (rw (le-ltb (indexOf 9 there) (length there) (omega (arith, there-long))))
 
-  pub right-said : (left : List (List OurTerm)) {right : List (List OurTerm)} → right ≡ fieldIn (readSide here) → rightText left t ≡ sizesText left right there
-  right-said left e = sym (ap₂ (sizesText left) (e ∙ ap (λ (u : List ℕ). fieldIn (readSide u)) here-is) there-is)
+  pub right-said : (left : List (List OurTerm)) {right : List (List OurTerm)} → right ≡ fieldIn (readRule here) → rightText left t ≡ sizesText left right there
+  right-said left e = sym (ap₂ (sizesText left) (e ∙ ap (λ (u : List ℕ). fieldIn (readRule u)) here-is) there-is)
 
-  pub line-said : {left : List (List OurTerm)} → left ≡ fieldIn (readSide here) → length t ≤ longestLine → lineText t ≡ rightText left there
+  pub line-said : {left : List (List OurTerm)} → left ≡ fieldIn (readRule here) → length t ≤ longestLine → lineText t ≡ rightText left there
   unfolding lineText
   line-said e h =
-      ap (λ (b : Bool). cond b (ascii "line too long" ++ newline) (rightText (fieldIn (readSide (part t))) (behind t))) (le-ltb longestLine (length t) h)
-      ∙ sym (ap₂ rightText (e ∙ ap (λ (u : List ℕ). fieldIn (readSide u)) here-is) there-is)
+      ap (λ (b : Bool). cond b (ascii "line too long" ++ newline) (rightText (fieldIn (readRule (part t))) (behind t))) (le-ltb longestLine (length t) h)
+      ∙ sym (ap₂ rightText (e ∙ ap (λ (u : List ℕ). fieldIn (readRule u)) here-is) there-is)

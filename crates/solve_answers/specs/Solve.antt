@@ -9,16 +9,17 @@ use Rattle.bytes.specs.Bytes.{indexOf}
 use Rattle.text.specs.Ascii.{ascii, newline}
 use Rattle.text.specs.Numbers.{digitsOf}
 use Rattle.text.specs.Terms.{OurTerm}
-use Rattle.text.specs.Read.{Outcome, refused, accepted, readSide}
+use Rattle.text.specs.Read.{OutcomeOf, refused, accepted, OurFields}
+use Rattle.rules.specs.Read.{OurRule, readRule}
 use Rattle.solving.specs.Answers.{linesFor}
 use Rattle.sizes.specs.Sizes.{sizeOf}
 use Rattle.search_text.specs.Found.{mostRecords, mostBytes, foundText}
 
 -- ---- a line
 
--- two of the longest rules, 2,048 bytes each, three tabs, `640` and `131072`
+-- two of the longest rules, 4,096 bytes each, three tabs, `640` and `131072`
 abbrev pub longestLine : ℕ
-longestLine = 4108
+longestLine = 8204
 
 -- byte 9
 abbrev pub tab : ℕ
@@ -50,13 +51,18 @@ roomPart t = behind (behind (behind t))
 
 -- ---- the answer
 
--- a text that is no rule of exactly one field stands for a field that "stands on no accepted rule's left side":
+-- the field of a rule whose left side has just one, and which has no right side
+abbrev pub oneField : OurFields → OurFields → OurFields
+oneField [] y = []
+oneField (f ∷ []) [] = f ∷ []
+oneField (f ∷ []) (g ∷ y) = []
+oneField (f ∷ (g ∷ x)) y = []
+
+-- a text that is no such rule stands for a field that "stands on no accepted rule's left side":
 -- then "there are no lines, both counts are 0 and nothing is refused"
-abbrev pub fieldIn : Outcome → List (List OurTerm)
+abbrev pub fieldIn : OutcomeOf OurRule → OurFields
 fieldIn (refused r p) = []
-fieldIn (accepted []) = []
-fieldIn (accepted (f ∷ [])) = f ∷ []
-fieldIn (accepted (f ∷ (g ∷ r))) = []
+fieldIn (accepted w) = oneField (w .0) (w .1)
 
 -- of two fields, a row and a room: a bad row is told before a bad room
 abbrev pub searchText : List (List OurTerm) → List (List OurTerm) → Option ℕ → Option ℕ → List ℕ
@@ -69,7 +75,8 @@ unfoldable pub lineText : List ℕ → List ℕ
 lineText t =
     cond (ltb longestLine (length t)) (ascii "line too long" ++ newline)
     (cond (hasTab (roomPart t)) (ascii "bad line" ++ newline)
-    (searchText (fieldIn (readSide (leftPart t))) (fieldIn (readSide (rightPart t))) (sizeOf mostRecords (rowPart t)) (sizeOf mostBytes (roomPart t))))
+    (searchText (fieldIn (readRule (leftPart t))) (fieldIn (readRule (rightPart t)))
+    (sizeOf mostRecords (rowPart t)) (sizeOf mostBytes (roomPart t))))
 
 abbrev pub titleText : ℕ → List ℕ
 titleText k = ascii "search " ++ digitsOf k ++ newline

@@ -5,7 +5,7 @@ use mathlib.Core.Option.{some}
 use Prim.Native.Nat.{ℕ}
 use Rattle.text.specs.Ascii.{ascii, newline}
 use Rattle.text.specs.Terms.{OurTerm}
-use Rattle.text.specs.Read.{readSide}
+use Rattle.rules.specs.Read.{readRule}
 use Rattle.terms.specs.declared.Field.{Field}
 use Rattle.accepted.specs.Accepted.{countedField}
 use Rattle.sizes.specs.Sizes.{sizeOf}
@@ -29,7 +29,7 @@ saidSizes left right t = sizesText (countedField left) (countedField right) t
 
 -- the left field, with all that stands behind its part
 abbrev pub rightText : List (List OurTerm) → List ℕ → List ℕ
-rightText left t = sizesText left (fieldIn (readSide (part t))) (behind t)
+rightText left t = sizesText left (fieldIn (readRule (part t))) (behind t)
 
 abbrev pub saidRight : Field → List ℕ → List ℕ
 saidRight left t = rightText (countedField left) t

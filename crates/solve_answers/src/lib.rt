@@ -4,7 +4,7 @@ ghost use mathlib.Core.Path.{_≡_};
 ghost use mathlib.Core.List.{[]};
 ghost use Prim.Native.Nat.{_≤_};
 ghost use lib.ListN.{length};
-ghost use Rattle.text.specs.Read.{readSide};
+ghost use Rattle.rules.specs.Read.{readRule};
 ghost use Rattle.accepted.specs.Accepted.{countedField};
 ghost use Rattle.writing.specs.Answers.{Writes};
 ghost use Rattle.pieces.specs.Placed.{Placed};
@@ -29,14 +29,19 @@ fn no_field() -> Field
     }
 }
 
-// The one field of a rule text. A refused text says the rule with no fields.
+// The one field of a rule text without right side. A refused text says the rule with no fields.
 fn read_field(text: &[u8]) -> Field
-    ensures { λ f. ⌜ countedField f ≡ fieldIn (readSide (now (text .entry))) ⌝ }
+    ensures { λ f. ⌜ countedField f ≡ fieldIn (readRule (now (text .entry))) ⌝ }
 {
     let read = reading::read_rule(text);
     let rule = read.rule;
-    if rule.n == 1 {
-        return rule.fields[0];
+    let left = rule.left;
+    let right = rule.right;
+    if right.n != 0 {
+        return no_field();
+    }
+    if left.n == 1 {
+        return left.fields[0];
     }
     no_field()
 }
@@ -92,13 +97,13 @@ fn put_right(left: Field, line: &[u8], out: &mut [u8], at: usize) -> usize
     put_sizes(left, right, &line[rest..], out, at)
 }
 
-// What is said of a line. Two of the longest rules, three tabs, `640` and `131072` have 4,108 bytes.
+// What is said of a line. Two of the longest rules, three tabs, `640` and `131072` have 8,204 bytes.
 fn put_line(line: &[u8], out: &mut [u8], at: usize) -> usize
     ensures { λ p. ⌜ Placed (lineText (now (line .entry))) at (now (out .entry)) p (now (out .exit)) ⌝ }
     ensures { λ _. ⌜ length (lineText (now (line .entry))) ≤ longestBody ⌝ }
 {
     let n = line.len();
-    if 4108 < n {
+    if 8204 < n {
         return pieces::put_bytes(b"line too long\n", out, at);
     }
     let tab = pieces::tab_place(line);

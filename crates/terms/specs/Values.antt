@@ -6,12 +6,13 @@ use Rattle.order.specs.Values.{kindOf, kindFrom}
 use Rattle.theory.specs.Terms.{con, var}
 use Rattle.text.specs.Terms.{OurTerm, int, str}
 use Rattle.text.specs.Sizes.{longestString, mostFields}
-use Rattle.text.specs.Read.{rule, slip}
+use Rattle.text.specs.Read.{rule, slip, OurFields}
 use Rattle.terms.specs.declared.Form.{Form}
 use Rattle.terms.specs.declared.Form.the-variants.{Int, Str, Var}
 use Rattle.terms.specs.declared.Term.{Term}
 use Rattle.terms.specs.declared.Field.{Field}
 use Rattle.terms.specs.declared.RuleSide.{RuleSide}
+use Rattle.terms.specs.declared.Rule.{Rule}
 use Rattle.terms.specs.declared.SlipField.{SlipField}
 use Rattle.terms.specs.declared.Slip.{Slip}
 
@@ -33,6 +34,10 @@ viewField f = viewTerms (f .n) (f .terms)
 
 abbrev pub viewSide : RuleSide → List (List OurTerm)
 viewSide r = map viewField (take (r .n) (r .fields))
+
+-- both sides; a right side with no fields is none
+abbrev pub viewRule : Rule → OurFields × OurFields
+viewRule r = (viewSide (r .left), viewSide (r .right))
 
 abbrev pub viewSlipField : SlipField → List OurTerm
 viewSlipField f = viewTerms (f .n) (f .terms)
@@ -56,6 +61,9 @@ blankField = record { n = 0; terms = replicate (rule .width) blankTerm }
 abbrev pub blankSide : RuleSide
 blankSide = record { n = 0; fields = replicate mostFields blankField }
 
+abbrev pub blankRule : Rule
+blankRule = record { left = blankSide; right = blankSide }
+
 abbrev pub blankSlipField : SlipField
 blankSlipField = record { n = 0; terms = replicate (slip .width) blankTerm }
 
@@ -75,6 +83,9 @@ encodeField ts = record { n = length ts; terms = encodeTerms (rule .width) ts }
 
 abbrev pub encodeSide : List (List OurTerm) → RuleSide
 encodeSide r = record { n = length r; fields = pad mostFields blankField (map encodeField r) }
+
+abbrev pub encodeRule : OurFields × OurFields → Rule
+encodeRule r = record { left = encodeSide (r .0); right = encodeSide (r .1) }
 
 abbrev pub encodeSlipField : List OurTerm → SlipField
 encodeSlipField ts = record { n = length ts; terms = encodeTerms (slip .width) ts }

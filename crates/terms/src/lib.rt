@@ -1,6 +1,6 @@
 // Terms, fields, rules and slips as values. A value's unused places are blank (every number zero), so that there is one value for one rule.
 ghost use mathlib.Core.Path.{_≡_};
-ghost use Rattle.terms.specs.Values.{blankTerm, blankField, blankSide, blankSlipField, blankSlip, oneField};
+ghost use Rattle.terms.specs.Values.{blankTerm, blankField, blankSide, blankRule, blankSlipField, blankSlip, oneField};
 use order::Kind;
 
 // What a term is: an integer's value, a string's length (its bytes stand beside, since an enum holds no array), or a variable's type and number.
@@ -20,9 +20,16 @@ pub struct Field {
     pub terms: [Term; 16],
 }
 
+// One side of a rule.
 pub struct RuleSide {
     pub n: usize,
     pub fields: [Field; 4],
+}
+
+// A rule. A right side with no fields is none: a right side has one field at least.
+pub struct Rule {
+    pub left: RuleSide,
+    pub right: RuleSide,
 }
 
 pub struct SlipField {
@@ -55,7 +62,7 @@ pub fn blank_field() -> Field
     }
 }
 
-// The rule with no fields.
+// The side with no fields.
 pub fn blank_side() -> RuleSide
     ensures { λ r. ⌜ r ≡ blankSide ⌝ }
 {
@@ -64,6 +71,14 @@ pub fn blank_side() -> RuleSide
         n: 0,
         fields: [f; 4],
     }
+}
+
+// The rule with no fields.
+pub fn blank_rule() -> Rule
+    ensures { λ r. ⌜ r ≡ blankRule ⌝ }
+{
+    let s = blank_side();
+    Rule { left: s, right: s }
 }
 
 pub fn blank_slip_field() -> SlipField
@@ -87,7 +102,7 @@ pub fn blank_slip() -> Slip
     }
 }
 
-// The rule with this one field.
+// The side with this one field.
 pub fn one_field(f: Field) -> RuleSide
     ensures { λ r. ⌜ r ≡ oneField f ⌝ }
 {

@@ -124,12 +124,12 @@ not-over-all : (ts : List OurTerm) → All TermIn ts → All (λ r. Over r → �
 not-over-all [] h = tt
 not-over-all (t ∷ ts) h = (not-over t (h .0), not-over-all ts (h .1))
 
-not-over-fields : (r : List (List OurTerm)) → All (All TermIn) r → All (All (λ u. Over u → ⊥)) (map rawField r)
+pub not-over-fields : (r : List (List OurTerm)) → All (All TermIn) r → All (All (λ u. Over u → ⊥)) (map rawField r)
 not-over-fields [] h = tt
 not-over-fields ([] ∷ fs) h = (((λ z. z), tt), not-over-fields fs (h .1))
 not-over-fields ((t ∷ ts) ∷ fs) h = (not-over-all (t ∷ ts) (h .0), not-over-fields fs (h .1))
 
-raw-widths : (w : ℕ) (r : List (List OurTerm)) → All (λ f. length f ≤ suc w) r → All (λ f. length f ≤ suc w) (map rawField r)
+pub raw-widths : (w : ℕ) (r : List (List OurTerm)) → All (λ f. length f ≤ suc w) r → All (λ f. length f ≤ suc w) (map rawField r)
 raw-widths w [] h = tt
 raw-widths w ([] ∷ fs) h = (omega arith, raw-widths w fs (h .1))
 raw-widths w ((t ∷ ts) ∷ fs) h = (omega (arith, length-map (t ∷ ts) rawOf, h .0), raw-widths w fs (h .1))

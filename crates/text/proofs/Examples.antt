@@ -89,8 +89,8 @@ pub slips :
 unfolding bytes decLe decLt ℕ-discrete digit? begins follows first holds fifth? many? over? any? clash? clashOf?
 slips = refl
 
--- refusal 1 comes before 2; a text of 2048 bytes is not refused by it
-pub long-texts : readSide (replicate 2049 32) ∷ readSide (replicate 2048 48) ∷ readSide (replicate 2048 32) ∷ [] ≡ refused long 2048 ∷ refused limits 0 ∷ refused grammar 0 ∷ []
+-- refusal 1 comes before 2; a text of 4096 bytes is not refused by it
+pub long-texts : readSide (replicate 4097 32) ∷ readSide (replicate 4096 48) ∷ readSide (replicate 4096 32) ∷ [] ≡ refused long 4096 ∷ refused limits 0 ∷ refused grammar 0 ∷ []
 unfolding bytes decLe decLt ℕ-discrete digit? begins follows first holds fifth? many? over? any? clash? clashOf?
 long-texts = refl
 

@@ -41,7 +41,7 @@ raw-bars : (w : ℕ) (fs : List (List Raw)) → All (λ f. length f ≤ w) fs �
 raw-bars w [] l p n = omega arith
 raw-bars w (f ∷ fs) l p n = omega (arith, length-append (spellF f) (bars fs), raw-field w f (l .0) (p .0) (n .0), raw-bars w fs (l .1) (p .1) (n .1))
 
-raw-text : (w : ℕ) (x : List (List Raw)) → TextOk x → NoneOf (Bad w fields) [] (marks x) → NoneOf (Bad w terms) [] (marks x) → NoneOf (Bad w limits) [] (marks x) → (n : ℕ) × (n ≤ 3) × (suc (length (spellT x)) ≤ 18 * w + n * (18 * w))
+pub raw-text : (w : ℕ) (x : List (List Raw)) → TextOk x → NoneOf (Bad w fields) [] (marks x) → NoneOf (Bad w terms) [] (marks x) → NoneOf (Bad w limits) [] (marks x) → (n : ℕ) × (n ≤ 3) × (suc (length (spellT x)) ≤ 18 * w + n * (18 * w))
 raw-text w [] ok a b c = absurd (ok .0)
 raw-text w (f ∷ fs) ok a b c =
     let x = f ∷ fs in

@@ -28,7 +28,7 @@ stands-f t (r ∷ (s ∷ rs)) p n i pre post e l = (
       (shift-length pre (spell r) 58 p l),
 )
 
-stands-t : (t : List ℕ) (x : List (List Raw)) (p n : ℕ) (pre : List ℕ) → t ≡ pre ++ spellT x → length pre ≡ p → All (Stands t) (marksT p n x)
+pub stands-t : (t : List ℕ) (x : List (List Raw)) (p n : ℕ) (pre : List ℕ) → t ≡ pre ++ spellT x → length pre ≡ p → All (Stands t) (marksT p n x)
 stands-t t [] p n pre e l = tt
 stands-t t (f ∷ []) p n pre e l = all-append (Stands t) (marksF p n 1 f) [] (stands-f t f p n 1 pre [] e l) tt
 stands-t t (f ∷ (g ∷ fs)) p n pre e l =
@@ -50,14 +50,14 @@ from-f : (rs : List Raw) (p q n i : ℕ) → q ≤ p → All (From q) (marksF p 
 from-f [] p q n i h = tt
 from-f (r ∷ rs) p q n i h = (h, from-f rs (suc (p + length (spell r))) q n (suc i) (omega arith))
 
-from-t : (x : List (List Raw)) (p q n : ℕ) → q ≤ p → All (From q) (marksT p n x)
+pub from-t : (x : List (List Raw)) (p q n : ℕ) → q ≤ p → All (From q) (marksT p n x)
 from-t [] p q n h = tt
 from-t (f ∷ fs) p q n h = all-append (From q) (marksF p n 1 f) (marksT (suc (p + length (spellF f))) (suc n) fs) (from-f f p q n 1 h) (from-t fs (suc (p + length (spellF f))) q (suc n) (omega arith))
 
-abbrev Below : ℕ → Mark → Type 0
+abbrev pub Below : ℕ → Mark → Type 0
 Below q m = m .place < q
 
-below-f : (rs : List Raw) (p q n i : ℕ) → p + length (spellF rs) < q → All (Below q) (marksF p n i rs)
+pub below-f : (rs : List Raw) (p q n i : ℕ) → p + length (spellF rs) < q → All (Below q) (marksF p n i rs)
 below-f [] p q n i h = tt
 below-f (r ∷ []) p q n i h = (omega arith, tt)
 below-f (r ∷ (s ∷ rs)) p q n i h =
@@ -68,11 +68,11 @@ rising-f : (rs : List Raw) (p n i : ℕ) → Rising (marksF p n i rs)
 rising-f [] p n i = tt
 rising-f (r ∷ rs) p n i = (from-f rs (suc (p + length (spell r))) (suc p) n (suc i) (omega arith), rising-f rs (suc (p + length (spell r))) n (suc i))
 
-rising-append : (q : ℕ) (ms ns : List Mark) → Rising ms → Rising ns → All (Below q) ms → All (From q) ns → Rising (ms ++ ns)
+pub rising-append : (q : ℕ) (ms ns : List Mark) → Rising ms → Rising ns → All (Below q) ms → All (From q) ns → Rising (ms ++ ns)
 rising-append q [] ns a b c d = b
 rising-append q (m ∷ ms) ns a b c d = (all-append (From (suc (m .place))) ms ns (a .0) (all-map (From q) (From (suc (m .place))) (λ k h. omega (arith, c .0)) ns d), rising-append q ms ns (a .1) b (c .1) d)
 
-rising-t : (x : List (List Raw)) (p n : ℕ) → Rising (marksT p n x)
+pub rising-t : (x : List (List Raw)) (p n : ℕ) → Rising (marksT p n x)
 rising-t [] p n = tt
 rising-t (f ∷ fs) p n =
     let q = suc (p + length (spellF f)) in

@@ -67,7 +67,7 @@ abbrev pub onward : Option State → (State → Option State) → Option State
 onward none k = none
 onward (some q) k = k q
 
-run-append : (p r : List ℕ) (q : State) → run (p ++ r) q ≡ onward (run p q) (run r)
+pub run-append : (p r : List ℕ) (q : State) → run (p ++ r) q ≡ onward (run p q) (run r)
 run-append [] r q = refl
 run-append (b ∷ p) r q = go (move q b) (λ q′. run-append p r q′)
   where

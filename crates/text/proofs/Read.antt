@@ -13,7 +13,7 @@ use Rattle.text.specs.Machine.{parse}
 use Rattle.text.specs.Leftmost.{LeftmostAt}
 use Rattle.text.specs.Marks.{marks}
 use Rattle.text.specs.Terms.{OurTerm, fieldsOf}
-use Rattle.text.specs.Read.{Reason, long, grammar, fields, terms, limits, linear, variable, Sort, Bad, bad?, placeOfMark, FirstBad, Refuses, said, firstBad, placeOf, refused, accepted, tell, chain, NoReason, FirstReason, read}
+use Rattle.text.specs.Read.{Reason, long, grammar, fields, terms, limits, linear, variable, unknown, Sort, Bad, bad?, placeOfMark, FirstBad, Refuses, said, firstBad, placeOf, OutcomeOf, refused, accepted, tell, chain, NoReason, FirstReason, read}
 use Rattle.text.proofs.Parse.{Parsed, parsed, says-one}
 use Rattle.text.proofs.Place.{place2-is}
 use Rattle.text.proofs.Leftmost.{leftmost-answers}
@@ -44,8 +44,9 @@ answers S t terms = bad-answers (S .width) terms t
 answers S t limits = bad-answers (S .width) limits t
 answers S t linear = bad-answers (S .width) linear t
 answers S t variable = bad-answers (S .width) variable t
+answers S t unknown = bad-answers (S .width) unknown t
 
-module _ (R : Reason → ℕ → Type 0) (f : Reason → Option ℕ) (law : (r : Reason) → Answers (R r) (f r)) (a : List (List OurTerm)) where
+module _ {X : Type 0} (R : Reason → ℕ → Type 0) (f : Reason → Option ℕ) (law : (r : Reason) → Answers (R r) (f r)) (a : X) where
   pub chain-refused : (rs : List Reason) (s : Reason) (p : ℕ) → (chain f rs a ≡ refused s p) ↔ FirstReason R rs s p
   chain-refused [] s p = (λ e. let z : _≡_ {A = ℕ} 0 1 = cc in absurd (omega arith), λ h. absurd h)
   chain-refused (r ∷ rs) s p = go (f r) (law r) (chain-refused rs s p)
@@ -58,14 +59,14 @@ module _ (R : Reason → ℕ → Type 0) (f : Reason → Option ℕ) (law : (r :
           from (inr x) = rec .1 (x .1)
       go (some q) h rec = (to, from)
         where
-          to : refused r q ≡ refused s p → FirstReason R (r ∷ rs) s p
+          to : _≡_ {A = OutcomeOf X} (refused r q) (refused s p) → FirstReason R (r ∷ rs) s p
           to e = let e₁ : r ≡ s = cc in let e₂ : q ≡ p = cc in inl (e₁, subst (R r) e₂ (h .0))
 
-          from : FirstReason R (r ∷ rs) s p → refused r q ≡ refused s p
+          from : FirstReason R (r ∷ rs) s p → _≡_ {A = OutcomeOf X} (refused r q) (refused s p)
           from (inl x) = ap₂ refused (x .0) (sym (h .1 p (x .1)))
           from (inr x) = absurd (x .0 q (h .0))
 
-  pub chain-accepted : (rs : List Reason) (b : List (List OurTerm)) → (chain f rs a ≡ accepted b) ↔ (NoReason R rs × (a ≡ b))
+  pub chain-accepted : (rs : List Reason) (b : X) → (chain f rs a ≡ accepted b) ↔ (NoReason R rs × (a ≡ b))
   chain-accepted [] b = (λ e. let e₁ : a ≡ b = cc in (tt, e₁), λ h. ap accepted (h .1))
   chain-accepted (r ∷ rs) b = go (f r) (law r) (chain-accepted rs b)
     where

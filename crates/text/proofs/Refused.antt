@@ -7,7 +7,7 @@ use native.Mathlib.Omega.{arith}
 use native.Mathlib.Decide.{decLt}
 use lib.ListN.{length, length-append}
 use Rattle.text.specs.Grammar.{spell}
-use Rattle.text.specs.Read.{Reason, long, grammar, fields, terms, limits, linear, variable, number, Sort, rule, slip, FirstBad, Refuses, FirstReason, refused, read, readSide, readSlip}
+use Rattle.text.specs.Read.{Reason, long, grammar, fields, terms, limits, linear, variable, unknown, number, Sort, rule, slip, FirstBad, Refuses, FirstReason, refused, read, readSide, readSlip}
 use Rattle.text.proofs.Read.{read-refused}
 use Rattle.text.proofs.Sharp.{first-bad}
 
@@ -30,6 +30,7 @@ place-in S t terms p h = bad-in (S .width) terms t p h
 place-in S t limits p h = bad-in (S .width) limits t p h
 place-in S t linear p h = bad-in (S .width) linear t p h
 place-in S t variable p h = bad-in (S .width) variable t p h
+place-in S t unknown p h = bad-in (S .width) unknown t p h
 
 first-in : (S : Sort) (t : List ℕ) (rs : List Reason) (r : Reason) (p : ℕ) → FirstReason (Refuses S t) rs r p → p ≤ length t
 first-in S t [] r p h = absurd h
@@ -54,7 +55,8 @@ rule-place t r p e = place-most rule (grammar ∷ fields ∷ terms ∷ limits �
 pub slip-place : (t : List ℕ) (r : Reason) (p : ℕ) → readSlip t ≡ refused r p → p ≤ slip .bytes
 slip-place t r p e = place-most slip (grammar ∷ fields ∷ terms ∷ limits ∷ variable ∷ []) refl t r p e
 
-pub number-small : (r : Reason) → number r < 10
+-- a number has two digits at most
+pub number-small : (r : Reason) → number r < 100
 number-small long = omega arith
 number-small grammar = omega arith
 number-small fields = omega arith
@@ -62,6 +64,7 @@ number-small terms = omega arith
 number-small limits = omega arith
 number-small linear = omega arith
 number-small variable = omega arith
+number-small unknown = omega arith
 
 -- the numbers tell the reasons apart
 numbered : ℕ → Reason
@@ -72,7 +75,8 @@ numbered (suc (suc (suc zero))) = fields
 numbered (suc (suc (suc (suc zero)))) = terms
 numbered (suc (suc (suc (suc (suc zero))))) = limits
 numbered (suc (suc (suc (suc (suc (suc zero)))))) = linear
-numbered (suc (suc (suc (suc (suc (suc (suc n))))))) = variable
+numbered (suc (suc (suc (suc (suc (suc (suc zero))))))) = variable
+numbered (suc (suc (suc (suc (suc (suc (suc (suc n)))))))) = unknown
 
 number-back : (r : Reason) → numbered (number r) ≡ r
 unfolding numbered
@@ -83,6 +87,7 @@ number-back terms = refl
 number-back limits = refl
 number-back linear = refl
 number-back variable = refl
+number-back unknown = refl
 
 pub number-once : (r s : Reason) → number r ≡ number s → r ≡ s
 number-once r s e = sym (number-back r) ∙ ap numbered e ∙ number-back s

@@ -12,7 +12,7 @@ use Rattle.lists.specs.Seqs.{All, all-right, all-append}
 use Rattle.text.specs.Grammar.{Raw, spell, spellF, FieldOk}
 use Rattle.text.specs.Leftmost.{NoneOf, FirstOf}
 use Rattle.text.specs.Marks.{Mark, marks, marksF, marksT, FifthField, TooMany}
-use Rattle.text.specs.Read.{Reason, long, grammar, fields, terms, limits, linear, variable, Bad, FirstBad}
+use Rattle.text.specs.Read.{Reason, long, grammar, fields, terms, limits, linear, variable, unknown, Bad, FirstBad}
 use Rattle.text.specs.Sharp.{Stands, Numbered, Stated, FirstBadMark}
 use Rattle.text.proofs.Marks.{From, Rising, rising, stands-in}
 
@@ -30,7 +30,7 @@ rising-later (y ∷ ys) zs m k r i = rising-later ys zs m k (r .1) i
 
 -- LEFTMOST: no mark with the property has a smaller place
 module _ (P : List Mark → Mark → Type 0) where
-  first-least : (xs before : List Mark) (m k : Mark) → Rising xs → FirstOf P before xs m → (us vs : List Mark) → xs ≡ us ++ k ∷ vs → P (before ++ us) k → m .place ≤ k .place
+  pub first-least : (xs before : List Mark) (m k : Mark) → Rising xs → FirstOf P before xs m → (us vs : List Mark) → xs ≡ us ++ k ∷ vs → P (before ++ us) k → m .place ≤ k .place
   first-least xs before m k r f us vs e p = go (f .0) xs before r (f .2) (f .4) us e p
     where
       go : (ys xs before : List Mark) → Rising xs → xs ≡ ys ++ m ∷ f .1 → NoneOf P before ys → (us : List Mark) → xs ≡ us ++ k ∷ vs → P (before ++ us) k → m .place ≤ k .place
@@ -56,10 +56,10 @@ module _ (P : List Mark → Mark → Type 0) where
 -- ---- the numbers of the marks
 
 -- numbers go up by one
-abbrev Next : ℕ → ℕ → Mark → Type 0
+abbrev pub Next : ℕ → ℕ → Mark → Type 0
 Next n i m = ((m .inField ≡ n) × (m .index ≡ suc i)) ⊎ ((m .inField ≡ suc n) × (m .index ≡ 1))
 
-abbrev Steps : ℕ → ℕ → List Mark → Type 0
+abbrev pub Steps : ℕ → ℕ → List Mark → Type 0
 Steps n i [] = Unit {0}
 Steps n i (m ∷ ms) = Next n i m × Steps (m .inField) (m .index) ms
 
@@ -67,14 +67,14 @@ steps-f : (rs : List Raw) (p n i : ℕ) (later : List Mark) → ((j : ℕ) → S
 steps-f [] p n i later h = h i
 steps-f (r ∷ rs) p n i later h = (inl (refl, refl), steps-f rs (suc (p + length (spell r))) n (suc i) later h)
 
-steps-t : (x : List (List Raw)) (p n i : ℕ) → All FieldOk x → Steps n i (marksT p (suc n) x)
+pub steps-t : (x : List (List Raw)) (p n i : ℕ) → All FieldOk x → Steps n i (marksT p (suc n) x)
 steps-t [] p n i g = tt
 steps-t ([] ∷ fs) p n i g = absurd (g .0 .0)
 steps-t ((r ∷ rs) ∷ fs) p n i g =
     (inr (refl, refl), steps-f rs (suc (p + length (spell r))) (suc n) 1 (marksT (suc (p + length (spellF (r ∷ rs)))) (suc (suc n)) fs) (λ j. steps-t fs (suc (p + length (spellF (r ∷ rs)))) (suc n) j (g .1)))
 
 -- the first mark of a fifth field is its first term
-five : (ys zs : List Mark) (before : List Mark) (n i : ℕ) (m : Mark) → n ≤ 4 → Steps n i (ys ++ m ∷ zs) → NoneOf (λ b k. FifthField k) before ys → FifthField m → (m .inField ≡ 5) × (m .index ≡ 1)
+pub five : (ys zs : List Mark) (before : List Mark) (n i : ℕ) (m : Mark) → n ≤ 4 → Steps n i (ys ++ m ∷ zs) → NoneOf (λ b k. FifthField k) before ys → FifthField m → (m .inField ≡ 5) × (m .index ≡ 1)
 five [] zs before n i m h s k b = go (s .0)
   where
     go : Next n i m → (m .inField ≡ 5) × (m .index ≡ 1)
@@ -85,7 +85,7 @@ five (y ∷ ys) zs before n i m h s k b =
     five ys zs (before ++ y ∷ []) (y .inField) (y .index) m (omega arith) (s .1) (k .1) b
 
 -- the first term past the limit is the one just past it
-past : (w : ℕ) (ys zs : List Mark) (before : List Mark) (n i : ℕ) (m : Mark) → i ≤ w → Steps n i (ys ++ m ∷ zs) → NoneOf (λ b k. TooMany w k) before ys
+pub past : (w : ℕ) (ys zs : List Mark) (before : List Mark) (n i : ℕ) (m : Mark) → i ≤ w → Steps n i (ys ++ m ∷ zs) → NoneOf (λ b k. TooMany w k) before ys
     → TooMany w m → m .index ≡ suc w
 past w [] zs before n i m h s k b = go (s .0)
   where
@@ -115,7 +115,7 @@ numbered-f x f (r ∷ rs) us p n i e l is = (
   numbered-f x f rs (us ++ r ∷ []) (suc (p + length (spell r))) n (suc i) (e ∙ behind-one us r rs) (one-longer us r i l) is,
 )
 
-numbered-t : (x fs ys : List (List Raw)) (p n : ℕ) → x ≡ ys ++ fs → length ys ≡ n → All (Numbered x) (marksT p (suc n) fs)
+pub numbered-t : (x fs ys : List (List Raw)) (p n : ℕ) → x ≡ ys ++ fs → length ys ≡ n → All (Numbered x) (marksT p (suc n) fs)
 numbered-t x [] ys p n e l = tt
 numbered-t x (f ∷ fs) ys p n e l =
     all-append (Numbered x) (marksF p (suc n) 1 f) (marksT (suc (p + length (spellF f))) (suc (suc n)) fs)
@@ -125,7 +125,7 @@ numbered-t x (f ∷ fs) ys p n e l =
 -- ---- the first bad mark
 
 -- a mark's property, of the one in the middle
-pick : (P : Mark → Type 0) (ms ys zs : List Mark) (m : Mark) → All P ms → ms ≡ ys ++ m ∷ zs → P m
+pub pick : (P : Mark → Type 0) (ms ys zs : List Mark) (m : Mark) → All P ms → ms ≡ ys ++ m ∷ zs → P m
 pick P ms ys zs m a e = all-right P ys (m ∷ zs) (subst (All P) e a) .0
 
 module _ (w : ℕ) (x : List (List Raw)) (good : All FieldOk x) (m : Mark) (ys zs : List Mark) (split : marks x ≡ ys ++ m ∷ zs) where
@@ -140,6 +140,7 @@ module _ (w : ℕ) (x : List (List Raw)) (good : All FieldOk x) (m : Mark) (ys z
   stated limits b n = b
   stated linear b n = b
   stated variable b n = b
+  stated unknown b n = absurd b
 
 -- WHAT STANDS AT THE PLACE of a refusal from 3 to 7
 pub first-bad : (w : ℕ) (o : Reason) (t : List ℕ) (p : ℕ) → FirstBad w o t p ↔ FirstBadMark w o t p

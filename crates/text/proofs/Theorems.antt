@@ -8,7 +8,7 @@ use native.Mathlib.Omega.{arith}
 use Rattle.lists.specs.Seqs.{All}
 use Rattle.text.specs.Grammar.{Raw, Says}
 use Rattle.text.specs.Terms.{OurTerm, fieldsOf}
-use Rattle.text.specs.Read.{Reason, long, grammar, fields, terms, limits, linear, variable, number, Sort, rule, slip, Refuses, NoReason, FirstReason, refused, accepted, read, readSide, readSlip, earlier}
+use Rattle.text.specs.Read.{Reason, long, grammar, fields, terms, limits, linear, variable, unknown, number, Sort, rule, slip, Refuses, NoReason, FirstReason, refused, accepted, read, readSide, readSlip, earlier}
 use Rattle.text.specs.Plain.{plain}
 use Rattle.text.specs.Limits.{IsLeft}
 use Rattle.text.proofs.Read.{read-refused, read-accepted}
@@ -16,16 +16,16 @@ use Rattle.text.proofs.Plain.{LeanField, lean-is-plain, plain-one}
 use Rattle.text.proofs.Accepted.{in-grammar, said-is, rule-read, rule-plain, rule-ok}
 
 module _ (R : Reason → ℕ → Type 0) (r : Reason) (p : ℕ) where
-  abbrev Other : Reason → Type 0
+  abbrev pub Other : Reason → Type 0
   Other s = number s ≢ number r
 
   -- a reason that is not among those tried is never the first
-  not-tried : (rs : List Reason) → All Other rs → FirstReason R rs r p → ⊥
+  pub not-tried : (rs : List Reason) → All Other rs → FirstReason R rs r p → ⊥
   not-tried [] a h = h
   not-tried (s ∷ rs) a (inl h) = a .0 (ap number (h .0))
   not-tried (s ∷ rs) a (inr h) = not-tried rs (a .1) (h .1)
 
-  reason-iff : (pre post : List Reason) → All Other pre → All Other post → FirstReason R (pre ++ r ∷ post) r p ↔ (NoReason R pre × R r p)
+  pub reason-iff : (pre post : List Reason) → All Other pre → All Other post → FirstReason R (pre ++ r ∷ post) r p ↔ (NoReason R pre × R r p)
   reason-iff [] post a b = (to, λ h. inl (refl, h .1))
     where
       to : FirstReason R (r ∷ post) r p → Unit {0} × R r p
@@ -46,6 +46,8 @@ rule-refused terms n t p = Iff·trans (read-refused rule t terms p) (reason-iff 
 rule-refused limits n t p = Iff·trans (read-refused rule t limits p) (reason-iff (Refuses rule t) limits p (long ∷ grammar ∷ fields ∷ terms ∷ []) (linear ∷ []) (omega arith) (omega arith))
 rule-refused linear n t p = Iff·trans (read-refused rule t linear p) (reason-iff (Refuses rule t) linear p (long ∷ grammar ∷ fields ∷ terms ∷ limits ∷ []) [] (omega arith) (omega arith))
 rule-refused variable n t p = absurd (n refl)
+rule-refused unknown n t p =
+    (λ e. absurd (not-tried (Refuses rule t) unknown p (rule .order) (omega arith) (read-refused rule t unknown p .0 e)), λ h. absurd (h .1 .2 .1 .3))
 
 pub slip-refused : (r : Reason) → r ≢ linear → (t : List ℕ) (p : ℕ) → (readSlip t ≡ refused r p) ↔ (NoReason (Refuses slip t) (earlier r) × Refuses slip t r p)
 slip-refused long n t p = Iff·trans (read-refused slip t long p) (reason-iff (Refuses slip t) long p [] (grammar ∷ fields ∷ terms ∷ limits ∷ variable ∷ []) (omega arith) (omega arith))
@@ -55,6 +57,8 @@ slip-refused terms n t p = Iff·trans (read-refused slip t terms p) (reason-iff 
 slip-refused limits n t p = Iff·trans (read-refused slip t limits p) (reason-iff (Refuses slip t) limits p (long ∷ grammar ∷ fields ∷ terms ∷ []) (variable ∷ []) (omega arith) (omega arith))
 slip-refused linear n t p = absurd (n refl)
 slip-refused variable n t p = Iff·trans (read-refused slip t variable p) (reason-iff (Refuses slip t) variable p (long ∷ grammar ∷ fields ∷ terms ∷ limits ∷ []) [] (omega arith) (omega arith))
+slip-refused unknown n t p =
+    (λ e. absurd (not-tried (Refuses slip t) unknown p (slip .order) (omega arith) (read-refused slip t unknown p .0 e)), λ h. absurd (h .1 .2 .1 .3))
 
 -- a rule is never refused for a variable, a slip never for what is not linear
 pub rule-never : (t : List ℕ) (p : ℕ) → readSide t ≢ refused variable p

@@ -1,4 +1,4 @@
--- The place of refusal 2, over the grammar alone.
+-- The place of refusal 2, over a grammar alone.
 use mathlib.Core.Path.{_≡_}
 use mathlib.Core.Logic.{_⊎_}
 use mathlib.Core.Option.{Option, none, some}
@@ -7,14 +7,23 @@ use Prim.Native.Nat.{ℕ, suc, _<_}
 use lib.ListN.{length, take}
 use Rattle.text.specs.Grammar.{Grammar}
 
--- p begins some text of the grammar
-abbrev pub Viable : List ℕ → Type 0
-Viable p = (r : List ℕ) × Grammar (p ++ r)
+module _ (G : List ℕ → Type 0) where
+  -- p begins some text of the grammar G
+  abbrev pub ViableOf : List ℕ → Type 0
+  ViableOf p = (r : List ℕ) × G (p ++ r)
 
--- document 01: "the place is the first byte that no text of the grammar could have there, or the length where the text stops early".
--- What stands before p begins some text of the grammar; and t ends there without being one, or no text of the grammar has there what t has.
+  -- document 01: "the place is the first byte that no text of the grammar could have there, or the length where the text stops early".
+  -- What stands before p begins some text of the grammar; and t ends there without being one, or no text of the grammar has there what
+  -- t has.
+  abbrev pub StopsOf : List ℕ → ℕ → Type 0
+  StopsOf t p = ViableOf (take p t) × (((p ≡ length t) × (G t → ⊥)) ⊎ ((p < length t) × (ViableOf (take (suc p) t) → ⊥)))
+
+-- the grammar of one side and of a slip
+abbrev pub Viable : List ℕ → Type 0
+Viable = ViableOf Grammar
+
 abbrev pub Stops : List ℕ → ℕ → Type 0
-Stops t p = Viable (take p t) × (((p ≡ length t) × (Grammar t → ⊥)) ⊎ ((p < length t) × (Viable (take (suc p) t) → ⊥)))
+Stops = StopsOf Grammar
 
 -- an answer to "at which place": nowhere, or the only one
 abbrev pub Answers : (ℕ → Type 0) → Option ℕ → Type 0

@@ -13,11 +13,12 @@ use Rattle.text.specs.Leftmost.{leftmost, LeftmostAt}
 use Rattle.text.specs.Marks.{Mark, marks, FifthField, TooMany, MarkOver, NotLinear, MarkVar, fifth?, many?, markOver?, notLinear?, markVar?}
 use Rattle.text.specs.Terms.{OurTerm, fieldsOf}
 
--- why a text is refused
+-- why a text is refused: document 01's reasons, and document 02's "a right-side variable that the left lacks", which one side alone
+-- never meets
 pub data Reason : Type 0 where
-  long grammar fields terms limits linear variable : Reason
+  long grammar fields terms limits linear variable unknown : Reason
 
--- document 01's numbers
+-- the documents' numbers
 abbrev pub number : Reason → ℕ
 number long = 1
 number grammar = 2
@@ -26,6 +27,7 @@ number terms = 4
 number limits = 5
 number linear = 6
 number variable = 7
+number unknown = 10
 
 -- what is read: how many bytes a text and terms a field may have, and the refusals in the order in which they are tried
 pub record Sort : Type 0 where
@@ -33,8 +35,9 @@ pub record Sort : Type 0 where
   pub width : ℕ
   pub order : List Reason
 
+-- a rule's side alone. Document 02: "The whole text may have 4,096 bytes"
 abbrev pub rule : Sort
-rule = record { bytes = 2048; width = 16; order = long ∷ grammar ∷ fields ∷ terms ∷ limits ∷ linear ∷ [] }
+rule = record { bytes = 4096; width = 16; order = long ∷ grammar ∷ fields ∷ terms ∷ limits ∷ linear ∷ [] }
 
 abbrev pub slip : Sort
 slip = record { bytes = 8192; width = 64; order = long ∷ grammar ∷ fields ∷ terms ∷ limits ∷ variable ∷ [] }
@@ -48,6 +51,7 @@ Bad w terms b m = TooMany w m
 Bad w limits b m = MarkOver m
 Bad w linear b m = NotLinear b m
 Bad w variable b m = MarkVar m
+Bad w unknown b m = ⊥
 
 abbrev pub bad? : (w : ℕ) (r : Reason) (b : List Mark) (m : Mark) → Dec (Bad w r b m)
 bad? w long b m = no (λ h. h)
@@ -57,6 +61,7 @@ bad? w terms b m = many? w b m
 bad? w limits b m = markOver? b m
 bad? w linear b m = notLinear? b m
 bad? w variable b m = markVar? b m
+bad? w unknown b m = no (λ h. h)
 
 abbrev pub placeOfMark : Mark → ℕ
 placeOfMark m = m .place
@@ -74,6 +79,7 @@ Refuses S t terms p = FirstBad (S .width) terms t p
 Refuses S t limits p = FirstBad (S .width) limits t p
 Refuses S t linear p = FirstBad (S .width) linear t p
 Refuses S t variable p = FirstBad (S .width) variable t p
+Refuses S t unknown p = FirstBad (S .width) unknown t p
 
 -- THE ORDER: the first that applies, or none does
 abbrev pub Never : (ℕ → Type 0) → Type 0
@@ -96,6 +102,7 @@ earlier terms = long ∷ grammar ∷ fields ∷ []
 earlier limits = long ∷ grammar ∷ fields ∷ terms ∷ []
 earlier linear = long ∷ grammar ∷ fields ∷ terms ∷ limits ∷ []
 earlier variable = long ∷ grammar ∷ fields ∷ terms ∷ limits ∷ []
+earlier unknown = long ∷ grammar ∷ fields ∷ terms ∷ limits ∷ linear ∷ []
 
 -- the same, computed
 abbrev pub said : List ℕ → List (List Raw)
@@ -115,24 +122,34 @@ placeOf S t terms = firstBad (S .width) terms (said t)
 placeOf S t limits = firstBad (S .width) limits (said t)
 placeOf S t linear = firstBad (S .width) linear (said t)
 placeOf S t variable = firstBad (S .width) variable (said t)
+placeOf S t unknown = firstBad (S .width) unknown (said t)
 
--- what reading answers
-pub data Outcome : Type 0 where
-  refused : Reason → ℕ → Outcome
-  accepted : List (List OurTerm) → Outcome
+-- what reading answers: a refusal with its place, or what it accepts
+pub data OutcomeOf (X : Type 0) : Type 0 where
+  refused : Reason → ℕ → OutcomeOf X
+  accepted : X → OutcomeOf X
 
-abbrev pub tell : Reason → Option ℕ → Outcome → Outcome
-tell r none o = o
-tell r (some p) o = refused r p
+module _ {X : Type 0} where
+  abbrev pub tell : Reason → Option ℕ → OutcomeOf X → OutcomeOf X
+  tell r none o = o
+  tell r (some p) o = refused r p
 
-abbrev pub chain : (Reason → Option ℕ) → List Reason → List (List OurTerm) → Outcome
-chain f [] a = accepted a
-chain f (r ∷ rs) a = tell r (f r) (chain f rs a)
+  abbrev pub chain : (Reason → Option ℕ) → List Reason → X → OutcomeOf X
+  chain f [] a = accepted a
+  chain f (r ∷ rs) a = tell r (f r) (chain f rs a)
+
+-- the fields of a rule's side, or of a slip
+abbrev pub OurFields : Type 0
+OurFields = List (List OurTerm)
+
+abbrev pub Outcome : Type 0
+Outcome = OutcomeOf OurFields
 
 -- READING
 abbrev pub read : Sort → List ℕ → Outcome
 read S t = chain (placeOf S t) (S .order) (fieldsOf (said t))
 
+-- one side of a rule, as document 01 reads it
 abbrev pub readSide : List ℕ → Outcome
 readSide t = read rule t
 

@@ -8,7 +8,7 @@ use lib.ListN.{length, getElem?}
 use Rattle.text.specs.Grammar.{Raw, spell, Says}
 use Rattle.text.specs.Leftmost.{NoneOf}
 use Rattle.text.specs.Marks.{Mark, marks, Over, NotLinear, IsVar}
-use Rattle.text.specs.Read.{Reason, long, grammar, fields, terms, limits, linear, variable, Bad}
+use Rattle.text.specs.Read.{Reason, long, grammar, fields, terms, limits, linear, variable, unknown, Bad}
 
 -- the term of a mark stands in t, and the mark's place is that of its first byte
 pub record Stands (t : List ℕ) (m : Mark) : Type 0 where
@@ -41,6 +41,7 @@ Stated w limits b m = Over (m .raw)
 Stated w linear b m = NotLinear b m
 -- 7: "a variable"
 Stated w variable b m = IsVar (m .raw)
+Stated w unknown b m = ⊥
 
 -- THE TERM AT THE PLACE p for which the text t is refused by o: the first bad term of what t says
 pub record FirstBadMark (w : ℕ) (o : Reason) (t : List ℕ) (p : ℕ) : Type 0 where

@@ -2,3 +2,4 @@ pub mod Places
 pub mod Build
 pub mod Tokens
 pub mod Passes
+pub mod Unknown

@@ -4,16 +4,20 @@ use mathlib.Core.List.{List, foldl}
 use Prim.Native.Nat.{ℕ}
 use lib.Dec.{ltb}
 use lib.ListN.{length}
-use Rattle.text.specs.Read.{slip}
+use Rattle.text.specs.Read.{slip, OurFields}
 use Rattle.text.specs.Walk.{walked}
 use Rattle.terms.specs.declared.RuleSide.{RuleSide}
 use Rattle.terms.specs.declared.Slip.{Slip}
 use Rattle.terms.specs.Values.{blankSide, blankSlip}
+use Rattle.scanning.specs.declared.Found.{Found}
+use Rattle.scanning.specs.declared.Found.the-variants.{Nothing}
 use Rattle.tokens.specs.declared.TokenRule.{TokenRule}
 use Rattle.tokens.specs.Tokens.{blankTokenRule}
 use Rattle.verdicts.specs.Verdicts.{sortOf}
 use Rattle.refusals.specs.declared.Survey.{Survey}
 use Rattle.refusals.specs.Refusals.{surveyMark, nothingYet}
+use Rattle.scanning.specs.Places.{foundOf}
+use Rattle.unknown.specs.Unknown.{unknownAt}
 use Rattle.text_passes.specs.Build.{builtSide, builtSlip}
 use Rattle.text_passes.specs.Tokens.{builtTokens}
 
@@ -23,6 +27,10 @@ tooLong t = ltb (slip .bytes) (length t)
 
 abbrev pub surveyIn : Bool → List ℕ → Survey
 surveyIn asSlip t = cond (tooLong t) nothingYet (foldl (surveyMark asSlip ((sortOf asSlip) .width)) nothingYet (walked t))
+
+-- the first variable of a right side's text that the left side l lacks
+abbrev pub unknownIn : OurFields → List ℕ → Found
+unknownIn l t = cond (tooLong t) Nothing (foundOf (unknownAt l (walked t)))
 
 abbrev pub sideIn : List ℕ → RuleSide
 sideIn t = cond (tooLong t) blankSide (builtSide (walked t))

@@ -1,4 +1,5 @@
-// Going through the terms of a text: all refusals from 3 on in one pass, and the value or the tokens that a text without refusals says.
+// Going through the terms of a text: all refusals of one side from 3 on in one pass, the first variable that a left side lacks,
+// and the value or the tokens that a text without refusals says.
 // The passes move a reader from term to term. They are proved by hand; the public functions over them have plain parameters.
 ghost use mathlib.Core.Path.{_≡_};
 ghost use mathlib.Core.List.{foldl};
@@ -6,18 +7,23 @@ ghost use Prim.Native.Nat.{_+_, _≤_, _<_};
 ghost use lib.Dec.{ltb};
 ghost use lib.ListN.{length, drop};
 ghost use Rattle.text.specs.Walk.{front, walked};
+ghost use Rattle.terms.specs.Values.{viewSide};
+ghost use Rattle.scanning.specs.declared.Found.the-variants.{Nothing};
 ghost use Rattle.scanning.specs.Pieces.{pieceOf};
 ghost use Rattle.verdicts.specs.Verdicts.{sortOf};
 ghost use Rattle.refusals.specs.Refusals.{surveyMark, nothingYet};
 ghost use Rattle.text_passes.specs.Places.{spelled, colonAt, behind, termAt, started, passed};
-ghost use Rattle.text_passes.specs.Build.{emptyBy, pushTerm, addRaw, pushField, pushItem, addItem, pushSlipField, turns, builtSide, builtSlip};
+ghost use Rattle.text_passes.specs.Build.{emptyBy, pushTerm, addRaw, pushField, pushItem, addItem, pushSlipField, turns};
+ghost use Rattle.text_passes.specs.Build.{builtSide, builtSlip};
 ghost use Rattle.tokens.specs.Tokens.{blankTokens, blankTokenRule};
 ghost use Rattle.text_passes.specs.Tokens.{numberOn, tokenAt, pushToken, withToken, pushTokens, builtTokens};
-ghost use Rattle.text_passes.specs.Passes.{surveyIn, sideIn, slipIn, tokensIn};
+ghost use Rattle.text_passes.specs.Unknown.{unknownWith, unknownMark};
+ghost use Rattle.text_passes.specs.Passes.{surveyIn, unknownIn, sideIn, slipIn, tokensIn};
 use linearity::Lists;
 use order::Kind;
 use refusals::At;
 use refusals::Survey;
+use scanning::Found;
 use scanning::Piece;
 use scanning::Spelled;
 use terms::Field;
@@ -29,6 +35,7 @@ use tokens::Token;
 use tokens::TokenField;
 use tokens::TokenRule;
 use tokens::What;
+use verdicts::Verdict;
 
 // A text with the place where it is read. Document 01: "the reading place travels together with the text it reads".
 struct Reader<'a> {
@@ -122,8 +129,7 @@ fn nothing_yet() -> Survey
     ensures { λ r. ⌜ r ≡ nothingYet ⌝ }
 {
     Survey {
-        reason: 7,
-        place: 0,
+        verdict: Verdict::Accepted,
         lists: Lists::none(),
     }
 }
@@ -143,6 +149,44 @@ fn survey_of(text: &[u8], slip: bool) -> Survey
         r = q;
     }
     s
+}
+
+fn nowhere() -> Found
+    ensures { λ r. ⌜ r ≡ Nothing ⌝ }
+{
+    Found::Nothing
+}
+
+// The first place so far, with the term p, which stands at this place.
+fn note_unknown(found: Found, left: RuleSide, place: usize, p: Piece) -> Found
+    ensures { λ r. ⌜ r ≡ unknownWith (viewSide left) found place p ⌝ }
+{
+    match found {
+        Found::At(_) => found,
+        Found::Nothing => {
+            if unknown::is_unknown(left, p) {
+                return Found::At(place);
+            }
+            Found::Nothing
+        }
+    }
+}
+
+// The first variable that the side `left` lacks.
+fn unknown_of(text: &[u8], left: RuleSide) -> Found
+    requires { ⌜ length (now text) ≤ 8192 ⌝ }
+    ensures { λ r. ⌜ r ≡ foldl (unknownMark (viewSide left)) Nothing (walked (now (text .entry))) ⌝ }
+{
+    let mut found = nowhere();
+    let mut r = start(text);
+    while has_term(r) {
+        let p = term(r);
+        let f = note_unknown(found, left, r.at.place, p);
+        let q = passed(r, p);
+        found = f;
+        r = q;
+    }
+    found
 }
 
 fn is_empty(p: Piece) -> bool
@@ -404,6 +448,16 @@ pub fn survey(text: &[u8], slip: bool) -> Survey
         return nothing_yet();
     }
     survey_of(text, slip)
+}
+
+// Refusal 10 of a right side's text: the place of its first variable that the side `left` lacks.
+pub fn unknown_in(text: &[u8], left: RuleSide) -> Found
+    ensures { λ r. ⌜ r ≡ unknownIn (viewSide left) (now (text .entry)) ⌝ }
+{
+    if 8192 < text.len() {
+        return nowhere();
+    }
+    unknown_of(text, left)
 }
 
 // The rule that a text without refusals says.

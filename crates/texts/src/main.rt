@@ -3,7 +3,7 @@ use lines::Output;
 use lines::State;
 use writing::Written;
 
-// Puts a line's answer behind those that wait. It has room: an answer has at most 1,180 bytes.
+// Puts a line's answer behind those that wait. It has room: an answer has at most 2,334 bytes.
 fn answer(line: &[u8], buffer: &mut [u8], output: Output) -> Output {
     let mut text = io::buffer();
     match answers::texts_answer(line, &mut text) {

@@ -1,13 +1,14 @@
--- What is said of a text, in document 01's numbers.
-use Prim.Native.Nat.{ℕ, zero, suc, _-_}
-use mathlib.Core.Bool.{Bool, true, false}
-use mathlib.Core.List.{List, [], _∷_}
+-- What is said of a text, in the documents' numbers.
+use Prim.Native.Nat.{ℕ}
+use mathlib.Core.Bool.{Bool, true, false, cond}
+use lib.Dec.{ltb}
+use mathlib.Core.List.{[], _∷_}
 use mathlib.Core.Option.{none, some}
 use Rattle.text.specs.Told.{Told}
-use Rattle.text.specs.Read.{Sort, rule, slip, Outcome, refused, accepted}
+use Rattle.text.specs.Read.{Sort, rule, slip, OutcomeOf, refused, accepted}
 use Rattle.text.specs.Read as read
 use Rattle.verdicts.specs.declared.Reason.{Reason}
-use Rattle.verdicts.specs.declared.Reason.the-variants.{Long, Grammar, Fields, Terms, Limits, Linear, Variable}
+use Rattle.verdicts.specs.declared.Reason.the-variants.{Long, Grammar, Fields, Terms, Limits, Linear, Variable, Unknown}
 use Rattle.verdicts.specs.declared.Verdict.{Verdict}
 use Rattle.verdicts.specs.declared.Verdict.the-variants.{Accepted, Refused}
 
@@ -24,8 +25,9 @@ reasonFrom read.terms = Terms
 reasonFrom read.limits = Limits
 reasonFrom read.linear = Linear
 reasonFrom read.variable = Variable
+reasonFrom read.unknown = Unknown
 
--- document 01's number of a refusal
+-- the documents' number of a refusal
 abbrev pub numberOf : Reason → ℕ
 numberOf Long = 1
 numberOf Grammar = 2
@@ -34,6 +36,7 @@ numberOf Terms = 4
 numberOf Limits = 5
 numberOf Linear = 6
 numberOf Variable = 7
+numberOf Unknown = 10
 
 -- what is told of a text, in document 01's number and values. "A refusal returns its number, its place"
 abbrev pub told : Verdict → Told
@@ -47,25 +50,12 @@ refusal r p = record { number = some (read.number r); values = p ∷ [] }
 abbrev pub noRefusal : Told
 noRefusal = record { number = none; values = [] }
 
-abbrev pub verdictOf : Outcome → Verdict
+abbrev pub verdictOf : {X : Type 0} → OutcomeOf X → Verdict
 verdictOf (refused r p) = Refused (reasonFrom r) p
 verdictOf (accepted x) = Accepted
 
--- ---- the lowest refusal from 3 on, and its place
-
--- the reasons in their order from 3 on
-abbrev pub lastReason : Bool → read.Reason
-lastReason true = read.variable
-lastReason false = read.linear
-
-abbrev pub reasons : Bool → List read.Reason
-reasons slip = read.fields ∷ read.terms ∷ read.limits ∷ lastReason slip ∷ []
-
--- refused for the reason of number j from 0, or not
-abbrev pub refusedAt : List read.Reason → ℕ → ℕ → Outcome → Outcome
-refusedAt [] j p o = o
-refusedAt (r ∷ rs) zero p o = refused r p
-refusedAt (r ∷ rs) (suc j) p o = refusedAt rs j p o
-
-abbrev pub outcome : Bool → ℕ → ℕ → Outcome → Outcome
-outcome slip lowest place o = refusedAt (reasons slip) (lowest - 3) place o
+-- the refusal that is tried first, which is the one of the lower number; the former's where both are for the same reason
+abbrev pub firstOf : Verdict → Verdict → Verdict
+firstOf Accepted v = v
+firstOf (Refused r p) Accepted = Refused r p
+firstOf (Refused r p) (Refused q k) = cond (ltb (numberOf q) (numberOf r)) (Refused q k) (Refused r p)

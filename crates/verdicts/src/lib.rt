@@ -1,10 +1,8 @@
-// What is said of a text: accepted, or refused for one of document 01's reasons at a place.
+// What is said of a text: accepted, or refused for one of the documents' reasons at a place.
 ghost use mathlib.Core.Path.{_≡_};
-ghost use mathlib.Core.List.{[]};
-ghost use Rattle.text.specs.Read.{accepted};
-ghost use Rattle.verdicts.specs.Verdicts.{numberOf, verdictOf, outcome};
+ghost use Rattle.verdicts.specs.Verdicts.{numberOf, firstOf};
 
-// Why a text is refused: document 01's refusals 1 to 7, in their order.
+// Why a text is refused: document 01's refusals 1 to 7 and document 02's 10, in their order.
 pub enum Reason {
     Long,
     Grammar,
@@ -13,6 +11,7 @@ pub enum Reason {
     Limits,
     Linear,
     Variable,
+    Unknown,
 }
 
 // Accepted, or refused for a reason at a place.
@@ -21,7 +20,7 @@ pub enum Verdict {
     Refused(Reason, usize),
 }
 
-// Document 01's number of a refusal.
+// The documents' number of a refusal.
 pub fn number(r: Reason) -> u8
     ensures { λ n. ⌜ n ≡ numberOf r ⌝ }
 {
@@ -33,27 +32,19 @@ pub fn number(r: Reason) -> u8
         Reason::Limits => 5,
         Reason::Linear => 6,
         Reason::Variable => 7,
+        Reason::Unknown => 10,
     }
 }
 
-// What the lowest refusal from 3 on and its place say. 6 is the refusal that is tried last, here by its own name; above it there is none.
-pub fn verdict_of(slip: bool, lowest: u8, place: usize) -> Verdict
-    ensures { λ r. ⌜ r ≡ verdictOf (outcome slip lowest place (accepted [])) ⌝ }
+// The refusal that is tried first; the former's where both are for the same reason.
+pub fn first(a: Verdict, b: Verdict) -> Verdict
+    ensures { λ r. ⌜ r ≡ firstOf a b ⌝ }
 {
-    if 6 < lowest {
-        return Verdict::Accepted;
+    match a {
+        Verdict::Accepted => b,
+        Verdict::Refused(r, _) => match b {
+            Verdict::Accepted => a,
+            Verdict::Refused(q, _) => { if number(q) < number(r) { b } else { a } }
+        },
     }
-    if lowest == 6 {
-        if slip {
-            return Verdict::Refused(Reason::Variable, place);
-        }
-        return Verdict::Refused(Reason::Linear, place);
-    }
-    if lowest == 5 {
-        return Verdict::Refused(Reason::Limits, place);
-    }
-    if lowest == 4 {
-        return Verdict::Refused(Reason::Terms, place);
-    }
-    Verdict::Refused(Reason::Fields, place)
 }

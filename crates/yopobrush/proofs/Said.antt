@@ -4,31 +4,32 @@ use mathlib.Core.List.{List, [], _∷_}
 use Prim.Native.Nat.{ℕ}
 use lib.ListN.{length}
 use Rattle.text.specs.Told.{Told, byRoom}
-use Rattle.text.specs.Read.{Outcome, refused, accepted, readSide}
+use Rattle.text.specs.Read.{OutcomeOf, refused, accepted}
+use Rattle.rules.specs.Read.{OurRule, readRule}
 use Rattle.reading.specs.declared.RuleRead.{RuleRead}
 use Rattle.verdicts.specs.Verdicts.{verdictOf}
-use Rattle.reading.specs.Answers.{ruleRead}
+use Rattle.reading.specs.Answers.{ruleRead, leftSaid}
 use Rattle.verdicts.proofs.Verdicts.{number-is}
 use Rattle.listing.specs.Overlaps.{linesOf, overlapText}
 use Rattle.overlaps.specs.declared.Listed.{Listed}
 use Rattle.overlaps.specs.declared.Listed.the-variants.{Lines, TooSmall}
 use Rattle.overlaps.specs.declared.TextsListed.{TextsListed}
-use Rattle.overlaps.specs.Answers.{told, TextsList, ruleOf}
+use Rattle.overlaps.specs.Answers.{told, TextsList}
 use Rattle.yopobrush.specs.declared.Reading.{Reading}
 use Rattle.yopobrush.specs.declared.Listing.{Listing}
 use Rattle.yopobrush.specs.Answers.{readingOf, listingOf}
 use Rattle.yopobrush.specs.Values.{readingBy, whole, listingBy}
 
-verdict-said : (o : Outcome) → readingBy (verdictOf o) ≡ readingOf o
+pub verdict-said : {X : Type 0} (o : OutcomeOf X) → readingBy (verdictOf o) ≡ readingOf o
 verdict-said (refused r p) = ap (λ (n : ℕ). record { refusal = n; place = p }) (number-is r)
 verdict-said (accepted x) = refl
 
-reading-said : (o : Outcome) → readingBy (ruleRead o .verdict) ≡ readingOf o
-reading-said (refused r p) = verdict-said (refused r p)
+reading-said : (o : OutcomeOf OurRule) → readingBy (ruleRead o .verdict) ≡ readingOf o
+reading-said (refused r p) = verdict-said {X = OurRule} (refused r p)
 reading-said (accepted x) = refl
 
-pub text-said : (t : List ℕ) (l : RuleRead) (a : Reading) → l ≡ ruleRead (readSide t) → a ≡ readingBy (l .verdict) → a ≡ readingOf (readSide t)
-text-said t l a is-l is-a = is-a ∙ ap (λ (v : RuleRead). readingBy (v .verdict)) is-l ∙ reading-said (readSide t)
+pub text-said : (t : List ℕ) (l : RuleRead) (a : Reading) → l ≡ ruleRead (readRule t) → a ≡ readingBy (l .verdict) → a ≡ readingOf (readRule t)
+text-said t l a is-l is-a = is-a ∙ ap (λ (v : RuleRead). readingBy (v .verdict)) is-l ∙ reading-said (readRule t)
 
 -- the answer that tells so many bytes needed, of so many lent, with the two counts
 module _ (l r : Reading) (needed lent n b : ℕ) where
@@ -52,13 +53,13 @@ pub texts-said : (t u : List ℕ) {old : List ℕ} {said : TextsListed} {new : L
     → a ≡ readingBy (said .left)
     → b ≡ readingBy (said .right)
     → answer ≡ listingBy a b (said .listed)
-    → answer ≡ listingOf (readSide t) (readSide u) (length old)
+    → answer ≡ listingOf (readRule t) (readRule u) (length old)
 texts-said t u {old} {said} a b answer is is-a is-b is-answer =
-    let l = is-a ∙ ap readingBy (is .left) ∙ verdict-said (readSide t) in
-    let r = is-b ∙ ap readingBy (is .right) ∙ verdict-said (readSide u) in
-    let x = ruleOf (readSide t) in
-    let y = ruleOf (readSide u) in
+    let l = is-a ∙ ap readingBy (is .left) ∙ verdict-said (readRule t) in
+    let r = is-b ∙ ap readingBy (is .right) ∙ verdict-said (readRule u) in
+    let x = leftSaid (readRule t) in
+    let y = leftSaid (readRule u) in
     let n = length (overlapText x y) in
     is-answer
     ∙ ap₂ (λ (x y : Reading). listingBy x y (said .listed)) l r
-    ∙ listed-said (readingOf (readSide t)) (readingOf (readSide u)) n (length old) (length (linesOf x y)) n (said .listed) (is .listed .answer)
+    ∙ listed-said (readingOf (readRule t)) (readingOf (readRule u)) n (length old) (length (linesOf x y)) n (said .listed) (is .listed .answer)

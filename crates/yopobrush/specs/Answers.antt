@@ -1,19 +1,21 @@
--- What the library's functions answer, in document 01's numbers and values: of how a text is read, and of the overlaps that two texts have.
+-- What the library's functions answer, in the documents' numbers and values: of how a text is read, and of the overlaps that two texts
+-- have.
 use mathlib.Core.Path.{_≡_}
 use mathlib.Core.List.{List, [], _∷_}
 use mathlib.Core.Option.{Option, none, some}
 use Prim.Native.Nat.{ℕ}
 use lib.ListN.{length}
 use Rattle.text.specs.Told.{byRoom}
-use Rattle.text.specs.Read.{number, Outcome, refused, accepted, readSide}
+use Rattle.text.specs.Read.{number, OutcomeOf, refused, accepted}
+use Rattle.rules.specs.Read.{OurRule, readRule}
 use Rattle.writing.specs.Answers.{after}
 use Rattle.listing.specs.Overlaps.{linesOf, overlapText}
-use Rattle.overlaps.specs.Answers.{ruleOf}
+use Rattle.reading.specs.Answers.{leftSaid}
 use Rattle.yopobrush.specs.declared.Reading.{Reading}
 use Rattle.yopobrush.specs.declared.Listing.{Listing}
 
--- document 01's number of the refusal and its place; no refusal has the number 0
-abbrev pub readingOf : Outcome → Reading
+-- the documents' number of the refusal and its place; no refusal has the number 0
+abbrev pub readingOf : {X : Type 0} → OutcomeOf X → Reading
 readingOf (refused r p) = record { refusal = number r; place = p }
 readingOf (accepted x) = record { refusal = 0; place = 0 }
 
@@ -24,10 +26,11 @@ numbered (some n) = n
 
 -- "The entry count, which is their number, and the byte count, which is the length of all their lines, are returned. 8: as in searching,
 -- with the entry count and the needed byte count": in a buffer of so much room; "A rule with no fields counts as having no entries"
-abbrev pub listingOf : Outcome → Outcome → ℕ → Listing
+-- (the overlaps of two rules are those of their left sides)
+abbrev pub listingOf : OutcomeOf OurRule → OutcomeOf OurRule → ℕ → Listing
 listingOf left right room =
-    let entries = length (linesOf (ruleOf left) (ruleOf right)) in
-    let bytes = length (overlapText (ruleOf left) (ruleOf right)) in
+    let entries = length (linesOf (leftSaid left) (leftSaid right)) in
+    let bytes = length (overlapText (leftSaid left) (leftSaid right)) in
     record {
       left = readingOf left;
       right = readingOf right;
@@ -38,5 +41,5 @@ listingOf left right room =
 
 -- WHAT THE LIBRARY PROMISES of the texts t and u and the lent bytes `old`: the answer, and what the bytes are afterwards
 pub record LibraryLists (t u old : List ℕ) (r : Listing) (new : List ℕ) : Type 0 where
-  pub answer : r ≡ listingOf (readSide t) (readSide u) (length old)
-  pub bytes : new ≡ after (overlapText (ruleOf (readSide t)) (ruleOf (readSide u))) old
+  pub answer : r ≡ listingOf (readRule t) (readRule u) (length old)
+  pub bytes : new ≡ after (overlapText (leftSaid (readRule t)) (leftSaid (readRule u))) old

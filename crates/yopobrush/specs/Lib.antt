@@ -1,2 +1,4 @@
 pub mod Answers
 pub mod Values
+pub mod Carries
+pub mod CarryValues

@@ -1,12 +1,17 @@
-// The library that a program in another language links: a rule text is read and checked, and the overlaps of two are listed.
+// The library that a program in another language links: a rule text is read and checked, the overlaps of two rules are listed, and a rule
+// is carried out on a slip.
 // Numbers and byte slices cross the boundary, and structs of numbers in C's layout; to C a slice is a pointer and a length.
 // A name belongs to the whole program, as in C, so each begins with the library's.
 ghost use mathlib.Core.Path.{_≡_};
-ghost use Rattle.text.specs.Read.{readSide};
+ghost use Rattle.rules.specs.Read.{readRule};
 ghost use Rattle.yopobrush.specs.Answers.{readingOf, LibraryLists};
 ghost use Rattle.yopobrush.specs.Values.{readingBy, listingBy};
+ghost use Rattle.yopobrush.specs.Carries.{LibraryCarries};
+ghost use Rattle.yopobrush.specs.CarryValues.{numberBy, carryingBy};
+use carrying::Carry;
 use overlaps::Listed;
 use verdicts::Verdict;
+use writing::Written;
 
 // How a rule text is read: the refusal's number and its place, or 0 and 0 where there is none.
 #[repr(C)]
@@ -64,7 +69,7 @@ fn listing_of(left: Reading, right: Reading, listed: Listed) -> Listing
 // Reads a rule text and says how it is read.
 #[no_mangle]
 pub extern "C" fn yopobrush_read_rule(text: &[u8]) -> Reading
-    ensures { λ r. ⌜ r ≡ readingOf (readSide (now (text .entry))) ⌝ }
+    ensures { λ r. ⌜ r ≡ readingOf (readRule (now (text .entry))) ⌝ }
 {
     let read = reading::read_rule(text);
     let verdict = read.verdict;
@@ -82,4 +87,67 @@ pub extern "C" fn yopobrush_list_overlaps(left: &[u8], right: &[u8], out: &mut [
     let right_verdict = said.right;
     let listed = said.listed;
     listing_of(reading_of(left_verdict), reading_of(right_verdict), listed)
+}
+
+// ---- carrying out
+
+// How each text is read; the answer, which is 0 for no, 1 for yes, 11 for a result with a field of more than 64 terms, or 8 where the text
+// has no room; and how many bytes the text has.
+#[repr(C)]
+pub struct Carrying {
+    pub rule: Reading,
+    pub slip: Reading,
+    pub answer: u64,
+    pub bytes: u64,
+}
+
+fn number_of(answer: Carry) -> u64
+    ensures { λ r. ⌜ r ≡ numberBy answer ⌝ }
+{
+    match answer {
+        Carry::Yes => 1,
+        Carry::No => 0,
+        Carry::TooLong => 11,
+    }
+}
+
+fn carrying_of(rule: Reading, slip: Reading, answer: u64, written: Written) -> Carrying
+    ensures { λ r. ⌜ r ≡ carryingBy rule slip answer written ⌝ }
+{
+    match written {
+        Written::Bytes(bytes) => Carrying {
+            rule: rule,
+            slip: slip,
+            answer: answer,
+            bytes: bytes as u64,
+        },
+        Written::TooSmall(bytes) => Carrying {
+            rule: rule,
+            slip: slip,
+            answer: 8,
+            bytes: bytes as u64,
+        },
+    }
+}
+
+// Carries out the rule text's rule on the slip text's slip, and writes the plain text of the result, or of the slip where there is none,
+// into the lent bytes. A text that is refused says the rule, or the slip, with no fields.
+#[no_mangle]
+pub extern "C" fn yopobrush_carry_out(rule: &[u8], slip: &[u8], out: &mut [u8]) -> Carrying
+    ensures { λ r. ⌜ LibraryCarries (now (rule .entry)) (now (slip .entry)) (now (out .entry)) r (now (out .exit)) ⌝ }
+{
+    let r = reading::read_rule(rule);
+    let s = reading::read_slip(slip);
+    let rule_verdict = r.verdict;
+    let slip_verdict = s.verdict;
+    let c = carrying::carry_out(r.rule, s.slip);
+    let answer = c.answer;
+    let given = c.slip;
+    let written = slip_text::write_slip(given, out);
+    carrying_of(
+        reading_of(rule_verdict),
+        reading_of(slip_verdict),
+        number_of(answer),
+        written,
+    )
 }

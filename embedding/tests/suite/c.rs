@@ -1,9 +1,12 @@
-//! A program in C, over `yopobrush.h`, built by the compiler that Rust links
+//! Programs in C, over `yopobrush.h`, built by the compiler that Rust links
 //! with.
 
 use std::env;
 use std::path::{Path, PathBuf};
-use std::process::{Command, Output};
+use std::process::Command;
+
+/// The status, standard output and standard error of a program.
+type Said = (Option<i32>, Vec<u8>, Vec<u8>);
 
 fn library() -> PathBuf {
     let folder = match env::var_os("YOPOBRUSH_LIB_DIR") {
@@ -13,13 +16,13 @@ fn library() -> PathBuf {
     folder.join("libyopobrush.a")
 }
 
-fn built() -> PathBuf {
+fn built(name: &str) -> PathBuf {
     let here = Path::new(env!("CARGO_MANIFEST_DIR"));
-    let program = Path::new(env!("CARGO_TARGET_TMPDIR")).join("overlaps");
+    let program = Path::new(env!("CARGO_TARGET_TMPDIR")).join(name);
     let status = Command::new("cc")
         .args(["-std=c99", "-Wall", "-Wextra", "-Werror", "-pedantic", "-I"])
         .arg(here)
-        .arg(here.join("examples/overlaps.c"))
+        .arg(here.join(format!("examples/{name}.c")))
         .arg(library())
         .arg("-o")
         .arg(&program)
@@ -28,20 +31,43 @@ fn built() -> PathBuf {
     program
 }
 
+fn said(program: &Path, texts: [&str; 2]) -> Said {
+    let output = Command::new(program).args(texts).output().unwrap();
+    (output.status.code(), output.stdout, output.stderr)
+}
+
+fn prints(text: &str) -> Said {
+    (Some(0), text.as_bytes().to_vec(), Vec::new())
+}
+
+fn complains(text: &str) -> Said {
+    (Some(1), Vec::new(), text.as_bytes().to_vec())
+}
+
 #[test]
-fn the_header_and_the_library_agree() {
-    let program = built();
-    let run = |rules: [&str; 2]| Command::new(&program).args(rules).output().unwrap();
-    let said = |output: Output| (output.status.code(), output.stdout, output.stderr);
-    let nothing = Vec::new;
-    let list = b"2 <a0=2 <l0=empty >l0=empty\na0:l0:2 <a0=a0 <l0=l0:2 >l0=a0:l0\n";
-    assert_eq!(
-        said(run(["a0:l0", "l0:2"])),
-        (Some(0), list.to_vec(), nothing())
-    );
-    assert_eq!(said(run(["i0", "s0"])), (Some(0), nothing(), nothing()));
-    let left = b"left rule refused 2 at 2\n".to_vec();
-    assert_eq!(said(run(["i01", "l0:l1"])), (Some(1), nothing(), left));
-    let right = b"right rule refused 6 at 3\n".to_vec();
-    assert_eq!(said(run(["1", "l0:l1"])), (Some(1), nothing(), right));
+fn overlaps_from_c() {
+    let program = built("overlaps");
+    let said = |left, right| said(&program, [left, right]);
+    let list = "2 <a0=2 <l0=empty >l0=empty\na0:l0:2 <a0=a0 <l0=l0:2 >l0=a0:l0\n";
+    assert_eq!(said("a0:l0", "l0:2"), prints(list));
+    assert_eq!(said("i0", "s0"), prints(""));
+    let left = complains("left rule refused 2 at 2\n");
+    assert_eq!(said("i01", "l0:l1"), left);
+    let right = complains("right rule refused 6 at 3\n");
+    assert_eq!(said("1", "l0:l1"), right);
+}
+
+#[test]
+fn carrying_out_from_c() {
+    let program = built("carry");
+    let said = |rule: &str, slip: &str| said(&program, [rule, slip]);
+    assert_eq!(said("a0:l0=>l0:a0", "1:2:3"), prints("yes 2:3:1\n"));
+    assert_eq!(said("1=>2", "007"), prints("no 7\n"));
+    let ones = vec!["1"; 64].join(":");
+    let too_long = format!("refusal 11 {ones}\n");
+    assert_eq!(said("l0=>l0:1", &ones), prints(&too_long));
+    let rule = complains("rule refused 10 at 4\n");
+    assert_eq!(said("i0=>a0", "l0"), rule);
+    let slip = complains("slip refused 7 at 0\n");
+    assert_eq!(said("1=>2", "l0"), slip);
 }

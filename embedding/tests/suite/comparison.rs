@@ -1,13 +1,18 @@
 //! The second program, which shares no code with the library, on generated
-//! lines: the same refusals, the same lists.
+//! lines: the same refusals, the same lists, the same results.
 
+use reference::carrying::{self, Carried};
 use reference::draw::Draw;
+use reference::generate::carries::carry_line;
 use reference::generate::pairs::pair_line;
 use reference::overlaps::entries;
 use reference::reading;
 use reference::terms::Rule;
-use reference::writing::entry_line;
-use yopobrush::{list_overlaps, overlaps, read_rule, Error, Listing, Refusal};
+use reference::writing::{entry_line, plain_slip};
+use yopobrush::{
+    carried, carry_out, list_overlaps, overlaps, read_rule, Answer, CarryError, Error, Listing,
+    Refusal,
+};
 
 const LINES: usize = 4_000;
 
@@ -82,14 +87,49 @@ fn compare(left: &[u8], right: &[u8]) {
     }
 }
 
+/// What stands before the first tab, and what behind it.
+fn divided(line: &[u8]) -> (&[u8], &[u8]) {
+    let mut parts = line.splitn(2, |&byte| byte == b'\t');
+    let first = parts.next().unwrap_or_default();
+    (first, parts.next().unwrap_or_default())
+}
+
 #[test]
-fn the_same_as_the_second_program() {
+fn the_same_lists_as_the_second_program() {
     let mut draw = Draw::new(5);
     for _ in 0..LINES {
         let line = pair_line(&mut draw);
-        let mut parts = line.splitn(2, |&byte| byte == b'\t');
-        let left = parts.next().unwrap_or_default();
-        let right = parts.next().unwrap_or_default();
+        let (left, right) = divided(&line);
         compare(left, right);
+    }
+}
+
+/// The second program's answer and its text.
+fn expected_carrying(rule: &[u8], slip: &[u8]) -> Result<(Answer, Vec<u8>), CarryError> {
+    let rule = reading::read_rule(rule).map_err(|refusal| CarryError::Rule(ours(refusal)))?;
+    let slip = reading::read_slip(slip).map_err(|refusal| CarryError::Slip(ours(refusal)))?;
+    let (answer, slip) = match carrying::carry_out(&rule, &slip) {
+        Carried::Yes(result) => (Answer::Yes, result),
+        Carried::No => (Answer::No, slip),
+        Carried::TooLong => (Answer::TooLong, slip),
+    };
+    Ok((answer, plain_slip(&slip)))
+}
+
+#[test]
+fn the_same_results_as_the_second_program() {
+    let mut draw = Draw::new(6);
+    for _ in 0..LINES {
+        let line = carry_line(&mut draw);
+        let (rule, slip) = divided(&line);
+        let expected = expected_carrying(rule, slip);
+        assert_eq!(carried(rule, slip), expected, "{}", line.escape_ascii());
+        let Ok((_, text)) = expected else {
+            continue;
+        };
+        let mut small = vec![7; text.len() - 1];
+        let found = carry_out(rule, slip, &mut small);
+        assert_eq!(found, Err(CarryError::TooSmall(text.len())));
+        assert!(small.iter().all(|&byte| byte == 7));
     }
 }

@@ -1,4 +1,5 @@
-//! Document 01's cases, "Pairs on either side of an edge".
+//! Document 01's cases, "Pairs on either side of an edge", and document 02's
+//! rules with right sides.
 
 use yopobrush::{list_overlaps, overlaps, read_rule, Error, Refusal};
 
@@ -53,10 +54,51 @@ fn every_refusal_of_a_rule() {
     assert_refused("l0|l0", 6, 3);
     assert_refused("l0:l1", 6, 3);
     assert_refused("", 2, 0);
-    assert_refused(vec![b'1'; 2049], 1, 2048);
+    assert_refused(vec![b'1'; 4096], 5, 0);
+    assert_refused(vec![b'1'; 4097], 1, 4096);
     assert_refused("1|1|1|1|1", 3, 8);
     assert_refused(vec!["1"; 17].join(":"), 4, 32);
     assert_refused([0, 255], 2, 0);
+}
+
+#[test]
+fn every_refusal_of_a_rule_with_a_right_side() {
+    for text in [
+        "1=>2",
+        "l0=>l0:l0|l0",
+        "\"=>\"=>1",
+        "\"=>\"",
+        "i0|a0=>a0:i0",
+    ] {
+        assert_eq!(read_rule(text.as_bytes()), Ok(()), "{text}");
+    }
+    assert_refused("1|2|3|4|5=>(", 2, 11);
+    assert_refused("i0=x", 2, 3);
+    assert_refused("1=", 2, 2);
+    assert_refused("1=>", 2, 3);
+    assert_refused("=>1", 2, 0);
+    assert_refused("1:=>2", 2, 2);
+    assert_refused("1=>2=>3", 2, 4);
+    assert_refused("1|2|3|4=>1|2|3|4|5", 3, 17);
+    assert_refused(format!("1=>{}", vec!["1"; 17].join(":")), 4, 35);
+    assert_refused("l0:l1=>i16", 5, 7);
+    assert_refused("l0:l1=>s1", 6, 3);
+    assert_refused("i0=>a0", 10, 4);
+    assert_refused("i0=>i0:i1", 10, 7);
+    assert_refused(format!("1=>{}", "1".repeat(4094)), 1, 4096);
+}
+
+/// "Overlaps look at left sides only."
+#[test]
+fn right_sides_change_no_list() {
+    let lines = [
+        "2 <a0=2 <l0=empty >l0=empty",
+        "a0:l0:2 <a0=a0 <l0=l0:2 >l0=a0:l0",
+    ];
+    assert_list("a0:l0=>l0:l0|a0", "l0:2", &lines);
+    assert_list("a0:l0", "l0:2=>1|2|3|4", &lines);
+    assert_list("1=>2", "1=>3", &["1"]);
+    assert_list("\"=>\"=>1", "s0=>s0", &["\"=>\" >s0=\"=>\""]);
 }
 
 #[test]

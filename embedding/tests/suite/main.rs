@@ -1,7 +1,8 @@
-//! Tests of the wrapper: document 01's cases, lent memory, the second program
-//! on generated lines, and a program in C.
+//! Tests of the wrapper: the documents' cases, lent memory, the second program
+//! on generated lines, and programs in C.
 
 mod c;
+mod carrying;
 mod comparison;
 mod document;
 mod memory;

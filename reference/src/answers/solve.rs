@@ -2,12 +2,12 @@
 
 use crate::reading::read_rule;
 use crate::search::search;
-use crate::terms::{Field, Rule};
+use crate::terms::Field;
 use crate::writing::answer_line;
 
 /// Two rules, each as long as reading allows, three tabs, and the largest row
 /// and room as they are written.
-const LONGEST_LINE: usize = 4_108;
+const LONGEST_LINE: usize = 8_204;
 
 /// As many records and bytes as `solve` has.
 const LARGEST_ROW: usize = 640;
@@ -68,12 +68,12 @@ impl Asked<'_> {
     }
 }
 
-/// The only field of a rule. Any other text stands for a field that no rule
-/// has.
+/// The only field of a rule that has no right side. Any other text stands for
+/// a field that no rule has.
 fn field(text: &[u8]) -> Option<Field> {
-    let Rule(mut fields) = read_rule(text).ok()?;
-    if fields.len() == 1 {
-        fields.pop()
+    let mut rule = read_rule(text).ok()?;
+    if rule.left.len() == 1 && rule.right.is_none() {
+        rule.left.pop()
     } else {
         None
     }

@@ -1,12 +1,25 @@
 //! Lines of two texts with a tab between: what both kinds have in common.
 
 use super::loose_text;
+use super::rights::{right_side, with_arrow};
 use crate::draw::Draw;
-use crate::terms::{Field, Rule};
+use crate::terms::Field;
 use crate::writing::plain_fields;
 
-pub(super) fn rule_text(rule: &Rule, draw: &mut Draw) -> Vec<u8> {
-    some_text(&rule.0, 16, draw)
+/// The text of a rule with this left side. About every third has a right side
+/// too.
+pub(super) fn rule_text(left: &[Field], draw: &mut Draw) -> Vec<u8> {
+    let text = side_text(left, draw);
+    if draw.one_in(3) {
+        let right = right_side(left, draw);
+        with_arrow(text, side_text(&right, draw))
+    } else {
+        text
+    }
+}
+
+pub(super) fn side_text(side: &[Field], draw: &mut Draw) -> Vec<u8> {
+    some_text(side, 16, draw)
 }
 
 pub(super) fn slip_text(fields: &[Field], draw: &mut Draw) -> Vec<u8> {
@@ -57,7 +70,15 @@ pub(super) fn of_line_size(mut start: Vec<u8>, limit: usize, draw: &mut Draw) ->
     if draw.below(4) > 0 {
         start.push(b'\t');
     }
-    let filler = draw.pick(&[&b"1:"[..], b"empty:", b"\"x\"|", b"1\t", b"\0", b"\xff"]);
+    let filler = draw.pick(&[
+        &b"1:"[..],
+        b"empty:",
+        b"\"x\"|",
+        b"1=>",
+        b"1\t",
+        b"\0",
+        b"\xff",
+    ]);
     let missing = size.saturating_sub(start.len());
     start.extend(filler.iter().cycle().take(missing));
     start.truncate(size);

@@ -19,7 +19,7 @@ pub(super) fn any_large(draw: &mut Draw) -> Vec<u8> {
         _ => {
             let (fields, most) = draw.pick(&[(2, 15), (3, 10)]);
             let (left, right) = sliders(fields, most, draw);
-            tabbed(plain_fields(&left.0), plain_fields(&right.0))
+            tabbed(plain_fields(&left), plain_fields(&right))
         }
     }
 }

@@ -2,35 +2,35 @@
 //! most others are near to it, and every refusal comes on either side.
 
 use super::halves::{of_line_size, rule_text, slip_text, tabbed, with_other_tabs};
-use super::patterns::{few_constant, filled, filling, pattern};
+use super::patterns::{few_constant, filling, pattern};
 use super::{any_bytes, any_line, any_slip, damaged, of_size, rarely_a_rule};
 use crate::draw::Draw;
-use crate::terms::{Field, Kind, Rule, Term};
+use crate::terms::{filled, Field, Kind, Side, Term};
 
 /// As long as a line may be.
-const LIMIT: usize = 10_241;
+const LIMIT: usize = 12_289;
 
 /// A line without its newline: any bytes but 10.
 pub fn match_line(draw: &mut Draw) -> Vec<u8> {
     match draw.below(20) {
-        0..=7 => matching(draw),
-        8..=11 => almost_matching(draw),
-        12 => with_long_slip(draw),
-        13 => line(&pattern(draw), &any_slip(draw).0, draw),
+        0..=7 => line(matching(draw), draw),
+        8..=11 => line(almost_matching(draw), draw),
+        12 => line(with_long_slip(draw), draw),
+        13 => line((pattern(draw), any_slip(draw).0), draw),
         14..=15 => tabbed(rarely_a_rule(draw), slip_text(&any_slip(draw).0, draw)),
         16 => tabbed(rule_text(&pattern(draw), draw), any_line(draw)),
-        17 => with_other_tabs(matching(draw), draw),
-        18 => damaged(matching(draw), draw),
+        17 => with_other_tabs(line(matching(draw), draw), draw),
+        18 => damaged(line(matching(draw), draw), draw),
         _ if draw.one_in(2) => any_bytes(draw),
         _ => of_line_size(any_start(draw), LIMIT, draw),
     }
 }
 
-fn line(rule: &Rule, slip: &[Field], draw: &mut Draw) -> Vec<u8> {
-    tabbed(rule_text(rule, draw), slip_text(slip, draw))
+fn line((left, slip): (Side, Side), draw: &mut Draw) -> Vec<u8> {
+    tabbed(rule_text(&left, draw), slip_text(&slip, draw))
 }
 
-fn any_start(draw: &mut Draw) -> Vec<u8> {
+pub(super) fn any_start(draw: &mut Draw) -> Vec<u8> {
     match draw.below(4) {
         0 => Vec::new(),
         1 => any_line(draw),
@@ -39,25 +39,26 @@ fn any_start(draw: &mut Draw) -> Vec<u8> {
     }
 }
 
-fn matching(draw: &mut Draw) -> Vec<u8> {
-    let rule = pattern(draw);
+/// A left side and a slip that it matches.
+pub(super) fn matching(draw: &mut Draw) -> (Side, Side) {
+    let left = pattern(draw);
     let longest = if draw.one_in(8) { 48 } else { 3 };
-    let slip = filled(&rule, &filling(&rule, longest, draw));
-    line(&rule, &slip, draw)
+    let slip = filled(&left, &filling(&left, longest, draw));
+    (left, slip)
 }
 
 /// One thing about the slip is changed; it may still match, where a list
 /// variable takes what changed.
-fn almost_matching(draw: &mut Draw) -> Vec<u8> {
-    let rule = pattern(draw);
-    let mut slip = filled(&rule, &filling(&rule, 3, draw));
+pub(super) fn almost_matching(draw: &mut Draw) -> (Side, Side) {
+    let left = pattern(draw);
+    let mut slip = filled(&left, &filling(&left, 3, draw));
     if draw.one_in(8) {
         change_fields(&mut slip, draw);
     } else {
         let at = draw.below(slip.len());
         change_field(&mut slip[at], draw);
     }
-    line(&rule, &slip, draw)
+    (left, slip)
 }
 
 /// A field more, a field less, or two in each other's place.
@@ -102,21 +103,21 @@ fn of_other_type(item: &Term, draw: &mut Draw) -> Term {
 
 /// One field of about as many items as are allowed. Its list variable takes
 /// most of them.
-fn with_long_slip(draw: &mut Draw) -> Vec<u8> {
-    let mut rule = pattern(draw);
-    let at = draw.below(rule.0.len());
+pub(super) fn with_long_slip(draw: &mut Draw) -> (Side, Side) {
+    let mut left = pattern(draw);
+    let at = draw.below(left.len());
     let is_list = |term: &Term| matches!(term, Term::Var(Kind::List, _));
-    let mut slip = filled(&rule, &filling(&rule, 2, draw));
+    let mut slip = filled(&left, &filling(&left, 2, draw));
     let room = (63 + draw.below(3)).saturating_sub(slip[at].len());
-    let Some(place) = rule.0[at].iter().position(is_list) else {
+    let Some(place) = left[at].iter().position(is_list) else {
         // Without one, the rule's field is too short for this slip.
         slip[at].extend((0..room).map(|_| few_constant(draw)));
-        return line(&rule, &slip, draw);
+        return (left, slip);
     };
     let run: Field = (0..room).map(|_| few_constant(draw)).collect();
     slip[at].splice(place..place, run);
     if draw.one_in(3) {
-        rule.0[at].truncate(place + 1);
+        left[at].truncate(place + 1);
     }
-    line(&rule, &slip, draw)
+    (left, slip)
 }

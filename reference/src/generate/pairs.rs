@@ -4,12 +4,12 @@
 use super::halves::{of_line_size, rule_text, tabbed, with_other_tabs};
 use super::large::any_large;
 use super::patterns::{any_kinds, few_constant, insert_list, pattern, sliders};
-use super::{any_bytes, any_line, any_rule, damaged, rarely_a_rule, KINDS};
+use super::{any_bytes, any_left, any_line, damaged, rarely_a_rule, KINDS};
 use crate::draw::Draw;
-use crate::terms::{Field, Filling, Kind, Rule, Term};
+use crate::terms::{Field, Filling, Kind, Side, Term};
 
 /// As long as a line may be.
-const LIMIT: usize = 4_097;
+const LIMIT: usize = 8_193;
 
 /// A line without its newline: any bytes but 10.
 pub fn pair_line(draw: &mut Draw) -> Vec<u8> {
@@ -18,10 +18,13 @@ pub fn pair_line(draw: &mut Draw) -> Vec<u8> {
         14..=17 => almost_sharing(draw),
         18..=23 => sliding(draw),
         24..=25 => line(&pattern(draw), &pattern(draw), draw),
-        26 => line(&any_rule(draw), &any_rule(draw), draw),
+        26 => line(&any_left(draw), &any_left(draw), draw),
         27..=28 => recurring(draw),
         29 => with_itself(draw),
-        30 => any_large(draw),
+        30 => {
+            let line = any_large(draw);
+            with_short_rights(line, draw)
+        }
         31..=32 => tabbed(rarely_a_rule(draw), rule_text(&pattern(draw), draw)),
         33..=34 => tabbed(rule_text(&pattern(draw), draw), rarely_a_rule(draw)),
         35 => tabbed(rarely_a_rule(draw), rarely_a_rule(draw)),
@@ -32,8 +35,20 @@ pub fn pair_line(draw: &mut Draw) -> Vec<u8> {
     }
 }
 
-fn line(left: &Rule, right: &Rule, draw: &mut Draw) -> Vec<u8> {
+fn line(left: &[Field], right: &[Field], draw: &mut Draw) -> Vec<u8> {
     tabbed(rule_text(left, draw), rule_text(right, draw))
+}
+
+/// The line with a short right side behind one rule, behind both, or behind
+/// none.
+fn with_short_rights(line: Vec<u8>, draw: &mut Draw) -> Vec<u8> {
+    let mut rules: Vec<Vec<u8>> = line.split(|&it| it == b'\t').map(<[u8]>::to_vec).collect();
+    for rule in &mut rules {
+        if draw.one_in(3) {
+            rule.extend(draw.pick(&[&b"=>1"[..], b"=>l0:l0", b"=>empty|\"=>\""]));
+        }
+    }
+    rules.join(&b'\t')
 }
 
 fn any_start(draw: &mut Draw) -> Vec<u8> {
@@ -63,8 +78,8 @@ fn almost_sharing(draw: &mut Draw) -> Vec<u8> {
     if draw.one_in(6) {
         change_fields(changed, draw);
     } else {
-        let at = draw.below(changed.0.len());
-        change_field(&mut changed.0[at], draw);
+        let at = draw.below(changed.len());
+        change_field(&mut changed[at], draw);
     }
     line(&left, &right, draw)
 }
@@ -80,7 +95,7 @@ fn common_slip(draw: &mut Draw) -> Vec<Field> {
 
 /// A rule that matches the slip: in some fields a list variable stands for a
 /// run of items, and for some items a variable stands.
-pub(super) fn abstracted(slip: &[Field], draw: &mut Draw) -> Rule {
+pub(super) fn abstracted(slip: &[Field], draw: &mut Draw) -> Side {
     let names = draw.pick(&[2, 4, 16]);
     let shift = draw.below(16);
     let mut values = Filling::new();
@@ -96,7 +111,7 @@ pub(super) fn abstracted(slip: &[Field], draw: &mut Draw) -> Rule {
         }
         fields.push(field);
     }
-    Rule(fields)
+    fields
 }
 
 /// The item, or a variable that has no other value in this rule.
@@ -118,12 +133,12 @@ fn atom_for(item: &Term, names: usize, values: &mut Filling, draw: &mut Draw) ->
 }
 
 /// A field more or a field less.
-fn change_fields(rule: &mut Rule, draw: &mut Draw) {
-    if rule.0.len() < 4 && draw.one_in(2) {
-        let at = draw.below(rule.0.len() + 1);
-        rule.0.insert(at, vec![few_constant(draw)]);
-    } else if rule.0.len() > 1 {
-        rule.0.pop();
+fn change_fields(rule: &mut Side, draw: &mut Draw) {
+    if rule.len() < 4 && draw.one_in(2) {
+        let at = draw.below(rule.len() + 1);
+        rule.insert(at, vec![few_constant(draw)]);
+    } else if rule.len() > 1 {
+        rule.pop();
     }
 }
 
@@ -161,7 +176,7 @@ fn recurring(draw: &mut Draw) -> Vec<u8> {
     line(&left, &right, draw)
 }
 
-pub(super) fn recurring_rule(fields: usize, draw: &mut Draw) -> Rule {
+pub(super) fn recurring_rule(fields: usize, draw: &mut Draw) -> Side {
     let kinds = any_kinds(draw);
     let mut rule = Vec::new();
     for index in 0..fields {
@@ -176,7 +191,7 @@ pub(super) fn recurring_rule(fields: usize, draw: &mut Draw) -> Rule {
         }
         rule.push(field);
     }
-    Rule(rule)
+    rule
 }
 
 fn with_itself(draw: &mut Draw) -> Vec<u8> {

@@ -2,12 +2,12 @@
 
 use super::{any_constant, KINDS};
 use crate::draw::Draw;
-use crate::terms::{Field, Filling, Kind, Rule, Term};
+use crate::terms::{Field, Filling, Kind, Side, Term};
 
 const FEW_INTEGERS: [u32; 5] = [0, 1, 2, 7, 2_147_483_647];
 
-/// Some look like the integers, like variables or like separators.
-const FEW_STRINGS: [&[u8]; 8] = [
+/// Some look like the integers, like variables, separators or arrows.
+const FEW_STRINGS: [&[u8]; 10] = [
     b"",
     b"1",
     b"7",
@@ -15,6 +15,8 @@ const FEW_STRINGS: [&[u8]; 8] = [
     b"i0",
     b"matt white",
     b" :|<>=",
+    b"=>",
+    b"1=>i0",
     b"fifteen bytes..",
 ];
 
@@ -27,8 +29,8 @@ pub(super) fn few_constant(draw: &mut Draw) -> Term {
     }
 }
 
-/// A rule of few names, of all types and in all its fields.
-pub(super) fn pattern(draw: &mut Draw) -> Rule {
+/// A left side of few names, of all types and in all its fields.
+pub(super) fn pattern(draw: &mut Draw) -> Side {
     let most_atoms = if draw.one_in(6) { 16 } else { 4 };
     let names = if draw.one_in(4) { 16 } else { 2 };
     let shift = draw.below(16);
@@ -41,7 +43,7 @@ pub(super) fn pattern(draw: &mut Draw) -> Rule {
         }
         fields.push(field);
     }
-    Rule(fields)
+    fields
 }
 
 fn atom(names: usize, draw: &mut Draw) -> Term {
@@ -60,7 +62,7 @@ pub(super) fn insert_list(field: &mut Field, number: usize, draw: &mut Draw) {
 /// Two rules with a list variable in each field and up to so many atoms.
 /// Where one has it at the end and the other at the start, the fields can lie
 /// on each other in the most lengths.
-pub(super) fn sliders(fields: usize, most: usize, draw: &mut Draw) -> (Rule, Rule) {
+pub(super) fn sliders(fields: usize, most: usize, draw: &mut Draw) -> (Side, Side) {
     let kinds = any_kinds(draw);
     let constants = draw.pick(&[3, 10, 100]);
     let numbers = draw.below(13);
@@ -82,7 +84,7 @@ pub(super) fn sliders(fields: usize, most: usize, draw: &mut Draw) -> (Rule, Rul
             rule.push(field);
         }
     }
-    (Rule(left), Rule(right))
+    (left, right)
 }
 
 fn sliding_atom(kinds: &[Kind], constants: usize, draw: &mut Draw) -> Term {
@@ -104,9 +106,9 @@ pub(super) fn any_kinds(draw: &mut Draw) -> &'static [Kind] {
 }
 
 /// A value for each variable of the rule, a list's of up to `longest` items.
-pub(super) fn filling(rule: &Rule, longest: usize, draw: &mut Draw) -> Filling {
+pub(super) fn filling(rule: &[Field], longest: usize, draw: &mut Draw) -> Filling {
     let mut filling = Filling::new();
-    for term in rule.0.iter().flatten() {
+    for term in rule.iter().flatten() {
         if let Term::Var(kind, number) = *term {
             filling.insert((kind, number), value(kind, longest, draw));
         }
@@ -124,14 +126,4 @@ fn value(kind: Kind, longest: usize, draw: &mut Draw) -> Field {
             (0..length).map(|_| few_constant(draw)).collect()
         }
     }
-}
-
-/// The rule's fields with the values put in.
-pub(super) fn filled(rule: &Rule, filling: &Filling) -> Vec<Field> {
-    let value = |term: &Term| match term {
-        Term::Var(kind, number) => filling[&(*kind, *number)].clone(),
-        constant => vec![constant.clone()],
-    };
-    let field = |terms: &Field| terms.iter().flat_map(value).collect();
-    rule.0.iter().map(field).collect()
 }

@@ -2,17 +2,18 @@
 //! the program lends. Most fields can be made equal, many in several ways;
 //! rows and rooms are often just enough, or one too small.
 
-use super::halves::{of_line_size, rule_text, tabbed, with_other_tabs};
+use super::halves::{of_line_size, rule_text, side_text, tabbed, with_other_tabs};
 use super::pairs::{abstracted, change_field, recurring_rule};
 use super::patterns::{any_kinds, few_constant, pattern, sliders};
-use super::{any_bytes, any_line, any_rule, damaged, rarely_a_rule};
+use super::rights::{right_side, with_arrow};
+use super::{any_bytes, any_left, any_line, damaged, rarely_a_rule};
 use crate::draw::Draw;
 use crate::search::search;
-use crate::terms::{Field, Kind, Rule, Term};
+use crate::terms::{Field, Kind, Side, Term};
 use crate::writing::answer_line;
 
 /// As long as a line may be.
-const LIMIT: usize = 4_108;
+const LIMIT: usize = 8_204;
 
 const LARGEST_ROW: usize = 640;
 const LARGEST_ROOM: usize = 131_072;
@@ -49,8 +50,7 @@ pub fn search_line(draw: &mut Draw) -> Vec<u8> {
 }
 
 fn line(left: Field, right: Field, draw: &mut Draw) -> Vec<u8> {
-    let (left, right) = (Rule(vec![left]), Rule(vec![right]));
-    tabbed(rule_text(&left, draw), rule_text(&right, draw))
+    tabbed(side_text(&[left], draw), side_text(&[right], draw))
 }
 
 fn any_start(draw: &mut Draw) -> Vec<u8> {
@@ -83,7 +83,7 @@ fn fields(draw: &mut Draw) -> (Field, Field) {
             first(recurring_rule(1, draw)),
         ),
         15 => (first(pattern(draw)), first(pattern(draw))),
-        16 => (first(any_rule(draw)), first(any_rule(draw))),
+        16 => (first(any_left(draw)), first(any_left(draw))),
         17 => {
             let field = first(pattern(draw));
             (field.clone(), field)
@@ -93,8 +93,8 @@ fn fields(draw: &mut Draw) -> (Field, Field) {
     }
 }
 
-fn first(rule: Rule) -> Field {
-    rule.0.into_iter().next().unwrap_or_default()
+fn first(rule: Side) -> Field {
+    rule.into_iter().next().unwrap_or_default()
 }
 
 /// Two fields that match the same items.
@@ -146,13 +146,18 @@ fn wide(draw: &mut Draw) -> (Field, Field) {
 
 /// Two texts that are not both rules of one field.
 fn not_both_fields(draw: &mut Draw) -> (Vec<u8>, Vec<u8>) {
-    let other = match draw.below(3) {
+    let other = match draw.below(4) {
         0 => rule_text(&pattern(draw), draw),
-        1 => rule_text(&recurring_rule(2, draw), draw),
+        1 => {
+            let left = [first(pattern(draw))];
+            let right = right_side(&left, draw);
+            with_arrow(side_text(&left, draw), side_text(&right, draw))
+        }
+        2 => rule_text(&recurring_rule(2, draw), draw),
         _ => rarely_a_rule(draw),
     };
     let field = first(pattern(draw));
-    let field = rule_text(&Rule(vec![field]), draw);
+    let field = side_text(&[field], draw);
     if draw.one_in(2) {
         (other, field)
     } else {

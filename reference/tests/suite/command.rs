@@ -43,7 +43,7 @@ fn count_lines(input: &[u8]) -> usize {
 
 #[test]
 fn prints_a_rule_and_a_slip_for_each_line() {
-    let input = b"a0:l0\n007:empty|\"m\"\nemp\nl0|l0\ni16\n";
+    let input = b"a0:l0\n007:empty|\"m\"\nemp\nl0|l0\ni16\nl0=>01:l0\ni0=>a0\n";
     let expected = "\
 rule a0:l0
 slip refused 7 at 0
@@ -55,6 +55,10 @@ rule refused 6 at 3
 slip refused 7 at 0
 rule refused 5 at 0
 slip refused 5 at 0
+rule l0=>1:l0
+slip refused 2 at 2
+rule refused 10 at 4
+slip refused 2 at 2
 ";
     assert_eq!(read(input), expected);
 }
@@ -74,7 +78,7 @@ fn the_last_newline_may_be_missing() {
 fn long_lines() {
     let mut input = vec![b'x'; 1_000_000];
     input.extend(b"\n1");
-    let expected = "rule refused 1 at 2048\nslip refused 1 at 8192\nrule 1\nslip read\n";
+    let expected = "rule refused 1 at 4096\nslip refused 1 at 8192\nrule 1\nslip read\n";
     assert_eq!(read(&input), expected);
 }
 
@@ -85,6 +89,8 @@ fn any_bytes_are_answered() {
     assert_eq!(read(&input).lines().count(), 2 * count_lines(&input));
     let matches = answer("match", &input);
     assert_eq!(matches.lines().count(), 2 * count_lines(&input));
+    let carried = answer("carry", &input);
+    assert_eq!(carried.lines().count(), 2 * count_lines(&input));
     let pairs = answer("pairs", &input);
     let numbered = pairs.lines().filter(|line| line.starts_with("pair "));
     assert_eq!(numbered.count(), count_lines(&input));
@@ -116,6 +122,36 @@ match 7
 refused slip 2 at 1
 ";
     assert_eq!(answer("match", input), expected);
+}
+
+#[test]
+fn carryings_are_numbered() {
+    assert_eq!(answer("carry", b""), "");
+    let one = "carry 1\nyes 2:1\n";
+    assert_eq!(answer("carry", b"a0:l0=>l0:a0\t1:2"), one);
+    assert_eq!(answer("carry", b"a0:l0=>l0:a0\t1:2\n"), one);
+    let input = b"1=>2\t01\n\n\t\n1=>2\n1=>2\t2:03\n1\t1\n1=>i0\t\n1=>2\t2=>3\n1=>2\t1\t";
+    let expected = "\
+carry 1
+yes 2
+carry 2
+refused rule 2 at 0
+carry 3
+refused rule 2 at 0
+carry 4
+refused slip 2 at 0
+carry 5
+no 2:3
+carry 6
+no 1
+carry 7
+refused rule 10 at 3
+carry 8
+refused slip 2 at 1
+carry 9
+refused slip 2 at 1
+";
+    assert_eq!(answer("carry", input), expected);
 }
 
 #[test]
@@ -178,9 +214,10 @@ refusal 8 lines 2 bytes 2
     assert_eq!(answer("solve", input), expected);
 }
 
-const GENERATORS: [&str; 4] = [
+const GENERATORS: [&str; 5] = [
     "generate",
     "generate-matches",
+    "generate-carry",
     "generate-pairs",
     "generate-solve",
 ];
@@ -231,6 +268,9 @@ fn other_commands_are_refused() {
         &["generate-matches"],
         &["generate-matches", "1"],
         &["generate-matches", "1", "two"],
+        &["carry", "1"],
+        &["generate-carry"],
+        &["generate-carry", "1"],
         &["pairs", "1"],
         &["generate-pairs"],
         &["generate-pairs", "1", "2", "3"],

@@ -1,10 +1,12 @@
 //! Seeded sets: generated values are written and read back; generated texts
 //! with offences against the limits are held against a plain restatement of
-//! refusals 3 to 7; the lines for comparison have every answer.
+//! refusals 3 to 7 and 10; the lines for comparison have every answer.
 
-use reference::generate::{any_line, any_rule, any_slip, loose_text};
+use std::fmt::Debug;
+
+use reference::generate::{any_line, any_rule, any_slip, loose_rule, loose_text};
 use reference::reading::{read_rule, read_slip, Refusal};
-use reference::terms::{Field, Kind, Term};
+use reference::terms::{Kind, Rule, Side, Slip, Term};
 use reference::writing::{plain_rule, plain_slip};
 
 use crate::support::*;
@@ -15,9 +17,10 @@ fn rules_return_from_their_plain_text() {
     for _ in 0..5_000 {
         let rule = any_rule(&mut draw);
         let plain = plain_rule(&rule);
-        assert!(!plain.is_empty() && plain.len() <= 1151);
+        let longest = if rule.right.is_some() { 2304 } else { 1151 };
+        assert!(!plain.is_empty() && plain.len() <= longest);
         assert_eq!(read_rule(&plain).as_ref(), Ok(&rule));
-        let loose = loose_text(&rule.0, 16, &mut draw);
+        let loose = loose_rule(&rule, &mut draw);
         assert_eq!(read_rule(&loose), Ok(rule), "{}", show(&loose));
     }
 }
@@ -41,10 +44,11 @@ fn equal_rules_and_only_they_have_the_same_plain_text() {
     let texts = [
         "1", "01", "empty", "1:empty", "\"1\"", "i1", "s1", "11", "l1",
     ];
+    let between = [":", "|", "=>"];
     let mut draw = Draw::new(3);
     let mut read = Vec::new();
     for _ in 0..600 {
-        let text = [draw.pick(&texts), draw.pick(&[":", "|"]), draw.pick(&texts)].concat();
+        let text = [draw.pick(&texts), draw.pick(&between), draw.pick(&texts)].concat();
         if let Ok(rule) = read_rule(text.as_bytes()) {
             read.push((plain_rule(&rule), rule));
         }
@@ -59,6 +63,7 @@ fn equal_rules_and_only_they_have_the_same_plain_text() {
 /// A term of a text: where it stands, and what it would be if its size is
 /// within the limits.
 struct Piece {
+    side: usize,
     field: usize,
     index: usize,
     place: usize,
@@ -86,8 +91,21 @@ fn any_piece(draw: &mut Draw) -> (String, bool, Option<Term>) {
     }
 }
 
-fn any_text(most_terms: usize, draw: &mut Draw) -> (Vec<u8>, Vec<Piece>) {
+fn any_text(sides: usize, most_terms: usize, draw: &mut Draw) -> (Vec<u8>, Vec<Piece>) {
     let (mut text, mut pieces) = (String::new(), Vec::new());
+    for side in 0..sides {
+        add_side(side, most_terms, &mut text, &mut pieces, draw);
+    }
+    (text.into_bytes(), pieces)
+}
+
+fn add_side(
+    side: usize,
+    most_terms: usize,
+    text: &mut String,
+    pieces: &mut Vec<Piece>,
+    draw: &mut Draw,
+) {
     let field_count = if draw.one_in(12) {
         5 + draw.below(3)
     } else {
@@ -100,14 +118,16 @@ fn any_text(most_terms: usize, draw: &mut Draw) -> (Vec<u8>, Vec<Piece>) {
             1 + draw.below(most_terms)
         };
         for index in 0..term_count {
-            text.push_str(match (field, index) {
-                (0, 0) => "",
-                (_, 0) => "|",
+            text.push_str(match (side, field, index) {
+                (0, 0, 0) => "",
+                (_, 0, 0) => "=>",
+                (_, _, 0) => "|",
                 _ => ":",
             });
             let (written, size_ok, term) = any_piece(draw);
             let place = text.len();
             pieces.push(Piece {
+                side,
                 field,
                 index,
                 place,
@@ -117,7 +137,6 @@ fn any_text(most_terms: usize, draw: &mut Draw) -> (Vec<u8>, Vec<Piece>) {
             text.push_str(&written);
         }
     }
-    (text.into_bytes(), pieces)
 }
 
 fn list_number(piece: &Piece) -> Option<u32> {
@@ -131,7 +150,8 @@ fn list_number(piece: &Piece) -> Option<u32> {
 /// in its field."
 fn offends_as_list(pieces: &[Piece], at: usize) -> bool {
     let this = &pieces[at];
-    list_number(this).is_some()
+    this.side == 0
+        && list_number(this).is_some()
         && pieces[..at].iter().any(|other| {
             let same_name = list_number(other) == list_number(this);
             same_name || (other.field == this.field && list_number(other).is_some())
@@ -142,6 +162,13 @@ fn is_variable(piece: &Piece) -> bool {
     matches!(piece.term, Some(Term::Var(..)))
 }
 
+/// "A right-side variable that the left lacks."
+fn is_unknown(pieces: &[Piece], at: usize) -> bool {
+    let this = &pieces[at];
+    let on_left = |piece: &Piece| piece.side == 0 && piece.term == this.term;
+    this.side == 1 && is_variable(this) && !pieces.iter().any(on_left)
+}
+
 /// The lowest-numbered refusal that some piece gives rise to, at the first
 /// such piece.
 fn expected(pieces: &[Piece], most_terms: usize, of_rule: bool) -> Option<Refusal> {
@@ -150,63 +177,85 @@ fn expected(pieces: &[Piece], most_terms: usize, of_rule: bool) -> Option<Refusa
         4 => pieces[at].index >= most_terms,
         5 => !pieces[at].size_ok,
         6 => of_rule && offends_as_list(pieces, at),
-        _ => !of_rule && is_variable(&pieces[at]),
+        7 => !of_rule && is_variable(&pieces[at]),
+        _ => of_rule && is_unknown(pieces, at),
     };
-    (3..=7).find_map(|number| {
+    [3, 4, 5, 6, 7, 10].into_iter().find_map(|number| {
         let at = (0..pieces.len()).find(|&at| offends(number, at))?;
         let place = pieces[at].place;
         Some(Refusal { number, place })
     })
 }
 
-fn fields_of(pieces: Vec<Piece>) -> Vec<Field> {
-    let mut fields = Vec::new();
+/// The fields of the side that these pieces are.
+fn fields_of<'a>(pieces: impl Iterator<Item = &'a Piece>) -> Side {
+    let mut fields = Side::new();
     for piece in pieces {
         fields.resize(piece.field + 1, Vec::new());
-        fields[piece.field].extend(piece.term);
+        fields[piece.field].extend(piece.term.clone());
     }
     fields
 }
 
-/// Compares on many texts and returns how often each number came, with the
-/// accepted texts under 0.
-fn compare_limits(most_terms: usize, of_rule: bool, seed: u64) -> [usize; 8] {
+fn side_of(pieces: &[Piece], side: usize) -> Side {
+    fields_of(pieces.iter().filter(|piece| piece.side == side))
+}
+
+/// Reads many texts of so many sides and holds each against what is expected
+/// of its pieces. Returns how often each number came, with the accepted texts
+/// under 0.
+fn compare_limits<T: Debug + PartialEq>(
+    (sides, most_terms): (usize, usize),
+    of_rule: bool,
+    read: fn(&[u8]) -> Result<T, Refusal>,
+    value: fn(&[Piece]) -> T,
+    seed: u64,
+) -> [usize; 11] {
     let mut draw = Draw::new(seed);
-    let mut counts = [0; 8];
-    for _ in 0..5_000 {
-        let (text, pieces) = any_text(most_terms, &mut draw);
-        let result = if of_rule {
-            read_rule(&text).map(|rule| rule.0)
-        } else {
-            read_slip(&text).map(|slip| slip.0)
-        };
+    let mut counts = [0; 11];
+    for _ in 0..8_000 {
+        let (text, pieces) = any_text(sides, most_terms, &mut draw);
         let refusal = expected(&pieces, most_terms, of_rule);
         counts[refusal.map_or(0, |refusal| usize::from(refusal.number))] += 1;
-        let answer = refusal.map_or_else(|| Ok(fields_of(pieces)), Err);
-        assert_eq!(result, answer, "{}", show(&text));
+        let answer = refusal.map_or_else(|| Ok(value(&pieces)), Err);
+        assert_eq!(read(&text), answer, "{}", show(&text));
     }
     counts
 }
 
 #[test]
 fn rules_with_offences() {
-    let counts = compare_limits(16, true, 4);
+    let value = |pieces: &[Piece]| Rule::of(side_of(pieces, 0));
+    let counts = compare_limits((1, 16), true, read_rule, value, 4);
     for number in [0, 3, 4, 5, 6] {
         assert!(counts[number] >= 50, "{counts:?}");
     }
 }
 
 #[test]
+fn rules_with_offences_on_either_side() {
+    let value = |pieces: &[Piece]| Rule {
+        left: side_of(pieces, 0),
+        right: Some(side_of(pieces, 1)),
+    };
+    let counts = compare_limits((2, 16), true, read_rule, value, 6);
+    for number in [0, 3, 4, 5, 6, 10] {
+        assert!(counts[number] >= 50, "{counts:?}");
+    }
+}
+
+#[test]
 fn slips_with_offences() {
-    let counts = compare_limits(64, false, 5);
+    let value = |pieces: &[Piece]| Slip(side_of(pieces, 0));
+    let counts = compare_limits((1, 64), false, read_slip, value, 5);
     for number in [0, 3, 4, 5, 7] {
         assert!(counts[number] >= 50, "{counts:?}");
     }
 }
 
 /// How often each number comes among the answers, with acceptance under 0.
-fn count_answers(answers: impl Iterator<Item = Option<u8>>) -> [usize; 8] {
-    let mut counts = [0; 8];
+fn count_answers(answers: impl Iterator<Item = Option<u8>>) -> [usize; 11] {
+    let mut counts = [0; 11];
     for number in answers {
         counts[usize::from(number.unwrap_or(0))] += 1;
     }
@@ -223,9 +272,12 @@ fn generated_lines_have_every_answer() {
         let slip = |line: &Vec<u8>| read_slip(line).err().map(|refusal| refusal.number);
         let rules = count_answers(lines.iter().map(rule));
         let slips = count_answers(lines.iter().map(slip));
-        for number in [0, 1, 2, 3, 4, 5, 6] {
+        for number in [0, 1, 2, 3, 4, 5, 6, 10] {
             assert!(rules[number] >= 50, "rules {rules:?}");
         }
+        let whole = |line: &&Vec<u8>| read_rule(line).is_ok_and(|rule| rule.right.is_some());
+        let wholes = lines.iter().filter(whole).count();
+        assert!(wholes >= 500 && wholes < rules[0] / 2, "{wholes}");
         for number in [0, 1, 2, 3, 4, 5, 7] {
             assert!(slips[number] >= 50, "slips {slips:?}");
         }

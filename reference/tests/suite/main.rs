@@ -1,5 +1,7 @@
-//! Tests of each part against document 01.
+//! Tests of each part against documents 01 and 02.
 
+mod carrying;
+mod carrying_by_trial;
 mod command;
 mod generated;
 mod matching;
@@ -9,6 +11,7 @@ mod pairs;
 mod places;
 mod reading_rules;
 mod reading_slips;
+mod right_sides;
 mod search_by_trial;
 mod shown;
 mod solve;

@@ -121,6 +121,20 @@ fn values_are_plain_text() {
     assert_match("i0", "0000000000", "yes i0=0");
 }
 
+/// Matching looks at the left side.
+#[test]
+fn right_sides_play_no_part() {
+    assert_match("1=>2", "1", "yes");
+    assert_match("1=>2", "2", "no");
+    assert_match("a0:l0=>l0:l0|a0", "1:2", "yes a0=1 l0=2");
+    assert_match("l0=>1", "empty", "yes l0=empty");
+    let full = times(64, "1");
+    assert_match("l0=>l0:l0", &full, &format!("yes l0={full}"));
+    assert_match("\"=>\"=>1", "\"=>\"", "yes");
+    assert_match("i0=>a0", "1", "refused rule 10 at 4");
+    assert_match("1", "1=>2", "refused slip 2 at 1");
+}
+
 #[test]
 fn refusals_name_the_side() {
     assert_match("i01", "1", "refused rule 2 at 2");
@@ -128,7 +142,7 @@ fn refusals_name_the_side() {
     assert_match("1|2|3|4|5", "1", "refused rule 3 at 8");
     assert_match(&times(17, "1"), "1", "refused rule 4 at 32");
     assert_match("2147483648", "1", "refused rule 5 at 0");
-    assert_match(&"x".repeat(2049), "1", "refused rule 1 at 2048");
+    assert_match(&"x".repeat(4097), "1", "refused rule 1 at 4096");
     assert_match("1", "i0", "refused slip 7 at 0");
     assert_match("1", "1|2|3|4|5", "refused slip 3 at 8");
     assert_match("1", &times(65, "1"), "refused slip 4 at 128");
@@ -160,17 +174,17 @@ fn the_first_tab_divides() {
 #[test]
 fn long_lines() {
     let line = |rule: usize, slip: usize| ["x".repeat(rule), "y".repeat(slip)].join("\t");
-    assert_line(line(2048, 8192), "refused rule 2 at 0");
-    assert_line(line(2048, 8193), "line too long");
-    assert_line(line(2049, 8192), "line too long");
-    assert_line(line(2049, 8191), "refused rule 1 at 2048");
-    assert_line(line(10_240, 0), "refused rule 1 at 2048");
-    assert_line(line(10_241, 0), "line too long");
-    assert_line("x".repeat(10_241), "refused rule 1 at 2048");
-    assert_line("x".repeat(10_242), "line too long");
-    assert_line([b'\t'; 10_241], "refused rule 2 at 0");
-    assert_line([b'\t'; 10_242], "line too long");
-    assert_match("1", &"y".repeat(10_239), "refused slip 1 at 8192");
-    assert_match("1", &"y".repeat(10_240), "line too long");
+    assert_line(line(4096, 8192), "refused rule 2 at 0");
+    assert_line(line(4096, 8193), "line too long");
+    assert_line(line(4097, 8192), "line too long");
+    assert_line(line(4097, 8191), "refused rule 1 at 4096");
+    assert_line(line(12_288, 0), "refused rule 1 at 4096");
+    assert_line(line(12_289, 0), "line too long");
+    assert_line("x".repeat(12_289), "refused rule 1 at 4096");
+    assert_line("x".repeat(12_290), "line too long");
+    assert_line([b'\t'; 12_289], "refused rule 2 at 0");
+    assert_line([b'\t'; 12_290], "line too long");
+    assert_match("1", &"y".repeat(12_287), "refused slip 1 at 8192");
+    assert_match("1", &"y".repeat(12_288), "line too long");
     assert_match("1", &"y".repeat(8192), "refused slip 2 at 0");
 }

@@ -88,7 +88,7 @@ fn candidate(left: &Field, right: &Field, field: &Field) -> usize {
 
 fn check_order(left: &Rule, right: &Rule, shown: &[Shown]) {
     let choice = |entry: &Shown| -> Vec<usize> {
-        let sides = left.0.iter().zip(&right.0).zip(&entry.fields);
+        let sides = left.left.iter().zip(&right.left).zip(&entry.fields);
         sides
             .map(|((left, right), field)| candidate(left, right, field))
             .collect()
@@ -118,15 +118,15 @@ fn check_texts(left: &Rule, right: &Rule, shown: &[Shown]) {
         check_numbers(entry);
         assert_eq!(
             entry.left.keys().copied().collect::<Vec<_>>(),
-            names_of(&left.0)
+            names_of(&left.left)
         );
         assert_eq!(
             entry.right.keys().copied().collect::<Vec<_>>(),
-            names_of(&right.0)
+            names_of(&right.left)
         );
         // Put into the rules, the values give the entry's fields.
-        assert_eq!(put_in(&left.0, &entry.left), entry.fields);
-        assert_eq!(put_in(&right.0, &entry.right), entry.fields);
+        assert_eq!(put_in(&left.left, &entry.left), entry.fields);
+        assert_eq!(put_in(&right.left, &entry.right), entry.fields);
     }
 }
 
@@ -216,8 +216,9 @@ fn generated_pairs() {
     for _ in 0..4_000 {
         let line = pair_line(&mut draw);
         // The longest lists would take most of the time.
-        let small =
-            |(left, right): &(Rule, Rule)| left.0.len() * right.0.len() < 16 || line.len() < 300;
+        let small = |(left, right): &(Rule, Rule)| {
+            left.left.len() * right.left.len() < 16 || line.len() < 300
+        };
         let Some((left, right)) = read_pair(&line).filter(small) else {
             continue;
         };
@@ -234,7 +235,7 @@ fn generated_pairs() {
             checked += 1;
         }
         for rule in [&left, &right] {
-            let slip = Slip(put_in(&rule.0, &any_filling(&rule.0, &mut draw)));
+            let slip = Slip(put_in(&rule.left, &any_filling(&rule.left, &mut draw)));
             check_slip(&left, &right, &shown, &slip);
         }
     }
@@ -275,12 +276,14 @@ fn generated_lines_have_every_answer() {
         "left 4",
         "left 5",
         "left 6",
+        "left 10",
         "right 1",
         "right 2",
         "right 3",
         "right 4",
         "right 5",
         "right 6",
+        "right 10",
     ];
     let mut draw = Draw::new(0);
     assert_every_kind(&expected, 5, 6_000, || pair_line(&mut draw), answer_kind);

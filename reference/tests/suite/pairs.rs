@@ -75,20 +75,39 @@ fn the_edges_of_document_01() {
 #[test]
 fn every_refusal_on_either_side() {
     let table = [
-        ("x".repeat(2049), "1 at 2048"),
+        ("x".repeat(4097), "1 at 4096"),
         ("emp".to_string(), "2 at 3"),
         ("1|2|3|4|5".to_string(), "3 at 8"),
         (times(17, "1"), "4 at 32"),
         ("a16".to_string(), "5 at 0"),
         ("l0:1:l0".to_string(), "6 at 5"),
+        ("l0=>l0:l1".to_string(), "10 at 7"),
     ];
     for (text, refusal) in &table {
         assert_pair(text, "l0", &[&format!("refused left {refusal}")]);
         assert_pair("l0", text, &[&format!("refused right {refusal}")]);
-        if text.len() < 2048 {
+        if text.len() < 4096 {
             assert_pair(text, "i16", &[&format!("refused left {refusal}")]);
         }
     }
+}
+
+/// "Overlaps look at left sides only" (document 02).
+#[test]
+fn right_sides_play_no_part() {
+    let lines = [
+        "2 <a0=2 <l0=empty >l0=empty",
+        "a0:l0:2 <a0=a0 <l0=l0:2 >l0=a0:l0",
+    ];
+    assert_pair("a0:l0=>l0:a0", "l0:2", &lines);
+    assert_pair("a0:l0", "l0:2=>1|2|3|4", &lines);
+    assert_pair("a0:l0=>l0:l0|l0", "l0:2=>empty", &lines);
+    assert_pair("1=>2", "1=>3", &["1"]);
+    assert_pair("1=>3", "2=>3", &[]);
+    assert_pair("\"=>\"=>1", "s0", &["\"=>\" >s0=\"=>\""]);
+    assert_pair("i0=>a0", "1", &["refused left 10 at 4"]);
+    assert_pair("1", "i0=>a0", &["refused right 10 at 4"]);
+    assert_pair("1=", "1", &["refused left 2 at 2"]);
 }
 
 #[test]
@@ -299,19 +318,19 @@ fn the_first_tab_divides() {
 #[test]
 fn long_lines() {
     let line = |left: usize, right: usize| ["x".repeat(left), "y".repeat(right)].join("\t");
-    assert_line(line(2048, 2048), &["refused left 2 at 0"]);
-    assert_line(line(2049, 2047), &["refused left 1 at 2048"]);
-    assert_line(line(2049, 2048), &["line too long"]);
-    assert_line(line(2048, 2049), &["line too long"]);
-    assert_line("x".repeat(4097), &["refused left 1 at 2048"]);
-    assert_line("x".repeat(4098), &["line too long"]);
+    assert_line(line(4096, 4096), &["refused left 2 at 0"]);
+    assert_line(line(4097, 4095), &["refused left 1 at 4096"]);
+    assert_line(line(4097, 4096), &["line too long"]);
+    assert_line(line(4096, 4097), &["line too long"]);
+    assert_line("x".repeat(8193), &["refused left 1 at 4096"]);
+    assert_line("x".repeat(8194), &["line too long"]);
     assert_line(
-        format!("1\t{}", "x".repeat(4095)),
-        &["refused right 1 at 2048"],
+        format!("1\t{}", "x".repeat(8191)),
+        &["refused right 1 at 4096"],
     );
-    assert_line(format!("1\t{}", "x".repeat(4096)), &["line too long"]);
+    assert_line(format!("1\t{}", "x".repeat(8192)), &["line too long"]);
     assert_line(
-        format!("1\t{}", "x".repeat(2048)),
+        format!("1\t{}", "x".repeat(4096)),
         &["refused right 2 at 0"],
     );
 }

@@ -1,23 +1,40 @@
 //! The place of refusal 2, found by trial: "the first byte that no text of
 //! the grammar could have there, or the length where the text stops early".
 
+use std::fmt::Debug;
+
 use reference::reading::{read_rule, read_slip, Refusal};
 
 use crate::support::{show, Draw};
 
-const ALPHABET: &[u8] = b"01ilempty\":| \x7f";
+const ALPHABET: &[u8] = b"01ilempty\":| \x7f=>";
 
 /// Every text that can be completed at all is completed by one of these:
-/// nothing, a whole term or number, a closing quote, the rest of `empty`.
-const COMPLETIONS: [&[u8]; 7] = [b"", b"0", b"\"", b"mpty", b"pty", b"ty", b"y"];
+/// nothing, a whole term or number, a closing quote, the rest of `empty`, the
+/// rest of an arrow and a term.
+const COMPLETIONS: [&[u8]; 8] = [b"", b"0", b"\"", b"mpty", b"pty", b"ty", b"y", b">0"];
 
-/// The grammar as a definition: a term, or a term, a separator and a text.
-fn is_text(bytes: &[u8]) -> bool {
+/// Whether these bytes are a text of the grammar.
+type Grammar = fn(&[u8]) -> bool;
+
+/// The grammar of rules as a definition: a side, or a side, an arrow and a
+/// side.
+fn is_rule(bytes: &[u8]) -> bool {
+    let divides = |&at: &usize| bytes[at..].starts_with(b"=>");
+    is_side(bytes)
+        || (0..bytes.len())
+            .filter(divides)
+            .any(|at| is_side(&bytes[..at]) && is_side(&bytes[at + 2..]))
+}
+
+/// The grammar of slips, and of one side of a rule: a term, or a term, a
+/// separator and a side.
+fn is_side(bytes: &[u8]) -> bool {
     let divides = |&at: &usize| bytes[at] == b':' || bytes[at] == b'|';
     is_term(bytes)
         || (0..bytes.len())
             .filter(divides)
-            .any(|at| is_term(&bytes[..at]) && is_text(&bytes[at + 1..]))
+            .any(|at| is_term(&bytes[..at]) && is_side(&bytes[at + 1..]))
 }
 
 fn is_term(bytes: &[u8]) -> bool {
@@ -36,43 +53,50 @@ fn are_digits(bytes: &[u8]) -> bool {
     !bytes.is_empty() && bytes.iter().all(u8::is_ascii_digit)
 }
 
-fn can_go_on(start: &[u8]) -> bool {
+fn can_go_on(start: &[u8], grammar: Grammar) -> bool {
     COMPLETIONS
         .iter()
-        .any(|completion| is_text(&[start, completion].concat()))
+        .any(|completion| grammar(&[start, completion].concat()))
 }
 
 /// The length of the longest start that some text of the grammar continues.
-fn place_by_trial(text: &[u8]) -> usize {
+fn place_by_trial(text: &[u8], grammar: Grammar) -> usize {
     (0..=text.len())
         .rev()
-        .find(|&length| can_go_on(&text[..length]))
+        .find(|&length| can_go_on(&text[..length], grammar))
         .expect("a text may begin")
 }
 
-fn compare(text: &[u8], place: usize) {
-    let expected = (!is_text(text)).then_some(Refusal { number: 2, place });
-    let is_two = |refusal: &Refusal| refusal.number == 2;
-    let rule = read_rule(text).err().filter(is_two);
-    let slip = read_slip(text).err().filter(is_two);
-    assert_eq!(rule, expected, "rule {}", show(text));
-    assert_eq!(slip, expected, "slip {}", show(text));
+fn compare<T: Debug>(read: Result<T, Refusal>, text: &[u8], place: usize, grammar: Grammar) {
+    let expected = (!grammar(text)).then_some(Refusal { number: 2, place });
+    let refusal = read.err().filter(|refusal| refusal.number == 2);
+    assert_eq!(refusal, expected, "{}", show(text));
 }
 
-/// Compares the text and all longer ones that begin with it. `place` is that
-/// of the text; one that cannot go on hands its place down.
+/// The places of the text as a rule and as a slip.
+fn compare_both(text: &[u8], [rule, slip]: [usize; 2]) {
+    compare(read_rule(text), text, rule, is_rule);
+    compare(read_slip(text), text, slip, is_side);
+}
+
+/// Compares the text and all longer ones that begin with it. The places are
+/// those of the text; one that cannot go on hands its place down.
 /// Returns how many were compared.
-fn compare_all(text: &mut Vec<u8>, place: usize, longer_by: usize) -> usize {
-    compare(text, place);
+fn compare_all(text: &mut Vec<u8>, places: [usize; 2], longer_by: usize) -> usize {
+    compare_both(text, places);
     if longer_by == 0 {
         return 1;
     }
     let mut count = 1;
     for &byte in ALPHABET {
-        let was_open = place == text.len();
+        let length = text.len();
         text.push(byte);
-        let goes_on = was_open && can_go_on(text);
-        let next = if goes_on { text.len() } else { place };
+        let mut next = places;
+        for (place, grammar) in next.iter_mut().zip([is_rule as Grammar, is_side]) {
+            if *place == length && can_go_on(text, grammar) {
+                *place = text.len();
+            }
+        }
         count += compare_all(text, next, longer_by - 1);
         text.pop();
     }
@@ -83,34 +107,47 @@ fn compare_all(text: &mut Vec<u8>, place: usize, longer_by: usize) -> usize {
 fn the_definition_knows_the_grammar() {
     let texts = ["1", "007", "i10", "\"\"", "\":|\"", "empty", "1:empty|l0"];
     let others = ["", "i", "i01", "\"", "\"\"\"", "emp", "1:", "|1", "1 "];
-    assert!(texts.iter().all(|text| is_text(text.as_bytes())));
-    assert!(!others.iter().any(|text| is_text(text.as_bytes())));
+    for grammar in [is_rule as Grammar, is_side] {
+        assert!(texts.iter().all(|text| grammar(text.as_bytes())));
+        assert!(!others.iter().any(|text| grammar(text.as_bytes())));
+    }
+    let rules = ["1=>1", "\"=>\"", "\"=>\"=>\"=>\"", "1:2|3=>4|i5:empty"];
+    let others = [
+        "=>", "1=>", "=>1", "1=1", "1= >1", "1=>1=>1", "1:=>1", "1=>|1",
+    ];
+    assert!(rules.iter().all(|text| is_rule(text.as_bytes())));
+    assert!(!others.iter().any(|text| is_rule(text.as_bytes())));
+    assert!(is_side(b"\"=>\"") && !is_side(b"1=>1"));
 }
 
 #[test]
 fn all_short_texts() {
-    let count = compare_all(&mut Vec::new(), 0, 5);
-    assert_eq!(count, (0..=5).map(|length| 14usize.pow(length)).sum());
+    let count = compare_all(&mut Vec::new(), [0, 0], 5);
+    assert_eq!(count, (0..=5).map(|length| 16usize.pow(length)).sum());
 }
 
 /// Longer texts, of the grammar but for a few bytes changed.
 #[test]
 fn damaged_texts() {
     let terms = [
-        "0", "12", "007", "i0", "l15", "s1", "\"\"", "\"m: |\"", "empty",
+        "0", "12", "007", "i0", "l15", "s1", "\"\"", "\"m: |\"", "\"=>\"", "empty",
     ];
+    let separators = [":", ":", ":", ":", ":", "|", "|", "=>"];
     let mut draw = Draw::new(0x9E37_79B9_7F4A_7C15);
     for _ in 0..20_000 {
         let mut text = Vec::new();
         for _ in 0..draw.below(6) {
             text.extend(draw.pick(&terms).bytes());
-            text.push(draw.pick(b":::|"));
+            text.extend(draw.pick(&separators).bytes());
         }
         text.extend(draw.pick(&terms).bytes());
         for _ in 0..draw.below(3) {
             damage(&mut text, &mut draw);
         }
-        compare(&text, place_by_trial(&text));
+        compare_both(
+            &text,
+            [is_rule as Grammar, is_side].map(|it| place_by_trial(&text, it)),
+        );
     }
 }
 

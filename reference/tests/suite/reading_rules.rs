@@ -198,6 +198,9 @@ fn every_byte_behind_a_term() {
             text.push(byte);
             if byte == b':' || byte == b'|' {
                 assert_not_grammar(&text, text.len());
+            } else if byte == b'=' {
+                assert_rule_refused(&text, 2, text.len());
+                assert_slip_refused(&text, 2, term.len());
             } else if byte.is_ascii_digit() && number_may_go_on {
                 let refusal = read_rule(&text).err();
                 assert!(refusal.is_none_or(|refusal| refusal.number == 5));
@@ -232,15 +235,15 @@ fn sizes_play_no_part_in_the_grammar() {
 #[test]
 fn bytes_of_the_text() {
     let string_of = |bytes: usize| quoted(bytes - 2);
-    assert_rule_refused(string_of(2048), 5, 0);
-    assert_rule_refused(string_of(2049), 1, 2048);
-    assert_rule_refused(string_of(8193), 1, 2048);
-    assert_rule_refused("7".repeat(2048), 5, 0);
-    assert_rule_refused("7".repeat(2049), 1, 2048);
-    assert_rule_refused("\"".to_string() + &"x".repeat(2047), 2, 2048);
-    assert_rule_refused(" ".repeat(2048), 2, 0);
-    assert_rule_refused(" ".repeat(2049), 1, 2048);
-    assert_rule_refused([0; 2049], 1, 2048);
+    assert_rule_refused(string_of(4096), 5, 0);
+    assert_rule_refused(string_of(4097), 1, 4096);
+    assert_rule_refused(string_of(8193), 1, 4096);
+    assert_rule_refused("7".repeat(4096), 5, 0);
+    assert_rule_refused("7".repeat(4097), 1, 4096);
+    assert_rule_refused("\"".to_string() + &"x".repeat(4095), 2, 4096);
+    assert_rule_refused(" ".repeat(4096), 2, 0);
+    assert_rule_refused(" ".repeat(4097), 1, 4096);
+    assert_rule_refused([0; 4097], 1, 4096);
 }
 
 #[test]
@@ -316,8 +319,8 @@ fn values_and_digits() {
     for text in over {
         assert_rule_refused(text, 5, 0);
     }
-    assert_rule_refused("0".repeat(2048), 5, 0);
-    assert_rule_refused("9".repeat(2048), 5, 0);
+    assert_rule_refused("0".repeat(4096), 5, 0);
+    assert_rule_refused("9".repeat(4096), 5, 0);
 }
 
 #[test]
@@ -325,7 +328,7 @@ fn lengths_of_strings() {
     for length in 0..=15 {
         assert_rule(quoted(length), vec![vec![string("x".repeat(length))]]);
     }
-    for length in [16, 17, 255, 256, 271, 2046] {
+    for length in [16, 17, 255, 256, 271, 4094] {
         assert_rule_refused(quoted(length), 5, 0);
     }
 }
@@ -343,7 +346,7 @@ fn numbers_of_variables() {
         for number in ["4294967296", "4294967297", "18446744073709551616"] {
             assert_rule_refused(format!("{name}{number}"), 5, 0);
         }
-        assert_rule_refused(format!("{name}{}", "1".repeat(2047)), 5, 0);
+        assert_rule_refused(format!("{name}{}", "1".repeat(4095)), 5, 0);
     }
 }
 
@@ -416,8 +419,8 @@ fn other_variables_may_recur() {
 fn order_of_refusals() {
     let over = times(17, "1");
     let table = [
-        (format!("|{}", "1".repeat(2048)), 1, 2048),
-        (format!("1|2|3|4|5|{}", times(1020, "1")), 1, 2048),
+        (format!("|{}", "1".repeat(4096)), 1, 4096),
+        (format!("1|2|3|4|5|{}", times(2044, "1")), 1, 4096),
         ("1|2|3|4|5:".to_string(), 2, 10),
         (format!("{over}:"), 2, 34),
         ("99999999999:".to_string(), 2, 12),

@@ -15,7 +15,7 @@ fn slips_are_read() {
 #[test]
 fn every_byte_alone() {
     for byte in 0..=255u8 {
-        let rule = read_rule(&[byte]).map(|rule| rule.0);
+        let rule = read_rule(&[byte]).map(|rule| rule.left);
         let slip = read_slip(&[byte]).map(|slip| slip.0);
         assert_eq!(rule, slip, "byte {byte}");
     }
@@ -24,7 +24,7 @@ fn every_byte_alone() {
 #[test]
 fn bytes_of_the_text() {
     let string_of = |bytes: usize| quoted(bytes - 2);
-    assert_slip_refused(string_of(2049), 5, 0);
+    assert_slip_refused(string_of(4097), 5, 0);
     assert_slip_refused(string_of(8192), 5, 0);
     assert_slip_refused(string_of(8193), 1, 8192);
     assert_slip_refused("\"".to_string() + &"x".repeat(8191), 2, 8192);
@@ -37,7 +37,7 @@ fn bytes_of_the_text() {
 fn the_longest_slip() {
     let text = vec![times(64, &quoted(15)); 4].join("|");
     assert_eq!(text.len(), 4607);
-    assert_rule_refused(&text, 1, 2048);
+    assert_rule_refused(&text, 1, 4096);
     assert_slip(text, vec![vec![string("x".repeat(15)); 64]; 4]);
 }
 

@@ -76,13 +76,13 @@ fn compare(atoms: usize, longest: usize, constants: &[Term], pairs: usize, seed:
     let runs = all_runs(constants, longest);
     let (mut solved, mut shared) = (0, 0);
     for _ in 0..pairs {
-        let mut field = || small_rule(1, atoms, constants, &mut draw).0.remove(0);
+        let mut field = || small_rule(1, atoms, constants, &mut draw).left.remove(0);
         let (left, right) = (field(), field());
         let found = found(&left, &right);
         found.answers.iter().for_each(check_numbers);
         let common = |answer| common_field(&left, &right, answer);
         let commons: Vec<Field> = found.answers.iter().map(common).collect();
-        let (left, right) = (Rule(vec![left]), Rule(vec![right]));
+        let (left, right) = (Rule::of(vec![left]), Rule::of(vec![right]));
         let overlaps: Vec<Field> = entries(&left, &right)
             .map(|mut entry| entry.fields.remove(0))
             .collect();
@@ -114,7 +114,7 @@ fn the_row_decides_only_the_refusal() {
     let mut draw = Draw::new(3);
     for _ in 0..300 {
         let constants = [int(1), string("m")];
-        let mut field = || small_rule(1, 4, &constants, &mut draw).0.remove(0);
+        let mut field = || small_rule(1, 4, &constants, &mut draw).left.remove(0);
         let (left, right) = (field(), field());
         let found = found(&left, &right);
         for row in 0..found.most_waiting + 3 {

@@ -144,6 +144,11 @@ fn what_is_no_field_has_no_lines() {
         "1\tx\t0",
         "1\tx\t0\t0",
         "1|1\t1|1\t0\t0",
+        "1=>1\t1",
+        "1\tl0=>l0",
+        "1=>1\t1=>1\t0",
+        "1=>i0\t1",
+        "1=\t1",
     ] {
         assert_eq!(answer(line), NOT_FIELDS, "{line}");
     }
@@ -186,14 +191,14 @@ fn more_than_four_parts() {
 #[test]
 fn long_lines() {
     let zeros = |count| format!("1\t1\t{}2", "0".repeat(count));
-    assert_eq!(zeros(4103).len(), 4108);
-    assert_search(&zeros(4103), &["", ""]);
-    assert_eq!(answer(zeros(4104)), "line too long\n");
-    assert_eq!(answer("\t".repeat(4109)), "line too long\n");
+    assert_eq!(zeros(8199).len(), 8204);
+    assert_search(&zeros(8199), &["", ""]);
+    assert_eq!(answer(zeros(8200)), "line too long\n");
+    assert_eq!(answer("\t".repeat(8205)), "line too long\n");
     // The longest texts, and the largest sizes.
-    let rule = "1".repeat(2048);
+    let rule = "1".repeat(4096);
     let line = format!("{rule}\t{rule}\t640\t131072");
-    assert_eq!(line.len(), 4108);
+    assert_eq!(line.len(), 8204);
     assert_eq!(answer(&line), NOT_FIELDS);
     assert_eq!(answer(line + "\t"), "line too long\n");
 }

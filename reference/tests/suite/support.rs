@@ -4,7 +4,7 @@ use std::collections::{BTreeSet, HashMap};
 
 pub use reference::draw::Draw;
 use reference::reading::{read_rule, read_slip, Refusal};
-use reference::terms::{Field, Filling, Kind, Name, Rule, Slip, Term};
+use reference::terms::{Field, Filling, Kind, Name, Rule, Side, Slip, Term};
 
 pub fn int(value: u32) -> Term {
     Term::Int(value)
@@ -35,7 +35,7 @@ pub fn show(text: &[u8]) -> String {
 
 pub fn assert_rule(text: impl AsRef<[u8]>, fields: Vec<Field>) {
     let text = text.as_ref();
-    assert_eq!(read_rule(text), Ok(Rule(fields)), "rule {}", show(text));
+    assert_eq!(read_rule(text), Ok(Rule::of(fields)), "rule {}", show(text));
 }
 
 pub fn assert_slip(text: impl AsRef<[u8]>, fields: Vec<Field>) {
@@ -53,7 +53,14 @@ pub fn assert_slip_refused(text: impl AsRef<[u8]>, number: u8, place: usize) {
     assert_eq!(read_slip(text), Err(refusal), "slip {}", show(text));
 }
 
-/// Refusal 2 is the same for rules and slips.
+/// A rule with both sides.
+pub fn assert_whole_rule(text: impl AsRef<[u8]>, left: Side, right: Side) {
+    let (text, right) = (text.as_ref(), Some(right));
+    let rule = Rule { left, right };
+    assert_eq!(read_rule(text), Ok(rule), "rule {}", show(text));
+}
+
+/// Refusal 2 is the same for rules and slips where no arrow begins.
 pub fn assert_not_grammar(text: impl AsRef<[u8]>, place: usize) {
     assert_rule_refused(&text, 2, place);
     assert_slip_refused(&text, 2, place);

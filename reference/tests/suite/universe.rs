@@ -3,7 +3,7 @@
 
 use std::slice::from_ref;
 
-use reference::terms::{Field, Rule, Slip, Term};
+use reference::terms::{Field, Filling, Kind, Name, Rule, Slip, Term};
 
 use crate::support::*;
 
@@ -37,7 +37,7 @@ pub fn small_rule(fields: usize, atoms: usize, constants: &[Term], draw: &mut Dr
         }
         terms
     };
-    Rule((0..fields).map(|_| field()).collect())
+    Rule::of((0..fields).map(|_| field()).collect())
 }
 
 /// Every slip of so many fields of the runs.
@@ -51,4 +51,32 @@ pub fn all_slips(fields: usize, runs: &[Field]) -> Vec<Slip> {
         slips = slips.iter().flat_map(longer).collect();
     }
     slips.into_iter().map(Slip).collect()
+}
+
+/// All values of the type among the runs.
+fn values(kind: Kind, runs: &[Field]) -> Vec<Field> {
+    let fits = |run: &&Field| match kind {
+        Kind::Integer => matches!(run[..], [Term::Int(_)]),
+        Kind::String => matches!(run[..], [Term::Str(_)]),
+        Kind::Atom => run.len() == 1,
+        Kind::List => true,
+    };
+    runs.iter().filter(fits).cloned().collect()
+}
+
+/// All fillings of these variables with values among the runs.
+pub fn all_fillings(names: &[Name], runs: &[Field]) -> Vec<Filling> {
+    let mut found = vec![Filling::new()];
+    for &name in names {
+        let mut longer = Vec::new();
+        for filling in &found {
+            for value in values(name.0, runs) {
+                let mut next = filling.clone();
+                next.insert(name, value);
+                longer.push(next);
+            }
+        }
+        found = longer;
+    }
+    found
 }

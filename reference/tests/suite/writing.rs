@@ -85,13 +85,23 @@ fn unreadable() -> Vec<Vec<Field>> {
 #[test]
 fn a_value_that_no_reading_returns_gives_no_bytes() {
     for fields in unreadable() {
-        assert_eq!(plain_rule(&Rule(fields.clone())), b"", "{fields:?}");
+        assert_eq!(plain_rule(&Rule::of(fields.clone())), b"", "{fields:?}");
         assert_eq!(plain_slip(&Slip(fields.clone())), b"", "{fields:?}");
     }
+    // A good left side and a right one that reading does not return.
+    let over = vec![vec![int(1); 17]];
+    let unknown = vec![vec![var(b'i', 0)]];
+    for right in [vec![], vec![vec![]; 5], over, unknown] {
+        let rule = Rule {
+            left: vec![vec![var(b'a', 0)]],
+            right: Some(right),
+        };
+        assert_eq!(plain_rule(&rule), b"", "{rule:?}");
+    }
     let seventeen = vec![vec![int(1); 17]];
-    assert_eq!(plain_rule(&Rule(seventeen.clone())), b"");
+    assert_eq!(plain_rule(&Rule::of(seventeen.clone())), b"");
     assert_eq!(plain_slip(&Slip(seventeen)), times(17, "1").as_bytes());
     let variable = vec![vec![var(b'i', 0)]];
-    assert_eq!(plain_rule(&Rule(variable.clone())), b"i0");
+    assert_eq!(plain_rule(&Rule::of(variable.clone())), b"i0");
     assert_eq!(plain_slip(&Slip(variable)), b"");
 }

@@ -8,18 +8,18 @@ use Rattle.accepted.proofs.is_left.Tie as tie
 returns : tie.Need-returns
 returns c = rw (le-ltb 0 (c .before .before .args .r .n) (omega arith))
 
-has-fields-requires : tie.Need-has-fields-requires
-has-fields-requires c κs = search needs
+is-right-requires : tie.Need-is-right-requires
+is-right-requires c κs = search needs
 
 returns-2 : tie.Need-returns-2
-returns-2 c = rw (lt-ltb 0 (c .before .before .before .before .args .r .n) (omega arith), ← c .before .has-fields .ensures, not-true (c .before .has-fields .result) (c .if2 .taken))
+returns-2 c = rw (lt-ltb 0 (c .before .before .before .before .args .r .n) (omega arith), ← c .before .is-right .ensures, not-true (c .before .is-right .result) (c .if2 .taken))
 
 is-linear-requires : tie.Need-is-linear-requires
 is-linear-requires c κs = search needs
 
 returns-3 : tie.Need-returns-3
-returns-3 c = rw (lt-ltb 0 (c .before .before .before .before .before .args .r .n) (omega arith), ← c .before .before .has-fields .ensures, not-false (c .before .before .has-fields .result) (c .before .if2 .left)) (c .is-linear .ensures)
+returns-3 c = rw (lt-ltb 0 (c .before .before .before .before .before .args .r .n) (omega arith), ← c .before .before .is-right .ensures, not-false (c .before .before .is-right .result) (c .before .if2 .left)) (c .is-linear .ensures)
 
 pub is-left-spec : {M : Type 1} → statement M
 is-left-spec =
-    tie.close (tie.spec returns has-fields-requires returns-2 is-linear-requires returns-3)
+    tie.close (tie.spec returns is-right-requires returns-2 is-linear-requires returns-3)

@@ -1,7 +1,7 @@
 -- `answers::put_rule_read` meets its contract: by the verdict. Assumes nothing.
 use borrow.Author.Needs.{needs}
-use Rattle.text.specs.Plain.{plain}
-use Rattle.accepted.specs.Accepted.{countedLeft}
+use Rattle.terms.specs.Values.{viewRule}
+use Rattle.rules.specs.Plain.{plainBoth}
 use Rattle.pieces.proofs.Pieces.{placed-as}
 use Rattle.answers.proofs.Verdicts.{text-accepted, text-refused}
 use Rattle.answers.proofs.put_rule_read.Statement.{statement}
@@ -28,7 +28,8 @@ same-length c = search needs
 returns : tie.Need-returns
 returns c =
     let z = c .before .before .before .before .before .before .before .before .args in
-    placed-as (z .at) (z .out .now) (text-accepted (z .read .verdict) (plain (countedLeft (z .read .rule))) (c .before .before .before .before .enum-told .given .1)) (c .before .before .put-rule .ensures)
+    let is = c .before .before .before .before .enum-told .given .1 in
+    placed-as (z .at) (z .out .now) (text-accepted (z .read .verdict) (plainBoth (viewRule (z .read .rule))) is) (c .before .before .put-rule .ensures)
 
 same-length-2 : tie.Need-same-length-2
 same-length-2 c = search needs
@@ -36,7 +37,8 @@ same-length-2 c = search needs
 returns-2 : tie.Need-returns-2
 returns-2 c =
     let z = c .before .before .before .before .before .before .before .before .before .before .args in
-    placed-as (z .at) (z .out .now) (text-refused (z .read .verdict) (plain (countedLeft (z .read .rule))) _ _ (c .before .before .before .before .before .before .verdict .given .1)) (c .before .before .put-refusal .ensures)
+    let is = c .before .before .before .before .before .before .verdict .given .1 in
+    placed-as (z .at) (z .out .now) (text-refused (z .read .verdict) (plainBoth (viewRule (z .read .rule))) _ _ is) (c .before .before .put-refusal .ensures)
 
 pub put-rule-read-spec : {M : Type 1} → statement M
 put-rule-read-spec =

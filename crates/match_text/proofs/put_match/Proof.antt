@@ -7,8 +7,8 @@ use borrow.Author.Needs.{needs}
 use Rattle.match_text.proofs.put_match.Statement.{statement}
 use Rattle.match_text.proofs.put_match.Tie as tie
 
-match-rule-requires : tie.Need-match-rule-requires
-match-rule-requires c κs = search needs
+match-side-requires : tie.Need-match-side-requires
+match-side-requires c κs = search needs
 
 slice-aggregate-put-bytes : tie.Need-slice-aggregate-put-bytes
 slice-aggregate-put-bytes c = search needs
@@ -22,7 +22,7 @@ same-length c = search needs
 returns : tie.Need-returns
 returns c =
     let z = c .before .before .before .before .before .before .before .before .before .args in
-    let M = c .before .before .before .before .before .before .before .match-rule in
+    let M = c .before .before .before .before .before .before .before .match-side in
     placed-as (z .at) (z .out .now) (said-no (z .r) (z .s) (M .result) (M .ensures) (c .before .before .before .before .before .if1 .taken)) (c .before .before .put-bytes .ensures)
 
 slice-aggregate-put-bytes-2 : tie.Need-slice-aggregate-put-bytes-2
@@ -40,14 +40,14 @@ same-length-2 c = search needs
 returns-2 : tie.Need-returns-2
 returns-2 c =
     let z = c .before .before .before .before .before .before .before .before .before .before .before .before .before .args in
-    let M = c .before .before .before .before .before .before .before .before .before .before .before .match-rule in
+    let M = c .before .before .before .before .before .before .before .before .before .before .before .match-side in
     placed-as (z .at) (z .out .now) (said-yes (z .r) (z .s) (M .result) (M .ensures) (c .before .before .before .before .before .before .before .before .before .if1 .left)) (placed-next (ascii "yes") (saidValues (z .r) (z .s) (M .result .filling)) (z .at) (z .out .now) (c .before .before .before .before .before .before .put-bytes2 .ensures) (c .before .before .put-values .ensures))
 
 pub put-match-spec : {M : Type 1} → statement M
 put-match-spec =
     tie.close
     (tie.spec
-    match-rule-requires
+    match-side-requires
     slice-aggregate-put-bytes
     put-bytes-requires
     same-length

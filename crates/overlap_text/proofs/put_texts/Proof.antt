@@ -2,7 +2,7 @@
 use Prim.Native.Nat.{_-_, _≤_, _<_}
 use native.Mathlib.Omega.{arith}
 use lib.ListN.{length}
-use Rattle.text.specs.Read.{readSide}
+use Rattle.rules.specs.Read.{readRule}
 use Rattle.pieces.proofs.Pieces.{placed-none}
 use Rattle.entry_parts.proofs.Pieces.{piece-as}
 use Rattle.overlap_text.specs.Texts.{mostBytes}
@@ -20,7 +20,7 @@ returns c =
     let a = c .before .before .before .before .before .before .args in
     let k = length (a .out .now) - a .at in
     let few : k < mostBytes = omega (arith, c .if1 .taken, c .before .bytes-behind .ensures) in
-    let none = no-room k (readSide (a .left .now)) (readSide (a .right .now)) few in
+    let none = no-room k (readRule (a .left .now)) (readRule (a .right .now)) few in
     let q = piece-as mostBytes (a .at) (a .out .now) none (placed-none (a .at) (a .out .now), omega arith) in
     (q .0, (q .1, rw (lt-leb mostBytes k few)))
 
@@ -43,7 +43,7 @@ returns-2 c =
     let k = length (a .out .now) - a .at in
     let enough : mostBytes ≤ k = omega (arith, b .if1 .left, b .before .bytes-behind .ensures) in
     let e = p .put-read .ensures in
-    let q = piece-as mostBytes (a .at) (a .out .now) (in-room k (readSide (a .left .now)) (readSide (a .right .now)) enough) (e .0, e .1 .0) in
+    let q = piece-as mostBytes (a .at) (a .out .now) (in-room k (readRule (a .left .now)) (readRule (a .right .now)) enough) (e .0, e .1 .0) in
     (q .0, (q .1, rw (le-leb mostBytes k enough) (e .1 .1)))
 
 pub put-texts-spec : {M : Type 1} → statement M

@@ -2,7 +2,7 @@
 use mathlib.Core.Path.{_∙_}
 use borrow.Author.Needs.{needs}
 use Rattle.accepted.specs.Accepted.{countedLeft}
-use Rattle.overlaps.specs.Pairs.{saidRule}
+use Rattle.overlaps.specs.Pairs.{saidSide}
 use Rattle.overlaps.proofs.Texts.{both-read}
 use Rattle.overlaps.proofs.Rules.{none-listed, none-stored, lines-list, lines-stored, said-none, said-four, said-differ, said-lines}
 use Rattle.overlaps.proofs.list_tokens.Statement.{statement}
@@ -14,8 +14,8 @@ returns c =
     let l = z .args .left .now in
     let r = z .args .right .now in
     let e = said-none l r (z .args .l) (z .args .r) (z .pre) (c .if1 .taken) in
-    let x = countedLeft (saidRule l) in
-    let y = countedLeft (saidRule r) in
+    let x = countedLeft (saidSide l) in
+    let y = countedLeft (saidSide r) in
     (none-listed x y e (z .args .out .now), none-stored x y e (z .args .room .now))
 
 returns-2 : tie.Need-returns-2
@@ -24,8 +24,8 @@ returns-2 c =
     let l = z .args .left .now in
     let r = z .args .right .now in
     let e = said-differ l r (z .args .l) (z .args .r) (z .pre) (both-read l r) (c .before .before .before .if1 .left) (c .if2 .taken) in
-    let x = countedLeft (saidRule l) in
-    let y = countedLeft (saidRule r) in
+    let x = countedLeft (saidSide l) in
+    let y = countedLeft (saidSide r) in
     (none-listed x y e (z .args .out .now), none-stored x y e (z .args .room .now))
 
 list-pair-requires : tie.Need-list-pair-requires
@@ -49,8 +49,8 @@ returns-3 c =
     let o = c .before .before .before .before .list-pair in
     let n = c .before .before .before .before .before .before .before .before .before .before .if1 .left in
     let are = said-lines l r (z .args .l) (z .args .r) (z .pre) (both-read l r) n (c .before .before .before .before .before .before .before .if2 .left) in (
-      lines-list (countedLeft (saidRule l)) (countedLeft (saidRule r)) are (o .ensures .0),
-      o .ensures .1 ∙ lines-stored (countedLeft (saidRule l)) (countedLeft (saidRule r)) are (z .args .room .now),
+      lines-list (countedLeft (saidSide l)) (countedLeft (saidSide r)) are (o .ensures .0),
+      o .ensures .1 ∙ lines-stored (countedLeft (saidSide l)) (countedLeft (saidSide r)) are (z .args .room .now),
     )
 
 pub list-tokens-spec : {M : Type 1} → statement M

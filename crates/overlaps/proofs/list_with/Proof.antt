@@ -1,47 +1,18 @@
--- `overlaps::list_with` meets its contract: the plain text of a value says what the value counts as. Assumes nothing.
+-- `overlaps::list_with` meets its contract: the left side of what a rule counts as counts as itself. Assumes nothing.
 use mathlib.Core.Path.{_∙_}
-use lib.ListN.{replicate}
-use Rattle.text.specs.Plain.{plain}
-use Rattle.accepted.specs.Accepted.{countedLeft}
-use Rattle.pieces.proofs.Pieces.{written-long, written-count, written-front}
-use Rattle.plain_text.proofs.Lengths.{plain-short}
-use Rattle.overlaps.proofs.Texts.{values-listed, values-stored}
 use borrow.Author.Needs.{needs}
+use Rattle.overlaps.proofs.Texts.{values-listed, values-stored}
 use Rattle.overlaps.proofs.list_with.Statement.{statement}
 use Rattle.overlaps.proofs.list_with.Tie as tie
 
-slice-aggregate-write-rule : tie.Need-slice-aggregate-write-rule
-slice-aggregate-write-rule c = search needs
+left-of-requires : tie.Need-left-of-requires
+left-of-requires c κs = search needs
 
-write-rule-requires : tie.Need-write-rule-requires
-write-rule-requires c κs = search needs
+left-of-requires-2 : tie.Need-left-of-requires-2
+left-of-requires-2 c κs = search needs
 
-size-of-requires : tie.Need-size-of-requires
-size-of-requires c κs = search needs
-
-slice-aggregate-write-rule-2 : tie.Need-slice-aggregate-write-rule-2
-slice-aggregate-write-rule-2 c = search needs
-
-write-rule-requires-2 : tie.Need-write-rule-requires-2
-write-rule-requires-2 c κs = search needs
-
-size-of-requires-2 : tie.Need-size-of-requires-2
-size-of-requires-2 c κs = search needs
-
-array-share-prefix-a : tie.Need-array-share-prefix-a
-array-share-prefix-a c = let v = c .before .before .before .before .before .before .before .before .before .before .args .left in written-long (plain (countedLeft v)) (replicate 1151 0) (plain-short v) (c .before .before .before .before .size-of .ensures) (c .before .before .before .before .before .before .write-rule .ensures)
-
-slice-aggregate-list-texts : tie.Need-slice-aggregate-list-texts
-slice-aggregate-list-texts c = let v = c .before .before .before .before .before .before .before .before .before .before .before .args .left in written-count (plain (countedLeft v)) (replicate 1151 0) (plain-short v) (c .before .before .before .before .before .size-of .ensures) (c .before .before .before .before .before .before .before .write-rule .ensures)
-
-array-share-prefix-b : tie.Need-array-share-prefix-b
-array-share-prefix-b c = let v = c .before .before .before .before .before .before .before .before .before .before .before .args .right in written-long (plain (countedLeft v)) (replicate 1151 0) (plain-short v) (c .before .size-of2 .ensures) (c .before .before .before .write-rule2 .ensures)
-
-slice-aggregate-list-texts-2 : tie.Need-slice-aggregate-list-texts-2
-slice-aggregate-list-texts-2 c = let v = c .before .before .before .before .before .before .before .before .before .before .before .before .args .right in written-count (plain (countedLeft v)) (replicate 1151 0) (plain-short v) (c .before .before .size-of2 .ensures) (c .before .before .before .before .write-rule2 .ensures)
-
-list-texts-requires : tie.Need-list-texts-requires
-list-texts-requires c κs = search needs
+list-sides-requires : tie.Need-list-sides-requires
+list-sides-requires c κs = search needs
 
 same-length : tie.Need-same-length
 same-length c = search needs
@@ -51,31 +22,19 @@ same-length-2 c = search needs
 
 returns : tie.Need-returns
 returns c =
-    let z = c .before .before .before .before .before .before .before .before .before .before .before .before .before .before .before .before .before .before .before .args in
-    let o = c .before .before .before .before .list-texts in
-    let s = c .before .before .before .before .before .before .before .before .before .before .before .before .before .size-of .ensures in
-    let t = c .before .before .before .before .before .before .before .before .before .size-of2 .ensures in
-    let v = c .before .before .before .before .before .before .before .before .before .before .before .before .before .before .before .write-rule .ensures in
-    let w = c .before .before .before .before .before .before .before .before .before .before .before .write-rule2 .ensures in
-    let a = written-front (plain (countedLeft (z .left))) (replicate 1151 0) (plain-short (z .left)) s v in
-    let b = written-front (plain (countedLeft (z .right))) (replicate 1151 0) (plain-short (z .right)) t w in
-    (values-listed (z .left) (z .right) a b (o .ensures .0), o .ensures .1 ∙ values-stored (z .left) (z .right) a b (z .room .now))
+    let z = c .before .before .before .before .before .before .before .before .before .before .before .args in
+    let x = c .before .before .before .before .before .before .before .before .left-of .ensures in
+    let y = c .before .before .before .before .before .before .before .left-of2 .ensures in
+    let o = c .before .before .before .before .list-sides in
+    (values-listed (z .left) (z .right) x y (o .ensures .0), o .ensures .1 ∙ values-stored (z .left) (z .right) x y (z .room .now))
 
 pub list-with-spec : {M : Type 1} → statement M
 list-with-spec =
     tie.close
     (tie.spec
-    slice-aggregate-write-rule
-    write-rule-requires
-    size-of-requires
-    slice-aggregate-write-rule-2
-    write-rule-requires-2
-    size-of-requires-2
-    array-share-prefix-a
-    slice-aggregate-list-texts
-    array-share-prefix-b
-    slice-aggregate-list-texts-2
-    list-texts-requires
+    left-of-requires
+    left-of-requires-2
+    list-sides-requires
     same-length
     same-length-2
     returns)

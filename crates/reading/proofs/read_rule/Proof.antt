@@ -1,39 +1,51 @@
 -- `reading::read_rule` meets its contract.
-use mathlib.Core.Bool.{false}
-use Rattle.reading.proofs.Verdicts.{rule-yes, rule-no}
+use mathlib.Core.Path.{sym, _∙_}
+use Rattle.reading.proofs.Values.{rule-yes, rule-no}
 use borrow.Author.Needs.{needs}
 use Rattle.reading.proofs.read_rule.Statement.{statement}
 use Rattle.reading.proofs.read_rule.Tie as tie
 
-judge-requires : tie.Need-judge-requires
-judge-requires c κs = search needs
+split-of-requires : tie.Need-split-of-requires
+split-of-requires c κs = search needs
+
+judge-rule-requires : tie.Need-judge-rule-requires
+judge-rule-requires c κs = c .split-of .ensures
 
 enum-told : tie.Need-enum-told
 enum-told c = search needs
 
-side-in-requires : tie.Need-side-in-requires
-side-in-requires c κs = search needs
+rule-of-requires : tie.Need-rule-of-requires
+rule-of-requires c κs =
+    let j = c .before .before in
+    (j .before .split-of .ensures, sym (j .judge-rule .ensures) ∙ c .enum-told .given .1)
 
 enum-told-2 : tie.Need-enum-told-2
 enum-told-2 c = search needs
 
-blank-side-requires : tie.Need-blank-side-requires
-blank-side-requires c κs = search needs
+blank-rule-requires : tie.Need-blank-rule-requires
+blank-rule-requires c κs = search needs
 
 returns : tie.Need-returns
-returns c = rule-yes (c .before .before .before .before .before .args .text .now) (c .before .before .before .judge .result) (c .side-in .result) (c .before .before .before .judge .ensures) (c .before .enum-told .given .1) (c .side-in .ensures)
+returns c =
+    let j = c .before .before .before in
+    let r = j .before .before .before in
+    rule-yes (r .args .text .now) (j .judge-rule .result) (c .rule-of .result) (j .judge-rule .ensures) (c .rule-of .ensures)
 
 returns-2 : tie.Need-returns-2
-returns-2 c = rule-no (c .before .before .before .before .before .args .text .now) (c .before .before .before .judge .result) (c .blank-side .result) _ _ (c .before .before .before .judge .ensures) (c .before .enum-told2 .given .1) (c .blank-side .ensures)
+returns-2 c =
+    let j = c .before .before .before in
+    let r = j .before .before .before in
+    rule-no (r .args .text .now) (j .judge-rule .result) (c .blank-rule .result) _ _ (j .judge-rule .ensures) (c .before .enum-told2 .given .1) (c .blank-rule .ensures)
 
 pub read-rule-spec : {M : Type 1} → statement M
 read-rule-spec =
     tie.close
     (tie.spec
-    judge-requires
+    split-of-requires
+    judge-rule-requires
     enum-told
-    side-in-requires
+    rule-of-requires
     enum-told-2
-    blank-side-requires
+    blank-rule-requires
     returns
     returns-2)

@@ -1,6 +1,4 @@
 -- `refusals::note` meets its contract.
-use Rattle.verdicts.specs.Verdicts.{sortOf}
-use Rattle.refusals.proofs.Refusals.{noted-now, noted-before}
 use borrow.Author.Needs.{needs}
 use Rattle.refusals.proofs.note.Statement.{statement}
 use Rattle.refusals.proofs.note.Tie as tie
@@ -11,30 +9,22 @@ lists-at-requires c κs = search needs
 width-of-requires : tie.Need-width-of-requires
 width-of-requires c κs = search needs
 
-severity-requires : tie.Need-severity-requires
-severity-requires c κs = search needs
+met-requires : tie.Need-met-requires
+met-requires c κs = search needs
+
+first-requires : tie.Need-first-requires
+first-requires c κs = search needs
 
 add-piece-requires : tie.Need-add-piece-requires
 add-piece-requires c κs = search needs
 
 returns : tie.Need-returns
 returns c =
-    let k = c .before .before .before in
+    let f = c .before in
+    let k = f .before in
     let w = k .before in
     let l = w .before in
-    let a = l .before .before .args in
-    noted-now (a .slip) ((sortOf (a .slip)) .width) (w .width-of .result) (a .s) (a .a) (a .p) (l .lists-at .result) (c .before .before .add-piece .result) (k .severity .result)
-    (w .width-of .ensures) (l .lists-at .ensures) (k .severity .ensures) (c .before .before .add-piece .ensures) (c .if1 .taken)
-
-returns-2 : tie.Need-returns-2
-returns-2 c =
-    let k = c .before .before .before in
-    let w = k .before in
-    let l = w .before in
-    let a = l .before .before .args in
-    noted-before (a .slip) ((sortOf (a .slip)) .width) (w .width-of .result) (a .s) (a .a) (a .p) (l .lists-at .result) (c .before .before .add-piece .result) (k .severity .result)
-    (w .width-of .ensures) (l .lists-at .ensures) (k .severity .ensures) (c .before .before .add-piece .ensures) (c .if1 .left)
+    rw (c .add-piece .ensures, f .first .ensures, k .met .ensures, w .width-of .ensures, l .lists-at .ensures)
 
 pub note-spec : {M : Type 1} → statement M
-note-spec =
-    tie.close (tie.spec lists-at-requires width-of-requires severity-requires add-piece-requires returns returns-2)
+note-spec = tie.close (tie.spec lists-at-requires width-of-requires met-requires first-requires add-piece-requires returns)

@@ -1,0 +1,4 @@
+pub mod Known
+pub mod Loops
+pub mod Rules
+pub mod Tests

@@ -1,0 +1,62 @@
+-- `carry::answer` is safe: what was written is in the text's buffer. Assumes nothing.
+use mathlib.Core.Path.{sym}
+use native.Mathlib.Omega.{arith}
+use lib.ListN.{replicate}
+use lib.Seq.{length-take-le}
+use borrow.Author.Needs.{needs}
+use Rattle.pieces.proofs.Pieces.{written-in}
+use Rattle.carry_answers.specs.Carry.{carryAnswer}
+use Rattle.carry.proofs.answer.Statement.{statement}
+use Rattle.carry.proofs.answer.Tie as tie
+
+slice-aggregate-carry-answer : tie.Need-slice-aggregate-carry-answer
+slice-aggregate-carry-answer c = search needs
+
+carry-answer-requires : tie.Need-carry-answer-requires
+carry-answer-requires c κs = search needs
+
+enum-known-n : tie.Need-enum-known-n
+enum-known-n c = search needs
+
+array-share-prefix-text : tie.Need-array-share-prefix-text
+array-share-prefix-text c =
+    let W = c .before .before .before .before .carry-answer in
+    let z = c .before .before .before .before .before .before .before .before .args in
+    omega (arith, written-in (carryAnswer (z .k) (z .line .now)) (replicate 4646 0) (W .ensures .0) (c .before .n .given .1), W .kept .1 .1 .0)
+
+slice-aggregate-put : tie.Need-slice-aggregate-put
+slice-aggregate-put c =
+    let W = c .before .before .before .before .before .carry-answer in
+    let z = c .before .before .before .before .before .before .before .before .before .args in
+    let h = written-in (carryAnswer (z .k) (z .line .now)) (replicate 4646 0) (W .ensures .0) (c .before .before .n .given .1) in
+    sym (length-take-le _ _ (omega (arith, h, W .kept .1 .1 .0)))
+
+put-requires : tie.Need-put-requires
+put-requires c κs = search needs
+
+enum-told : tie.Need-enum-told
+enum-told c = search needs
+
+same-length : tie.Need-same-length
+same-length c = search needs
+
+returns : tie.Need-returns
+returns c = search needs
+
+returns-2 : tie.Need-returns-2
+returns-2 c = search needs
+
+pub answer-spec : {M : Type 1} → statement M
+answer-spec =
+    tie.close
+    (tie.spec
+    slice-aggregate-carry-answer
+    carry-answer-requires
+    enum-known-n
+    array-share-prefix-text
+    slice-aggregate-put
+    put-requires
+    enum-told
+    same-length
+    returns
+    returns-2)

@@ -1,0 +1,4 @@
+pub mod Values
+pub mod Said
+pub mod Lengths
+pub mod Examples

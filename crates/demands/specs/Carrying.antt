@@ -1,0 +1,179 @@
+-- CARRYING OUT, document 02: "Carrying out a rule on a slip it matches gives the right side with the filling put in; on a slip it doesn't
+-- match, or without a right side, the slip unchanged and a no", and "refusal 11 (a result field over 64 terms) is the only one of carrying
+-- out; it leaves the slip as given".
+-- Over the definition that the contract cites, for a rule value v and a slip value s:
+--     carrying::carry_out   answers `carriedOf v s`
+-- `Carries` of carrying/specs says it of the values; here it is tied to texts and to matching.
+use mathlib.Core.Path.{_≡_, refl, sym, _∙_, ap, ap₂, subst}
+use mathlib.Core.Logic.{_↔_}
+use mathlib.Core.Bool.{Bool, true, false, cond, false≢true}
+use mathlib.Core.List.{List, [], _∷_, map}
+use Prim.Native.Nat.{ℕ}
+use Rattle.lists.specs.Seqs.{All, IsCons}
+use Rattle.order.specs.Types.{Kind}
+use Rattle.theory.specs.Terms.{con}
+use Rattle.theory.specs.Fillings.{Filling, fill}
+use Rattle.text.specs.Terms.{Con, OurTerm}
+use Rattle.text.specs.Limits.{IsCon, IsSlip}
+use Rattle.text.specs.Read.{Reason, refused, accepted, readSlip}
+use Rattle.text.proofs.Accepted.{slip-read}
+use Rattle.rules.specs.Read.{OurRule, readRule}
+use Rattle.rules.specs.Limits.{IsRule}
+use Rattle.rules.proofs.Accepted.{rule-read}
+use Rattle.instance.specs.Matching.{constants}
+use Rattle.instance.proofs.Matching.{constants-are}
+use Rattle.results.specs.Carrying.{result}
+use Rattle.results.specs.Rules.{OurSlip, carried}
+use Rattle.results.specs.Carried.{CarriesOut}
+use Rattle.results.proofs.Carrying.{limited-result}
+use Rattle.results.proofs.Carried.{carries-out}
+use Rattle.terms.specs.declared.Rule.{Rule}
+use Rattle.terms.specs.declared.Slip.{Slip}
+use Rattle.terms.specs.Values.{viewSide, viewRule, viewSlip, blankRule, blankSlip, encodeRule, encodeSlip}
+use Rattle.accepted_rules.specs.Rules.{acceptedRule, countedRule}
+use Rattle.accepted_rules.proofs.Rules.{accepted-rule, rule-accepts, view-encode-rule, counted-yes}
+use Rattle.accepted_slips.specs.Slips.{acceptedSlip, countedSlip}
+use Rattle.accepted_slips.proofs.Slips.{accepted-slip, encode-accepted-slip, view-encode-slip}
+use Rattle.reading.specs.declared.RuleRead.{RuleRead}
+use Rattle.reading.specs.declared.SlipRead.{SlipRead}
+use Rattle.reading.specs.Answers.{ruleRead, slipRead, ReadsRule, ReadsSlip}
+use Rattle.matching.specs.declared.Match.{Match}
+use Rattle.matching.specs.Answers.{matchOf, noMatch}
+use Rattle.carrying.specs.declared.Carry.the-variants.{Yes, No}
+use Rattle.carrying.specs.declared.Carried.{Carried}
+use Rattle.carrying.specs.Answers.{carriedOf}
+use Rattle.carrying.specs.Carries.{Makes, CarriesOn, Carries}
+use Rattle.carrying.proofs.Carries.{carries}
+use Rattle.demands.specs.Matching.{Matching, matching}
+
+-- the answer "the slip unchanged and a no"
+abbrev pub refusing : Slip → Carried
+refusing s = record { answer = No; slip = s }
+
+-- what is answered of two texts t and u, with the values that reading them returns
+pub record CarriesTexts (t u : List ℕ) (s : Slip) (c : Carried) : Type 0 where
+  -- of a text that is read as the rule w, with its two sides, and one that is read as the slip y
+  pub read : (w : OurRule) (y : List (List OurTerm)) → readRule t ≡ accepted w → readSlip u ≡ accepted y
+      → CarriesOn (w .0) (w .1) (map constants y) c
+  -- where one of them is refused, the value with no fields stands for it: "the slip unchanged and a no"
+  pub rule-refused : (o : Reason) (p : ℕ) → readRule t ≡ refused o p → c ≡ refusing s
+  pub slip-refused : (o : Reason) (p : ℕ) → readSlip u ≡ refused o p → c ≡ refusing s
+
+-- a no comes exactly where there is no right side or matching answers no
+abbrev pub NoExactly : Rule → Match → Carried → Type 0
+NoExactly v m c = (c .answer ≡ No) ↔ (IsCons (countedRule v .1) × (m .yes ≡ true) → ⊥)
+
+-- WHAT CARRYING OUT ANSWERS of a rule value v and a slip value s
+pub record Carrying (v : Rule) (s : Slip) (c : Carried) : Type 0 where
+  -- document 02's sentences, whatever values they are
+  pub values : Carries v s c
+  -- the same of texts that are read as the two
+  pub texts : (t u : List ℕ) (r : RuleRead) (q : SlipRead) → ReadsRule t r → ReadsSlip u q → r .rule ≡ v → q .slip ≡ s
+      → CarriesTexts t u s c
+  -- "a slip it matches" is demand 2's
+  pub matches : (m : Match) → m ≡ matchOf (countedRule v .0) (countedSlip s) → NoExactly v m c
+  -- the slip that is returned stands for "the right side with the filling put in", term for term
+  pub shows : acceptedRule v ≡ true → acceptedSlip s ≡ true → c .answer ≡ Yes
+      → (θ : Filling Con Kind ℕ) → Makes (viewSide (v .left)) (map constants (viewSlip s)) θ
+      → countedSlip (c .slip) ≡ map (map con) (map (fill θ) (viewSide (v .right)))
+
+-- ---- that it holds
+
+-- a text that is refused returns a value that no reading returns
+blank-rule-no : acceptedRule blankRule ≡ false
+blank-rule-no = refl
+
+blank-slip-no : acceptedSlip blankSlip ≡ false
+blank-slip-no = refl
+
+-- a slip's constants, as terms again
+terms-again : (y : List (List OurTerm)) → All (All IsCon) y → map (map con) (map constants y) ≡ y
+terms-again [] i = refl
+terms-again (f ∷ y) i = ap₂ (λ (g : List OurTerm) (l : List (List OurTerm)). g ∷ l) (constants-are f (i .0)) (terms-again y (i .1))
+
+module _ (v : Rule) (s : Slip) (c : Carried) (h : Carries v s c) where
+  of-texts : (t u : List ℕ) (r : RuleRead) (q : SlipRead) → ReadsRule t r → ReadsSlip u q → r .rule ≡ v → q .slip ≡ s
+      → CarriesTexts t u s c
+  of-texts t u r q reads-t reads-u is-v is-s =
+      record {
+        read = λ w y e f. both w y (rule-read t w e) (slip-read u y f)
+            (rule-of ∙ ap (λ o. ruleRead o .rule) e) (slip-of ∙ ap (λ o. slipRead o .slip) f);
+        rule-refused = λ o p e. h .unread-rule (ap acceptedRule (rule-of ∙ ap (λ o. ruleRead o .rule) e) ∙ blank-rule-no);
+        slip-refused = λ o p e. h .unread-slip (ap acceptedSlip (slip-of ∙ ap (λ o. slipRead o .slip) e) ∙ blank-slip-no);
+      }
+    where
+      rule-of : v ≡ ruleRead (readRule t) .rule
+      rule-of = sym is-v ∙ ap (λ (a : RuleRead). a .rule) reads-t
+
+      slip-of : s ≡ slipRead (readSlip u) .slip
+      slip-of = sym is-s ∙ ap (λ (a : SlipRead). a .slip) reads-u
+
+      both : (w : OurRule) (y : List (List OurTerm)) → IsRule w → IsSlip y → v ≡ encodeRule w → s ≡ encodeSlip y
+          → CarriesOn (w .0) (w .1) (map constants y) c
+      both w y i j e f =
+          let a : viewRule v ≡ w = ap viewRule e ∙ view-encode-rule w i in
+          let b : viewSlip s ≡ y = ap viewSlip f ∙ view-encode-slip y j in
+          let k = h .carried (ap acceptedRule e ∙ rule-accepts w i) (ap acceptedSlip f ∙ encode-accepted-slip y j) in
+          subst (λ (x : OurRule). CarriesOn (x .0) (x .1) (map constants y) c) a
+          (subst (λ (l : List (List OurTerm)). CarriesOn (viewSide (v .left)) (viewSide (v .right)) (map constants l) c) b k)
+
+  -- by what matching answers of the same values
+  of-matching : (m : Match) → m ≡ matchOf (countedRule v .0) (countedSlip s) → NoExactly v m c
+  of-matching m is = go (acceptedRule v) refl (acceptedSlip s) refl
+    where
+      M : Matching v s m
+      M = matching v s m is
+
+      unread : c ≡ refusing s → m ≡ noMatch → NoExactly v m c
+      unread e n = (λ f k. false≢true (sym (ap (λ (x : Match). x .yes) n) ∙ k .1), λ f. ap (λ (x : Carried). x .answer) e)
+
+      go : (a : Bool) → acceptedRule v ≡ a → (b : Bool) → acceptedSlip s ≡ b → NoExactly v m c
+      go false e b f = unread (h .unread-rule e) (M .unread-rule e)
+      go true e false f = unread (h .unread-slip f) (M .unread-slip f)
+      go true e true f =
+          let n = h .carried e f .no in
+          let o = M .on-terms e f in
+          let same : countedRule v .1 ≡ viewSide (v .right) = ap (λ (w : OurRule). w .1) (counted-yes v e) in (
+            λ d k. n .0 d (subst IsCons same (k .0), o .0 (k .1)),
+            λ d. n .1 (λ k. d (subst IsCons (sym same) (k .0), o .1 (k .1))),
+          )
+
+  of-result : acceptedRule v ≡ true → acceptedSlip s ≡ true → c .answer ≡ Yes
+      → (θ : Filling Con Kind ℕ) → Makes (viewSide (v .left)) (map constants (viewSlip s)) θ
+      → countedSlip (c .slip) ≡ map (map con) (map (fill θ) (viewSide (v .right)))
+  of-result e f is-yes θ m =
+      ap (λ (b : Bool). cond b (viewSlip (c .slip)) []) (on .readable)
+      ∙ ap viewSlip (on .result is-yes θ m)
+      ∙ view-encode-slip (map (map con) u) in-limits
+    where
+      w : OurSlip
+      w = map constants (viewSlip s)
+
+      u : OurSlip
+      u = map (fill θ) (viewSide (v .right))
+
+      on : CarriesOn (viewSide (v .left)) (viewSide (v .right)) w c
+      on = h .carried e f
+
+      out : CarriesOut (viewRule v) w (carried (viewRule v) w)
+      out = carries-out (viewRule v) w (accepted-rule v e .0) (carried (viewRule v) w) refl
+
+      is-slip : IsSlip (viewSlip s)
+      is-slip = accepted-slip s f .0
+
+      -- the filling that is found gives what every filling that matches gives
+      found : carried (viewRule v) w ≡ result u
+      found =
+          let k = on .yes .0 is-yes in
+          let z = map (fill (k .1 .0)) (viewSide (v .right)) in
+          let a = out .yes z .1 (k .0, (k .1 .0, k .1 .1 .0, k .1 .1 .1, refl, k .1 .2)) in
+          a ∙ ap result (sym (limited-result 64 u z (sym (out .any-filling (k .0) θ (m .0) (m .1)) ∙ a) .0))
+
+      in-limits : IsSlip (map (map con) u)
+      in-limits = out .readable (subst IsSlip (sym (terms-again (viewSlip s) (is-slip .1))) is-slip) u found
+
+-- CARRYING OUT, of what the contract answers
+pub carrying : (v : Rule) (s : Slip) (c : Carried) → c ≡ carriedOf v s → Carrying v s c
+carrying v s c is =
+    let h = carries v s c is in
+    record { values = h; texts = of-texts v s c h; matches = of-matching v s c h; shows = of-result v s c h }

@@ -1,0 +1,4 @@
+pub mod Collected
+pub mod Loops
+pub mod Values
+pub mod Fills

@@ -1,0 +1,191 @@
+-- What is built from a rule text that is accepted is what reading returns: the rule, and the tokens of its left side.
+use mathlib.Core.Path.{_≡_, refl, sym, _∙_, ap, ap₂, subst}
+use mathlib.Core.Bool.{Bool, cond}
+use mathlib.Core.Option.{Option, none, some, Option·map}
+use mathlib.Core.List.{List, []}
+use Prim.Native.Nat.{ℕ, _+_, _-_, _<_, _≤_}
+use native.Mathlib.Omega.{arith}
+use native.Mathlib.Decide.{decLt}
+use lib.ListN.{length, take, drop}
+use lib.Seq.{take-all}
+use Rattle.text.specs.Terms.{fieldsOf}
+use Rattle.text.specs.Walk.{walked}
+use Rattle.text.specs.Read.{rule, said, unknown, OutcomeOf, OurFields, Outcome, refused, accepted, tell, readSide}
+use Rattle.text.proofs.Accepted.{Base}
+use Rattle.rules.specs.Read.{OurRule, readRule}
+use Rattle.rules.specs.Judge.{asRule, lackingAt, known}
+use Rattle.terms.specs.declared.RuleSide.{RuleSide}
+use Rattle.terms.specs.declared.Rule.{Rule}
+use Rattle.terms.specs.Values.{blankSide, blankRule, encodeSide}
+use Rattle.tokens.specs.declared.TokenRule.{TokenRule}
+use Rattle.tokens.specs.Tokens.{ruleOf, blankTokenRule}
+use Rattle.splitting.specs.declared.Split.{Split}
+use Rattle.splitting.specs.declared.Split.the-variants as split
+use Rattle.splitting.specs.Splits.{splitOf}
+use Rattle.verdicts.specs.declared.Verdict.{Verdict}
+use Rattle.verdicts.specs.declared.Verdict.the-variants.{Accepted, Refused}
+use Rattle.verdicts.specs.Verdicts.{verdictOf}
+use Rattle.text_passes.specs.Tokens.{onSide, builtTokens}
+use Rattle.text_passes.specs.Passes.{sideIn, tokensIn}
+use Rattle.text_passes.proofs.Passes.{is-short}
+use Rattle.text_passes.proofs.Tokens.{tokens-built, tokens-blank}
+use Rattle.reading.specs.Sides.{endOf}
+use Rattle.reading.specs.Answers.{ruleRead, sideSaid, leftSaid, ReadsLeft}
+use Rattle.reading.proofs.Rules.{judged-long, judged-stops, one-read, orElse, accepted-base, accepted-said}
+use Rattle.reading.proofs.Rules.{side-built, built-side, base-short, both-fine}
+use Rattle.reading.proofs.Rules.{first, two-verdict, two-is, slice-is, left-base, right-fine, left-accepted, sides}
+use Rattle.splitting.proofs.Splits.{two-sides}
+
+refused≢accepted : {r : _} {p : ℕ} → Refused r p ≡ Accepted → ⊥
+refused≢accepted {r} {p} e = let z : _≡_ {A = ℕ} 0 1 = cc in omega arith
+
+-- ---- a text that is accepted
+
+module _ (t : List ℕ) (fine : verdictOf (readRule t) ≡ Accepted) where
+  short : length t ≤ rule .bytes
+  short = go (decLt (rule .bytes) (length t))
+    where
+      go : Dec (rule .bytes < length t) → length t ≤ rule .bytes
+      go (yes h) = absurd (refused≢accepted (judged-long t h ∙ fine))
+      go (no n) = omega arith
+
+  pub not-stopped : (p : ℕ) → splitOf t ≡ split.Stops p → ⊥
+  not-stopped p e = refused≢accepted (judged-stops t short p e ∙ fine)
+
+  -- of one side
+  module _ (e : splitOf t ≡ split.One) where
+    one-verdict : Accepted ≡ verdictOf (readSide t)
+    one-verdict = sym fine ∙ ap verdictOf (one-read t short e) ∙ as-side (readSide t)
+      where
+        as-side : (o : Outcome) → verdictOf (asRule o) ≡ verdictOf o
+        as-side (refused r p) = refl
+        as-side (accepted x) = refl
+
+    one-says : readRule t ≡ accepted (fieldsOf (said t), [])
+    one-says = one-read t short e ∙ ap asRule (accepted-said t one-verdict)
+
+    pub one-rule : (s r : RuleSide) → s ≡ sideIn t → r ≡ blankSide → record { left = s; right = r } ≡ (ruleRead (readRule t)) .rule
+    one-rule s r is-s is-r =
+        ap₂ (λ (x y : RuleSide). record { left = x; right = y }) (is-s ∙ side-built t (accepted-base t one-verdict)) is-r
+        ∙ sym (ap (λ (o : OutcomeOf OurRule). (ruleRead o) .rule) one-says)
+
+  -- of two
+  module _ (p : ℕ) (e : splitOf t ≡ split.Two p) where
+    abbrev a : List ℕ
+    a = take p t
+
+    abbrev u : List ℕ
+    u = drop (p + 2) t
+
+    both : first t short p e ≡ Accepted
+    both = go (first t short p e) _ (sym (two-verdict t short p e) ∙ fine)
+      where
+        go : (v w : Verdict) → orElse v w ≡ Accepted → v ≡ Accepted
+        go Accepted w h = refl
+        go (Refused r k) w h = h
+
+    two-says : readRule t ≡ accepted (fieldsOf (said a), fieldsOf (said u))
+    two-says = known-is ∙ go (lackingAt (fieldsOf (said a)) (said u)) (sym (ap verdictOf known-is) ∙ fine)
+      where
+        known-is : readRule t ≡ known (p + 2) (said a) (said u)
+        known-is = two-is t short p e ∙ both-fine (p + 2) (readSide a) (readSide u) (known (p + 2) (said a) (said u)) both
+
+        go : (o : Option ℕ)
+            → verdictOf {X = OurRule} (tell unknown (Option·map (λ q. p + 2 + q) o) (accepted (fieldsOf (said a), fieldsOf (said u)))) ≡ Accepted
+            → _≡_ {A = OutcomeOf OurRule} (tell unknown (Option·map (λ q. p + 2 + q) o) (accepted (fieldsOf (said a), fieldsOf (said u))))
+            (accepted (fieldsOf (said a), fieldsOf (said u)))
+        go none h = refl
+        go (some k) h = absurd (refused≢accepted h)
+
+    pub two-rule : (s r : RuleSide) → s ≡ sideIn a → r ≡ sideIn (take (length t - (p + 2)) (drop (p + 2) t))
+        → record { left = s; right = r } ≡ (ruleRead (readRule t)) .rule
+    two-rule s r is-s is-r =
+        ap₂ (λ (x y : RuleSide). record { left = x; right = y })
+        (is-s ∙ side-built a (left-base t short p e both))
+        (is-r ∙ ap sideIn (slice-is t short p e) ∙ side-built u (right-fine t short p e both))
+        ∙ sym (ap (λ (o : OutcomeOf OurRule). (ruleRead o) .rule) two-says)
+
+-- the left side ends in the text
+pub end-in : (t : List ℕ) (s : Split) (n : ℕ) → s ≡ splitOf t → n ≡ endOf (length t) s → n ≤ length t
+end-in t (split.Stops p) n is-s is-n = omega arith
+end-in t split.One n is-s is-n = omega arith
+end-in t (split.Two p) n is-s is-n = let h = two-sides t p (sym is-s) .inside in omega arith
+
+-- ---- the answers
+
+module _ (t : List ℕ) where
+  refused-out : (o : OutcomeOf OurRule) {r : _} {p : ℕ} → verdictOf o ≡ Refused r p → (ruleRead o .rule ≡ blankRule) × (leftSaid o ≡ [])
+  refused-out (refused q k) e = (refl, refl)
+  refused-out (accepted w) e = absurd (refused≢accepted (sym e))
+
+  verdict-is : (o : OutcomeOf OurRule) → ruleRead o .verdict ≡ verdictOf o
+  verdict-is (refused q k) = refl
+  verdict-is (accepted w) = refl
+
+  whole : (o : OutcomeOf OurRule) → record { verdict = ruleRead o .verdict; rule = ruleRead o .rule } ≡ ruleRead o
+  whole (refused q k) = refl
+  whole (accepted w) = refl
+
+  pub rule-yes : (v : Verdict) (r : Rule) → v ≡ verdictOf (readRule t) → r ≡ (ruleRead (readRule t)) .rule
+      → record { verdict = v; rule = r } ≡ ruleRead (readRule t)
+  rule-yes v r is-v is-r =
+      ap₂ (λ (x : Verdict) (y : Rule). record { verdict = x; rule = y }) (is-v ∙ sym (verdict-is (readRule t))) is-r ∙ whole (readRule t)
+
+  pub rule-no : (v : Verdict) (r : Rule) (k : _) (p : ℕ) → v ≡ verdictOf (readRule t) → v ≡ Refused k p → r ≡ blankRule
+      → record { verdict = v; rule = r } ≡ ruleRead (readRule t)
+  rule-no v r k p is-v q is-r = rule-yes v r is-v (is-r ∙ sym (refused-out (readRule t) (sym is-v ∙ q) .0))
+
+  -- ---- the left side's tokens
+
+  left-said : (o : OutcomeOf OurRule) (x y : OurFields) → o ≡ accepted (x, y) → leftSaid o ≡ x
+  left-said o x y e = ap leftSaid e
+
+  module _ (right : Bool) (v : Verdict) (is-v : v ≡ verdictOf (readRule t)) where
+    made : (n : ℕ) (x : TokenRule) → n ≤ length t → Base rule (take n t) → readSide (take n t) ≡ accepted (fieldsOf (said (take n t)))
+        → leftSaid (readRule t) ≡ fieldsOf (said (take n t)) → x ≡ tokensIn right (take n t)
+        → ReadsLeft right t (record { verdict = v; end = n; rule = x })
+    made n x inside base says left is-x =
+        let short = base-short (take n t) base in
+        let built : x ≡ builtTokens right (walked (take n t)) = is-x ∙ rw (is-short (take n t) (omega arith)) in
+        record {
+          verdict = is-v;
+          inside = inside;
+          left = ap sideSaid says ∙ sym left;
+          tokens = λ o.
+              ap (ruleOf (cond right o (take n t)) (cond right (take n t) o)) built
+              ∙ tokens-built right (take n t) o
+              ∙ ap (onSide right) (built-side (take n t) base ∙ ap encodeSide (sym left));
+        }
+
+    pub left-yes : (s : Split) (n : ℕ) (x : TokenRule) → s ≡ splitOf t → n ≡ endOf (length t) s → v ≡ Accepted → x ≡ tokensIn right (take n t)
+        → ReadsLeft right t (record { verdict = v; end = n; rule = x })
+    left-yes (split.Stops p) n x is-s is-n q is-x = absurd (not-stopped t (sym is-v ∙ q) p (sym is-s))
+    left-yes split.One n x is-s is-n q is-x =
+        let fine = sym is-v ∙ q in
+        let all : take n t ≡ t = take-all n t (omega arith) in
+        let verdict = one-verdict t fine (sym is-s) in
+        made n x (omega arith) (subst (Base rule) (sym all) (accepted-base t verdict))
+        (subst (λ (z : List ℕ). readSide z ≡ accepted (fieldsOf (said z))) (sym all) (accepted-said t verdict))
+        (left-said (readRule t) (fieldsOf (said t)) [] (one-says t fine (sym is-s)) ∙ ap (λ (z : List ℕ). fieldsOf (said z)) (sym all)) is-x
+    left-yes (split.Two p) n x is-s is-n q is-x =
+        let fine = sym is-v ∙ q in
+        let e = sym is-s in
+        let b = both t fine p e in
+        let inside = sides t (short t fine) p e .inside in
+        subst (λ (i : ℕ). x ≡ tokensIn right (take i t) → ReadsLeft right t (record { verdict = v; end = i; rule = x })) (sym is-n)
+        (made p x (omega arith) (left-base t (short t fine) p e b) (left-accepted t (short t fine) p e b)
+        (left-said (readRule t) _ _ (two-says t fine p e))) is-x
+
+    pub left-no : (x : TokenRule) (k : _) (p : ℕ) → v ≡ Refused k p → x ≡ blankTokenRule → ReadsLeft right t (record { verdict = v; end = 0; rule = x })
+    unfolding decLt
+    left-no x k p q is-x =
+        let none = refused-out (readRule t) (sym is-v ∙ q) .1 in
+        record {
+          verdict = is-v;
+          inside = omega arith;
+          left = sym none;
+          tokens = λ o.
+              ap (ruleOf (cond right o []) (cond right [] o)) is-x
+              ∙ tokens-blank right [] o
+              ∙ ap (λ (z : OurFields). onSide right (encodeSide z)) (sym none);
+        }

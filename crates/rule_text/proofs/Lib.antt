@@ -1,0 +1,4 @@
+pub mod Sides
+pub mod Lengths
+pub mod Answers
+pub mod Again

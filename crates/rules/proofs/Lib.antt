@@ -1,0 +1,14 @@
+pub mod Splits
+pub mod Stops
+pub mod Shapes
+pub mod Place
+pub mod Parse
+pub mod Read
+pub mod Sharp
+pub mod Clean
+pub mod Accepted
+pub mod Plain
+pub mod Before
+pub mod Left
+pub mod Judge
+pub mod Examples

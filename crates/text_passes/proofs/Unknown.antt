@@ -1,0 +1,39 @@
+-- Refusal 10: the pass finds the first variable that the left side lacks, and of a text that says a right side the leftmost.
+use mathlib.Core.Path.{_≡_, refl, _∙_, ap}
+use mathlib.Core.Bool.{Bool, true, false, cond}
+use mathlib.Core.Option.{some}
+use mathlib.Core.List.{List, [], _∷_, foldl}
+use Prim.Native.Nat.{ℕ, _≤_}
+use lib.ListN.{length}
+use Rattle.text.specs.Grammar.{Raw, Says}
+use Rattle.text.specs.Marks.{Mark}
+use Rattle.text.specs.Read.{slip, OurFields}
+use Rattle.text.proofs.Walk.{walk-says}
+use Rattle.rules.specs.Judge.{lackingAt}
+use Rattle.scanning.specs.declared.Found.the-variants.{At, Nothing}
+use Rattle.scanning.specs.Places.{foundOf}
+use Rattle.scanning.specs.Pieces.{pieceOf}
+use Rattle.unknown.specs.Unknown.{unknownPiece, unknownAt}
+use Rattle.unknown.proofs.Unknown.{NumbersIn, unknown-is}
+use Rattle.text_passes.specs.Unknown.{unknownMark}
+use Rattle.text_passes.specs.Passes.{unknownIn}
+use Rattle.text_passes.proofs.Passes.{is-short}
+
+-- the first place found stays
+found-stays : (l : OurFields) (p : ℕ) (ms : List Mark) → foldl (unknownMark l) (At p) ms ≡ At p
+found-stays l p [] = refl
+found-stays l p (m ∷ ms) = found-stays l p ms
+
+pub unknown-folds : (l : OurFields) (ms : List Mark) → foldl (unknownMark l) Nothing ms ≡ foundOf (unknownAt l ms)
+unknown-folds l [] = refl
+unknown-folds l (m ∷ ms) = go (unknownPiece l (pieceOf (m .raw))) (unknown-folds l ms)
+  where
+    go : (b : Bool) → foldl (unknownMark l) Nothing ms ≡ foundOf (unknownAt l ms)
+        → foldl (unknownMark l) (cond b (At (m .place)) Nothing) ms ≡ foundOf (cond b (some (m .place)) (unknownAt l ms))
+    go true e = found-stays l (m .place) ms
+    go false e = e
+
+-- REFUSAL 10 of a text that says y, behind a left side with numbers within their limit
+pub unknown-says : (l : OurFields) (t : List ℕ) (y : List (List Raw)) → NumbersIn l → Says t y → length t ≤ slip .bytes
+    → unknownIn l t ≡ foundOf (lackingAt l y)
+unknown-says l t y n s h = rw (is-short t h) (ap foundOf (ap (unknownAt l) (walk-says t y s) ∙ unknown-is l n y))

@@ -1,0 +1,168 @@
+-- What is said of the values that reading, carrying out and writing return is what is said of the texts. Assumes nothing.
+use mathlib.Core.Path.{_≡_, refl, sym, ap, ap₂, _∙_, subst}
+use mathlib.Core.List.{List, [], _∷_, map}
+use Prim.Native.Nat.{ℕ}
+use lib.ListN.{length}
+use Rattle.theory.specs.Terms.{con}
+use Rattle.text.specs.Told.{Told, byRoom}
+use Rattle.text.specs.Plain.{plain}
+use Rattle.text.specs.Limits.{IsSlip}
+use Rattle.text.specs.Read.{OutcomeOf, Outcome, OurFields, refused, accepted, readSlip}
+use Rattle.text.proofs.Accepted.{slip-read}
+use Rattle.rules.specs.Read.{OurRule, readRule}
+use Rattle.rules.proofs.Accepted.{rule-read}
+use Rattle.instance.specs.Matching.{constants}
+use Rattle.results.specs.Carrying.{Carried, result, unmatched, tooLong}
+use Rattle.results.specs.Rules.{OurSlip, carried}
+use Rattle.results.proofs.Carrying.{unmatched≢result}
+use Rattle.results.proofs.Rules.{result-readable, no-slip}
+use Rattle.terms.specs.declared.Slip.{Slip}
+use Rattle.terms.specs.Values.{encodeSlip}
+use Rattle.accepted_rules.specs.Rules.{countedRule}
+use Rattle.accepted_rules.proofs.Rules.{counted-encode}
+use Rattle.accepted_slips.specs.Slips.{countedSlip}
+use Rattle.accepted_slips.proofs.Slips.{view-encode-slip, encode-accepted-slip}
+use Rattle.carrying.specs.declared.Carried.{Carried as CarriedValue}
+use Rattle.carrying.specs.Answers.{answerOf, carriedOf}
+use Rattle.carrying.proofs.Carries.{terms-again}
+use Rattle.reading.specs.declared.RuleRead.{RuleRead}
+use Rattle.reading.specs.declared.SlipRead.{SlipRead}
+use Rattle.reading.specs.Answers.{ruleRead, slipRead}
+use Rattle.verdicts.specs.Verdicts.{verdictOf}
+use Rattle.writing.specs.declared.Written.{Written}
+use Rattle.writing.specs.declared.Written.the-variants.{Bytes, TooSmall}
+use Rattle.writing.specs.Answers.{told, Writes}
+use Rattle.yopobrush.specs.declared.Reading.{Reading}
+use Rattle.yopobrush.specs.declared.Carrying.{Carrying}
+use Rattle.yopobrush.specs.Answers.{readingOf}
+use Rattle.yopobrush.specs.Values.{readingBy}
+use Rattle.yopobrush.specs.Carries.{ruleSaid, slipSaid, carriedSaid, given, textSaid, numberFor, carryingOf, LibraryCarries}
+use Rattle.yopobrush.specs.CarryValues.{numberBy, roomed, carryingBy}
+use Rattle.yopobrush.proofs.Said.{verdict-said}
+
+-- ---- what was read
+
+rule-verdict : (o : OutcomeOf OurRule) → ruleRead o .verdict ≡ verdictOf o
+rule-verdict (refused r p) = refl
+rule-verdict (accepted w) = refl
+
+slip-verdict : (o : Outcome) → slipRead o .verdict ≡ verdictOf o
+slip-verdict (refused r p) = refl
+slip-verdict (accepted x) = refl
+
+counted-slip : (y : OurFields) → IsSlip y → countedSlip (encodeSlip y) ≡ y
+counted-slip y h = rw (encode-accepted-slip y h, view-encode-slip y h)
+
+-- a rule as it was read counts as what the text says
+rule-counted : (t : List ℕ) → countedRule (ruleRead (readRule t) .rule) ≡ ruleSaid (readRule t)
+rule-counted t = go (readRule t) refl
+  where
+    go : (o : OutcomeOf OurRule) → readRule t ≡ o → countedRule (ruleRead o .rule) ≡ ruleSaid o
+    go (refused r p) e = refl
+    go (accepted w) e = counted-encode w (rule-read t w e)
+
+slip-counted : (u : List ℕ) → countedSlip (slipRead (readSlip u) .slip) ≡ slipSaid (readSlip u)
+slip-counted u = go (readSlip u) refl
+  where
+    go : (o : Outcome) → readSlip u ≡ o → countedSlip (slipRead o .slip) ≡ slipSaid o
+    go (refused r p) e = refl
+    go (accepted y) e = counted-slip y (slip-read u y e)
+
+-- ---- what is carried out
+
+-- a result of what the texts say is a slip that reading returns
+result-slip : (t u : List ℕ) (w : OurSlip) → carriedSaid (readRule t) (readSlip u) ≡ result w → IsSlip (map (map con) w)
+result-slip t u w = go (readRule t) (readSlip u) refl refl
+  where
+    go : (o : OutcomeOf OurRule) (p : Outcome) → readRule t ≡ o → readSlip u ≡ p → carriedSaid o p ≡ result w → IsSlip (map (map con) w)
+    go (refused r i) p e f h = absurd (unmatched≢result h)
+    go (accepted x) (refused r i) e f h = absurd (unmatched≢result (sym (no-slip x (rule-read t x e)) ∙ h))
+    go (accepted x) (accepted y) e f h =
+        let s = slip-read u y f in
+        result-readable x (rule-read t x e) (map constants y) (subst IsSlip (sym (terms-again y (s .1))) s) w h
+
+number-said : (s : Slip) (a : Carried OurSlip) → numberBy (answerOf s a .answer) ≡ numberFor a
+number-said s (result w) = refl
+number-said s unmatched = refl
+number-said s tooLong = refl
+
+module _ (t u : List ℕ) where
+  abbrev o : OutcomeOf OurRule
+  o = readRule t
+
+  abbrev p : Outcome
+  p = readSlip u
+
+  abbrev s : Slip
+  s = slipRead p .slip
+
+  carried-is : carriedOf (ruleRead o .rule) s ≡ answerOf s (carriedSaid o p)
+  carried-is =
+      ap₂ (λ (r : OurRule) (x : OurFields). answerOf s (carried r (map constants x))) (rule-counted t) (slip-counted u)
+
+  given-said : countedSlip (answerOf s (carriedSaid o p) .slip) ≡ given (slipSaid p) (carriedSaid o p)
+  given-said = go (carriedSaid o p) refl
+    where
+      go : (a : Carried OurSlip) → carriedSaid o p ≡ a → countedSlip (answerOf s a .slip) ≡ given (slipSaid p) a
+      go (result w) e = counted-slip (map (map con) w) (result-slip t u w e)
+      go unmatched e = slip-counted u
+      go tooLong e = slip-counted u
+
+-- ---- what is written
+
+-- the answer that tells so many bytes needed, of so many lent
+module _ (a b : Reading) (n needed lent : ℕ) where
+  abbrev counted : Told
+  counted = byRoom needed lent (needed ∷ [])
+
+  told-roomed : (w : Written) (m : ℕ) → told w ≡ counted → told w .values ≡ m ∷ [] → roomed a b n (told w) m ≡ roomed a b n counted needed
+  told-roomed w m h k =
+      let values : m ∷ [] ≡ needed ∷ [] = sym k ∙ ap (λ (v : Told). v .values) h in
+      let is : m ≡ needed = cc in
+      ap (roomed a b n (told w)) is ∙ ap (λ (v : Told). roomed a b n v needed) h
+
+  written-said : (w : Written) → told w ≡ counted → carryingBy a b n w ≡ roomed a b n counted needed
+  written-said (Bytes m) h = told-roomed (Bytes m) m h refl
+  written-said (TooSmall m) h = told-roomed (TooSmall m) m h refl
+
+-- ---- all of it
+
+module _ (t u : List ℕ) (r : RuleRead) (s : SlipRead) (c : CarriedValue) (is-r : r ≡ ruleRead (readRule t)) (is-s : s ≡ slipRead (readSlip u))
+    (is-c : c ≡ carriedOf (r .rule) (s .slip)) where
+  abbrev a : Carried OurSlip
+  a = carriedSaid (readRule t) (readSlip u)
+
+  answer-is : c ≡ answerOf (slipRead (readSlip u) .slip) a
+  answer-is = is-c ∙ ap₂ (λ (x : RuleRead) (y : SlipRead). carriedOf (x .rule) (y .slip)) is-r is-s ∙ carried-is t u
+
+  text-is : plain (countedSlip (c .slip)) ≡ textSaid (readRule t) (readSlip u)
+  text-is = ap (λ (x : CarriedValue). plain (countedSlip (x .slip))) answer-is ∙ ap plain (given-said t u)
+
+  number-is : numberBy (c .answer) ≡ numberFor a
+  number-is = ap (λ (x : CarriedValue). numberBy (x .answer)) answer-is ∙ number-said (slipRead (readSlip u) .slip) a
+
+  rule-is : readingBy (r .verdict) ≡ readingOf (readRule t)
+  rule-is = ap (λ (x : RuleRead). readingBy (x .verdict)) is-r ∙ ap readingBy (rule-verdict (readRule t)) ∙ verdict-said (readRule t)
+
+  slip-is : readingBy (s .verdict) ≡ readingOf (readSlip u)
+  slip-is = ap (λ (x : SlipRead). readingBy (x .verdict)) is-s ∙ ap readingBy (slip-verdict (readSlip u)) ∙ verdict-said (readSlip u)
+
+  pub texts-carried : (old : List ℕ) {w : Written} {new : List ℕ} (x y : Reading) (n : ℕ) (answer : Carrying)
+      → Writes (plain (countedSlip (c .slip))) old w new
+      → x ≡ readingBy (r .verdict)
+      → y ≡ readingBy (s .verdict)
+      → n ≡ numberBy (c .answer)
+      → answer ≡ carryingBy x y n w
+      → LibraryCarries t u old answer new
+  texts-carried old {w} {new} x y n answer put is-x is-y is-n is =
+      let o = readingOf (readRule t) in
+      let p = readingOf (readSlip u) in
+      let text = textSaid (readRule t) (readSlip u) in
+      let wrote = subst (λ (l : List ℕ). Writes l old w new) text-is put in
+      record {
+        answer = is
+            ∙ ap₂ (λ (v z : Reading). carryingBy v z n w) (is-x ∙ rule-is) (is-y ∙ slip-is)
+            ∙ ap (λ (m : ℕ). carryingBy o p m w) (is-n ∙ number-is)
+            ∙ written-said o p (numberFor a) (length text) (length old) w (wrote .answer);
+        bytes = wrote .bytes;
+      }
