@@ -27,7 +27,7 @@ use Rattle.results.specs.Rules.{OurSlip, carried}
 use Rattle.writing.proofs.Digits.{digits-64}
 use Rattle.pieces.proofs.Refusals.{number-at-length}
 use Rattle.carry_answers.specs.Carry.{longestLine, rulePart, slipPart, carriedText, carryText, lineText, titleText, carryAnswer, longestAnswer}
-use Rattle.carry_answers.proofs.Said.{result-slip}
+use Rattle.carrying.proofs.Carries.{result-slip}
 
 -- ---- answers
 

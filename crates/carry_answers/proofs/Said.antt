@@ -1,5 +1,5 @@
 -- What is said of the values that reading and carrying out answer is what is said of the rule and the slip. Assumes nothing.
-use mathlib.Core.Path.{_≡_, refl, sym, ap, ap₂, _∙_, subst}
+use mathlib.Core.Path.{_≡_, refl, sym, ap, ap₂, _∙_}
 use mathlib.Core.Bool.{Bool, cond}
 use mathlib.Core.List.{List, _++_, map}
 use Prim.Native.Nat.{ℕ, suc, _+_, _-_, _≤_, min}
@@ -20,14 +20,13 @@ use Rattle.rules.specs.Limits.{IsRule}
 use Rattle.rules.proofs.Accepted.{rule-read}
 use Rattle.instance.specs.Matching.{constants}
 use Rattle.results.specs.Carrying.{Carried, result, unmatched, tooLong}
-use Rattle.results.specs.Rules.{OurSlip, Readable, carried}
-use Rattle.results.proofs.Rules.{result-readable}
+use Rattle.results.specs.Rules.{OurSlip, carried}
 use Rattle.terms.specs.Values.{encodeRule, encodeSlip}
 use Rattle.accepted_rules.proofs.Rules.{counted-encode}
 use Rattle.accepted_slips.specs.Slips.{countedSlip}
 use Rattle.accepted_slips.proofs.Slips.{view-encode-slip, encode-accepted-slip}
 use Rattle.carrying.specs.Answers.{answerOf, carriedOf}
-use Rattle.carrying.proofs.Carries.{terms-again}
+use Rattle.carrying.proofs.Carries.{result-slip}
 use Rattle.reading.specs.declared.RuleRead.{RuleRead}
 use Rattle.reading.specs.declared.SlipRead.{SlipRead}
 use Rattle.reading.specs.Answers.{ruleRead, slipRead}
@@ -39,10 +38,6 @@ use Rattle.carry_answers.specs.Values.{saidCarried, saidReads}
 -- ---- the answer
 
 module _ (x : OurRule) (y : OurFields) (is-rule : IsRule x) (is-slip : IsSlip y) where
-  -- the slip by its constants is one that reading returns, and so is what is made of it
-  pub result-slip : (u : OurSlip) → carried x (map constants y) ≡ result u → IsSlip (map (map con) u)
-  result-slip u e = result-readable x is-rule (map constants y) (subst IsSlip (sym (terms-again y (is-slip .1))) is-slip) u e
-
   counted-slip : countedSlip (encodeSlip y) ≡ y
   counted-slip = rw (encode-accepted-slip y is-slip, view-encode-slip y is-slip)
 
@@ -53,7 +48,7 @@ module _ (x : OurRule) (y : OurFields) (is-rule : IsRule x) (is-slip : IsSlip y)
       ∙ go (carried x (map constants y)) refl
     where
       go : (a : Carried OurSlip) → carried x (map constants y) ≡ a → saidCarried (answerOf (encodeSlip y) a) ≡ carriedText y a
-      go (result u) e = ap (λ (s : OurFields). ascii "yes " ++ plain s) (view-encode-slip (map (map con) u) (result-slip u e))
+      go (result u) e = ap (λ (s : OurFields). ascii "yes " ++ plain s) (view-encode-slip (map (map con) u) (result-slip x y is-rule is-slip u e))
       go unmatched e = ap (λ (s : OurFields). ascii "no " ++ plain s) (view-encode-slip y is-slip)
       go tooLong e = ap (λ (s : OurFields). ascii "refusal 11 " ++ plain s) (view-encode-slip y is-slip)
 

@@ -14,12 +14,13 @@ use Rattle.text.specs.Limits.{IsCon, IsSlip}
 use Rattle.instance.specs.Matching.{constants}
 use Rattle.instance.proofs.Matching.{constants-are}
 use Rattle.rules.specs.Read.{OurRule}
+use Rattle.rules.specs.Limits.{IsRule}
 use Rattle.results.specs.Carrying.{Short, Carried, result, unmatched, tooLong}
 use Rattle.results.specs.Rules.{OurSlip, Readable, carried}
 use Rattle.results.specs.Carried.{CarriesOut}
 use Rattle.results.proofs.Carrying.{limited-result}
 use Rattle.results.proofs.Carried.{carries-out}
-use Rattle.results.proofs.Rules.{carried-no}
+use Rattle.results.proofs.Rules.{carried-no, result-readable}
 use Rattle.terms.specs.declared.Rule.{Rule}
 use Rattle.terms.specs.declared.Slip.{Slip}
 use Rattle.terms.specs.Values.{viewSide, viewRule, viewSlip, encodeSlip}
@@ -61,6 +62,12 @@ module _ (s : Slip) where
 pub terms-again : (y : List (List OurTerm)) → All (All IsCon) y → map (map con) (map constants y) ≡ y
 terms-again [] h = refl
 terms-again (f ∷ y) h = ap₂ (λ (g : List OurTerm) (l : List (List OurTerm)). g ∷ l) (constants-are f (h .0)) (terms-again y (h .1))
+
+-- what is made of a slip that reading returns is one, as terms
+pub result-slip : (x : OurRule) (y : List (List OurTerm)) → IsRule x → IsSlip y
+    → (u : OurSlip) → carried x (map constants y) ≡ result u → IsSlip (map (map con) u)
+result-slip x y is-rule is-slip u e =
+    result-readable x is-rule (map constants y) (subst IsSlip (sym (terms-again y (is-slip .1))) is-slip) u e
 
 -- ---- values that reading returns
 

@@ -4,24 +4,23 @@
 -- Over the definition that the contract cites, for a rule value v and a slip value s:
 --     carrying::carry_out   answers `carriedOf v s`
 -- `Carries` of carrying/specs says it of the values; here it is tied to texts and to matching.
-use mathlib.Core.Path.{_≡_, refl, sym, _∙_, ap, ap₂, subst}
+use mathlib.Core.Path.{_≡_, refl, sym, _∙_, ap, subst}
 use mathlib.Core.Logic.{_↔_}
 use mathlib.Core.Bool.{Bool, true, false, cond, false≢true}
-use mathlib.Core.List.{List, [], _∷_, map}
+use mathlib.Core.List.{List, [], map}
 use Prim.Native.Nat.{ℕ}
-use Rattle.lists.specs.Seqs.{All, IsCons}
+use Rattle.lists.specs.Seqs.{IsCons}
 use Rattle.order.specs.Types.{Kind}
 use Rattle.theory.specs.Terms.{con}
 use Rattle.theory.specs.Fillings.{Filling, fill}
 use Rattle.text.specs.Terms.{Con, OurTerm}
-use Rattle.text.specs.Limits.{IsCon, IsSlip}
+use Rattle.text.specs.Limits.{IsSlip}
 use Rattle.text.specs.Read.{Reason, refused, accepted, readSlip}
 use Rattle.text.proofs.Accepted.{slip-read}
 use Rattle.rules.specs.Read.{OurRule, readRule}
 use Rattle.rules.specs.Limits.{IsRule}
 use Rattle.rules.proofs.Accepted.{rule-read}
 use Rattle.instance.specs.Matching.{constants}
-use Rattle.instance.proofs.Matching.{constants-are}
 use Rattle.results.specs.Carrying.{result}
 use Rattle.results.specs.Rules.{OurSlip, carried}
 use Rattle.results.specs.Carried.{CarriesOut}
@@ -43,7 +42,7 @@ use Rattle.carrying.specs.declared.Carry.the-variants.{Yes, No}
 use Rattle.carrying.specs.declared.Carried.{Carried}
 use Rattle.carrying.specs.Answers.{carriedOf}
 use Rattle.carrying.specs.Carries.{Makes, CarriesOn, Carries}
-use Rattle.carrying.proofs.Carries.{carries}
+use Rattle.carrying.proofs.Carries.{carries, terms-again}
 use Rattle.demands.specs.Matching.{Matching, matching}
 
 -- the answer "the slip unchanged and a no"
@@ -85,11 +84,6 @@ blank-rule-no = refl
 
 blank-slip-no : acceptedSlip blankSlip ≡ false
 blank-slip-no = refl
-
--- a slip's constants, as terms again
-terms-again : (y : List (List OurTerm)) → All (All IsCon) y → map (map con) (map constants y) ≡ y
-terms-again [] i = refl
-terms-again (f ∷ y) i = ap₂ (λ (g : List OurTerm) (l : List (List OurTerm)). g ∷ l) (constants-are f (i .0)) (terms-again y (i .1))
 
 module _ (v : Rule) (s : Slip) (c : Carried) (h : Carries v s c) where
   of-texts : (t u : List ℕ) (r : RuleRead) (q : SlipRead) → ReadsRule t r → ReadsSlip u q → r .rule ≡ v → q .slip ≡ s

@@ -15,7 +15,7 @@ use Rattle.instance.specs.Matching.{constants}
 use Rattle.results.specs.Carrying.{Carried, result, unmatched, tooLong}
 use Rattle.results.specs.Rules.{OurSlip, carried}
 use Rattle.results.proofs.Carrying.{unmatched≢result}
-use Rattle.results.proofs.Rules.{result-readable, no-slip}
+use Rattle.results.proofs.Rules.{no-slip}
 use Rattle.terms.specs.declared.Slip.{Slip}
 use Rattle.terms.specs.Values.{encodeSlip}
 use Rattle.accepted_rules.specs.Rules.{countedRule}
@@ -24,10 +24,10 @@ use Rattle.accepted_slips.specs.Slips.{countedSlip}
 use Rattle.accepted_slips.proofs.Slips.{view-encode-slip, encode-accepted-slip}
 use Rattle.carrying.specs.declared.Carried.{Carried as CarriedValue}
 use Rattle.carrying.specs.Answers.{answerOf, carriedOf}
-use Rattle.carrying.proofs.Carries.{terms-again}
+use Rattle.carrying.proofs.Carries.{result-slip}
 use Rattle.reading.specs.declared.RuleRead.{RuleRead}
 use Rattle.reading.specs.declared.SlipRead.{SlipRead}
-use Rattle.reading.specs.Answers.{ruleRead, slipRead}
+use Rattle.reading.specs.Answers.{ruleRead, slipRead, sideSaid}
 use Rattle.verdicts.specs.Verdicts.{verdictOf}
 use Rattle.writing.specs.declared.Written.{Written}
 use Rattle.writing.specs.declared.Written.the-variants.{Bytes, TooSmall}
@@ -36,7 +36,7 @@ use Rattle.yopobrush.specs.declared.Reading.{Reading}
 use Rattle.yopobrush.specs.declared.Carrying.{Carrying}
 use Rattle.yopobrush.specs.Answers.{readingOf}
 use Rattle.yopobrush.specs.Values.{readingBy}
-use Rattle.yopobrush.specs.Carries.{ruleSaid, slipSaid, carriedSaid, given, textSaid, numberFor, carryingOf, LibraryCarries}
+use Rattle.yopobrush.specs.Carries.{ruleSaid, carriedSaid, given, textSaid, numberFor, LibraryCarries}
 use Rattle.yopobrush.specs.CarryValues.{numberBy, roomed, carryingBy}
 use Rattle.yopobrush.proofs.Said.{verdict-said}
 
@@ -61,25 +61,23 @@ rule-counted t = go (readRule t) refl
     go (refused r p) e = refl
     go (accepted w) e = counted-encode w (rule-read t w e)
 
-slip-counted : (u : List ℕ) → countedSlip (slipRead (readSlip u) .slip) ≡ slipSaid (readSlip u)
+slip-counted : (u : List ℕ) → countedSlip (slipRead (readSlip u) .slip) ≡ sideSaid (readSlip u)
 slip-counted u = go (readSlip u) refl
   where
-    go : (o : Outcome) → readSlip u ≡ o → countedSlip (slipRead o .slip) ≡ slipSaid o
+    go : (o : Outcome) → readSlip u ≡ o → countedSlip (slipRead o .slip) ≡ sideSaid o
     go (refused r p) e = refl
     go (accepted y) e = counted-slip y (slip-read u y e)
 
 -- ---- what is carried out
 
 -- a result of what the texts say is a slip that reading returns
-result-slip : (t u : List ℕ) (w : OurSlip) → carriedSaid (readRule t) (readSlip u) ≡ result w → IsSlip (map (map con) w)
-result-slip t u w = go (readRule t) (readSlip u) refl refl
+said-slip : (t u : List ℕ) (w : OurSlip) → carriedSaid (readRule t) (readSlip u) ≡ result w → IsSlip (map (map con) w)
+said-slip t u w = go (readRule t) (readSlip u) refl refl
   where
     go : (o : OutcomeOf OurRule) (p : Outcome) → readRule t ≡ o → readSlip u ≡ p → carriedSaid o p ≡ result w → IsSlip (map (map con) w)
     go (refused r i) p e f h = absurd (unmatched≢result h)
     go (accepted x) (refused r i) e f h = absurd (unmatched≢result (sym (no-slip x (rule-read t x e)) ∙ h))
-    go (accepted x) (accepted y) e f h =
-        let s = slip-read u y f in
-        result-readable x (rule-read t x e) (map constants y) (subst IsSlip (sym (terms-again y (s .1))) s) w h
+    go (accepted x) (accepted y) e f h = result-slip x y (rule-read t x e) (slip-read u y f) w h
 
 number-said : (s : Slip) (a : Carried OurSlip) → numberBy (answerOf s a .answer) ≡ numberFor a
 number-said s (result w) = refl
@@ -100,11 +98,11 @@ module _ (t u : List ℕ) where
   carried-is =
       ap₂ (λ (r : OurRule) (x : OurFields). answerOf s (carried r (map constants x))) (rule-counted t) (slip-counted u)
 
-  given-said : countedSlip (answerOf s (carriedSaid o p) .slip) ≡ given (slipSaid p) (carriedSaid o p)
+  given-said : countedSlip (answerOf s (carriedSaid o p) .slip) ≡ given (sideSaid p) (carriedSaid o p)
   given-said = go (carriedSaid o p) refl
     where
-      go : (a : Carried OurSlip) → carriedSaid o p ≡ a → countedSlip (answerOf s a .slip) ≡ given (slipSaid p) a
-      go (result w) e = counted-slip (map (map con) w) (result-slip t u w e)
+      go : (a : Carried OurSlip) → carriedSaid o p ≡ a → countedSlip (answerOf s a .slip) ≡ given (sideSaid p) a
+      go (result w) e = counted-slip (map (map con) w) (said-slip t u w e)
       go unmatched e = slip-counted u
       go tooLong e = slip-counted u
 

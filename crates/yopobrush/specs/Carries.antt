@@ -12,24 +12,22 @@ use Rattle.rules.specs.Read.{OurRule, readRule}
 use Rattle.instance.specs.Matching.{constants}
 use Rattle.results.specs.Carrying.{Carried, result, unmatched, tooLong}
 use Rattle.results.specs.Rules.{OurSlip, carried}
+use Rattle.reading.specs.Answers.{sideSaid}
 use Rattle.carrying.specs.declared.Carry.the-variants.{TooLong}
 use Rattle.carrying.specs.Answers.{told}
 use Rattle.writing.specs.Answers.{after}
 use Rattle.yopobrush.specs.declared.Carrying.{Carrying}
 use Rattle.yopobrush.specs.Answers.{readingOf, numbered}
 
--- document 01: "A refusal returns its number, its place and the rule with no fields", and "The slip with no fields is returned"
+-- document 01: "A refusal returns its number, its place and the rule with no fields"; and a slip text that is refused says none
+-- (`sideSaid` of reading/specs): "The slip with no fields is returned"
 abbrev pub ruleSaid : OutcomeOf OurRule → OurRule
 ruleSaid (refused r p) = ([], [])
 ruleSaid (accepted w) = w
 
-abbrev pub slipSaid : Outcome → OurFields
-slipSaid (refused r p) = []
-slipSaid (accepted x) = x
-
 -- carrying out what the texts say
 abbrev pub carriedSaid : OutcomeOf OurRule → Outcome → Carried OurSlip
-carriedSaid rule slip = carried (ruleSaid rule) (map constants (slipSaid slip))
+carriedSaid rule slip = carried (ruleSaid rule) (map constants (sideSaid slip))
 
 -- document 02: "the right side with the filling put in"; "the slip unchanged and a no"; 11 "leaves the slip as given"
 abbrev pub given : OurFields → Carried OurSlip → OurFields
@@ -39,7 +37,7 @@ given slip tooLong = slip
 
 -- its plain text; of the slip with no fields it has no bytes
 abbrev pub textSaid : OutcomeOf OurRule → Outcome → List ℕ
-textSaid rule slip = plain (given (slipSaid slip) (carriedSaid rule slip))
+textSaid rule slip = plain (given (sideSaid slip) (carriedSaid rule slip))
 
 -- yes and no have numbers that are no refusal's
 abbrev pub numberFor : Carried OurSlip → ℕ

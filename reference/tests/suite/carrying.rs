@@ -4,15 +4,12 @@ use reference::answers::carry_answer;
 
 use crate::support::*;
 
-fn assert_line(line: impl AsRef<[u8]>, answer: &str) {
-    let line = line.as_ref();
-    let expected = format!("carry 7\n{answer}\n");
-    let found = carry_answer(7, line);
-    assert_eq!(show(&found), show(expected.as_bytes()), "{}", show(line));
+fn assert_carry(line: impl AsRef<[u8]>, answer: &str) {
+    assert_line("carry", carry_answer, line, answer);
 }
 
 fn assert_carried(rule: &str, slip: &str, answer: &str) {
-    assert_line(format!("{rule}\t{slip}"), answer);
+    assert_carry(format!("{rule}\t{slip}"), answer);
 }
 
 #[test]
@@ -135,30 +132,30 @@ fn refusals_name_the_side() {
 
 #[test]
 fn the_first_tab_divides() {
-    assert_line("", "refused rule 2 at 0");
-    assert_line("\t", "refused rule 2 at 0");
-    assert_line("\t1", "refused rule 2 at 0");
-    assert_line("1=>2", "refused slip 2 at 0");
-    assert_line("1=>2\t", "refused slip 2 at 0");
-    assert_line("1=>2\t1\t", "refused slip 2 at 1");
-    assert_line("1=>2\t\t1", "refused slip 2 at 0");
-    assert_line("1\t=>2", "refused slip 2 at 0");
-    assert_line("1=\t>2", "refused rule 2 at 2");
-    assert_line("1=>2 \t1", "refused rule 2 at 4");
-    assert_line(b"1=>2\t1\r", "refused slip 2 at 1");
-    assert_line(b"1=>2\t1:\xff", "refused slip 2 at 2");
+    assert_carry("", "refused rule 2 at 0");
+    assert_carry("\t", "refused rule 2 at 0");
+    assert_carry("\t1", "refused rule 2 at 0");
+    assert_carry("1=>2", "refused slip 2 at 0");
+    assert_carry("1=>2\t", "refused slip 2 at 0");
+    assert_carry("1=>2\t1\t", "refused slip 2 at 1");
+    assert_carry("1=>2\t\t1", "refused slip 2 at 0");
+    assert_carry("1\t=>2", "refused slip 2 at 0");
+    assert_carry("1=\t>2", "refused rule 2 at 2");
+    assert_carry("1=>2 \t1", "refused rule 2 at 4");
+    assert_carry(b"1=>2\t1\r", "refused slip 2 at 1");
+    assert_carry(b"1=>2\t1:\xff", "refused slip 2 at 2");
 }
 
 #[test]
 fn long_lines() {
     let line = |rule: usize, slip: usize| ["x".repeat(rule), "y".repeat(slip)].join("\t");
-    assert_line(line(4096, 8192), "refused rule 2 at 0");
-    assert_line(line(4096, 8193), "line too long");
-    assert_line(line(4097, 8192), "line too long");
-    assert_line(line(4097, 8191), "refused rule 1 at 4096");
-    assert_line("x".repeat(12_289), "refused rule 1 at 4096");
-    assert_line("x".repeat(12_290), "line too long");
-    assert_line([b'\t'; 12_290], "line too long");
+    assert_carry(line(4096, 8192), "refused rule 2 at 0");
+    assert_carry(line(4096, 8193), "line too long");
+    assert_carry(line(4097, 8192), "line too long");
+    assert_carry(line(4097, 8191), "refused rule 1 at 4096");
+    assert_carry("x".repeat(12_289), "refused rule 1 at 4096");
+    assert_carry("x".repeat(12_290), "line too long");
+    assert_carry([b'\t'; 12_290], "line too long");
     assert_carried("1=>2", &"y".repeat(12_284), "refused slip 1 at 8192");
     assert_carried("1=>2", &"y".repeat(12_285), "line too long");
 }

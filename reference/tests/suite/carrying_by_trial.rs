@@ -80,13 +80,6 @@ fn three_fields() {
     compare(3, &[int(0), string("")], 2, 60, 3);
 }
 
-fn read_both(line: &[u8]) -> Option<(Rule, Slip)> {
-    let tab = line.iter().position(|&byte| byte == b'\t')?;
-    let rule = read_rule(&line[..tab]).ok()?;
-    let slip = read_slip(&line[tab + 1..]).ok()?;
-    Some((rule, slip))
-}
-
 /// The longest field of a result, by adding up what its terms stand for.
 fn longest_field(right: &Side, filling: &Filling) -> usize {
     let length = |term: &Term| match *term {

@@ -4,15 +4,12 @@ use reference::answers::matches_answer;
 
 use crate::support::*;
 
-fn assert_line(line: impl AsRef<[u8]>, answer: &str) {
-    let line = line.as_ref();
-    let expected = format!("match 7\n{answer}\n");
-    let found = matches_answer(7, line);
-    assert_eq!(show(&found), show(expected.as_bytes()), "{}", show(line));
+fn assert_matches(line: impl AsRef<[u8]>, answer: &str) {
+    assert_line("match", matches_answer, line, answer);
 }
 
 fn assert_match(rule: &str, slip: &str, answer: &str) {
-    assert_line(format!("{rule}\t{slip}"), answer);
+    assert_matches(format!("{rule}\t{slip}"), answer);
 }
 
 #[test]
@@ -157,33 +154,33 @@ fn refusals_name_the_side() {
 
 #[test]
 fn the_first_tab_divides() {
-    assert_line("", "refused rule 2 at 0");
-    assert_line("\t", "refused rule 2 at 0");
-    assert_line("\t1", "refused rule 2 at 0");
-    assert_line("1", "refused slip 2 at 0");
-    assert_line("1\t", "refused slip 2 at 0");
-    assert_line("1\t1\t", "refused slip 2 at 1");
-    assert_line("1\t\t1", "refused slip 2 at 0");
-    assert_line("\"\t\"\t1", "refused rule 2 at 1");
-    assert_line("1 \t1", "refused rule 2 at 1");
-    assert_line(b"1\t1\r", "refused slip 2 at 1");
-    assert_line(b"\0\t1", "refused rule 2 at 0");
-    assert_line(b"1\t1:\xff", "refused slip 2 at 2");
+    assert_matches("", "refused rule 2 at 0");
+    assert_matches("\t", "refused rule 2 at 0");
+    assert_matches("\t1", "refused rule 2 at 0");
+    assert_matches("1", "refused slip 2 at 0");
+    assert_matches("1\t", "refused slip 2 at 0");
+    assert_matches("1\t1\t", "refused slip 2 at 1");
+    assert_matches("1\t\t1", "refused slip 2 at 0");
+    assert_matches("\"\t\"\t1", "refused rule 2 at 1");
+    assert_matches("1 \t1", "refused rule 2 at 1");
+    assert_matches(b"1\t1\r", "refused slip 2 at 1");
+    assert_matches(b"\0\t1", "refused rule 2 at 0");
+    assert_matches(b"1\t1:\xff", "refused slip 2 at 2");
 }
 
 #[test]
 fn long_lines() {
     let line = |rule: usize, slip: usize| ["x".repeat(rule), "y".repeat(slip)].join("\t");
-    assert_line(line(4096, 8192), "refused rule 2 at 0");
-    assert_line(line(4096, 8193), "line too long");
-    assert_line(line(4097, 8192), "line too long");
-    assert_line(line(4097, 8191), "refused rule 1 at 4096");
-    assert_line(line(12_288, 0), "refused rule 1 at 4096");
-    assert_line(line(12_289, 0), "line too long");
-    assert_line("x".repeat(12_289), "refused rule 1 at 4096");
-    assert_line("x".repeat(12_290), "line too long");
-    assert_line([b'\t'; 12_289], "refused rule 2 at 0");
-    assert_line([b'\t'; 12_290], "line too long");
+    assert_matches(line(4096, 8192), "refused rule 2 at 0");
+    assert_matches(line(4096, 8193), "line too long");
+    assert_matches(line(4097, 8192), "line too long");
+    assert_matches(line(4097, 8191), "refused rule 1 at 4096");
+    assert_matches(line(12_288, 0), "refused rule 1 at 4096");
+    assert_matches(line(12_289, 0), "line too long");
+    assert_matches("x".repeat(12_289), "refused rule 1 at 4096");
+    assert_matches("x".repeat(12_290), "line too long");
+    assert_matches([b'\t'; 12_289], "refused rule 2 at 0");
+    assert_matches([b'\t'; 12_290], "line too long");
     assert_match("1", &"y".repeat(12_287), "refused slip 1 at 8192");
     assert_match("1", &"y".repeat(12_288), "line too long");
     assert_match("1", &"y".repeat(8192), "refused slip 2 at 0");

@@ -7,7 +7,7 @@ use std::collections::HashMap;
 use reference::answers::matches_answer;
 use reference::generate::matches::match_line;
 use reference::matching::{fillings, match_rule};
-use reference::terms::{Field, Filling, Rule, Slip, Term};
+use reference::terms::{Field, Filling, Term};
 
 use crate::support::*;
 use crate::universe::*;
@@ -68,14 +68,6 @@ fn generated_lines_have_one_filling() {
         }
     }
     assert!(found > 1_000);
-}
-
-fn read_both(line: &[u8]) -> Option<(Rule, Slip)> {
-    let text = std::str::from_utf8(line).ok()?;
-    let (rule, slip) = text.split_once('\t')?;
-    let rule = reference::reading::read_rule(rule.as_bytes()).ok()?;
-    let slip = reference::reading::read_slip(slip.as_bytes()).ok()?;
-    Some((rule, slip))
 }
 
 /// The kinds of answer: yes, no, the refusals by side and number, too long.

@@ -33,6 +33,27 @@ pub fn show(text: &[u8]) -> String {
     text.escape_ascii().to_string()
 }
 
+/// What a program answers to line 7, which is a title and this line.
+pub fn assert_line(
+    title: &str,
+    answer: impl Fn(usize, &[u8]) -> Vec<u8>,
+    line: impl AsRef<[u8]>,
+    expected: &str,
+) {
+    let line = line.as_ref();
+    let expected = format!("{title} 7\n{expected}\n");
+    let found = answer(7, line);
+    assert_eq!(show(&found), show(expected.as_bytes()), "{}", show(line));
+}
+
+/// The rule and the slip of a line, where both are accepted.
+pub fn read_both(line: &[u8]) -> Option<(Rule, Slip)> {
+    let tab = line.iter().position(|&byte| byte == b'\t')?;
+    let rule = read_rule(&line[..tab]).ok()?;
+    let slip = read_slip(&line[tab + 1..]).ok()?;
+    Some((rule, slip))
+}
+
 pub fn assert_rule(text: impl AsRef<[u8]>, fields: Vec<Field>) {
     let text = text.as_ref();
     assert_eq!(read_rule(text), Ok(Rule::of(fields)), "rule {}", show(text));
