@@ -1,6 +1,7 @@
 //! What each program prints for one line of its input.
 
 use crate::carrying::{carry_out, Carried};
+use crate::comparing::compared;
 use crate::matching::match_rule;
 use crate::overlaps::entries;
 use crate::reading::{read_rule, read_slip, Refusal};
@@ -46,10 +47,12 @@ fn match_line(line: &[u8]) -> Vec<u8> {
         Ok(both) => both,
         Err(answer) => return answer,
     };
-    match match_rule(&rule, &slip) {
-        Some(filling) => [b"yes", plain_filling(&filling, "").as_slice(), b"\n"].concat(),
-        None => b"no\n".to_vec(),
-    }
+    let (answer, values) = match match_rule(&rule, &slip) {
+        Some(filling) => ("yes", plain_filling(&filling, "")),
+        None => ("no", Vec::new()),
+    };
+    let count = compared(&rule, &slip).to_string();
+    [answer.as_bytes(), b" ", count.as_bytes(), &values, b"\n"].concat()
 }
 
 /// For `carry`: a rule, a tab and a slip.

@@ -6,6 +6,7 @@
 //! - [`reading`]: from text to values, with refusals.
 //! - [`writing`]: from values to plain text.
 //! - [`matching`]: a rule against a slip.
+//! - [`comparing`]: how many items are compared for it.
 //! - [`carrying`]: what a rule makes of a slip.
 //! - [`overlaps`]: which slips two rules share.
 //! - [`search`]: which values make two fields equal.
@@ -14,6 +15,7 @@
 
 pub mod answers;
 pub mod carrying;
+pub mod comparing;
 pub mod draw;
 pub mod generate;
 mod grammar;

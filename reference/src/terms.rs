@@ -53,6 +53,12 @@ pub enum Term {
     Var(Kind, u32),
 }
 
+impl Term {
+    pub fn is_list(&self) -> bool {
+        matches!(self, Term::Var(Kind::List, _))
+    }
+}
+
 pub type Field = Vec<Term>;
 
 /// A variable of a rule, by its type and number.

@@ -5,7 +5,7 @@ use Prim.Native.Nat.{ℕ, zero, suc, _+_, _-_, _<_, _≤_}
 use native.Mathlib.Omega.{arith}
 use lib.ListN.{length, take, drop, length-append, length-map}
 use lib.Seq.{append-snoc}
-use Rattle.lists.specs.Seqs.{tabulate, tabulate-same}
+use Rattle.lists.specs.Seqs.{tabulate, tabulate-long, tabulate-same}
 use Rattle.choices.specs.Choices.{walk}
 
 -- ---- tables
@@ -14,12 +14,8 @@ pub tabulate-map : {A B : Type 0} (g : A → B) (n : ℕ) (f : ℕ → A) → ma
 tabulate-map g zero f = refl
 tabulate-map {B = B} g (suc n) f = ap (λ (t : List B). g (f 0) ∷ t) (tabulate-map g n (λ i. f (suc i)))
 
-table-long : {A : Type 0} (n : ℕ) (f : ℕ → A) → length (tabulate n f) ≡ n
-table-long zero f = refl
-table-long (suc n) f = ap suc (table-long n (λ i. f (suc i)))
-
 pub long-as-table : {A B : Type 0} (g : A → B) (n : ℕ) (f : ℕ → B) (l : List A) → tabulate n f ≡ map g l → length l ≡ n
-long-as-table g n f l e = sym (length-map l g) ∙ sym (ap length e) ∙ table-long n f
+long-as-table g n f l e = sym (length-map l g) ∙ sym (ap length e) ∙ tabulate-long n f
 
 pub take-table : {A : Type 0} (h n : ℕ) (f : ℕ → A) → h ≤ n → take h (tabulate n f) ≡ tabulate h f
 take-table zero n f q = refl

@@ -1,5 +1,6 @@
 pub mod Texts
 pub mod Matching
+pub mod Comparing
 pub mod Carrying
 pub mod Searching
 pub mod Entries

@@ -5,12 +5,14 @@ ghost use mathlib.Core.Path.{_≡_};
 ghost use Rattle.overlaps.specs.Answers.{textsRoom};
 ghost use Rattle.demands.specs.Texts.{RuleReading, SlipReading, RuleWriting, SlipWriting};
 ghost use Rattle.demands.specs.Matching.{Matching};
+ghost use Rattle.demands.specs.Comparing.{Comparing};
 ghost use Rattle.demands.specs.Carrying.{Carrying};
 ghost use Rattle.demands.specs.Searching.{SearchDemand};
 ghost use Rattle.demands.specs.Overlaps.{ListsSharedSlips, TextsSharedSlips};
 ghost use Rattle.demands.specs.Pairs.{PairSharedSlips};
 ghost use Rattle.demands.specs.Library.{LibrarySharedSlips};
 use carrying::Carried;
+use matching::Comparison;
 use matching::Match;
 use overlaps::Listed;
 use overlaps::TextsListed;
@@ -60,6 +62,13 @@ pub fn match_rule(rule: Rule, slip: Slip) -> Match
     ensures { λ m. ⌜ Matching rule slip m ⌝ }
 {
     matching::match_rule(rule, slip)
+}
+
+// The same answer, found by ending at the first test that fails, and how many of the slip's items were compared until then.
+pub fn compare_rule(rule: Rule, slip: Slip) -> Comparison
+    ensures { λ c. ⌜ Comparing rule slip c ⌝ }
+{
+    matching::compare_rule(rule, slip)
 }
 
 // ---- carrying out

@@ -1,6 +1,6 @@
 -- Loops over the terms of a field.
-use mathlib.Core.Path.{_≡_, sym, _∙_, ap, ap₂}
-use mathlib.Core.Bool.{Bool, true, false, cond, not}
+use mathlib.Core.Path.{_≡_, refl, sym, _∙_, ap, ap₂, subst}
+use mathlib.Core.Bool.{Bool, true, false, cond, not, false≢true}
 use mathlib.Core.List.{List, [], _∷_, foldl}
 use Prim.Native.Nat.{ℕ, _+_, _-_, _*_, _<_, _≤_, min}
 use native.Mathlib.Numerals.{add-one}
@@ -9,15 +9,21 @@ use borrow.Author.Tests.{not-true, not-false, eqb-true, leb-true}
 use lib.Dec.{eqb, leb}
 use lib.ListN.{length, getD, take, drop, length-take, drop-of-length-le, List·getD-eq-default}
 use lib.Seq.{drop-cons, getD-take}
-use Rattle.terms.specs.declared.Form.the-variants.{Int}
+use Rattle.order.specs.Order.{basic, list}
+use Rattle.order.specs.Types.{Kind}
+use Rattle.order.specs.Values.{kindOf}
+use Rattle.terms.specs.declared.Form.{Form}
+use Rattle.terms.specs.declared.Form.the-variants.{Int, Str, Var}
 use Rattle.terms.specs.declared.Term.{Term}
 use Rattle.terms.specs.Values.{blankTerm}
 use Rattle.bindings.specs.declared.Values.{Values}
 use Rattle.bindings.proofs.Entries.{entry-any}
 use Rattle.item_match.specs.declared.Tested.{Tested}
-use Rattle.item_match.specs.Tests.{tested}
+use Rattle.item_match.specs.Tests.{isList, testVar, testBy, tested}
 use Rattle.field_match.specs.declared.Shape.{Shape}
-use Rattle.field_match.specs.Fields.{isListTerm, widthOf, pick, goOn, walked, shapeWith, shapeOf, fitsLength, fieldTested}
+use Rattle.field_match.specs.declared.Progress.{Progress}
+use Rattle.field_match.specs.Fields.{isListForm, isListTerm, widthOf, pick, goOn, walked, atomsIn}
+use Rattle.field_match.specs.Fields.{countOn, walkCompared, walkProgress, shapeWith, shapeOf, fitsLength, fieldProgress}
 
 -- what an array of terms is read as beyond its end
 abbrev pub absent : Term
@@ -66,40 +72,95 @@ module _ (n : ℕ) (s : List Term) (w : ℕ) where
 
 -- ---- testing the terms
 
+-- a list variable passes, and compares nothing
+list-passes : (t item : Term) (v : Values) → isListTerm t ≡ true → tested t item v ≡ record { ok = true; values = v }
+list-passes t item v e = go (t .form) e
+  where
+    var : (k : Kind) (n : ℕ) → isList k ≡ true → testVar k n item v ≡ record { ok = true; values = v }
+    var (basic k) n e = absurd (false≢true e)
+    var list n e = refl
+
+    go : (f : Form) → isListForm f ≡ true → testBy f t item v ≡ record { ok = true; values = v }
+    go (Int m) e = absurd (false≢true e)
+    go (Str k) e = absurd (false≢true e)
+    go (Var k n) e = var (kindOf k) n e
+
 module _ (gap : ℕ) (items : List Term) (n : ℕ) (s : List Term) (w : ℕ) (v₀ : Values) where
-  abbrev pub Reached : ℕ → ℕ → Values → Type 0
-  Reached i p v = (length s ≡ w) × (p ≤ 64 * i) × (walked gap items (take n s) 0 v₀ ≡ walked gap items (drop i (take n s)) p v)
+  -- what is left of the walk, with c items compared so far, is the whole walk
+  abbrev pub Reached : ℕ → ℕ → ℕ → Values → Type 0
+  Reached i p c v = (length s ≡ w) × (p ≤ 64 * i) × (c ≤ i)
+      × (walked gap items (take n s) 0 v₀ ≡ walked gap items (drop i (take n s)) p v)
+      × (walkCompared gap items (take n s) 0 v₀ ≡ c + walkCompared gap items (drop i (take n s)) p v)
 
-  step : (i p : ℕ) (v : Values) (d : Term) → Reached i p v → i < min n w
-      → walked gap items (take n s) 0 v₀ ≡ goOn (tested (getD s i d) (getD items p blankTerm) v) (walked gap items (drop (i + 1) (take n s)) (p + widthOf gap (getD s i d)))
-  step i p v d r h = r .2 ∙ ap (λ (f : List Term). walked gap items f p v) (here n s i d (omega arith) (omega (arith, r .0)))
+  module _ (i p c : ℕ) (v : Values) (d : Term) (r : Reached i p c v) (h : i < min n w) where
+    abbrev t : Term
+    t = getD s i d
 
-  pub width-small : (t : Term) → gap ≤ 64 → widthOf gap t ≤ 64
-  width-small t h = go (isListTerm t)
-    where
-      go : (b : Bool) → cond b gap 1 ≤ 64
-      go true = h
-      go false = omega arith
+    abbrev rest : List Term
+    rest = drop (i + 1) (take n s)
 
-  module _ (i p : ℕ) (v : Values) (d : Term) (r : Reached i p v) (h : i < min n w) (item : Term) (is-item : item ≡ getD items p blankTerm)
-      (x : Tested) (is-x : x ≡ tested (getD s i d) item v) where
-    same : goOn x (walked gap items (drop (i + 1) (take n s)) (p + widthOf gap (getD s i d))) ≡ walked gap items (take n s) 0 v₀
-    same = ap (λ (y : Tested). goOn y (walked gap items (drop (i + 1) (take n s)) (p + widthOf gap (getD s i d)))) (is-x ∙ ap (λ (z : Term). tested (getD s i d) z v) is-item) ∙ sym (step i p v d r h)
+    step : drop i (take n s) ≡ t ∷ rest
+    step = here n s i d (omega arith) (omega (arith, r .0))
 
-    pub reached-one : (k : ℕ) → gap ≤ 64 → not (x .ok) ≡ false → k ≡ widthOf gap (getD s i d) → Reached (i + 1) (p + k) (x .values)
-    reached-one k g e is-k =
-        let b = width-small (getD s i d) g in (
-          r .0,
-          omega (arith, r .1),
-          sym same ∙ ap (λ (b : Bool). pick b (walked gap items (drop (i + 1) (take n s)) (p + widthOf gap (getD s i d)) (x .values)) x) (not-false (x .ok) e)
-              ∙ ap (λ (j : ℕ). walked gap items (drop (i + 1) (take n s)) (p + j) (x .values)) (sym is-k),
-        )
+    -- the whole walk from a test with the answer x on
+    abbrev On : Tested → ℕ → ℕ → Type 0
+    On x a k = (walked gap items (take n s) 0 v₀ ≡ goOn x (walked gap items rest (p + k)))
+        × (walkCompared gap items (take n s) 0 v₀ ≡ c + (a + countOn x (walkCompared gap items rest (p + k))))
 
-    pub reached-fail : not (x .ok) ≡ true → x ≡ walked gap items (take n s) 0 v₀
-    reached-fail e = ap (λ (b : Bool). pick b (walked gap items (drop (i + 1) (take n s)) (p + widthOf gap (getD s i d)) (x .values)) x) (sym (not-true (x .ok) e)) ∙ same
+    on : On (tested t (getD items p blankTerm) v) (atomsIn t) (widthOf gap t)
+    on = (
+      r .3 ∙ ap (λ (f : List Term). walked gap items f p v) step,
+      r .4 ∙ ap (λ (f : List Term). c + walkCompared gap items f p v) step,
+    )
 
-  pub reached-all : (i p : ℕ) (v : Values) → Reached i p v → min n w ≤ i → record { ok = true; values = v } ≡ walked gap items (take n s) 0 v₀
-  reached-all i p v r h = sym (r .2 ∙ ap (λ (f : List Term). walked gap items f p v) (no-more n s w (r .0) i h))
+    pub reached-list : (b : Bool) → b ≡ isListTerm t → b ≡ true → gap ≤ 64 → Reached (i + 1) (p + gap) c v
+    reached-list b is e g =
+        let l : isListTerm t ≡ true = sym is ∙ e in
+        let o = subst (λ (x : Tested). On x (atomsIn t) (widthOf gap t)) (list-passes t (getD items p blankTerm) v l) on in
+        let q = subst (λ (y : Bool). On (record { ok = true; values = v }) (cond y 0 1) (cond y gap 1)) l o in
+        (r .0, omega (arith, r .1), omega (arith, r .2), q .0, q .1 ∙ omega arith)
+
+    module _ (b : Bool) (is-b : b ≡ isListTerm t) (atom : b ≡ false) (item : Term) (is-item : item ≡ getD items p blankTerm)
+        (x : Tested) (is-x : x ≡ tested t item v) where
+      one : On x 1 1
+      one =
+          let o = subst (λ (y : Tested). On y (atomsIn t) (widthOf gap t)) (sym (is-x ∙ ap (λ (z : Term). tested t z v) is-item)) on in
+          subst (λ (y : Bool). On x (cond y 0 1) (cond y gap 1)) (sym is-b ∙ atom) o
+
+      -- what follows a test that has passed or failed
+      after : (y : Bool) → x .ok ≡ y
+          → (walked gap items (take n s) 0 v₀ ≡ pick y (walked gap items rest (p + 1) (x .values)) x)
+          × (walkCompared gap items (take n s) 0 v₀ ≡ c + (1 + cond y (walkCompared gap items rest (p + 1) (x .values)) 0))
+      after y e = (
+        one .0 ∙ ap (λ (z : Bool). pick z (walked gap items rest (p + 1) (x .values)) x) e,
+        one .1 ∙ ap (λ (z : Bool). c + (1 + cond z (walkCompared gap items rest (p + 1) (x .values)) 0)) e,
+      )
+
+      pub reached-one : not (x .ok) ≡ false → Reached (i + 1) (p + 1) (c + 1) (x .values)
+      reached-one e =
+          let a = after true (not-false (x .ok) e) in
+          (r .0, omega (arith, r .1), omega (arith, r .2), a .0, a .1 ∙ omega arith)
+
+      pub reached-fail : not (x .ok) ≡ true → record { tested = x; compared = c + 1 } ≡ walkProgress gap items (take n s) v₀
+      reached-fail e =
+          let a = after false (not-true (x .ok) e) in
+          ap₂ (λ (y : Tested) (k : ℕ). record { tested = y; compared = k }) (sym (a .0)) (sym (a .1 ∙ omega arith))
+
+  -- where two ways meet
+  pub reached-same : (i p p′ c c′ : ℕ) (v v′ : Values) → v′ ≡ v → c′ ≡ c → p′ ≡ p → Reached i p c v → Reached i p′ c′ v′
+  reached-same i p p′ c c′ v v′ a b d r =
+      subst (λ (x : Values). Reached i p′ c′ x) (sym a) (subst (λ (x : ℕ). Reached i p′ x v) (sym b) (subst (λ (x : ℕ). Reached i x c v) (sym d) r))
+
+  pub reached-none : length s ≡ w → Reached 0 0 0 v₀
+  reached-none e = (e, omega arith, omega arith, refl, omega arith)
+
+  pub reached-all : (i p c : ℕ) (v : Values) → Reached i p c v → min n w ≤ i
+      → record { tested = record { ok = true; values = v }; compared = c } ≡ walkProgress gap items (take n s) v₀
+  reached-all i p c v r h =
+      let z = no-more n s w (r .0) i h in
+      ap₂ (λ (y : Tested) (k : ℕ). record { tested = y; compared = k })
+      (sym (r .3 ∙ ap (λ (f : List Term). walked gap items f p v) z))
+      (sym (r .4 ∙ ap (λ (f : List Term). c + walkCompared gap items f p v) z ∙ omega arith))
 
 -- ---- a field
 
@@ -114,13 +175,18 @@ fits-atoms x n = go (eqb (x .lists) 0)
     go false e = leb-true (x .atoms) n e
 
 module _ (f items : List Term) (v : Values) (x : Shape) (n : ℕ) (b : Bool) (is-x : x ≡ shapeOf f) (is-n : n ≡ length items) (is-b : b ≡ fitsLength x n) where
-  by : (y : Bool) → b ≡ y → cond y (walked (n - x .atoms) items f 0 v) (record { ok = false; values = v }) ≡ fieldTested f items v
-  by y e =
-      ap (λ (z : Bool). cond z (walked (n - x .atoms) items f 0 v) (record { ok = false; values = v })) (sym e ∙ is-b)
-      ∙ ap₂ (λ (s : Shape) (m : ℕ). cond (fitsLength s m) (walked (m - s .atoms) items f 0 v) (record { ok = false; values = v })) is-x is-n
+  -- how far a field gets, by whether its length fits
+  abbrev by : Bool → Shape → ℕ → Progress
+  by y z m = record {
+    tested = cond y (walked (m - z .atoms) items f 0 v) (record { ok = false; values = v });
+    compared = cond y (walkCompared (m - z .atoms) items f 0 v) 0;
+  }
 
-  pub field-fails : not b ≡ true → record { ok = false; values = v } ≡ fieldTested f items v
-  field-fails e = by false (not-true b e)
+  by-is : (y : Bool) → b ≡ y → by y x n ≡ fieldProgress f items v
+  by-is y e = ap (λ (z : Bool). by z x n) (sym e ∙ is-b) ∙ ap₂ (λ (z : Shape) (m : ℕ). by (fitsLength z m) z m) is-x is-n
 
-  pub field-goes : (r : Tested) → not b ≡ false → r ≡ walked (n - x .atoms) items f 0 v → r ≡ fieldTested f items v
-  field-goes r e q = q ∙ by true (not-false b e)
+  pub field-fails : not b ≡ true → record { tested = record { ok = false; values = v }; compared = 0 } ≡ fieldProgress f items v
+  field-fails e = by-is false (not-true b e)
+
+  pub field-goes : (r : Progress) → not b ≡ false → r ≡ walkProgress (n - x .atoms) items f v → r ≡ fieldProgress f items v
+  field-goes r e q = q ∙ by-is true (not-false b e)

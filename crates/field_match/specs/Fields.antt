@@ -15,6 +15,7 @@ use Rattle.bindings.specs.declared.Values.{Values}
 use Rattle.item_match.specs.declared.Tested.{Tested}
 use Rattle.item_match.specs.Tests.{isList, tested}
 use Rattle.field_match.specs.declared.Shape.{Shape}
+use Rattle.field_match.specs.declared.Progress.{Progress}
 
 -- ---- the terms of a field from the left, the first at item p; a list variable takes `gap` items
 
@@ -40,6 +41,22 @@ abbrev pub walked : ℕ → List Term → List Term → ℕ → Values → Teste
 walked gap items [] p v = record { ok = true; values = v }
 walked gap items (t ∷ f) p v = goOn (tested t (getD items p blankTerm) v) (walked gap items f (p + widthOf gap t))
 
+-- how many of the items are compared on the way: one for each atom reached, the failing one included
+abbrev pub atomsIn : Term → ℕ
+atomsIn t = cond (isListTerm t) 0 1
+
+abbrev pub countOn : Tested → (Values → ℕ) → ℕ
+countOn r k = cond (r .ok) (k (r .values)) 0
+
+abbrev pub walkCompared : ℕ → List Term → List Term → ℕ → Values → ℕ
+walkCompared gap items [] p v = 0
+walkCompared gap items (t ∷ f) p v =
+    atomsIn t + countOn (tested t (getD items p blankTerm) v) (walkCompared gap items f (p + widthOf gap t))
+
+-- how far the tests get: the values so far, or that a test has failed, and how many items were compared
+abbrev pub walkProgress : ℕ → List Term → List Term → Values → Progress
+walkProgress gap items f v = record { tested = walked gap items f 0 v; compared = walkCompared gap items f 0 v }
+
 -- ---- a field: first its length
 
 abbrev pub shapeWith : Shape → Term → Shape
@@ -55,7 +72,16 @@ abbrev pub fitsLength : Shape → ℕ → Bool
 fitsLength s n = cond (eqb (s .lists) 0) (eqb (s .atoms) n) (leb (s .atoms) n)
 
 abbrev pub fieldTested : List Term → List Term → Values → Tested
-fieldTested f items v = cond (fitsLength (shapeOf f) (length items)) (walked (length items - (shapeOf f) .atoms) items f 0 v) (record { ok = false; values = v })
+fieldTested f items v =
+    cond (fitsLength (shapeOf f) (length items)) (walked (length items - (shapeOf f) .atoms) items f 0 v)
+    (record { ok = false; values = v })
+
+-- a field whose length fails compares nothing
+abbrev pub fieldCompared : List Term → List Term → Values → ℕ
+fieldCompared f items v = cond (fitsLength (shapeOf f) (length items)) (walkCompared (length items - (shapeOf f) .atoms) items f 0 v) 0
+
+abbrev pub fieldProgress : List Term → List Term → Values → Progress
+fieldProgress f items v = record { tested = fieldTested f items v; compared = fieldCompared f items v }
 
 abbrev pub termsOf : Field → List Term
 termsOf f = take (f .n) (f .terms)

@@ -3,7 +3,7 @@ ghost use mathlib.Core.Path.{_≡_};
 ghost use Prim.Native.Nat.{_≤_, min};
 ghost use lib.ListN.{getD};
 ghost use Rattle.terms.specs.Values.{blankTerm};
-ghost use Rattle.field_match.specs.Fields.{isListTerm, widthOf, walked, shapeWith, shapeOf, fitsLength, fieldTested, termsOf, itemsOf};
+ghost use Rattle.field_match.specs.Fields.{isListTerm, walkProgress, shapeWith, shapeOf, fitsLength, fieldProgress, termsOf, itemsOf};
 use bindings::Values;
 use item_match::Tested;
 use order::Kind;
@@ -12,13 +12,20 @@ use terms::Form;
 use terms::SlipField;
 use terms::Term;
 
+// How far the tests got: the values so far or that a test has failed, and how many of the slip's items were compared.
+pub struct Progress {
+    pub tested: Tested,
+    pub compared: usize,
+}
+
 // How many of a field's terms are atoms, and how many list variables.
 struct Shape {
     atoms: usize,
     lists: usize,
 }
 
-fn is_list_term(t: Term) -> bool
+// Whether a term is a list variable.
+pub fn is_list_term(t: Term) -> bool
     ensures { λ r. ⌜ r ≡ isListTerm t ⌝ }
 {
     let form = t.form;
@@ -79,34 +86,41 @@ fn item_at(w: SlipField, p: usize) -> Term
     w.terms[p]
 }
 
-fn width_of(gap: usize, t: Term) -> usize
-    ensures { λ r. ⌜ r ≡ widthOf gap t ⌝ }
-{
-    if is_list_term(t) { gap } else { 1 }
-}
-
-// The terms of a field from the left; a list variable takes gap items.
-fn walk_field(f: Field, w: SlipField, gap: usize, v: Values) -> Tested
+// The terms of a field from the left, up to the first that fails; a list variable takes gap items and compares none.
+fn walk_field(f: Field, w: SlipField, gap: usize, v: Values) -> Progress
     requires { ⌜ gap ≤ 64 ⌝ }
-    ensures { λ r. ⌜ r ≡ walked gap (itemsOf w) (termsOf f) 0 v ⌝ }
+    ensures { λ r. ⌜ (r ≡ walkProgress gap (itemsOf w) (termsOf f) v) × (r .compared ≤ 16) ⌝ }
 {
     let n = at_most(f.n, 16);
     let mut now = v;
+    let mut compared: usize = 0;
     let mut p: usize = 0;
     let mut i: usize = 0;
     while i < n {
         let t = f.terms[i];
-        let r = item_match::test_term(t, item_at(w, p), now);
-        if !r.ok {
-            return r;
+        if is_list_term(t) {
+            p += gap;
+        } else {
+            let r = item_match::test_term(t, item_at(w, p), now);
+            compared += 1;
+            if !r.ok {
+                return Progress {
+                    tested: r,
+                    compared: compared,
+                };
+            }
+            now = r.values;
+            p += 1;
         }
-        now = r.values;
-        p += width_of(gap, t);
         i += 1;
     }
-    Tested {
+    let passed = Tested {
         ok: true,
         values: now,
+    };
+    Progress {
+        tested: passed,
+        compared: compared,
     }
 }
 
@@ -121,16 +135,20 @@ fn fits_length(s: Shape, n: usize) -> bool
 }
 
 // A field: first its length, then its terms from the left.
-pub fn match_field(f: Field, w: SlipField, v: Values) -> Tested
-    ensures { λ r. ⌜ r ≡ fieldTested (termsOf f) (itemsOf w) v ⌝ }
+pub fn match_field(f: Field, w: SlipField, v: Values) -> Progress
+    ensures { λ r. ⌜ (r ≡ fieldProgress (termsOf f) (itemsOf w) v) × (r .compared ≤ 16) ⌝ }
 {
     let s = shape_of(f);
     let atoms = s.atoms;
     let n = at_most(w.n, 64);
     if !fits_length(s, n) {
-        return Tested {
+        let failed = Tested {
             ok: false,
             values: v,
+        };
+        return Progress {
+            tested: failed,
+            compared: 0,
         };
     }
     walk_field(f, w, n - atoms, v)

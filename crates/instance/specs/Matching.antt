@@ -26,6 +26,9 @@ Matches rule slip = definition.Matches basics consts rule slip
 abbrev pub matcher : List (List OurTerm) → List (List Con) → Option (Filling Con Kind ℕ)
 matcher rule slip = executable.matcher basics consts ℕ-discrete rule slip
 
--- how many of the slip's items are compared
+-- the tests in their order, and how many of the slip's items they compare up to the first that fails
+abbrev pub tests : List (List OurTerm) → List (List Con) → List counted.Test
+tests rule slip = counted.tests basics consts ℕ-discrete rule slip
+
 abbrev pub compared : List (List OurTerm) → List (List Con) → ℕ
 compared rule slip = counted.compared basics consts ℕ-discrete rule slip

@@ -80,6 +80,15 @@ tabulate zero f = []
 tabulate (suc n) f = f 0 ∷ tabulate n (λ i. f (suc i))
 
 module _ {A : Type 0} where
+  pub tabulate-long : (n : ℕ) (f : ℕ → A) → length (tabulate n f) ≡ n
+  tabulate-long zero f = refl
+  tabulate-long (suc n) f = omega (arith, tabulate-long n (λ i. f (suc i)))
+
+  pub tabulate-at : (n : ℕ) (f : ℕ → A) (i : ℕ) (d : A) → i < n → getD (tabulate n f) i d ≡ f i
+  tabulate-at zero f i d h = absurd (omega arith)
+  tabulate-at (suc n) f zero d h = refl
+  tabulate-at (suc n) f (suc i) d h = tabulate-at n (λ j. f (suc j)) i d (omega arith)
+
   -- a list is what its members are
   pub tabulated : (n : ℕ) (s : List A) (f : ℕ → A) (d : A) → length s ≡ n → ((i : ℕ) → i < n → getD s i d ≡ f i) → s ≡ tabulate n f
   tabulated zero [] f d l h = refl

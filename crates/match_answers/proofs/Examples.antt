@@ -10,7 +10,7 @@ use Rattle.text.specs.Ascii.{ascii, newline}
 use Rattle.text.specs.Bytes.{digit?, begins, follows, first, holds}
 use Rattle.text.specs.Marks.{fifth?, many?, over?, clash?, clashOf?}
 use Rattle.rules.specs.Marks.{occurs?, has?}
-use Rattle.match_answers.specs.Matches.{lineText, matchAnswer}
+use Rattle.match_answers.specs.Matches.{textsText, lineText, matchAnswer}
 
 -- a line and what is said of it
 pub record Case : Type 0 where
@@ -19,21 +19,25 @@ pub record Case : Type 0 where
 
 abbrev table : List Case
 table =
-    record { line = "7:i0:l0|\"matt white\"\t7:3:\"a\":4|\"matt white\""; said = "yes i0=3 l0=\"a\":4" } ∷
+    record { line = "7:i0:l0|\"matt white\"\t7:3:\"a\":4|\"matt white\""; said = "yes 3 i0=3 l0=\"a\":4" } ∷
     -- a list variable's value may have no terms
-    record { line = "7:i0:l0|\"matt white\"\t7:3|\"matt white\""; said = "yes i0=3 l0=empty" } ∷
-    record { line = "7:i0:l0|\"matt white\"\t7:\"x\"|\"matt white\""; said = "no" } ∷
+    record { line = "7:i0:l0|\"matt white\"\t7:3|\"matt white\""; said = "yes 3 i0=3 l0=empty" } ∷
+    record { line = "7:i0:l0|\"matt white\"\t7:\"x\"|\"matt white\""; said = "no 2" } ∷
     -- the order i, s, a, l and then by number, whatever the rule's
-    record { line = "l0:a1|i10:i2|l1:s0|a0\t1:2|007:8|\"s\"|\"\""; said = "yes i2=8 i10=7 s0=\"s\" a0=\"\" a1=2 l0=1 l1=empty" } ∷
+    record { line = "l0:a1|i10:i2|l1:s0|a0\t1:2|007:8|\"s\"|\"\""; said = "yes 5 i2=8 i10=7 s0=\"s\" a0=\"\" a1=2 l0=1 l1=empty" } ∷
     -- a variable that occurs twice is shown once
-    record { line = "a0:a0|l3\t1:1|2:3"; said = "yes a0=1 l3=2:3" } ∷
-    record { line = "a0:a0|l3\t1:2|2:3"; said = "no" } ∷
-    record { line = "1:l0:2|s0\t1:5:6:7:2|\"=\""; said = "yes s0=\"=\" l0=5:6:7" } ∷
-    record { line = "empty\tempty"; said = "yes" } ∷
-    record { line = "1|2\t1"; said = "no" } ∷
+    record { line = "a0:a0|l3\t1:1|2:3"; said = "yes 2 a0=1 l3=2:3" } ∷
+    record { line = "a0:a0|l3\t1:2|2:3"; said = "no 2" } ∷
+    record { line = "1:l0:2|s0\t1:5:6:7:2|\"=\""; said = "yes 3 s0=\"=\" l0=5:6:7" } ∷
+    record { line = "empty\tempty"; said = "yes 0" } ∷
+    record { line = "1|2\t1"; said = "no 0" } ∷
+    -- a list variable is no atom; the count runs on over the fields, with the failing item; a field whose length fails compares nothing
+    record { line = "1:l0:2\t1:5:3"; said = "no 2" } ∷
+    record { line = "i0|s0:3\t1|\"q\":4"; said = "no 3" } ∷
+    record { line = "i0|s0\t1|\"q\":4"; said = "no 1" } ∷
     -- a rule with a right side matches by its left side; refusal 10 is the rule's
-    record { line = "i0:l0=>l0:l0|i0\t1:2"; said = "yes i0=1 l0=2" } ∷
-    record { line = "i0=>i0\t\"a\""; said = "no" } ∷
+    record { line = "i0:l0=>l0:l0|i0\t1:2"; said = "yes 1 i0=1 l0=2" } ∷
+    record { line = "i0=>i0\t\"a\""; said = "no 1" } ∷
     record { line = "i0=>a0\t1=>1"; said = "refused rule 10 at 4" } ∷
     record { line = "i0=>i0\t1=>1"; said = "refused slip 2 at 1" } ∷
     -- the rule's refusal goes before the slip's
@@ -46,14 +50,14 @@ table =
     []
 
 pub lines-said : map (λ (c : Case). lineText (ascii (c .line))) table ≡ map (λ (c : Case). ascii (c .said)) table
-unfolding lineText indexAfter indexOf decLe decLt ℕ-discrete digit? begins follows first holds fifth? many? over? any? clash? clashOf? occurs? has?
+unfolding lineText textsText indexAfter indexOf decLe decLt ℕ-discrete digit? begins follows first holds fifth? many? over? any? clash? clashOf? occurs? has?
 lines-said = refl
 
 -- a line of as many bytes as it may have is read, and one of one more is not
 pub long-lines : map lineText (replicate 12289 49 ∷ replicate 12290 49 ∷ []) ≡ ascii "refused rule 1 at 4096" ∷ ascii "line too long" ∷ []
-unfolding lineText indexAfter indexOf decLe decLt ℕ-discrete digit? begins follows first holds fifth? many? over? any? clash? clashOf? occurs? has?
+unfolding lineText textsText indexAfter indexOf decLe decLt ℕ-discrete digit? begins follows first holds fifth? many? over? any? clash? clashOf? occurs? has?
 long-lines = refl
 
-pub two-lines : matchAnswer 12 (ascii "i0\t5") ≡ ascii "match 12" ++ newline ++ ascii "yes i0=5" ++ newline
-unfolding matchAnswer lineText indexAfter indexOf decLe decLt ℕ-discrete digit? begins follows first holds fifth? many? over? any? clash? clashOf? occurs? has?
+pub two-lines : matchAnswer 12 (ascii "i0\t5") ≡ ascii "match 12" ++ newline ++ ascii "yes 1 i0=5" ++ newline
+unfolding matchAnswer lineText textsText indexAfter indexOf decLe decLt ℕ-discrete digit? begins follows first holds fifth? many? over? any? clash? clashOf? occurs? has?
 two-lines = refl

@@ -5,14 +5,14 @@ use mathlib.Core.Option.{Option, none, some}
 use mathlib.Core.List.{List, [], _∷_, _++_, map}
 use Prim.Native.Nat.{ℕ, zero, suc, _+_, _*_, _<_, _≤_}
 use native.Mathlib.Omega.{arith}
-use native.Mathlib.Decide.{decLt}
+use native.Mathlib.Decide.{ℕ-discrete, decLt}
 use borrow.Author.Tests.{lt-ltb}
 use lib.Dec.{ltb}
 use lib.ListN.{length, take, length-append, length-map}
 use lib.Seq.{length-take-le, take-all}
 use Rattle.lists.specs.Seqs.{All, Any}
 use Rattle.order.specs.Order.{basic, list}
-use Rattle.order.specs.Types.{integer, string, atom, Kind}
+use Rattle.order.specs.Types.{integer, string, atom, Kind, basics}
 use Rattle.theory.specs.Terms.{con, var}
 use Rattle.theory.specs.Seqs.{concat-map}
 use Rattle.theory.specs.Fillings.{Filling, Occurs}
@@ -27,13 +27,18 @@ use Rattle.text.proofs.Refused.{slip-place}
 use Rattle.rules.specs.Read.{OurRule, readRule}
 use Rattle.rules.proofs.Accepted.{rule-read}
 use Rattle.rules.proofs.Sharp.{rule-place}
-use Rattle.instance.specs.Matching.{constants, matcher}
+use Rattle.theory.specs.Matcher.{atoms}
+use Rattle.theory.specs.Compared.{allAtoms}
+use Rattle.theory.proofs.Compared.{compared-most}
+use Rattle.instance.specs.Constants.{consts}
+use Rattle.instance.specs.Matching.{constants, matcher, compared}
 use Rattle.matching.proofs.Runs.{atom-value, value-long}
 use Rattle.writing.proofs.Digits.{digits-most, digits-64}
 use Rattle.listing.specs.Variables.{numbersFrom, occurs, variables}
 use Rattle.listing.proofs.Variables.{occurs-is}
 use Rattle.pieces.proofs.Refusals.{number-at-length}
-use Rattle.match_answers.specs.Matches.{longestLine, rulePart, slipPart, valueText, foundText, readText, lineText, titleText, matchAnswer}
+use Rattle.match_answers.specs.Matches.{longestLine, rulePart, slipPart, valueText, foundText, matchText}
+use Rattle.match_answers.specs.Matches.{readText, textsText, lineText, titleText, matchAnswer}
 use Rattle.match_answers.proofs.Said.{value-in, terms-in, ofVariable, ofKindText, by-kind}
 
 -- ---- values
@@ -93,30 +98,61 @@ module _ (x y : List (List OurTerm)) (is-rule : IsLeft x) (is-slip : IsSlip y) (
 
 -- ---- answers
 
-found-short : (x y : List (List OurTerm)) → IsLeft x → IsSlip y → length (foundText x (matcher x (map constants y))) ≤ 19555
+-- at most 64 items are compared: a rule has no more atoms
+atoms-short : (x : List (List OurTerm)) → length x ≤ 4 → All (λ f. length f ≤ 16) x → allAtoms x ≤ 64
+atoms-short x h k = omega (arith, go x k)
+  where
+    atoms-in : (f : List OurTerm) → atoms f ≤ length f
+    atoms-in [] = omega arith
+    atoms-in (con c ∷ f) = omega (arith, atoms-in f)
+    atoms-in (var (basic k) n ∷ f) = omega (arith, atoms-in f)
+    atoms-in (var list n ∷ f) = omega (arith, atoms-in f)
+
+    go : (x : List (List OurTerm)) → All (λ f. length f ≤ 16) x → allAtoms x ≤ 16 * length x
+    go [] k = omega arith
+    go (f ∷ x) k = omega (arith, atoms-in f, k .0, go x (k .1))
+
+found-short : (x y : List (List OurTerm)) → IsLeft x → IsSlip y → length (matchText x y) ≤ 19558
 found-short x y h k = go (matcher x (map constants y)) refl
   where
-    go : (m : Option (Filling Con Kind ℕ)) → matcher x (map constants y) ≡ m → length (foundText x m) ≤ 19555
-    go none e = omega arith
-    go (some φ) e = omega (arith, values-short x y h k φ e)
+    digits : length (digitsOf (compared x (map constants y))) ≤ 2
+    digits =
+        digits-most 1 (compared x (map constants y)) (omega (
+          arith,
+          compared-most basics consts ℕ-discrete x (map constants y),
+          atoms-short x (h .0 .1)
+              (h .0 .2),
+        ))
 
-read-short : (t u : List ℕ) → length (readText (readRule t) (readSlip u)) ≤ 19555
+    go : (m : Option (Filling Con Kind ℕ)) → matcher x (map constants y) ≡ m → length (foundText x (compared x (map constants y)) m) ≤ 19558
+    go none e = omega (arith, length-append (ascii "no ") (digitsOf (compared x (map constants y))), digits)
+    go (some φ) e =
+        omega (
+          arith,
+          length-append (ascii "yes " ++ digitsOf (compared x (map constants y))) (concat-map (valueText φ) (variables x)),
+          length-append (ascii "yes ") (digitsOf (compared x (map constants y))),
+          digits,
+          values-short x y h k φ e,
+        )
+
+read-short : (t u : List ℕ) → length (textsText t u) ≤ 19558
+unfolding textsText
 read-short t u = go (readRule t) (readSlip u) refl refl
   where
-    go : (o : OutcomeOf OurRule) (p : Outcome) → readRule t ≡ o → readSlip u ≡ p → length (readText o p) ≤ 19555
+    go : (o : OutcomeOf OurRule) (p : Outcome) → readRule t ≡ o → readSlip u ≡ p → length (readText o p) ≤ 19558
     go (refused r i) p e f = omega (arith, number-at-length r i (omega (arith, rule-place t r i e .1)))
     go (accepted w) (refused r i) e f = omega (arith, number-at-length r i (omega (arith, slip-place u r i f)))
     go (accepted w) (accepted y) e f = found-short (w .0) y (rule-read t w e .0) (slip-read u y f)
 
-line-short : (t : List ℕ) → length (lineText t) ≤ 19555
+line-short : (t : List ℕ) → length (lineText t) ≤ 19558
 unfolding lineText
 line-short t = go (ltb longestLine (length t))
   where
-    go : (b : Bool) → length (cond b (ascii "line too long") (readText (readRule (rulePart t)) (readSlip (slipPart t)))) ≤ 19555
+    go : (b : Bool) → length (cond b (ascii "line too long") (textsText (rulePart t) (slipPart t))) ≤ 19558
     go true = omega arith
     go false = read-short (rulePart t) (slipPart t)
 
-pub answer-short : (k : ℕ) (t : List ℕ) → k < 18446744073709551616 → length (matchAnswer k t) ≤ 19583
+pub answer-short : (k : ℕ) (t : List ℕ) → k < 18446744073709551616 → length (matchAnswer k t) ≤ 19586
 unfolding matchAnswer
 answer-short k t h =
     omega (arith, length-append (titleText k ++ lineText t) newline, length-append (titleText k) (lineText t), length-append (ascii "match " ++ digitsOf k) newline, line-short t, digits-64 k h)

@@ -3,7 +3,7 @@ use mathlib.Core.Path.{_≡_, refl, sym, ap, ap₂, _∙_, subst}
 use mathlib.Core.Bool.{Bool, true, false, cond}
 use mathlib.Core.Option.{Option, none, some}
 use mathlib.Core.List.{List, [], _∷_, _++_, map, append-nil}
-use Prim.Native.Nat.{ℕ, zero, suc, _+_, _-_, _<_, _≤_, min}
+use Prim.Native.Nat.{ℕ, suc, _+_, _-_, _≤_, min}
 use native.Mathlib.Omega.{arith}
 use native.Mathlib.Decide.{decLe}
 use borrow.Author.Tests.{le-ltb}
@@ -21,35 +21,36 @@ use Rattle.text.specs.Ascii.{ascii}
 use Rattle.text.specs.Terms.{Con, OurTerm}
 use Rattle.text.specs.Plain.{termText, fieldText}
 use Rattle.text.specs.Limits.{TermIn, IsLeft, IsSlip}
-use Rattle.text.specs.Read.{OutcomeOf, Outcome, refused, accepted, readSlip}
+use Rattle.text.specs.Numbers.{digitsOf}
+use Rattle.text.specs.Read.{Reason, number, OutcomeOf, Outcome, refused, accepted, readSide, readSlip}
 use Rattle.text.proofs.Accepted.{slip-read}
 use Rattle.rules.specs.Read.{OurRule, readRule}
 use Rattle.rules.proofs.Accepted.{rule-read}
-use Rattle.instance.specs.Matching.{constants, matcher}
+use Rattle.instance.specs.Matching.{constants, matcher, compared}
 use Rattle.terms.specs.declared.Term.{Term}
-use Rattle.terms.specs.Values.{viewTerm, encodeSide, encodeSlip}
-use Rattle.accepted.specs.Accepted.{countedLeft}
-use Rattle.accepted_slips.specs.Slips.{countedSlip}
-use Rattle.accepted.proofs.Accepted.{view-encode-term, view-encode-rule, encode-accepted-rule}
-use Rattle.accepted_slips.proofs.Slips.{view-encode-slip, encode-accepted-slip}
+use Rattle.terms.specs.declared.Field.{Field}
+use Rattle.terms.specs.declared.SlipField.{SlipField}
+use Rattle.terms.specs.Values.{viewTerm, encodeField, encodeSlipField}
+use Rattle.accepted.proofs.Accepted.{view-encode-term}
 use Rattle.bindings.specs.declared.Filling.{Filling as FillingValue}
-use Rattle.matching.specs.Answers.{valueTerm, encodeValues, runsOf, found, matchOf, itemsAt}
+use Rattle.matching.specs.declared.Match.{Match}
+use Rattle.matching.specs.Answers.{valueTerm, encodeValues, runsOf, found, itemsAt, comparison}
 use Rattle.bindings.specs.Values.{atomOf, runOf}
 use Rattle.bindings.specs.declared.Run.{Run}
 use Rattle.matching.proofs.Agree.{enc}
-use Rattle.matching.proofs.Items.{run-terms}
 use Rattle.matching.proofs.Accept.{with-fields}
+use Rattle.text_matching.specs.Texts.{sideFields, slipFields}
+use Rattle.text_matching.proofs.Texts.{sides-said, slips-said, compared-texts}
 use Rattle.matching.proofs.Runs.{run-items, atom-at, atom-value, value-all}
-use Rattle.reading.specs.declared.RuleRead.{RuleRead}
-use Rattle.reading.specs.declared.SlipRead.{SlipRead}
-use Rattle.reading.specs.Answers.{ruleRead, slipRead}
+use Rattle.verdicts.specs.Verdicts.{verdictOf}
 use Rattle.verdicts.proofs.Verdicts.{number-is}
-use Rattle.listing.specs.Variables.{Variable, kinds, numbersFrom, numbers, ofKind, every, occurs, keep, variables}
+use Rattle.listing.specs.Variables.{Variable, kinds, numbers, ofKind, every, occurs, keep, variables}
 use Rattle.listing.proofs.Variables.{occurs-is}
 use Rattle.pieces.specs.Refusals.{numberAt}
-use Rattle.match_answers.specs.Matches.{longestLine, rulePart, slipPart, valueText, foundText, readText, lineText}
+use Rattle.match_answers.specs.Matches.{longestLine, rulePart, slipPart, valueText, foundText, matchText, readText, textsText, lineText}
+use Rattle.match_text.proofs.Values.{variable-viewed, run-viewed, same-over}
 use Rattle.match_text.specs.Values.{runText, saidValue, nameText, saidVariable, saidKind, saidValues, saidMatch}
-use Rattle.match_answers.specs.Values.{saidReads}
+use Rattle.match_answers.specs.Values.{verdictText, saidTexts, saidSlip}
 
 -- ---- constants within their limits
 
@@ -98,27 +99,21 @@ module _ (x y : List (List OurTerm)) (is-rule : IsLeft x) (is-slip : IsSlip y) (
       ∙ sym (append-nil (termText (con (v .0))))
       ∙ ap (λ (l : List Con). fieldText (map con l)) (sym (v .1))
 
-  run-said : (r : Run) (v : List Con) → itemsAt ws r ≡ v → All ConIn v → runText (encodeSlip y) r ≡ fieldText (map con v)
-  run-said r v e i =
-      ap (λ (l : List Term). fieldText (map viewTerm l)) (run-terms y (is-slip .1) r ∙ ap (map enc) e)
-      ∙ ap fieldText (viewed v i)
+  run-said : (r : Run) (v : List Con) → itemsAt ws r ≡ v → All ConIn v → runText (map encodeSlipField y) r ≡ fieldText (map con v)
+  run-said r v e i = run-viewed y (is-slip .1) r ∙ ap (λ (l : List Con). fieldText (map viewTerm (map enc l))) e ∙ ap fieldText (viewed v i)
 
-  value-said : (k : Kind) (n : ℕ) → n ≤ 15 → Any (Occurs k n) x → saidValue k n (encodeSlip y) filling ≡ fieldText (map con (φ k n))
+  value-said : (k : Kind) (n : ℕ) → n ≤ 15 → Any (Occurs k n) x → saidValue k n (map encodeSlipField y) filling ≡ fieldText (map con (φ k n))
   value-said (basic k) n h o = atom-said k n h o
   value-said list n h o = run-said (runOf filling n) (φ list n) (run-items x (is-rule .1) ws φ yes-φ n h o) (value-in list n o)
 
-  variable-said : (k : Kind) (n : ℕ) → n ≤ 15 → saidVariable (encodeSide x) (encodeSlip y) filling k n ≡ ofVariable x φ k n
-  variable-said k n h = ap (λ (r : List (List OurTerm)). cond (occurs k n r) (nameText k n ++ saidValue k n (encodeSlip y) filling) []) (view-encode-rule x is-rule) ∙ go (occurs k n x) refl
+  variable-said : (k : Kind) (n : ℕ) → n ≤ 15 → saidVariable (map encodeField x) (map encodeSlipField y) filling k n ≡ ofVariable x φ k n
+  variable-said k n h = variable-viewed x is-rule (map encodeSlipField y) filling k n ∙ go (occurs k n x) refl
     where
-      go : (b : Bool) → occurs k n x ≡ b → cond b (nameText k n ++ saidValue k n (encodeSlip y) filling) [] ≡ cond b (valueText φ (k, n)) []
+      go : (b : Bool) → occurs k n x ≡ b → cond b (nameText k n ++ saidValue k n (map encodeSlipField y) filling) [] ≡ cond b (valueText φ (k, n)) []
       go true e = ap (λ (t : List ℕ). nameText k n ++ t) (value-said k n h (occurs-is k n x .0 e))
       go false e = refl
 
 -- ---- the variables, one after the other
-
-same-over : (f g : ℕ → List ℕ) (m n : ℕ) → ((i : ℕ) → i < n + m → f i ≡ g i) → concat-map f (numbersFrom m n) ≡ concat-map g (numbersFrom m n)
-same-over f g zero n h = refl
-same-over f g (suc m) n h = ap₂ (λ (a b : List ℕ). a ++ b) (h n (omega arith)) (same-over f g m (suc n) (λ i l. h i (omega arith)))
 
 kept : {A : Type 0} (p : A → Bool) (g : A → List ℕ) (l : List A) → concat-map g (keep p l) ≡ concat-map (λ (a : A). cond (p a) (g a) []) l
 kept p g [] = refl
@@ -157,40 +152,63 @@ module _ (x : List (List OurTerm)) (φ : Filling Con Kind ℕ) where
 -- ---- the answer
 
 module _ (x y : List (List OurTerm)) (is-rule : IsLeft x) (is-slip : IsSlip y) where
+  abbrev fs : List Field
+  fs = map encodeField x
+
+  abbrev gs : List SlipField
+  gs = map encodeSlipField y
+
   values-said : (φ : Filling Con Kind ℕ) → matcher x (map constants y) ≡ some φ
-      → saidValues (encodeSide x) (encodeSlip y) (record { values = encodeValues φ; runs = runsOf x (map constants y) }) ≡ concat-map (valueText φ) (variables x)
+      → saidValues fs gs (record { values = encodeValues φ; runs = runsOf x (map constants y) }) ≡ concat-map (valueText φ) (variables x)
   values-said φ e =
       ap₂ (λ (a b : List ℕ). a ++ b) (one (basic integer)) (ap₂ (λ (a b : List ℕ). a ++ b) (one (basic string)) (ap₂ (λ (a b : List ℕ). a ++ b) (one (basic atom)) (one list)))
       ∙ sym (by-kind x φ)
     where
-      one : (k : Kind) → saidKind (encodeSide x) (encodeSlip y) (record { values = encodeValues φ; runs = runsOf x (map constants y) }) k ≡ ofKindText x φ k
+      one : (k : Kind) → saidKind fs gs (record { values = encodeValues φ; runs = runsOf x (map constants y) }) k ≡ ofKindText x φ k
       one k =
-          same-over (saidVariable (encodeSide x) (encodeSlip y) (record { values = encodeValues φ; runs = runsOf x (map constants y) }) k) (ofVariable x φ k) 16 0
+          same-over (saidVariable fs gs (record { values = encodeValues φ; runs = runsOf x (map constants y) }) k) (ofVariable x φ k) 16 0
           (λ n l. variable-said x y is-rule is-slip φ e k n (omega arith))
 
-  counted-rule : countedLeft (encodeSide x) ≡ x
-  counted-rule = rw (encode-accepted-rule x is-rule, view-encode-rule x is-rule)
-
-  counted-slip : countedSlip (encodeSlip y) ≡ y
-  counted-slip = rw (encode-accepted-slip y is-slip, view-encode-slip y is-slip)
-
-  match-said : saidMatch (encodeSide x) (encodeSlip y) (matchOf (countedLeft (encodeSide x)) (countedSlip (encodeSlip y))) ≡ foundText x (matcher x (map constants y))
+  match-said : saidMatch fs gs (comparison x y) ≡ matchText x y
   match-said =
-      ap₂ (λ (r s : List (List OurTerm)). saidMatch (encodeSide x) (encodeSlip y) (matchOf r s)) counted-rule counted-slip
-      ∙ ap (saidMatch (encodeSide x) (encodeSlip y)) (with-fields x y (is-rule .0 .0) (is-slip .0 .0))
+      ap (λ (m : Match). saidMatch fs gs (record { found = m; compared = compared x (map constants y) })) (with-fields x y (is-rule .0 .0) (is-slip .0 .0))
       ∙ go (matcher x (map constants y)) refl
     where
-      go : (m : Option (Filling Con Kind ℕ)) → matcher x (map constants y) ≡ m → saidMatch (encodeSide x) (encodeSlip y) (found x (map constants y) m) ≡ foundText x m
+      go : (m : Option (Filling Con Kind ℕ)) → matcher x (map constants y) ≡ m
+          → saidMatch fs gs (record { found = found x (map constants y) m; compared = compared x (map constants y) }) ≡ foundText x
+          (compared x (map constants y)) m
       go none e = refl
-      go (some φ) e = ap (λ (t : List ℕ). ascii "yes" ++ t) (values-said φ e)
+      go (some φ) e = ap (λ (t : List ℕ). ascii "yes " ++ digitsOf (compared x (map constants y)) ++ t) (values-said φ e)
 
-pub reads-said : (t u : List ℕ) → saidReads (ruleRead (readRule t)) (slipRead (readSlip u)) ≡ readText (readRule t) (readSlip u)
-reads-said t u = go (readRule t) (readSlip u) refl refl
-  where
-    go : (o : OutcomeOf OurRule) (p : Outcome) → readRule t ≡ o → readSlip u ≡ p → saidReads (ruleRead o) (slipRead p) ≡ readText o p
-    go (refused r i) p e f = ap (λ (n : ℕ). ascii "refused rule " ++ numberAt n i) (number-is r)
-    go (accepted w) (refused r i) e f = ap (λ (n : ℕ). ascii "refused slip " ++ numberAt n i) (number-is r)
-    go (accepted w) (accepted y) e f = match-said (w .0) y (rule-read t w e .0) (slip-read u y f)
+-- ---- the two texts
+
+module _ (t u : List ℕ) (w : OurRule) (left : List ℕ) (is-rule : readRule t ≡ accepted w) (is-left : readSide left ≡ accepted (w .0)) where
+  texts-said : (y : List (List OurTerm)) → readSlip u ≡ accepted y → saidTexts left u ≡ matchText (w .0) y
+  texts-said y is-slip =
+      ap (saidMatch (sideFields left) (slipFields u)) (compared-texts left u (w .0) y is-left is-slip)
+      ∙ ap₂ (λ (a : List Field) (b : List SlipField). saidMatch a b (comparison (w .0) y)) (sides-said left (w .0) is-left) (slips-said u y is-slip)
+      ∙ match-said (w .0) y (rule-read t w is-rule .0) (slip-read u y is-slip)
+
+  -- an accepted rule's left side, against the slip
+  pub slip-said : textsText t u ≡ saidSlip left u
+  unfolding textsText
+  slip-said = sym (go (readSlip u) refl ∙ ap (λ (o : OutcomeOf OurRule). readText o (readSlip u)) (sym is-rule))
+    where
+      go : (o : Outcome) → readSlip u ≡ o → verdictText (ascii "refused slip ") (verdictOf (readSlip u)) (saidTexts left u) ≡ readText (accepted w) (readSlip u)
+      go (refused r i) e =
+          ap (λ (o : Outcome). verdictText (ascii "refused slip ") (verdictOf o) (saidTexts left u)) e
+          ∙ ap (λ (n : ℕ). ascii "refused slip " ++ numberAt n i) (number-is r)
+          ∙ ap (readText (accepted w)) (sym e)
+      go (accepted y) e =
+          ap (λ (o : Outcome). verdictText (ascii "refused slip ") (verdictOf o) (saidTexts left u)) e
+          ∙ texts-said y e
+          ∙ ap (readText (accepted w)) (sym e)
+
+-- a refused rule
+pub rule-said : (t u : List ℕ) (r : Reason) (p n : ℕ) → readRule t ≡ refused r p → n ≡ number r
+    → textsText t u ≡ ascii "refused rule " ++ numberAt n p
+unfolding textsText
+rule-said t u r p n e q = ap (λ (o : OutcomeOf OurRule). readText o (readSlip u)) e ∙ ap (λ (m : ℕ). ascii "refused rule " ++ numberAt m p) (sym q)
 
 -- ---- a line
 
@@ -203,10 +221,8 @@ module _ (t : List ℕ) (tab rest : ℕ) (is-tab : tab ≡ indexOf 9 t) (is-rest
       go (yes h) = ap (λ (i : ℕ). drop i t) (let e : rest ≡ suc (indexOf 9 t) = omega arith in e)
       go (no h) = drop-of-length-le t {i = rest} (omega arith) ∙ sym (drop-of-length-le t {i = suc (indexOf 9 t)} (omega arith))
 
-  pub line-said : (r : RuleRead) (s : SlipRead) → length t ≤ longestLine → r ≡ ruleRead (readRule (take tab t))
-      → s ≡ slipRead (readSlip (take (length t - rest) (drop rest t))) → lineText t ≡ saidReads r s
+  pub line-said : length t ≤ longestLine → lineText t ≡ textsText (take tab t) (take (length t - rest) (drop rest t))
   unfolding lineText
-  line-said r s h is-r is-s =
-      ap (λ (b : Bool). cond b (ascii "line too long") (readText (readRule (rulePart t)) (readSlip (slipPart t)))) (le-ltb longestLine (length t) h)
-      ∙ sym (reads-said (rulePart t) (slipPart t))
-      ∙ ap₂ saidReads (sym (is-r ∙ ap (λ (i : ℕ). ruleRead (readRule (take i t))) is-tab)) (sym (is-s ∙ ap (λ (u : List ℕ). slipRead (readSlip u)) slip-part))
+  line-said h =
+      ap (λ (b : Bool). cond b (ascii "line too long") (textsText (rulePart t) (slipPart t))) (le-ltb longestLine (length t) h)
+      ∙ ap₂ textsText (sym (ap (λ (i : ℕ). take i t) is-tab)) (sym slip-part)

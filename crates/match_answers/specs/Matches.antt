@@ -15,7 +15,7 @@ use Rattle.text.specs.Numbers.{digitsOf}
 use Rattle.text.specs.Plain.{termText, fieldText}
 use Rattle.text.specs.Read.{number, OutcomeOf, Outcome, refused, accepted, readSlip}
 use Rattle.rules.specs.Read.{OurRule, readRule}
-use Rattle.instance.specs.Matching.{constants, matcher}
+use Rattle.instance.specs.Matching.{constants, matcher, compared}
 use Rattle.listing.specs.Variables.{Variable, variables}
 use Rattle.text.specs.Ascii.{ascii, newline}
 use Rattle.pieces.specs.Refusals.{numberAt}
@@ -43,19 +43,28 @@ slipPart t = drop (suc (indexOf tab t)) t
 abbrev pub valueText : Filling Con Kind ℕ → Variable → List ℕ
 valueText φ v = ascii " " ++ termText (var (v .0) (v .1)) ++ ascii "=" ++ fieldText (map con (φ (v .0) (v .1)))
 
--- `no`, or `yes` and the value of each of the rule's variables, in the order i, s, a, l and then by number
-abbrev pub foundText : List (List OurTerm) → Option (Filling Con Kind ℕ) → List ℕ
-foundText rule none = ascii "no"
-foundText rule (some φ) = ascii "yes" ++ concat-map (valueText φ) (variables rule)
+-- `no` or `yes` and how many of the slip's items were compared; behind a `yes` the value of each of the rule's variables, in the order
+-- i, s, a, l and then by number
+abbrev pub foundText : List (List OurTerm) → ℕ → Option (Filling Con Kind ℕ) → List ℕ
+foundText rule k none = ascii "no " ++ digitsOf k
+foundText rule k (some φ) = ascii "yes " ++ digitsOf k ++ concat-map (valueText φ) (variables rule)
+
+-- the rule's left side against the slip
+abbrev pub matchText : List (List OurTerm) → List (List OurTerm) → List ℕ
+matchText rule slip = foundText rule (compared rule (map constants slip)) (matcher rule (map constants slip))
 
 -- the rule's refusal goes before the slip's; a rule matches by its left side, whatever its right side
 abbrev pub readText : OutcomeOf OurRule → Outcome → List ℕ
 readText (refused r p) o = ascii "refused rule " ++ numberAt (number r) p
 readText (accepted rule) (refused r p) = ascii "refused slip " ++ numberAt (number r) p
-readText (accepted rule) (accepted slip) = foundText (rule .0) (matcher (rule .0) (map constants slip))
+readText (accepted rule) (accepted slip) = matchText (rule .0) slip
+
+-- a rule's text and a slip's
+unfoldable pub textsText : List ℕ → List ℕ → List ℕ
+textsText t u = readText (readRule t) (readSlip u)
 
 unfoldable pub lineText : List ℕ → List ℕ
-lineText t = cond (ltb longestLine (length t)) (ascii "line too long") (readText (readRule (rulePart t)) (readSlip (slipPart t)))
+lineText t = cond (ltb longestLine (length t)) (ascii "line too long") (textsText (rulePart t) (slipPart t))
 
 abbrev pub titleText : ℕ → List ℕ
 titleText k = ascii "match " ++ digitsOf k ++ newline

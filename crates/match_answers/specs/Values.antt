@@ -1,17 +1,14 @@
--- The same texts, from the values that reading and matching answer. `said-line` of proofs/Said says that they are the same.
+-- The same texts, as code makes them of the two texts of a line. `slip-said`, `rule-said` of proofs/Said say that they are the same.
 use mathlib.Core.List.{List, _++_}
 use Prim.Native.Nat.{ℕ}
 use Rattle.text.specs.Ascii.{ascii}
-use Rattle.terms.specs.declared.RuleSide.{RuleSide}
-use Rattle.accepted.specs.Accepted.{countedLeft}
-use Rattle.accepted_slips.specs.Slips.{countedSlip}
-use Rattle.matching.specs.Answers.{matchOf}
+use Rattle.text.specs.Read.{readSlip}
 use Rattle.verdicts.specs.declared.Verdict.{Verdict}
 use Rattle.verdicts.specs.declared.Verdict.the-variants.{Accepted, Refused}
-use Rattle.reading.specs.declared.RuleRead.{RuleRead}
-use Rattle.reading.specs.declared.SlipRead.{SlipRead}
-use Rattle.verdicts.specs.Verdicts.{numberOf}
+use Rattle.verdicts.specs.Verdicts.{numberOf, verdictOf}
 use Rattle.pieces.specs.Refusals.{numberAt}
+use Rattle.matching.specs.Answers.{comparisonOn}
+use Rattle.text_matching.specs.Texts.{sideFields, slipFields}
 use Rattle.match_text.specs.Values.{saidMatch}
 
 -- a refusal with the words before it, or the text t where there is none
@@ -19,9 +16,10 @@ abbrev pub verdictText : List ℕ → Verdict → List ℕ → List ℕ
 verdictText words Accepted t = t
 verdictText words (Refused r p) t = words ++ numberAt (numberOf r) p
 
--- the slip, against a rule's left side; both, as they were read
-abbrev pub saidSlip : RuleSide → SlipRead → List ℕ
-saidSlip r s = verdictText (ascii "refused slip ") (s .verdict) (saidMatch r (s .slip) (matchOf (countedLeft r) (countedSlip (s .slip))))
+-- the text t of a left side against the text u of a slip
+abbrev pub saidTexts : List ℕ → List ℕ → List ℕ
+saidTexts t u = saidMatch (sideFields t) (slipFields u) (comparisonOn (sideFields t) (slipFields u))
 
-abbrev pub saidReads : RuleRead → SlipRead → List ℕ
-saidReads r s = verdictText (ascii "refused rule ") (r .verdict) (saidSlip (r .rule .left) s)
+-- the same, or how the slip is refused
+abbrev pub saidSlip : List ℕ → List ℕ → List ℕ
+saidSlip t u = verdictText (ascii "refused slip ") (verdictOf (readSlip u)) (saidTexts t u)

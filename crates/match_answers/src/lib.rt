@@ -1,27 +1,25 @@
 // The text that `matches` prints for one line, into lent bytes: how the line's rule matches its slip.
-// It is put together piece behind piece in room that is known to be enough, and then given whole or not at all.
+// It is put together piece behind piece where there is known to be enough room: in the lent bytes, or in room from which it is then given
+// whole or not at all.
 ghost use mathlib.Core.Path.{_≡_};
+ghost use Prim.Native.Nat.{_≤_};
 ghost use lib.ListN.{length};
 ghost use Rattle.writing.specs.Answers.{Writes};
 ghost use Rattle.pieces.specs.Placed.{Placed};
-ghost use Rattle.match_answers.specs.Matches.{lineText, matchAnswer};
-ghost use Rattle.match_answers.specs.Values.{saidSlip, saidReads};
-use reading::RuleRead;
-use reading::SlipRead;
-use terms::RuleSide;
+ghost use Rattle.match_answers.specs.Matches.{textsText, lineText, matchAnswer};
+ghost use Rattle.match_answers.specs.Values.{saidSlip};
 use verdicts::Verdict;
 use writing::Written;
 
 // ---- pieces: each is put at a place of the room, and returns the place behind it
 
-// What is said of a slip that was read, against a rule's left side, or of its refusal.
-fn put_slip_read(r: RuleSide, read: SlipRead, out: &mut [u8], at: usize) -> usize
-    ensures { λ p. ⌜ Placed (saidSlip r read) at (now (out .entry)) p (now (out .exit)) ⌝ }
+// What is said of a slip against the text of a left side, or of the slip's refusal.
+fn put_slip(left: &[u8], slip: &[u8], out: &mut [u8], at: usize) -> usize
+    ensures { λ p. ⌜ Placed (saidSlip (now (left .entry)) (now (slip .entry))) at (now (out .entry)) p (now (out .exit)) ⌝ }
 {
-    let verdict = read.verdict;
-    let slip = read.slip;
+    let verdict = reading::judge_slip(slip);
     match verdict {
-        Verdict::Accepted => match_text::put_match(r, slip, out, at),
+        Verdict::Accepted => match_text::put_match(left, slip, out, at),
         Verdict::Refused(reason, place) => line_pieces::put_refusal(
             b"refused slip ",
             reason,
@@ -32,14 +30,15 @@ fn put_slip_read(r: RuleSide, read: SlipRead, out: &mut [u8], at: usize) -> usiz
     }
 }
 
-// The rule's refusal goes before the slip's.
-fn put_reads(rule: RuleRead, slip: SlipRead, out: &mut [u8], at: usize) -> usize
-    ensures { λ p. ⌜ Placed (saidReads rule slip) at (now (out .entry)) p (now (out .exit)) ⌝ }
+// What is said of a rule and a slip. The rule's refusal goes before the slip's.
+fn put_reads(rule: &[u8], slip: &[u8], out: &mut [u8], at: usize) -> usize
+    ensures { λ p. ⌜ Placed (textsText (now (rule .entry)) (now (slip .entry))) at (now (out .entry)) p (now (out .exit)) ⌝ }
 {
-    let verdict = rule.verdict;
-    let value = rule.rule;
+    let judged = reading::judge_left(rule);
+    let verdict = judged.verdict;
+    let end = judged.end;
     match verdict {
-        Verdict::Accepted => put_slip_read(value.left, slip, out, at),
+        Verdict::Accepted => put_slip(&rule[..end], slip, out, at),
         Verdict::Refused(reason, place) => line_pieces::put_refusal(
             b"refused rule ",
             reason,
@@ -60,25 +59,51 @@ fn put_line(line: &[u8], out: &mut [u8], at: usize) -> usize
     }
     let tab = pieces::tab_place(line);
     let rest = line_pieces::behind(tab, n);
-    let rule = reading::read_rule(&line[..tab]);
-    let slip = reading::read_slip(&line[rest..]);
-    put_reads(rule, slip, out, at)
+    put_reads(&line[..tab], &line[rest..], out, at)
 }
 
-// Room for any answer, which has at most 19,583 bytes.
-fn room() -> [u8; 19583]
-    ensures { λ r. ⌜ length r ≡ 19583 ⌝ }
+// Enough bytes for any answer: none is longer.
+pub const LONGEST_ANSWER: usize = 19586;
+
+// The two lines that `matches` prints for line number k, at the front of bytes.
+fn put_answer(k: u64, line: &[u8], out: &mut [u8]) -> usize
+    ensures { λ p. ⌜ Placed (matchAnswer k (now (line .entry))) 0 (now (out .entry)) p (now (out .exit)) ⌝ }
 {
-    [0; 19583]
+    let a = line_pieces::put_title(b"match ", k, out, 0);
+    let b = put_line(line, out, a);
+    pieces::put_bytes(b"\n", out, b)
 }
 
-// The two lines that `matches` prints for line number k.
-pub fn match_answer(k: u64, line: &[u8], out: &mut [u8]) -> Written
+// The answer straight into bytes that are enough for any.
+fn straight(k: u64, line: &[u8], out: &mut [u8]) -> Written
+    requires { ⌜ 19586 ≤ length (now out) ⌝ }
+    ensures { λ w. ⌜ Writes (matchAnswer k (now (line .entry))) (now (out .entry)) w (now (out .exit)) ⌝ }
+{
+    Written::Bytes(put_answer(k, line, out))
+}
+
+// Room for any answer.
+fn room() -> [u8; LONGEST_ANSWER]
+    ensures { λ r. ⌜ length r ≡ 19586 ⌝ }
+{
+    [0; LONGEST_ANSWER]
+}
+
+// The answer by way of room that is enough, for the lent bytes must stay as they are where they are too few for it.
+fn by_room(k: u64, line: &[u8], out: &mut [u8]) -> Written
     ensures { λ w. ⌜ Writes (matchAnswer k (now (line .entry))) (now (out .entry)) w (now (out .exit)) ⌝ }
 {
     let mut text = room();
-    let a = line_pieces::put_title(b"match ", k, &mut text, 0);
-    let b = put_line(line, &mut text, a);
-    let c = pieces::put_bytes(b"\n", &mut text, b);
-    pieces::give(&text[..c], out)
+    let end = put_answer(k, line, &mut text);
+    pieces::give(&text[..end], out)
+}
+
+// The two lines that `matches` prints for line number k. No room is made where the lent bytes are enough for any answer.
+pub fn match_answer(k: u64, line: &[u8], out: &mut [u8]) -> Written
+    ensures { λ w. ⌜ Writes (matchAnswer k (now (line .entry))) (now (out .entry)) w (now (out .exit)) ⌝ }
+{
+    if out.len() < LONGEST_ANSWER {
+        return by_room(k, line, out);
+    }
+    straight(k, line, out)
 }

@@ -1,2 +1,3 @@
 pub mod Loops
+pub mod Noted
 pub mod Values

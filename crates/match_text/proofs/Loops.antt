@@ -1,5 +1,6 @@
 -- The loops over the items of a run and over the numbers of variables. Assumes nothing.
-use mathlib.Core.Path.{_≡_, sym, ap, _∙_}
+use mathlib.Core.Path.{_≡_, sym, ap, _∙_, subst}
+use mathlib.Core.Bool.{Bool, true, false, cond}
 use mathlib.Core.List.{List, [], _∷_, _++_, map}
 use Prim.Native.Nat.{ℕ, suc, _+_, _-_, _<_, _≤_, min}
 use native.Mathlib.Numerals.{add-one}
@@ -7,15 +8,23 @@ use native.Mathlib.Omega.{arith}
 use native.Mathlib.Decide.{decLe}
 use lib.ListN.{length, getD, take, drop, length-take, length-drop, drop-of-length-le}
 use lib.Seq.{take-all, take-take, take-add, drop-at, length-take-le}
+use Rattle.order.specs.Types.{Kind, rank-below}
 use Rattle.theory.specs.Seqs.{concat-map}
 use Rattle.text.specs.Grammar.{colons}
 use Rattle.text.specs.Plain.{rawOf, termText, fieldText}
 use Rattle.terms.specs.declared.Term.{Term}
 use Rattle.terms.specs.declared.SlipField.{SlipField}
-use Rattle.terms.specs.Values.{viewTerm}
+use Rattle.terms.specs.Values.{blankTerm, viewTerm}
+use Rattle.bindings.specs.declared.Filling.{Filling}
+use Rattle.bindings.specs.declared.Run.{Run}
+use Rattle.bindings.specs.declared.Values.{Values}
+use Rattle.bindings.specs.Values.{slot, blankRun}
+use Rattle.bindings.proofs.Entries.{entry-any}
 use Rattle.field_match.proofs.Walks.{here}
 use Rattle.listing.specs.Variables.{numbersFrom}
-use Rattle.match_text.specs.Values.{itemsFrom}
+use Rattle.pieces.specs.Placed.{Placed}
+use Rattle.pieces.proofs.Pieces.{Left, all-left, left-next, rest-as, none-left, placed-next}
+use Rattle.match_text.specs.Values.{itemsFrom, runText, atomText, listText, nameText, notedText}
 
 -- ---- the items of a run
 
@@ -66,12 +75,62 @@ next-item s end i d h k = ap rowText (here end s i d h (omega arith))
 pub last-item : (s : List Term) (end i : ℕ) → end ≤ i → rowText (drop i (take end s)) ≡ []
 last-item s end i h = ap rowText (drop-of-length-le (take end s) {i = i} (omega (arith, length-take end s)))
 
--- ---- the numbers of variables
+-- ---- the variables of one type, by number
 
-pub number-next : (g : ℕ → List ℕ) (n : ℕ) → n < 16 → concat-map g (numbersFrom (16 - n) n) ≡ g n ++ concat-map g (numbersFrom (16 - (n + 1)) (n + 1))
+number-next : (g : ℕ → List ℕ) (n : ℕ) → n < 16 → concat-map g (numbersFrom (16 - n) n) ≡ g n ++ concat-map g (numbersFrom (16 - (n + 1)) (n + 1))
 number-next g n h =
     ap (λ (m : ℕ). concat-map g (numbersFrom m n)) (let e : 16 - n ≡ suc (16 - (n + 1)) = omega arith in e)
     ∙ ap (λ (m : ℕ). g n ++ concat-map g (numbersFrom (16 - (n + 1)) m)) (sym (add-one n))
 
-pub number-last : (g : ℕ → List ℕ) (n : ℕ) → 16 ≤ n → concat-map g (numbersFrom (16 - n) n) ≡ []
+number-last : (g : ℕ → List ℕ) (n : ℕ) → 16 ≤ n → concat-map g (numbersFrom (16 - n) n) ≡ []
 number-last g n h = ap (λ (m : ℕ). concat-map g (numbersFrom m n)) (let e : 16 - n ≡ 0 = omega arith in e)
+
+module _ (v : List Bool) (k : Kind) (value : ℕ → List ℕ) (at : ℕ) (old : List ℕ) where
+  abbrev one : ℕ → List ℕ
+  one n = cond (getD v (slot k n) false) (nameText k n ++ value n) []
+
+  -- those from number n on are left to put
+  abbrev pub From : ℕ → ℕ → List ℕ → Type 0
+  From n p new = (n ≤ 16) × (length v ≡ 64) × Left (notedText v k value) at old (concat-map one (numbersFrom (16 - n) n)) p new
+
+  pub from-none : length v ≡ 64 → From 0 at old
+  from-none e = (omega arith, e, all-left _ _ _)
+
+  pub from-as : (n : ℕ) {p q : ℕ} {l m : List ℕ} → q ≡ p → m ≡ l → From n p l → From n q m
+  from-as n {p} {q} {l} {m} e i f = subst (λ (a : ℕ). From n a m) (sym e) (subst (λ (t : List ℕ). From n p t) (sym i) f)
+
+  pub from-all : (n p : ℕ) (new : List ℕ) → From n p new → 16 ≤ n → Placed (notedText v k value) at old p new
+  from-all n p new f h = none-left _ _ _ (rest-as _ _ _ p new (number-last one n h) (f .2))
+
+  module _ (n p : ℕ) (new : List ℕ) (f : From n p new) (h : n < 16) (i : ℕ) (is-i : i ≡ slot k n) (d : Bool) where
+    below : i < length v
+    below = omega (arith, is-i, rank-below k, f .1)
+
+    noted : (b : Bool) → getD v i d ≡ b → one n ≡ cond b (nameText k n ++ value n) []
+    noted b e = ap (λ (a : Bool). cond a (nameText k n ++ value n) []) (ap (λ (j : ℕ). getD v j false) (sym is-i) ∙ entry-any v i false d below ∙ e)
+
+    rest : List ℕ
+    rest = concat-map one (numbersFrom (16 - (n + 1)) (n + 1))
+
+    left-as : (b : Bool) → getD v i d ≡ b → Left (notedText v k value) at old (cond b (nameText k n ++ value n) [] ++ rest) p new
+    unfolding rest
+    left-as b e = rest-as _ _ _ p new (number-next one n h ∙ ap (λ (t : List ℕ). t ++ rest) (noted b e)) (f .2)
+
+    pub from-one : getD v i d ≡ true → {q r : ℕ} {m l : List ℕ} → Placed (nameText k n) p new q m → Placed (value n) q m r l → From (n + 1) r l
+    unfolding rest
+    from-one e a b =
+        (omega arith, f .1, left-next _ _ _ (nameText k n ++ value n) rest (left-as true e) (placed-next (nameText k n) (value n) p new a b))
+
+    pub from-other : getD v i d ≡ false → From (n + 1) p new
+    unfolding rest
+    from-other e = (omega arith, f .1, left-as false e)
+
+-- ---- a value, in its place
+
+pub atom-shown : (v : Values) (k : Kind) (n i : ℕ) (d : Term) → i ≡ slot k n → i < length (v .terms)
+    → atomText v k n ≡ termText (viewTerm (getD (v .terms) i d))
+atom-shown v k n i d e h =
+    ap (λ (t : Term). termText (viewTerm t)) (ap (λ (j : ℕ). getD (v .terms) j blankTerm) (sym e) ∙ entry-any (v .terms) i blankTerm d h)
+
+pub list-shown : (ws : List SlipField) (x : Filling) (n : ℕ) (d : Run) → n < length (x .runs) → listText ws x n ≡ runText ws (getD (x .runs) n d)
+list-shown ws x n d h = ap (runText ws) (entry-any (x .runs) n blankRun d h)

@@ -1,55 +1,75 @@
 -- The texts that are made of values, case by case as code makes them. Assumes nothing.
-use mathlib.Core.Path.{_≡_, refl, sym, ap, _∙_}
-use mathlib.Core.Bool.{Bool, true, false, cond, not, false≢true}
-use mathlib.Core.List.{List, [], _++_}
-use Prim.Native.Nat.{ℕ}
+use mathlib.Core.Path.{_≡_, refl, sym, ap, ap₂, _∙_}
+use mathlib.Core.Bool.{Bool, true, false, cond, not}
+use mathlib.Core.List.{List, [], _++_, map}
+use Prim.Native.Nat.{ℕ, zero, suc, _+_, _-_, _<_}
+use native.Mathlib.Omega.{arith}
 use borrow.Author.Tests.{not-true, not-false}
-use Rattle.order.specs.Order.{basic, list}
-use Rattle.order.specs.Types.{integer, string, atom, Kind, same}
-use Rattle.text.specs.Plain.{termText}
-use Rattle.terms.specs.declared.RuleSide.{RuleSide}
-use Rattle.terms.specs.declared.Slip.{Slip}
-use Rattle.terms.specs.Values.{viewTerm, viewSide}
-use Rattle.bindings.specs.declared.Filling.{Filling}
-use Rattle.matching.specs.declared.Match.{Match}
-use Rattle.bindings.specs.Values.{atomOf, runOf}
-use Rattle.listing.specs.Variables.{occurs}
+use lib.ListN.{getD}
+use Rattle.lists.specs.Seqs.{All}
+use Rattle.order.specs.Types.{Kind}
+use Rattle.theory.specs.Seqs.{concat-map}
 use Rattle.text.specs.Ascii.{ascii}
-use Rattle.match_text.specs.Values.{runText, saidValue, nameText, saidVariable, saidValues, saidMatch}
+use Rattle.text.specs.Numbers.{digitsOf}
+use Rattle.text.specs.Plain.{fieldText}
+use Rattle.text.specs.Terms.{OurTerm}
+use Rattle.text.specs.Limits.{IsCon, IsLeft}
+use Rattle.instance.specs.Matching.{constants}
+use Rattle.terms.specs.declared.Term.{Term}
+use Rattle.terms.specs.declared.Field.{Field}
+use Rattle.terms.specs.declared.SlipField.{SlipField}
+use Rattle.terms.specs.Values.{blankField, viewTerm, viewField, encodeField, encodeSlipField}
+use Rattle.accepted.proofs.Accepted.{view-encode-rule}
+use Rattle.bindings.specs.declared.Filling.{Filling}
+use Rattle.bindings.specs.declared.Run.{Run}
+use Rattle.bindings.specs.Values.{slot}
+use Rattle.matching.specs.declared.Comparison.{Comparison}
+use Rattle.matching.specs.Answers.{itemsAt}
+use Rattle.matching.proofs.Agree.{enc, unpadded}
+use Rattle.matching.proofs.Items.{run-items-of}
+use Rattle.listing.specs.Variables.{numbersFrom, numbers, occurs}
+use Rattle.match_text.specs.Values.{runText, nameText, saidValue, saidVariable, saidValues, saidMatch, Noted, notedText}
 
--- ---- a value, by its kind
+-- ---- the variables of one type
 
-module _ (n : ℕ) (s : Slip) (x : Filling) where
-  pub said-list : (k : Kind) (b : Bool) → b ≡ same k list → b ≡ true → saidValue k n s x ≡ runText s (runOf x n)
-  said-list (basic integer) b e h = absurd (false≢true (sym e ∙ h))
-  said-list (basic string) b e h = absurd (false≢true (sym e ∙ h))
-  said-list (basic atom) b e h = absurd (false≢true (sym e ∙ h))
-  said-list list b e h = refl
+-- what says the same of each number says the same of all
+pub same-over : (f g : ℕ → List ℕ) (m n : ℕ) → ((i : ℕ) → i < n + m → f i ≡ g i) → concat-map f (numbersFrom m n) ≡ concat-map g (numbersFrom m n)
+same-over f g zero n h = refl
+same-over f g (suc m) n h = ap₂ (λ (a b : List ℕ). a ++ b) (h n (omega arith)) (same-over f g m (suc n) (λ i l. h i (omega arith)))
 
-  pub said-atom : (k : Kind) (b : Bool) → b ≡ same k list → b ≡ false → saidValue k n s x ≡ termText (viewTerm (atomOf (x .values) k n))
-  said-atom (basic k) b e h = refl
-  said-atom list b e h = absurd (false≢true (sym h ∙ e))
-
--- ---- a variable, by whether the rule has it
-
-module _ (r : RuleSide) (s : Slip) (x : Filling) (k : Kind) (n : ℕ) (b : Bool) (is-b : b ≡ occurs k n (viewSide r)) where
-  has : (y : Bool) → b ≡ y → cond y (nameText k n ++ saidValue k n s x) [] ≡ saidVariable r s x k n
-  has y e = ap (λ (a : Bool). cond a (nameText k n ++ saidValue k n s x) []) (sym e ∙ is-b)
-
-  pub said-none : not b ≡ true → saidVariable r s x k n ≡ []
-  said-none e = sym (has false (not-true b e))
-
-  pub said-one : not b ≡ false → saidVariable r s x k n ≡ nameText k n ++ saidValue k n s x
-  said-one e = sym (has true (not-false b e))
+-- each is shown where it is noted, and it is noted where `has` says
+pub noted-said : (v : List Bool) (has : Kind → ℕ → Bool) → Noted v has → (k : Kind) (value : ℕ → List ℕ)
+    → concat-map (λ (n : ℕ). cond (has k n) (nameText k n ++ value n) []) numbers ≡ notedText v k value
+noted-said v has q k value =
+    same-over (λ (n : ℕ). cond (has k n) (nameText k n ++ value n) []) (λ (n : ℕ). cond (getD v (slot k n) false) (nameText k n ++ value n) []) 16 0
+    (λ n l. ap (λ (b : Bool). cond b (nameText k n ++ value n) []) (sym (q k n (omega arith))))
 
 -- ---- a match, by the answer
 
-module _ (r : RuleSide) (s : Slip) {n : Match} (m : Match) (is-m : m ≡ n) where
-  yes : (y : Bool) → m .yes ≡ y → cond y (ascii "yes" ++ saidValues r s (m .filling)) (ascii "no") ≡ saidMatch r s n
-  yes y e = ap (λ (a : Bool). cond a (ascii "yes" ++ saidValues r s (m .filling)) (ascii "no")) (sym e) ∙ ap (saidMatch r s) is-m
+module _ (fs : List Field) (ws : List SlipField) {d : Comparison} (c : Comparison) (is-c : c ≡ d) where
+  by : (y : Bool) → c .found .yes ≡ y
+      → cond y (ascii "yes " ++ digitsOf (c .compared) ++ saidValues fs ws (c .found .filling)) (ascii "no " ++ digitsOf (c .compared)) ≡ saidMatch fs ws d
+  by y e =
+      ap (λ (a : Bool). cond a (ascii "yes " ++ digitsOf (c .compared) ++ saidValues fs ws (c .found .filling)) (ascii "no " ++ digitsOf (c .compared))) (sym e)
+      ∙ ap (saidMatch fs ws) is-c
 
-  pub said-no : not (m .yes) ≡ true → saidMatch r s n ≡ ascii "no"
-  said-no e = sym (yes false (not-true (m .yes) e))
+  pub said-no : not (c .found .yes) ≡ true → saidMatch fs ws d ≡ ascii "no " ++ digitsOf (c .compared)
+  said-no e = sym (by false (not-true (c .found .yes) e))
 
-  pub said-yes : not (m .yes) ≡ false → saidMatch r s n ≡ ascii "yes" ++ saidValues r s (m .filling)
-  said-yes e = sym (yes true (not-false (m .yes) e))
+  pub said-yes : not (c .found .yes) ≡ false → saidMatch fs ws d ≡ ascii "yes " ++ digitsOf (c .compared) ++ saidValues fs ws (c .found .filling)
+  said-yes e = sym (by true (not-false (c .found .yes) e))
+
+-- ---- THE VALUES of fields that stand for something: what is said is said of what they stand for
+
+-- the fields of a left side
+pub sides-viewed : (x : List (List OurTerm)) → IsLeft x → map viewField (map encodeField x) ≡ x
+sides-viewed x h = ap (map viewField) (sym (unpadded 4 blankField encodeField x)) ∙ view-encode-rule x h
+
+pub variable-viewed : (x : List (List OurTerm)) → IsLeft x → (ws : List SlipField) (f : Filling) (k : Kind) (n : ℕ)
+    → saidVariable (map encodeField x) ws f k n ≡ cond (occurs k n x) (nameText k n ++ saidValue k n ws f) []
+variable-viewed x h ws f k n = ap (λ (r : List (List OurTerm)). cond (occurs k n r) (nameText k n ++ saidValue k n ws f) []) (sides-viewed x h)
+
+-- a run's items are those of the slip
+pub run-viewed : (y : List (List OurTerm)) → All (All IsCon) y → (r : Run)
+    → runText (map encodeSlipField y) r ≡ fieldText (map viewTerm (map enc (itemsAt (map constants y) r)))
+run-viewed y h r = ap (λ (l : List Term). fieldText (map viewTerm l)) (run-items-of y h r)

@@ -1,30 +1,89 @@
-// The text of a match: `no`, or `yes` with the value of each of the rule's variables.
+// The text of a match: `no` or `yes`, how many of the slip's items were compared, and with `yes` the value of each of the rule's variables.
+// It works on texts that were just read: one field is built at a time, and which variables the rule has is noted once.
 ghost use mathlib.Core.Path.{_≡_};
+ghost use mathlib.Core.Bool.{false, _||_};
 ghost use mathlib.Core.List.{map};
-ghost use Prim.Native.Nat.{min};
+ghost use Prim.Native.Nat.{_≤_, min};
 ghost use lib.ListN.{getD};
+ghost use Rattle.order.specs.Order.{list};
+ghost use Rattle.order.specs.Types.{rank};
 ghost use Rattle.order.specs.Values.{kindOf};
 ghost use Rattle.text.specs.Plain.{fieldText};
-ghost use Rattle.terms.specs.Values.{blankSlipField, viewTerm};
-ghost use Rattle.accepted.specs.Accepted.{countedLeft};
-ghost use Rattle.accepted_slips.specs.Slips.{countedSlip};
-ghost use Rattle.matching.specs.Answers.{matchOf};
+ghost use Rattle.terms.specs.Values.{blankSlipField, viewTerm, viewField};
+ghost use Rattle.bindings.specs.Values.{slot};
+ghost use Rattle.listing.specs.Variables.{isVariable, inField, occurs};
+ghost use Rattle.matching.specs.Answers.{comparisonOn};
 ghost use Rattle.pieces.specs.Placed.{Placed};
-ghost use Rattle.match_text.specs.Values.{itemsFrom, runText, saidValue, nameText, saidVariable, saidKind, saidValues, saidMatch};
+ghost use Rattle.text_passes.specs.Fields.{fieldCount};
+ghost use Rattle.text_matching.specs.Texts.{sideFields, slipFields};
+ghost use Rattle.match_text.specs.Values.{itemsFrom, runText, atomText, listText, nameText, saidValues, saidMatch, Noted, notedText};
 use bindings::Filling;
 use bindings::Run;
+use bindings::Values;
 use order::Kind;
+use terms::Field;
 use terms::Form;
-use terms::RuleSide;
-use terms::Slip;
 use terms::SlipField;
 use terms::Term;
+
+// Which variables a rule has: 16 places for each type, in the order of the types.
+struct Variables {
+    has: [bool; 64],
+}
 
 // A count beyond the places counts for all of them.
 fn at_most(n: usize, places: usize) -> usize
     ensures { λ r. ⌜ r ≡ min n places ⌝ }
 {
     if n < places { n } else { places }
+}
+
+// ---- the rule's variables
+
+// With the term, where it is a variable.
+fn note_term(v: Variables, t: Term) -> Variables
+    ensures { λ w. ⌜ Noted (w .has) (λ k n. isVariable k n (viewTerm t) || getD (v .has) (slot k n) false) ⌝ }
+{
+    let form = t.form;
+    match form {
+        Form::Int(_) => v,
+        Form::Str(_) => v,
+        Form::Var(k, n) => {
+            if 16 <= n {
+                return v;
+            }
+            let i = bindings::slot(k, n);
+            let mut w = v;
+            w.has[i] = true;
+            w
+        }
+    }
+}
+
+fn note_field(v: Variables, f: Field) -> Variables
+    ensures { λ w. ⌜ Noted (w .has) (λ k n. inField k n (viewField f) || getD (v .has) (slot k n) false) ⌝ }
+{
+    let terms = at_most(f.n, 16);
+    let mut w = v;
+    let mut i: usize = 0;
+    while i < terms {
+        w = note_term(w, f.terms[i]);
+        i += 1;
+    }
+    w
+}
+
+fn variables_in(rule: &[u8]) -> Variables
+    ensures { λ v. ⌜ Noted (v .has) (λ k n. occurs k n (map viewField (sideFields (now (rule .entry))))) ⌝ }
+{
+    let fields = text_passes::field_count(rule);
+    let mut v = Variables { has: [false; 64] };
+    let mut j: usize = 0;
+    while j < fields {
+        v = note_field(v, text_passes::side_field(rule, j));
+        j += 1;
+    }
+    v
 }
 
 // ---- values: each piece is put at a place, and returns the place behind it
@@ -49,31 +108,25 @@ fn put_items(f: SlipField, start: usize, count: usize, out: &mut [u8], at: usize
     p
 }
 
-fn field_at(s: Slip, j: usize) -> SlipField
-    ensures { λ f. ⌜ f ≡ getD (s .fields) j blankSlipField ⌝ }
+// The field of a slip with so many fields; there is none behind them.
+fn field_at(slip: &[u8], fields: usize, j: usize) -> SlipField
+    requires { ⌜ fields ≡ fieldCount (now slip) ⌝ }
+    ensures { λ f. ⌜ f ≡ getD (slipFields (now (slip .entry))) j blankSlipField ⌝ }
 {
-    if 4 <= j {
+    if fields <= j {
         return terms::blank_slip_field();
     }
-    s.fields[j]
+    text_passes::slip_field(slip, j)
 }
 
-fn put_run(s: Slip, r: Run, out: &mut [u8], at: usize) -> usize
-    ensures { λ p. ⌜ Placed (runText s r) at (now (out .entry)) p (now (out .exit)) ⌝ }
+fn put_run(slip: &[u8], fields: usize, r: Run, out: &mut [u8], at: usize) -> usize
+    requires { ⌜ fields ≡ fieldCount (now slip) ⌝ }
+    ensures { λ p. ⌜ Placed (runText (slipFields (now (slip .entry))) r) at (now (out .entry)) p (now (out .exit)) ⌝ }
 {
-    let f = field_at(s, r.field);
+    let f = field_at(slip, fields, r.field);
     let start = r.start;
     let count = r.count;
     put_items(f, start, count, out, at)
-}
-
-fn put_value(k: Kind, n: u8, s: Slip, x: Filling, out: &mut [u8], at: usize) -> usize
-    ensures { λ r. ⌜ Placed (saidValue (kindOf k) n s x) at (now (out .entry)) r (now (out .exit)) ⌝ }
-{
-    if order::same_kind(k, Kind::List) {
-        return put_run(s, bindings::run_of(x, n), out, at);
-    }
-    pieces::put_term(bindings::value_of(x.values, k, n), out, at)
 }
 
 // A blank, the variable's name and `=`.
@@ -89,55 +142,68 @@ fn put_name(k: Kind, n: u8, out: &mut [u8], at: usize) -> usize
     pieces::put_bytes(b"=", out, b)
 }
 
-// A variable's name and value; of one that the rule lacks nothing.
-fn put_variable(
-    k: Kind,
-    n: u8,
-    r: RuleSide,
-    s: Slip,
-    x: Filling,
-    out: &mut [u8],
-    at: usize,
-) -> usize
-    ensures { λ p. ⌜ Placed (saidVariable r s x (kindOf k) n) at (now (out .entry)) p (now (out .exit)) ⌝ }
+// The rule's variables of one type, by number, each with its value. A list variable has no place among the values.
+fn put_atoms(k: Kind, rule: Variables, v: Values, out: &mut [u8], at: usize) -> usize
+    requires { ⌜ rank (kindOf k) ≤ 2 ⌝ }
+    ensures { λ p. ⌜ Placed (notedText (rule .has) (kindOf k) (atomText v (kindOf k))) at (now (out .entry)) p (now (out .exit)) ⌝ }
 {
-    if !occurrence::has_variable(r, k, n) {
-        return at;
-    }
-    let a = put_name(k, n, out, at);
-    put_value(k, n, s, x, out, a)
-}
-
-// The rule's variables of one type, by number.
-fn put_kind(k: Kind, r: RuleSide, s: Slip, x: Filling, out: &mut [u8], at: usize) -> usize
-    ensures { λ p. ⌜ Placed (saidKind r s x (kindOf k)) at (now (out .entry)) p (now (out .exit)) ⌝ }
-{
+    let first = bindings::slot(k, 0);
     let mut p = at;
     let mut n: u8 = 0;
     while n < 16 {
-        p = put_variable(k, n, r, s, x, out, p);
+        let i = first + n as usize;
+        if rule.has[i] {
+            let a = put_name(k, n, out, p);
+            p = pieces::put_term(v.terms[i], out, a);
+        }
         n += 1;
     }
     p
 }
 
-fn put_values(r: RuleSide, s: Slip, x: Filling, out: &mut [u8], at: usize) -> usize
-    ensures { λ p. ⌜ Placed (saidValues r s x) at (now (out .entry)) p (now (out .exit)) ⌝ }
+fn put_lists(rule: Variables, slip: &[u8], x: Filling, out: &mut [u8], at: usize) -> usize
+    ensures { λ p. ⌜ Placed (notedText (rule .has) list (listText (slipFields (now (slip .entry))) x))
+        at (now (out .entry)) p (now (out .exit)) ⌝ }
 {
-    let a = put_kind(Kind::Integer, r, s, x, out, at);
-    let b = put_kind(Kind::String, r, s, x, out, a);
-    let c = put_kind(Kind::Atom, r, s, x, out, b);
-    put_kind(Kind::List, r, s, x, out, c)
+    let fields = text_passes::field_count(slip);
+    let mut p = at;
+    let mut n: u8 = 0;
+    while n < 16 {
+        let i = n as usize;
+        if rule.has[48 + i] {
+            let a = put_name(Kind::List, n, out, p);
+            p = put_run(slip, fields, x.runs[i], out, a);
+        }
+        n += 1;
+    }
+    p
 }
 
-// `no`, or `yes` with the values.
-pub fn put_match(r: RuleSide, s: Slip, out: &mut [u8], at: usize) -> usize
-    ensures { λ p. ⌜ Placed (saidMatch r s (matchOf (countedLeft r) (countedSlip s))) at (now (out .entry)) p (now (out .exit)) ⌝ }
+fn put_values(rule: &[u8], slip: &[u8], x: Filling, out: &mut [u8], at: usize) -> usize
+    ensures { λ p. ⌜ Placed (saidValues (sideFields (now (rule .entry))) (slipFields (now (slip .entry))) x)
+        at (now (out .entry)) p (now (out .exit)) ⌝ }
 {
-    let m = matching::match_side(r, s);
+    let r = variables_in(rule);
+    let v = x.values;
+    let a = put_atoms(Kind::Integer, r, v, out, at);
+    let b = put_atoms(Kind::String, r, v, out, a);
+    let c = put_atoms(Kind::Atom, r, v, out, b);
+    put_lists(r, slip, x, out, c)
+}
+
+// `no` or `yes`, how many items were compared, and with `yes` the values.
+pub fn put_match(rule: &[u8], slip: &[u8], out: &mut [u8], at: usize) -> usize
+    ensures { λ p. ⌜ Placed (saidMatch (sideFields (now (rule .entry))) (slipFields (now (slip .entry)))
+        (comparisonOn (sideFields (now (rule .entry))) (slipFields (now (slip .entry))))) at (now (out .entry)) p (now (out .exit)) ⌝ }
+{
+    let c = text_matching::compare_texts(rule, slip);
+    let m = c.found;
+    let n = c.compared as u64;
     if !m.yes {
-        return pieces::put_bytes(b"no", out, at);
+        let a = pieces::put_bytes(b"no ", out, at);
+        return pieces::put_number(n, out, a);
     }
-    let a = pieces::put_bytes(b"yes", out, at);
-    put_values(r, s, m.filling, out, a)
+    let a = pieces::put_bytes(b"yes ", out, at);
+    let b = pieces::put_number(n, out, a);
+    put_values(rule, slip, m.filling, out, b)
 }

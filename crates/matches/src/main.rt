@@ -3,17 +3,23 @@ use lines::Output;
 use lines::State;
 use writing::Written;
 
-// Puts the answer to line number k behind those that wait. It has room: an answer has at most 19,583 bytes.
-fn answer(k: u64, line: &[u8], buffer: &mut [u8], output: Output) -> Output {
-    let mut text = [0u8; 19583];
-    match match_answers::match_answer(k, line, &mut text) {
+// Puts the answer to line number k behind those that wait. The text's bytes are enough for any answer.
+fn answer(k: u64, line: &[u8], text: &mut [u8], buffer: &mut [u8], output: Output) -> Output {
+    match match_answers::match_answer(k, line, text) {
         Written::Bytes(n) => lines::put(&text[..n], buffer, output),
         Written::TooSmall(_) => output,
     }
 }
 
 // Takes a line and answers it.
-fn step(k: u64, s: State, chunk: &mut [u8], line: &mut [u8], buffer: &mut [u8]) -> State {
+fn step(
+    k: u64,
+    s: State,
+    chunk: &mut [u8],
+    line: &mut [u8],
+    text: &mut [u8],
+    buffer: &mut [u8],
+) -> State {
     let t = lines::next_line(s, chunk, line, buffer);
     let l = t.line;
     if !l.found {
@@ -21,7 +27,7 @@ fn step(k: u64, s: State, chunk: &mut [u8], line: &mut [u8], buffer: &mut [u8]) 
     }
     let input = t.input;
     let kept = l.kept;
-    let output = answer(k, &line[..kept], buffer, t.output);
+    let output = answer(k, &line[..kept], text, buffer, t.output);
     State {
         input: input,
         output: output,
@@ -30,12 +36,12 @@ fn step(k: u64, s: State, chunk: &mut [u8], line: &mut [u8], buffer: &mut [u8]) 
 }
 
 // A proved loop has to end, so the lines are counted to a number that no run reaches.
-fn answer_all(chunk: &mut [u8], line: &mut [u8], buffer: &mut [u8]) {
+fn answer_all(chunk: &mut [u8], line: &mut [u8], text: &mut [u8], buffer: &mut [u8]) {
     let mut k: u64 = 0;
     let mut s = lines::start();
     while k < u64::MAX && lines::is_open(s) {
         k += 1;
-        s = step(k, s, chunk, line, buffer);
+        s = step(k, s, chunk, line, text, buffer);
     }
     lines::finish(s, buffer);
 }
@@ -44,6 +50,7 @@ fn answer_all(chunk: &mut [u8], line: &mut [u8], buffer: &mut [u8]) {
 fn main() {
     let mut chunk = io::large_buffer();
     let mut line = [0u8; 12290];
+    let mut text = [0u8; match_answers::LONGEST_ANSWER];
     let mut buffer = io::large_buffer();
-    answer_all(&mut chunk, &mut line, &mut buffer);
+    answer_all(&mut chunk, &mut line, &mut text, &mut buffer);
 }

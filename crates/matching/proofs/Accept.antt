@@ -3,15 +3,17 @@ use mathlib.Core.Path.{_≡_, refl, sym, _∙_, ap, ap₂}
 use mathlib.Core.Logic.{_≢_}
 use mathlib.Core.Bool.{Bool, true, false, cond}
 use mathlib.Core.List.{List, [], _∷_, map}
-use Prim.Native.Nat.{_-_, _≤_}
+use Prim.Native.Nat.{ℕ, _+_, _-_, _≤_}
 use native.Mathlib.Omega.{arith}
+use borrow.Author.Tests.{eq-eqb, ne-eqb}
+use lib.Dec.{eqb}
 use lib.ListN.{length, take, length-map}
 use Rattle.lists.specs.Seqs.{All, IsCons, all-map}
 use Rattle.theory.specs.Linear.{OneList}
 use Rattle.text.specs.Sizes.{mostFields}
 use Rattle.text.specs.Terms.{Con, OurTerm}
 use Rattle.text.specs.Limits.{TermIn, IsCon}
-use Rattle.instance.specs.Matching.{constants, matcher}
+use Rattle.instance.specs.Matching.{constants, matcher, compared}
 use Rattle.instance.proofs.Linear.{left-linear}
 use Rattle.instance.proofs.Matching.{constants-are}
 use Rattle.terms.specs.declared.Field.{Field}
@@ -23,21 +25,20 @@ use Rattle.accepted.specs.Accepted.{acceptedLeft, countedLeft}
 use Rattle.accepted_slips.specs.Slips.{acceptedSlip, countedSlip}
 use Rattle.accepted.proofs.Accepted.{FieldIn, rule-is, accepted-rule}
 use Rattle.accepted_slips.proofs.Slips.{slip-is, accepted-slip}
-use Rattle.item_match.specs.declared.Tested.{Tested}
-use Rattle.matching.specs.Tests.{noValues, fieldsTested, runsAll}
-use Rattle.matching.specs.Answers.{noMatch, found, matchOf, fillingOf}
+use Rattle.matching.specs.declared.Match.{Match}
+use Rattle.matching.specs.Answers.{noMatch, found, matchOf, comparison, noComparison, comparisonBy, comparisonOn}
 use Rattle.matching.proofs.Agree.{unpadded, encodeItems}
-use Rattle.matching.proofs.Found.{answer-counts, answer-no, answer-yes}
+use Rattle.matching.proofs.Found.{comparison-on}
 
 -- ---- the fields of a value
 
-fields-of : (r : List (List OurTerm)) → take (length r) ((encodeSide r) .fields) ≡ map encodeField r
+pub fields-of : (r : List (List OurTerm)) → take (length r) ((encodeSide r) .fields) ≡ map encodeField r
 fields-of r = unpadded mostFields blankField encodeField r
 
 slip-fields-of : (s : List (List OurTerm)) → take (length s) ((encodeSlip s) .fields) ≡ map encodeSlipField s
 slip-fields-of s = unpadded mostFields blankSlipField encodeSlipField s
 
-fields-again : (s : List (List OurTerm)) → All (All IsCon) s → map encodeSlipField s ≡ map encodeItems (map constants s)
+pub fields-again : (s : List (List OurTerm)) → All (All IsCon) s → map encodeSlipField s ≡ map encodeItems (map constants s)
 fields-again [] i = refl
 fields-again (f ∷ s) i = ap₂ (λ (w : SlipField) (ws : List SlipField). w ∷ ws) (ap encodeSlipField (sym (constants-are f (i .0)))) (fields-again s (i .1))
 
@@ -52,6 +53,24 @@ no-fields (f ∷ r) = refl
 
 pub not-slip : (rule : RuleSide) (slip : Slip) → acceptedSlip slip ≡ false → noMatch ≡ matchOf (countedLeft rule) (countedSlip slip)
 not-slip rule slip e = sym (ap (λ (b : Bool). matchOf (countedLeft rule) (cond b (viewSlip slip) [])) e ∙ no-fields (countedLeft rule))
+
+-- "0 where [..] a side has no fields"
+none-made : (b : Bool) → _≡_ {A = ℕ} (0 + cond b 0 0) 0
+none-made true = refl
+none-made false = refl
+
+pub no-left : (s : List (List OurTerm)) → comparison [] s ≡ noComparison
+no-left s = ap (λ (n : ℕ). record { found = noMatch; compared = n }) (none-made (eqb 0 (length (map constants s))))
+
+pub no-slip : (r : List (List OurTerm)) → comparison r [] ≡ noComparison
+no-slip [] = no-left []
+no-slip (f ∷ r) = ap (λ (n : ℕ). record { found = noMatch; compared = n }) (none-made (eqb (length (f ∷ r)) 0))
+
+pub nothing-rule : (rule : RuleSide) (slip : Slip) → acceptedLeft rule ≡ false → noComparison ≡ comparison (countedLeft rule) (countedSlip slip)
+nothing-rule rule slip e = sym (ap (λ (b : Bool). comparison (cond b (viewSide rule) []) (countedSlip slip)) e ∙ no-left (countedSlip slip))
+
+pub nothing-slip : (rule : RuleSide) (slip : Slip) → acceptedSlip slip ≡ false → noComparison ≡ comparison (countedLeft rule) (countedSlip slip)
+nothing-slip rule slip e = sym (ap (λ (b : Bool). comparison (countedLeft rule) (cond b (viewSlip slip) [])) e ∙ no-slip (countedLeft rule))
 
 -- ---- accepted values
 
@@ -89,27 +108,35 @@ module _ (rule : RuleSide) (slip : Slip) (a : acceptedLeft rule ≡ true) (b : a
   one-list : All OneList fs
   one-list = left-linear fs (accepted-rule rule a .0 .1) .1
 
-  answer-is : matchOf (countedLeft rule) (countedSlip slip) ≡ found fs ws (matcher fs ws)
+  answer-is : comparison (countedLeft rule) (countedSlip slip) ≡ record { found = found fs ws (matcher fs ws); compared = compared fs ws }
   answer-is =
-      ap₂ (λ (x y : Bool). matchOf (cond x fs []) (cond y (viewSlip slip) [])) a b
-      ∙ with-fields fs (viewSlip slip) (rule-is fs .0 (accepted-rule rule a .0) .0) (slip-is (viewSlip slip) .0 (accepted-slip slip b .0) .0)
+      ap₂ (λ (x y : Bool). comparison (cond x fs []) (cond y (viewSlip slip) [])) a b
+      ∙ ap (λ (m : Match). record { found = m; compared = compared fs ws })
+      (with-fields fs (viewSlip slip) (rule-is fs .0 (accepted-rule rule a .0) .0) (slip-is (viewSlip slip) .0 (accepted-slip slip b .0) .0))
 
-  pub says-counts : slip .n ≢ rule .n → noMatch ≡ matchOf (countedLeft rule) (countedSlip slip)
-  says-counts n = answer-counts fs ws (λ e. n (slip-count ∙ sym e ∙ sym rule-count)) ∙ sym answer-is
+  abbrev rule-values : List Field
+  rule-values = take (rule .n) (rule .fields)
 
-  module _ (same : slip .n ≡ rule .n) (t : Tested) (is-t : t ≡ fieldsTested (take (rule .n) (rule .fields)) (take (slip .n) (slip .fields)) noValues) where
-    tests : t ≡ fieldsTested (map encodeField fs) (map encodeItems ws) noValues
-    tests = is-t ∙ ap₂ (λ (f : List Field) (w : List SlipField). fieldsTested f w noValues) rule-fields slip-fields
+  abbrev slip-values : List SlipField
+  slip-values = take (slip .n) (slip .fields)
 
-    counts : length fs ≡ length ws
-    counts = sym rule-count ∙ sym same ∙ slip-count
+  compares : comparisonOn rule-values slip-values ≡ comparison (countedLeft rule) (countedSlip slip)
+  compares = ap₂ comparisonOn rule-fields slip-fields ∙ comparison-on fs ws terms-in one-list ∙ sym answer-is
 
-    pub says-no : t .ok ≡ false → noMatch ≡ matchOf (countedLeft rule) (countedSlip slip)
-    says-no e = answer-no fs ws counts t tests terms-in one-list e ∙ sym answer-is
+  long-rule : length rule-values ≡ rule .n
+  long-rule = ap length rule-fields ∙ length-map fs encodeField ∙ sym rule-count
 
-    pub says-yes : t .ok ≡ true
-        → record { yes = true; filling = runsAll 0 (take (rule .n) (rule .fields)) (take (slip .n) (slip .fields)) (fillingOf (t .values)) } ≡ matchOf (countedLeft rule) (countedSlip slip)
-    says-yes e =
-        ap₂ (λ (f : List Field) (w : List SlipField). record { yes = true; filling = runsAll 0 f w (fillingOf (t .values)) }) rule-fields slip-fields
-        ∙ answer-yes fs ws counts t tests terms-in one-list e
-        ∙ sym answer-is
+  long-slip : length slip-values ≡ slip .n
+  long-slip = ap length slip-fields ∙ length-map ws encodeItems ∙ sym slip-count
+
+  pub says-counts : slip .n ≢ rule .n → noComparison ≡ comparison (countedLeft rule) (countedSlip slip)
+  says-counts n =
+      sym (ap (λ (c : Bool). cond c (comparisonBy rule-values slip-values) noComparison)
+      (ne-eqb (length rule-values) (length slip-values) (λ e. n (sym long-slip ∙ sym e ∙ long-rule))))
+      ∙ compares
+
+  pub says : slip .n ≡ rule .n → comparisonBy rule-values slip-values ≡ comparison (countedLeft rule) (countedSlip slip)
+  says e =
+      sym (ap (λ (c : Bool). cond c (comparisonBy rule-values slip-values) noComparison)
+      (eq-eqb (length rule-values) (length slip-values) (long-rule ∙ sym e ∙ sym long-slip)))
+      ∙ compares

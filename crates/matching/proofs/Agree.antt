@@ -17,7 +17,7 @@ use Rattle.order.specs.Types.{Basic, integer, string, atom, basic-eq, Kind, ran
 use Rattle.order.specs.Values.{kindOf, kindFrom, kindOf-from}
 use Rattle.theory.specs.Terms.{con, var}
 use Rattle.theory.specs.Fillings.{Filling}
-use Rattle.theory.specs.Matcher.{andThen, atoms, width, blank, bind, same, meets, test, walk, matchField, matchFields, hasRoom, room}
+use Rattle.theory.specs.Matcher.{andThen, atoms, width, blank, bind, same, meets, test, walk, matchField, matchFields, hasRoom}
 use Rattle.theory.specs.Linear.{OneList}
 use Rattle.theory.proofs.Slices.{span, room-span}
 use Rattle.theory.proofs.Seqs.{item-at}
@@ -188,7 +188,7 @@ item-enc [] p d h = absurd (omega arith)
 item-enc (c ∷ w) zero d h = refl
 item-enc (c ∷ w) (suc p) d h = item-enc w p d (omega arith)
 
-width-enc : (gap : ℕ) (u : OurTerm) → widthOf gap (encodeTerm u) ≡ width gap u
+pub width-enc : (gap : ℕ) (u : OurTerm) → widthOf gap (encodeTerm u) ≡ width gap u
 width-enc gap (con (int n)) = refl
 width-enc gap (con (str s)) = refl
 width-enc gap (var (basic integer) n) = refl
@@ -200,7 +200,7 @@ zero-con : Con
 zero-con = int 0
 
 -- a term at item p of w, where the item is there if the term is an atom
-test-agrees : (gap : ℕ) (w : List Con) (p : ℕ) (u : OurTerm) (v : Values) (φ : Filling Con Kind ℕ) → TermIn u → Holds v φ → p + width gap u ≤ length w
+pub test-agrees : (gap : ℕ) (w : List Con) (p : ℕ) (u : OurTerm) (v : Values) (φ : Filling Con Kind ℕ) → TermIn u → Holds v φ → p + width gap u ≤ length w
     → Agrees (tested (encodeTerm u) (getD (map enc w) p blankTerm) v) (test basics consts ℕ-discrete gap w p u φ)
 test-agrees gap w p (con (int m)) v φ i h l =
     let e = item-enc w p (int 0) (omega arith) in
@@ -233,7 +233,7 @@ walk-agrees gap w (u ∷ f) p v φ i h l =
 
 -- ---- a field
 
-field-agrees : (f : List OurTerm) (w : List Con) (v : Values) (φ : Filling Con Kind ℕ) → All TermIn f → OneList f → Holds v φ
+pub field-agrees : (f : List OurTerm) (w : List Con) (v : Values) (φ : Filling Con Kind ℕ) → All TermIn f → OneList f → Holds v φ
     → Agrees (fieldTested (map encodeTerm f) (map enc w) v) (matchField basics consts ℕ-discrete f w φ)
 field-agrees f w v φ i o h =
     subst (λ (b : Bool). Agrees (cond b (walked (length (map enc w) - (shapeOf (map encodeTerm f)) .atoms) (map enc w) (map encodeTerm f) 0 v) (record { ok = false; values = v })) (matchField basics consts ℕ-discrete f w φ)) (sym (fits-room f (length (map enc w)) ∙ ap (hasRoom f) long))

@@ -2,12 +2,13 @@
 use mathlib.Core.Path.{_≡_, refl, sym, _∙_, ap, ap₂}
 use mathlib.Core.Logic.{_≢_}
 use mathlib.Core.Bool.{Bool, true, false, cond, false≢true}
-use borrow.Author.Tests.{eq-eqb, ne-eqb}
+use borrow.Author.Tests.{eq-eqb, ne-eqb, eqb-true, eqb-false}
 use mathlib.Core.Option.{Option, none, some}
 use mathlib.Core.List.{List, [], _∷_, map, cons≢nil}
 use Prim.Native.Nat.{ℕ, zero, suc, _+_, _-_, _*_, _/_, _%_, _<_, _≤_}
 use native.Mathlib.Omega.{arith}
 use native.Mathlib.Decide.{ℕ-discrete}
+use lib.Dec.{eqb}
 use lib.ListN.{length, getD, set, length-map}
 use Rattle.lists.specs.Seqs.{All, tabulated}
 use Rattle.order.specs.Order.{basic, list}
@@ -16,18 +17,25 @@ use Rattle.theory.specs.Terms.{con, var}
 use Rattle.theory.specs.Fillings.{Filling}
 use Rattle.theory.specs.Matcher.{atoms, blank, matchFields}
 use Rattle.theory.specs.Linear.{lists, OneList}
+use Rattle.theory.proofs.Compared.{compared-none, compared-walked}
 use Rattle.text.specs.Terms.{Con, int, str, OurTerm}
 use Rattle.text.specs.Limits.{TermIn}
 use Rattle.instance.specs.Constants.{consts}
-use Rattle.instance.specs.Matching.{matcher}
+use Rattle.instance.specs.Matching.{matcher, compared}
 use Rattle.terms.specs.declared.Term.{Term as TermValue}
+use Rattle.terms.specs.declared.Field.{Field}
+use Rattle.terms.specs.declared.SlipField.{SlipField}
 use Rattle.terms.specs.Values.{blankTerm, encodeTerm, encodeField}
 use Rattle.bindings.specs.declared.Values.{Values}
 use Rattle.bindings.specs.declared.Run.{Run}
 use Rattle.bindings.specs.declared.Filling.{Filling as FillingValue}
 use Rattle.item_match.specs.declared.Tested.{Tested}
+use Rattle.matching.specs.declared.Match.{Match}
+use Rattle.matching.specs.declared.Comparison.{Comparison}
 use Rattle.matching.specs.Tests.{noValues, fieldsTested, runsOver, runsIn, runsAll}
-use Rattle.matching.specs.Answers.{kindAt, isKnown, valueTerm, encodeValues, runsField, runsFrom, runsOf, noMatch, found, fillingOf}
+use Rattle.matching.specs.Answers.{kindAt, isKnown, valueTerm, encodeValues, runsField, runsFrom, runsOf}
+use Rattle.matching.specs.Answers.{noMatch, found, fillingOf, noComparison, foundBy, comparisonBy, comparisonOn}
+use Rattle.matching.proofs.Counts.{fields-counts}
 use Rattle.matching.proofs.Agree.{Held, Holds, holds-none, Agrees, enc, terms-of, encodeItems, items-of, fields-agree}
 
 -- ---- the values of the atom variables
@@ -135,3 +143,38 @@ module _ (fs : List (List OurTerm)) (ws : List (List Con)) (same : length fs ≡
       go : (m : Option (Filling Con Kind ℕ)) → Agrees t m → record { yes = true; filling = record { values = t .values; runs = runsOf fs ws } } ≡ found fs ws m
       go none a = absurd (false≢true (sym a ∙ e))
       go (some φ) a = ap (λ (v : Values). record { yes = true; filling = record { values = v; runs = runsOf fs ws } }) (values-are (t .values) φ (a .1))
+
+-- ---- THE COMPARISON on values is that of the rule and the slip
+
+module _ (fs : List (List OurTerm)) (ws : List (List Con)) (i : All (All TermIn) fs) (o : All OneList fs) where
+  abbrev rule-values : List Field
+  rule-values = map encodeField fs
+
+  abbrev slip-values : List SlipField
+  slip-values = map encodeItems ws
+
+  found-is : length fs ≡ length ws → foundBy rule-values slip-values (fieldsTested rule-values slip-values noValues) ≡ found fs ws (matcher fs ws)
+  found-is same = go (fieldsTested rule-values slip-values noValues .ok) refl
+    where
+      go : (b : Bool) → fieldsTested rule-values slip-values noValues .ok ≡ b
+          → cond b (record { yes = true; filling = runsAll 0 rule-values slip-values (fillingOf (fieldsTested rule-values slip-values noValues .values)) })
+          noMatch ≡ found fs ws (matcher fs ws)
+      go true e = answer-yes fs ws same (fieldsTested rule-values slip-values noValues) refl i o e
+      go false e = answer-no fs ws same (fieldsTested rule-values slip-values noValues) refl i o e
+
+  pub comparison-on : comparisonOn rule-values slip-values ≡ record { found = found fs ws (matcher fs ws); compared = compared fs ws }
+  comparison-on =
+      ap₂ (λ (a b : ℕ). cond (eqb a b) (comparisonBy rule-values slip-values) noComparison) (length-map fs encodeField) (length-map ws encodeItems)
+      ∙ go (eqb (length fs) (length ws)) refl
+    where
+      both : (m n : Match) (a b : ℕ) → m ≡ n → a ≡ b → _≡_ {A = Comparison} (record { found = m; compared = a }) (record { found = n; compared = b })
+      both m n a b p q = ap₂ (λ (x : Match) (k : ℕ). record { found = x; compared = k }) p q
+
+      go : (b : Bool) → eqb (length fs) (length ws) ≡ b
+          → cond b (comparisonBy rule-values slip-values) noComparison ≡ record { found = found fs ws (matcher fs ws); compared = compared fs ws }
+      go true e =
+          let same = eqb-true (length fs) (length ws) e in
+          both _ _ _ _ (found-is same) (fields-counts fs ws noValues blank i o holds-none ∙ sym (compared-walked basics consts ℕ-discrete fs ws same))
+      go false e =
+          let other = eqb-false (length fs) (length ws) e in
+          both _ _ _ _ (answer-counts fs ws other) (sym (compared-none basics consts ℕ-discrete fs ws other))

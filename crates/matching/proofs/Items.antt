@@ -1,6 +1,6 @@
 -- The terms that a run names in a slip's value are the values of the constants that it names in the slip. Assumes nothing.
 use mathlib.Core.Path.{_≡_, refl, sym, ap, _∙_}
-use mathlib.Core.List.{List, [], _∷_, _++_, map, map-map}
+use mathlib.Core.List.{List, [], _∷_, _++_, map, map-map, append-nil}
 use Prim.Native.Nat.{ℕ, zero, suc, _-_}
 use lib.ListN.{length, getD, take, drop, replicate}
 use Rattle.lists.specs.Seqs.{All}
@@ -10,6 +10,7 @@ use Rattle.text.specs.Limits.{IsCon}
 use Rattle.instance.specs.Matching.{constants}
 use Rattle.instance.proofs.Matching.{constants-are}
 use Rattle.terms.specs.declared.Term.{Term}
+use Rattle.terms.specs.declared.SlipField.{SlipField}
 use Rattle.terms.specs.Values.{blankTerm, blankSlipField, encodeTerm, encodeSlipField, encodeSlip}
 use Rattle.bindings.specs.declared.Run.{Run}
 use Rattle.field_match.specs.Fields.{itemsOf}
@@ -53,16 +54,28 @@ constants-at (f ∷ l) (suc i) = constants-at l i
 -- ---- the items of a slip's value
 
 module _ (y : List (List OurTerm)) (all-con : All (All IsCon) y) where
-  pub field-items : (j : ℕ) → itemsOf (getD ((encodeSlip y) .fields) j blankSlipField) ≡ map enc (getD (map constants y) j [])
-  field-items j =
-      ap itemsOf (padded-at encodeSlipField [] (4 - length (map encodeSlipField y)) y j)
+  -- with any number of blank fields behind them
+  padded-items : (n j : ℕ) → itemsOf (getD (map encodeSlipField y ++ replicate n blankSlipField) j blankSlipField) ≡ map enc (getD (map constants y) j [])
+  padded-items n j =
+      ap itemsOf (padded-at encodeSlipField [] n y j)
       ∙ unpadded 64 blankTerm encodeTerm (getD y j [])
       ∙ ap (map encodeTerm) (sym (constants-are (getD y j []) (all-at (All IsCon) [] y j tt all-con)))
       ∙ map-map encodeTerm con (constants (getD y j []))
       ∙ ap (map enc) (sym (constants-at y j))
 
-  pub run-terms : (r : Run)
-      → take (r .count) (drop (r .start) (itemsOf (getD ((encodeSlip y) .fields) (r .field) blankSlipField))) ≡ map enc (itemsAt (map constants y) r)
-  run-terms r =
-      ap (λ (l : List Term). take (r .count) (drop (r .start) l)) (field-items (r .field))
-      ∙ part-map enc (r .count) (r .start) (getD (map constants y) (r .field) [])
+  pub field-items : (j : ℕ) → itemsOf (getD (map encodeSlipField y) j blankSlipField) ≡ map enc (getD (map constants y) j [])
+  field-items j = ap (λ (l : List SlipField). itemsOf (getD l j blankSlipField)) (sym (append-nil (map encodeSlipField y))) ∙ padded-items 0 j
+
+  -- the items that a run names, of the slip's value and of its fields' values
+  module _ (r : Run) where
+    named : (l : List Term) → l ≡ map enc (getD (map constants y) (r .field) []) → take (r .count) (drop (r .start) l) ≡ map enc (itemsAt (map constants y) r)
+    named l e =
+        ap (λ (l : List Term). take (r .count) (drop (r .start) l)) e ∙ part-map enc (r .count) (r .start) (getD (map constants y) (r .field) [])
+
+    pub run-terms : take (r .count) (drop (r .start) (itemsOf (getD ((encodeSlip y) .fields) (r .field) blankSlipField))) ≡ map enc
+        (itemsAt (map constants y) r)
+    run-terms = named (itemsOf (getD ((encodeSlip y) .fields) (r .field) blankSlipField)) (padded-items (4 - length (map encodeSlipField y)) (r .field))
+
+    pub run-items-of : take (r .count) (drop (r .start) (itemsOf (getD (map encodeSlipField y) (r .field) blankSlipField))) ≡ map enc
+        (itemsAt (map constants y) r)
+    run-items-of = named (itemsOf (getD (map encodeSlipField y) (r .field) blankSlipField)) (field-items (r .field))

@@ -10,7 +10,7 @@ use native.Mathlib.Decide.{ℕ-discrete}
 use lib.ListN.{length, getD, set, take, drop, replicate, length-set, length-append, length-drop}
 use borrow.Author.Tests.{leb-true, eqb-true}
 use lib.Seq.{getD-set-same, getD-set-other, getD-drop, drop-drop}
-use Rattle.lists.specs.Seqs.{All, Any, all-left, all-right, tabulate}
+use Rattle.lists.specs.Seqs.{All, Any, all-left, all-right, tabulate, tabulate-at}
 use Rattle.order.specs.Order.{basic, list}
 use Rattle.order.specs.Types.{Basic, integer, string, atom, Kind, basics}
 use Rattle.theory.specs.Terms.{con, var}
@@ -177,11 +177,6 @@ module _ (ψ : Filling Con Kind ℕ) (k : Kind) (a : ℕ) where
   fields-long m (f ∷ fs) (inr o) h = fields-long m fs o (h .1)
 
 -- ---- the places of atom variables
-
-tabulate-at : {A : Type 0} (n : ℕ) (f : ℕ → A) (i : ℕ) (d : A) → i < n → getD (tabulate n f) i d ≡ f i
-tabulate-at zero f i d h = absurd (omega arith)
-tabulate-at (suc n) f zero d h = refl
-tabulate-at (suc n) f (suc i) d h = tabulate-at n (λ (j : ℕ). f (suc j)) i d (omega arith)
 
 module _ {A : Type 0} (of : List Con → A) (d : A) (φ : Filling Con Kind ℕ) (n : ℕ) (h : n ≤ 15) where
   at : ℕ → A

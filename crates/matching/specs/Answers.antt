@@ -1,9 +1,10 @@
 -- What matching answers. Document 01: "no with the blank filling (every number zero), or yes with the value of every variable,
 -- blank for those the rule lacks; a list variable's value is a run of the slip's terms".
-use mathlib.Core.Bool.{Bool, true, false}
+use mathlib.Core.Bool.{Bool, true, false, cond}
 use mathlib.Core.Option.{Option, none, some}
 use mathlib.Core.List.{List, [], _∷_, map}
 use Prim.Native.Nat.{ℕ, zero, suc, _+_, _-_, _/_, _%_, _<_, _≤_}
+use lib.Dec.{eqb}
 use lib.ListN.{length, getD, set, take, drop, replicate}
 use Rattle.lists.specs.Seqs.{tabulate}
 use Rattle.order.specs.Order.{basic, list}
@@ -12,15 +13,19 @@ use Rattle.theory.specs.Terms.{con, var}
 use Rattle.theory.specs.Fillings.{Filling}
 use Rattle.theory.specs.Matcher.{atoms}
 use Rattle.text.specs.Terms.{Con, OurTerm}
-use Rattle.instance.specs.Matching.{constants, matcher}
+use Rattle.instance.specs.Matching.{constants, matcher, compared}
 use Rattle.terms.specs.declared.Term.{Term}
+use Rattle.terms.specs.declared.Field.{Field}
+use Rattle.terms.specs.declared.SlipField.{SlipField}
 use Rattle.terms.specs.Values.{blankTerm, encodeTerm}
 use Rattle.bindings.specs.declared.Values.{Values}
 use Rattle.bindings.specs.declared.Run.{Run}
 use Rattle.bindings.specs.declared.Filling.{Filling as FillingValue}
 use Rattle.bindings.specs.Values.{blankRun}
+use Rattle.item_match.specs.declared.Tested.{Tested}
 use Rattle.matching.specs.declared.Match.{Match}
-use Rattle.matching.specs.Tests.{noValues}
+use Rattle.matching.specs.declared.Comparison.{Comparison}
+use Rattle.matching.specs.Tests.{noValues, fieldsTested, fieldsCompared, runsAll}
 
 -- ---- the atom variables
 
@@ -83,3 +88,23 @@ matchOf (f ∷ fs) (w ∷ ws) = found (f ∷ fs) (map constants (w ∷ ws)) (mat
 
 abbrev pub fillingOf : Values → FillingValue
 fillingOf v = record { values = v; runs = replicate 16 blankRun }
+
+-- ---- the answer with the count
+
+-- Document 02, E2: "It also returns how many slip items it compared"; "No shop should see another yes, no or filling"
+abbrev pub comparison : List (List OurTerm) → List (List OurTerm) → Comparison
+comparison r s = record { found = matchOf r s; compared = compared r (map constants s) }
+
+abbrev pub noComparison : Comparison
+noComparison = record { found = noMatch; compared = 0 }
+
+-- The same on values, as code makes it: "0 where the field counts differ", else by the tests, with the runs where they pass.
+-- `comparison-on` of proofs/Found says that it is the comparison, where the values are those of fields within their limits.
+abbrev pub foundBy : List Field → List SlipField → Tested → Match
+foundBy fs ws t = cond (t .ok) (record { yes = true; filling = runsAll 0 fs ws (fillingOf (t .values)) }) noMatch
+
+abbrev pub comparisonBy : List Field → List SlipField → Comparison
+comparisonBy fs ws = record { found = foundBy fs ws (fieldsTested fs ws noValues); compared = fieldsCompared fs ws noValues }
+
+abbrev pub comparisonOn : List Field → List SlipField → Comparison
+comparisonOn fs ws = cond (eqb (length fs) (length ws)) (comparisonBy fs ws) noComparison

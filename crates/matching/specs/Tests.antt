@@ -15,7 +15,8 @@ use Rattle.bindings.specs.declared.Run.{Run}
 use Rattle.bindings.specs.declared.Filling.{Filling}
 use Rattle.item_match.specs.declared.Tested.{Tested}
 use Rattle.item_match.specs.Tests.{isList}
-use Rattle.field_match.specs.Fields.{goOn, fieldTested, termsOf, itemsOf}
+use Rattle.field_match.specs.declared.Progress.{Progress}
+use Rattle.field_match.specs.Fields.{goOn, countOn, fieldTested, fieldCompared, termsOf, itemsOf}
 
 -- ---- a rule's fields against a slip's
 
@@ -27,6 +28,16 @@ fieldsTested [] [] v = record { ok = true; values = v }
 fieldsTested [] (w ∷ ws) v = record { ok = false; values = v }
 fieldsTested (f ∷ fs) [] v = record { ok = false; values = v }
 fieldsTested (f ∷ fs) (w ∷ ws) v = goOn (fieldTested (termsOf f) (itemsOf w) v) (fieldsTested fs ws)
+
+-- how many items of the slip are compared on the way
+abbrev pub fieldsCompared : List Field → List SlipField → Values → ℕ
+fieldsCompared [] ws v = 0
+fieldsCompared (f ∷ fs) [] v = 0
+fieldsCompared (f ∷ fs) (w ∷ ws) v =
+    fieldCompared (termsOf f) (itemsOf w) v + countOn (fieldTested (termsOf f) (itemsOf w) v) (fieldsCompared fs ws)
+
+abbrev pub fieldsProgress : List Field → List SlipField → Values → Progress
+fieldsProgress fs ws v = record { tested = fieldsTested fs ws v; compared = fieldsCompared fs ws v }
 
 -- ---- the runs of list variables
 

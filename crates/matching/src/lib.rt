@@ -1,8 +1,8 @@
 // Matching a rule against a slip: yes with the one filling of the rule's variables, or no.
 ghost use mathlib.Core.Path.{_≡_};
 ghost use Prim.Native.Nat.{_-_, _≤_, min};
-ghost use Rattle.matching.specs.Tests.{fieldsTested, noValues, withRun, runsIn, runsAll};
-ghost use Rattle.matching.specs.Answers.{fillingOf, matchOf, noMatch};
+ghost use Rattle.matching.specs.Tests.{fieldsProgress, noValues, withRun, runsIn, runsAll};
+ghost use Rattle.matching.specs.Answers.{fillingOf, matchOf, noMatch, comparison, noComparison, foundBy};
 ghost use Rattle.accepted.specs.Accepted.{countedLeft};
 ghost use Rattle.accepted_rules.specs.Rules.{countedRule};
 ghost use Rattle.accepted_slips.specs.Slips.{countedSlip};
@@ -10,6 +10,7 @@ ghost use lib.ListN.{take};
 use bindings::Filling;
 use bindings::Run;
 use bindings::Values;
+use field_match::Progress;
 use item_match::Tested;
 use order::Kind;
 use terms::Field;
@@ -25,7 +26,13 @@ pub struct Match {
     pub filling: Filling,
 }
 
-fn no_values() -> Values
+// A match, and how many of the slip's items were compared until it was known.
+pub struct Comparison {
+    pub found: Match,
+    pub compared: usize,
+}
+
+pub fn no_values() -> Values
     ensures { λ r. ⌜ r ≡ noValues ⌝ }
 {
     let t = terms::blank_term();
@@ -35,25 +42,35 @@ fn no_values() -> Values
     }
 }
 
-// As many fields of the slip as of the rule, one after the other.
-fn match_fields(r: RuleSide, s: Slip) -> Tested
+// As many fields of the slip as of the rule, one after the other, up to the first test that fails.
+fn match_fields(r: RuleSide, s: Slip) -> Progress
     requires { ⌜ (r .n ≤ 4) × (s .n ≡ r .n) ⌝ }
-    ensures { λ t. ⌜ t ≡ fieldsTested (take (r .n) (r .fields)) (take (s .n) (s .fields)) noValues ⌝ }
+    ensures { λ t. ⌜ t ≡ fieldsProgress (take (r .n) (r .fields)) (take (s .n) (s .fields)) noValues ⌝ }
 {
     let n = r.n;
     let mut v = no_values();
+    let mut compared: usize = 0;
     let mut i: usize = 0;
     while i < n {
-        let t = field_match::match_field(r.fields[i], s.fields[i], v);
+        let p = field_match::match_field(r.fields[i], s.fields[i], v);
+        compared += p.compared;
+        let t = p.tested;
         if !t.ok {
-            return t;
+            return Progress {
+                tested: t,
+                compared: compared,
+            };
         }
         v = t.values;
         i += 1;
     }
-    Tested {
+    let passed = Tested {
         ok: true,
         values: v,
+    };
+    Progress {
+        tested: passed,
+        compared: compared,
     }
 }
 
@@ -98,7 +115,7 @@ fn left_over(n: usize, a: usize) -> usize
 }
 
 // The run of one field's list variable. There is at most one: it takes the items that the other terms leave.
-fn run_field(j: usize, f: Field, w: SlipField, x: Filling) -> Filling
+pub fn run_field(j: usize, f: Field, w: SlipField, x: Filling) -> Filling
     ensures { λ y. ⌜ y ≡ runsIn j f w x ⌝ }
 {
     let n = at_most(f.n, 16);
@@ -106,12 +123,15 @@ fn run_field(j: usize, f: Field, w: SlipField, x: Filling) -> Filling
     let mut y = x;
     let mut i: usize = 0;
     while i < n {
-        let r = Run {
-            field: j,
-            start: i,
-            count: gap,
-        };
-        y = with_run(y, f.terms[i], r);
+        let t = f.terms[i];
+        if field_match::is_list_term(t) {
+            let r = Run {
+                field: j,
+                start: i,
+                count: gap,
+            };
+            y = with_run(y, t, r);
+        }
         i += 1;
     }
     y
@@ -132,7 +152,7 @@ fn run_fields(r: RuleSide, s: Slip, x: Filling) -> Filling
 }
 
 // The filling with these values and no runs.
-fn filling_of(v: Values) -> Filling
+pub fn filling_of(v: Values) -> Filling
     ensures { λ x. ⌜ x ≡ fillingOf v ⌝ }
 {
     let r = Run {
@@ -146,7 +166,8 @@ fn filling_of(v: Values) -> Filling
     }
 }
 
-fn no_match() -> Match
+// No, with the blank filling.
+pub fn no_match() -> Match
     ensures { λ m. ⌜ m ≡ noMatch ⌝ }
 {
     let v = no_values();
@@ -156,20 +177,21 @@ fn no_match() -> Match
     }
 }
 
-// Whether this left side matches the slip, and with which filling. What no reading returns has no fields, and matches nothing.
-pub fn match_side(rule: RuleSide, slip: Slip) -> Match
-    ensures { λ m. ⌜ m ≡ matchOf (countedLeft rule) (countedSlip slip) ⌝ }
+// No, and nothing was compared.
+pub fn no_comparison() -> Comparison
+    ensures { λ c. ⌜ c ≡ noComparison ⌝ }
 {
-    if !accepted::is_left(rule) {
-        return no_match();
+    Comparison {
+        found: no_match(),
+        compared: 0,
     }
-    if !accepted_slips::is_slip(slip) {
-        return no_match();
-    }
-    if slip.n != rule.n {
-        return no_match();
-    }
-    let t = match_fields(rule, slip);
+}
+
+// What the tests come to: no, or yes with the runs of the list variables too.
+fn found_by(rule: RuleSide, slip: Slip, t: Tested) -> Match
+    requires { ⌜ (rule .n ≤ 4) × (slip .n ≡ rule .n) ⌝ }
+    ensures { λ m. ⌜ m ≡ foundBy (take (rule .n) (rule .fields)) (take (slip .n) (slip .fields)) t ⌝ }
+{
     if !t.ok {
         return no_match();
     }
@@ -180,9 +202,46 @@ pub fn match_side(rule: RuleSide, slip: Slip) -> Match
     }
 }
 
-// Whether the rule matches the slip: its left side does. A rule whose right side no reading returns has no fields either.
+// Whether this left side matches the slip, with which filling, and how many of the slip's items were compared. What no reading returns
+// has no fields, and matches nothing.
+pub fn compare_side(rule: RuleSide, slip: Slip) -> Comparison
+    ensures { λ c. ⌜ c ≡ comparison (countedLeft rule) (countedSlip slip) ⌝ }
+{
+    if !accepted::is_left(rule) {
+        return no_comparison();
+    }
+    if !accepted_slips::is_slip(slip) {
+        return no_comparison();
+    }
+    if slip.n != rule.n {
+        return no_comparison();
+    }
+    let p = match_fields(rule, slip);
+    Comparison {
+        found: found_by(rule, slip, p.tested),
+        compared: p.compared,
+    }
+}
+
+// The same of a rule: its left side is compared. A rule whose right side no reading returns has no fields either.
+pub fn compare_rule(rule: Rule, slip: Slip) -> Comparison
+    ensures { λ c. ⌜ c ≡ comparison ((countedRule rule) .0) (countedSlip slip) ⌝ }
+{
+    compare_side(accepted_rules::left_of(rule), slip)
+}
+
+// Whether this left side matches the slip, and with which filling.
+pub fn match_side(rule: RuleSide, slip: Slip) -> Match
+    ensures { λ m. ⌜ m ≡ matchOf (countedLeft rule) (countedSlip slip) ⌝ }
+{
+    let c = compare_side(rule, slip);
+    c.found
+}
+
+// Whether the rule matches the slip, and with which filling.
 pub fn match_rule(rule: Rule, slip: Slip) -> Match
     ensures { λ m. ⌜ m ≡ matchOf ((countedRule rule) .0) (countedSlip slip) ⌝ }
 {
-    match_side(accepted_rules::left_of(rule), slip)
+    let c = compare_rule(rule, slip);
+    c.found
 }

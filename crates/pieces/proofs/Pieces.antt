@@ -16,6 +16,7 @@ use Rattle.text.proofs.Told.{fits-iff}
 use Rattle.writing.specs.declared.Written.{Written}
 use Rattle.writing.specs.declared.Written.the-variants.{Bytes, TooSmall}
 use Rattle.writing.specs.Answers.{told, Writes}
+use Rattle.writing.proofs.Answers.{wrote}
 use Rattle.writing.proofs.Stores.{sets-append}
 use Rattle.pieces.specs.Sizes.{sizeOf}
 use Rattle.pieces.specs.Placed.{placed, placeBehind, Placed}
@@ -98,6 +99,10 @@ module _ (t l : List ℕ) (room : length t ≤ length l) {p : ℕ} {m : List ℕ
 
   pub front-size : p ≡ length (take p m)
   front-size = omega (arith, put .0, ap length front-is)
+
+  -- so a text put there, with room for all of it, is written
+  pub front-written : Writes t l (Bytes p) m
+  front-written = wrote t l room (omega (arith, put .0)) (put .1)
 
 -- a writer's answer says the text's size either way
 pub size-told : {t l : List ℕ} {w : Written} {m : List ℕ} → Writes t l w m → sizeOf w ≡ length t

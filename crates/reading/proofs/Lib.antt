@@ -1,3 +1,4 @@
 pub mod Verdicts
 pub mod Rules
+pub mod Judged
 pub mod Values

@@ -50,7 +50,8 @@ use Rattle.text_passes.specs.Passes.{surveyIn, sideIn, unknownIn}
 use Rattle.text_passes.proofs.Build.{rule-built}
 use Rattle.text_passes.proofs.Passes.{is-short}
 use Rattle.text_passes.proofs.Unknown.{unknown-says}
-use Rattle.reading.proofs.Verdicts.{accepted-out, fits, surveyed-is}
+use Rattle.text_passes.proofs.Fields.{fits}
+use Rattle.reading.proofs.Verdicts.{accepted-out, surveyed-is}
 use Rattle.reading.specs.Sides.{rightOf, unknownOf, PlacedIn, FoundIn}
 
 -- ---- verdicts of outcomes

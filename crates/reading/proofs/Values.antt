@@ -1,4 +1,4 @@
--- What is built from a rule text that is accepted is what reading returns: the rule, and the tokens of its left side.
+-- What is built from a rule text that is accepted is what reading returns: the rule, where its left side ends, and that side's tokens.
 use mathlib.Core.Path.{_≡_, refl, sym, _∙_, ap, ap₂, subst}
 use mathlib.Core.Bool.{Bool, cond}
 use mathlib.Core.Option.{Option, none, some, Option·map}
@@ -11,7 +11,6 @@ use lib.Seq.{take-all}
 use Rattle.text.specs.Terms.{fieldsOf}
 use Rattle.text.specs.Walk.{walked}
 use Rattle.text.specs.Read.{rule, said, unknown, OutcomeOf, OurFields, Outcome, refused, accepted, tell, readSide}
-use Rattle.text.proofs.Accepted.{Base}
 use Rattle.rules.specs.Read.{OurRule, readRule}
 use Rattle.rules.specs.Judge.{asRule, lackingAt, known}
 use Rattle.terms.specs.declared.RuleSide.{RuleSide}
@@ -30,11 +29,12 @@ use Rattle.text_passes.specs.Passes.{sideIn, tokensIn}
 use Rattle.text_passes.proofs.Passes.{is-short}
 use Rattle.text_passes.proofs.Tokens.{tokens-built, tokens-blank}
 use Rattle.reading.specs.Sides.{endOf}
-use Rattle.reading.specs.Answers.{ruleRead, sideSaid, leftSaid, ReadsLeft}
+use Rattle.reading.specs.declared.LeftJudged.{LeftJudged}
+use Rattle.reading.specs.Answers.{ruleRead, sideSaid, leftSaid, leftEnd, JudgesLeft, ReadsLeft}
+use Rattle.reading.proofs.Judged.{judged-accepted}
 use Rattle.reading.proofs.Rules.{judged-long, judged-stops, one-read, orElse, accepted-base, accepted-said}
 use Rattle.reading.proofs.Rules.{side-built, built-side, base-short, both-fine}
 use Rattle.reading.proofs.Rules.{first, two-verdict, two-is, slice-is, left-base, right-fine, left-accepted, sides}
-use Rattle.splitting.proofs.Splits.{two-sides}
 
 refused≢accepted : {r : _} {p : ℕ} → Refused r p ≡ Accepted → ⊥
 refused≢accepted {r} {p} e = let z : _≡_ {A = ℕ} 0 1 = cc in omega arith
@@ -105,12 +105,6 @@ module _ (t : List ℕ) (fine : verdictOf (readRule t) ≡ Accepted) where
         (is-r ∙ ap sideIn (slice-is t short p e) ∙ side-built u (right-fine t short p e both))
         ∙ sym (ap (λ (o : OutcomeOf OurRule). (ruleRead o) .rule) two-says)
 
--- the left side ends in the text
-pub end-in : (t : List ℕ) (s : Split) (n : ℕ) → s ≡ splitOf t → n ≡ endOf (length t) s → n ≤ length t
-end-in t (split.Stops p) n is-s is-n = omega arith
-end-in t split.One n is-s is-n = omega arith
-end-in t (split.Two p) n is-s is-n = let h = two-sides t p (sym is-s) .inside in omega arith
-
 -- ---- the answers
 
 module _ (t : List ℕ) where
@@ -135,57 +129,67 @@ module _ (t : List ℕ) where
       → record { verdict = v; rule = r } ≡ ruleRead (readRule t)
   rule-no v r k p is-v q is-r = rule-yes v r is-v (is-r ∙ sym (refused-out (readRule t) (sym is-v ∙ q) .0))
 
-  -- ---- the left side's tokens
+  -- ---- where the left side ends
 
   left-said : (o : OutcomeOf OurRule) (x y : OurFields) → o ≡ accepted (x, y) → leftSaid o ≡ x
   left-said o x y e = ap leftSaid e
 
-  module _ (right : Bool) (v : Verdict) (is-v : v ≡ verdictOf (readRule t)) where
-    made : (n : ℕ) (x : TokenRule) → n ≤ length t → Base rule (take n t) → readSide (take n t) ≡ accepted (fieldsOf (said (take n t)))
-        → leftSaid (readRule t) ≡ fieldsOf (said (take n t)) → x ≡ tokensIn right (take n t)
-        → ReadsLeft right t (record { verdict = v; end = n; rule = x })
-    made n x inside base says left is-x =
-        let short = base-short (take n t) base in
-        let built : x ≡ builtTokens right (walked (take n t)) = is-x ∙ rw (is-short (take n t) (omega arith)) in
-        record {
-          verdict = is-v;
-          inside = inside;
-          left = ap sideSaid says ∙ sym left;
-          tokens = λ o.
-              ap (ruleOf (cond right o (take n t)) (cond right (take n t) o)) built
-              ∙ tokens-built right (take n t) o
-              ∙ ap (onSide right) (built-side (take n t) base ∙ ap encodeSide (sym left));
-        }
+  module _ (v : Verdict) (is-v : v ≡ verdictOf (readRule t)) where
+    ends : (n : ℕ) → n ≡ leftEnd v t → n ≤ length t → readSide (take n t) ≡ accepted (fieldsOf (said (take n t)))
+        → leftSaid (readRule t) ≡ fieldsOf (said (take n t)) → JudgesLeft t (record { verdict = v; end = n })
+    ends n at inside says left = record { verdict = is-v; ends = at; inside = inside; left = ap sideSaid says ∙ sym left }
 
-    pub left-yes : (s : Split) (n : ℕ) (x : TokenRule) → s ≡ splitOf t → n ≡ endOf (length t) s → v ≡ Accepted → x ≡ tokensIn right (take n t)
-        → ReadsLeft right t (record { verdict = v; end = n; rule = x })
-    left-yes (split.Stops p) n x is-s is-n q is-x = absurd (not-stopped t (sym is-v ∙ q) p (sym is-s))
-    left-yes split.One n x is-s is-n q is-x =
+    -- the end by the split, where the text is accepted
+    end-by : (s : Split) → s ≡ splitOf t → v ≡ Accepted → endOf (length t) s ≡ leftEnd v t
+    end-by s e q = ap (endOf (length t)) e ∙ sym (ap (λ (w : Verdict). leftEnd w t) q)
+
+    pub left-yes : (s : Split) (n : ℕ) → s ≡ splitOf t → n ≡ endOf (length t) s → v ≡ Accepted → JudgesLeft t (record { verdict = v; end = n })
+    left-yes (split.Stops p) n is-s is-n q = absurd (not-stopped t (sym is-v ∙ q) p (sym is-s))
+    left-yes split.One n is-s is-n q =
         let fine = sym is-v ∙ q in
         let all : take n t ≡ t = take-all n t (omega arith) in
-        let verdict = one-verdict t fine (sym is-s) in
-        made n x (omega arith) (subst (Base rule) (sym all) (accepted-base t verdict))
-        (subst (λ (z : List ℕ). readSide z ≡ accepted (fieldsOf (said z))) (sym all) (accepted-said t verdict))
-        (left-said (readRule t) (fieldsOf (said t)) [] (one-says t fine (sym is-s)) ∙ ap (λ (z : List ℕ). fieldsOf (said z)) (sym all)) is-x
-    left-yes (split.Two p) n x is-s is-n q is-x =
+        ends n (is-n ∙ end-by split.One is-s q) (omega arith)
+        (subst (λ (z : List ℕ). readSide z ≡ accepted (fieldsOf (said z))) (sym all) (accepted-said t (one-verdict t fine (sym is-s))))
+        (left-said (readRule t) (fieldsOf (said t)) [] (one-says t fine (sym is-s)) ∙ ap (λ (z : List ℕ). fieldsOf (said z)) (sym all))
+    left-yes (split.Two p) n is-s is-n q =
         let fine = sym is-v ∙ q in
         let e = sym is-s in
-        let b = both t fine p e in
         let inside = sides t (short t fine) p e .inside in
-        subst (λ (i : ℕ). x ≡ tokensIn right (take i t) → ReadsLeft right t (record { verdict = v; end = i; rule = x })) (sym is-n)
-        (made p x (omega arith) (left-base t (short t fine) p e b) (left-accepted t (short t fine) p e b)
-        (left-said (readRule t) _ _ (two-says t fine p e))) is-x
+        subst (λ (i : ℕ). JudgesLeft t (record { verdict = v; end = i })) (sym is-n)
+        (ends p (end-by (split.Two p) is-s q) (omega arith) (left-accepted t (short t fine) p e (both t fine p e)) (left-said (readRule t) _ _ (two-says t fine p e)))
 
-    pub left-no : (x : TokenRule) (k : _) (p : ℕ) → v ≡ Refused k p → x ≡ blankTokenRule → ReadsLeft right t (record { verdict = v; end = 0; rule = x })
+    pub left-no : (k : _) (p : ℕ) → v ≡ Refused k p → JudgesLeft t (record { verdict = v; end = 0 })
     unfolding decLt
-    left-no x k p q is-x =
-        let none = refused-out (readRule t) (sym is-v ∙ q) .1 in
-        record {
-          verdict = is-v;
-          inside = omega arith;
-          left = sym none;
-          tokens = λ o.
-              ap (ruleOf (cond right o []) (cond right [] o)) is-x
-              ∙ tokens-blank right [] o
-              ∙ ap (λ (z : OurFields). onSide right (encodeSide z)) (sym none);
-        }
+    left-no k p q = record { verdict = is-v; ends = sym (ap (λ (w : Verdict). leftEnd w t) q); inside = omega arith; left = sym (refused-out (readRule t) (sym is-v ∙ q) .1) }
+
+  -- ---- the left side's tokens
+
+  module _ (right : Bool) (j : LeftJudged) (judged : JudgesLeft t j) (x : TokenRule) where
+    abbrev front : List ℕ
+    front = take (j .end) t
+
+    -- they stand for what the text up to the end of the left side says
+    reads : ((o : List ℕ) → ruleOf (cond right o front) (cond right front o) x ≡ onSide right (encodeSide (leftSaid (readRule t))))
+        → ReadsLeft right t (record { verdict = j .verdict; end = j .end; rule = x })
+    reads tokens = record { verdict = judged .verdict; inside = judged .inside; left = judged .left; tokens = tokens }
+
+    pub tokens-yes : j .verdict ≡ Accepted → x ≡ tokensIn right front → ReadsLeft right t (record { verdict = j .verdict; end = j .end; rule = x })
+    tokens-yes q is-x =
+        let yes : Accepted ≡ verdictOf (readSide front) = sym (ap verdictOf (judged-accepted t j judged q .2)) in
+        let base = accepted-base front yes in
+        let short = base-short front base in
+        let built : x ≡ builtTokens right (walked front) = is-x ∙ rw (is-short front (omega arith)) in
+        let says = ap sideSaid (sym (accepted-said front yes)) ∙ judged .left in
+        reads (λ o.
+        ap (ruleOf (cond right o front) (cond right front o)) built
+        ∙ tokens-built right front o
+        ∙ ap (onSide right) (built-side front base ∙ ap encodeSide says))
+
+    pub tokens-no : (k : _) (p : ℕ) → j .verdict ≡ Refused k p → x ≡ blankTokenRule
+        → ReadsLeft right t (record { verdict = j .verdict; end = j .end; rule = x })
+    tokens-no k p q is-x =
+        let none = refused-out (readRule t) (sym (judged .verdict) ∙ q) .1 in
+        reads (λ o.
+        ap (ruleOf (cond right o front) (cond right front o)) is-x
+        ∙ tokens-blank right front o
+        ∙ ap (λ (z : OurFields). onSide right (encodeSide z)) (sym none))

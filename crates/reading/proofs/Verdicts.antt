@@ -8,19 +8,16 @@ use Prim.Native.Nat.{ℕ, _<_, _≤_}
 use native.Mathlib.Omega.{arith}
 use native.Mathlib.Decide.{decLt}
 use lib.ListN.{length}
-use Rattle.lists.specs.Seqs.{All}
-use Rattle.text.specs.Grammar.{Raw, Says}
+use Rattle.text.specs.Grammar.{Raw}
 use Rattle.text.specs.Machine.{place2}
-use Rattle.text.specs.Marks.{Mark, marks, FifthField, TooMany, MarkOver, Over}
+use Rattle.text.specs.Marks.{Mark}
 use Rattle.text.specs.Terms.{OurTerm, fieldsOf}
 use Rattle.text.specs.Walk.{walked}
-use Rattle.text.specs.Read.{Reason, long, grammar, fields, terms, limits, Sort, slip, said, firstBad, placeOf, Outcome, refused, accepted, tell, chain, read, readSlip}
+use Rattle.text.specs.Read.{Reason, long, grammar, Sort, slip, said, firstBad, placeOf, Outcome, refused, accepted, tell, chain, read, readSlip}
 use Rattle.text.proofs.Place.{place2-none}
 use Rattle.text.proofs.Walk.{walk-says}
-use Rattle.text.proofs.Leftmost.{none-all}
-use Rattle.text.proofs.Fields.{few-to, width-to, each}
 use Rattle.text.proofs.Read.{read-accepted}
-use Rattle.text.proofs.Accepted.{Base, in-grammar, said-is, clean-to}
+use Rattle.text.proofs.Accepted.{Base, in-grammar, said-is}
 use Rattle.terms.specs.declared.Slip.{Slip}
 use Rattle.terms.specs.Values.{blankSlip}
 use Rattle.scanning.specs.declared.Found.{Found}
@@ -36,7 +33,8 @@ use Rattle.verdicts.specs.Verdicts.{sortOf, reasonFrom, verdictOf}
 use Rattle.refusals.specs.Refusals.{surveyMark, nothingYet}
 use Rattle.refusals.proofs.Refusals.{reasons, survey-is}
 use Rattle.reading.specs.Answers.{slipRead}
-use Rattle.text_passes.proofs.Build.{Fits, slip-built}
+use Rattle.text_passes.proofs.Build.{slip-built}
+use Rattle.text_passes.proofs.Fields.{fits}
 use Rattle.text_passes.proofs.Passes.{is-short}
 
 -- ---- the verdict, refusal by refusal
@@ -88,21 +86,6 @@ slip-refused (accepted x) v r′ p′ e q = let z : _≡_ {A = ℕ} 0 1 = cc in 
 pub accepted-out : (o : Outcome) → Accepted ≡ verdictOf o → (x : List (List OurTerm)) × (o ≡ accepted x)
 accepted-out (refused r p) e = let z : _≡_ {A = ℕ} 0 1 = cc in absurd (omega arith)
 accepted-out (accepted x) e = (x, refl)
-
--- a text that is refused for none of the first five says fields that fit
-pub fits : (S : Sort) (t : List ℕ) → Base S t → (x : List (List Raw)) → Says t x → Fits (S .width) x
-fits S t h x s =
-    let w = S .width in
-    let a = clean-to w fields t x s (h .2) in
-    let b = clean-to w terms t x s (h .3) in
-    let c = clean-to w limits t x s (h .4) in (
-      both x (each (λ r. Over r → ⊥) x 0 1 .0 (none-all MarkOver (marks x) [] c)) (width-to w x 0 1 (none-all (TooMany w) (marks x) [] b)),
-      omega (arith, few-to x 0 1 (s .0 .1) (omega arith) (none-all FifthField (marks x) [] a)),
-    )
-  where
-    both : (y : List (List Raw)) → All (All (λ r. Over r → ⊥)) y → All (λ rs. length rs ≤ S .width) y → All (λ rs. All (λ r. Over r → ⊥) rs × (length rs ≤ S .width)) y
-    both [] p q = tt
-    both (f ∷ y) p q = ((p .0, q .0), both y (p .1) (q .1))
 
 -- what is accepted is what was built
 slip-accepted : (t : List ℕ) → Accepted ≡ verdictOf (readSlip t) → record { verdict = Accepted; slip = builtSlip (walked t) } ≡ slipRead (readSlip t)

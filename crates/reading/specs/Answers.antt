@@ -9,11 +9,15 @@ use Rattle.rules.specs.Read.{OurRule, readRule}
 use Rattle.terms.specs.Values.{blankRule, blankSlip, encodeSide, encodeRule, encodeSlip}
 use Rattle.tokens.specs.Tokens.{ruleOf}
 use Rattle.text_passes.specs.Tokens.{onSide}
+use Rattle.splitting.specs.Splits.{splitOf}
+use Rattle.verdicts.specs.declared.Verdict.{Verdict}
 use Rattle.verdicts.specs.declared.Verdict.the-variants.{Accepted, Refused}
 use Rattle.verdicts.specs.Verdicts.{reasonFrom, verdictOf}
 use Rattle.reading.specs.declared.RuleRead.{RuleRead}
 use Rattle.reading.specs.declared.SlipRead.{SlipRead}
+use Rattle.reading.specs.declared.LeftJudged.{LeftJudged}
 use Rattle.reading.specs.declared.LeftRead.{LeftRead}
+use Rattle.reading.specs.Sides.{endOf}
 
 -- document 01: "A refusal returns its number, its place and the rule with no fields"
 abbrev pub ruleRead : OutcomeOf OurRule → RuleRead
@@ -43,6 +47,18 @@ sideSaid (accepted x) = x
 abbrev pub leftSaid : OutcomeOf OurRule → OurFields
 leftSaid (refused r p) = []
 leftSaid (accepted w) = w .0
+
+-- how many bytes of a text are its left side's: those before the arrow, all of them without one; none of a text that is refused
+abbrev pub leftEnd : Verdict → List ℕ → ℕ
+leftEnd Accepted t = endOf (length t) (splitOf t)
+leftEnd (Refused r p) t = 0
+
+-- how the whole text is read, and where its left side's text ends: what stands before that says the left side's fields
+pub record JudgesLeft (t : List ℕ) (r : LeftJudged) : Type 0 where
+  pub verdict : r .verdict ≡ verdictOf (readRule t)
+  pub ends : r .end ≡ leftEnd (r .verdict) t
+  pub inside : r .end ≤ length t
+  pub left : sideSaid (readSide (take (r .end) t)) ≡ leftSaid (readRule t)
 
 -- how the whole text is read; the part of it that is the left side's text, none of it where the text is refused; and that the tokens stand
 -- for that side, as the right text of a pair or as the left one, whatever the other text is

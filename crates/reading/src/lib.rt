@@ -9,7 +9,7 @@ ghost use Rattle.verdicts.specs.Verdicts.{verdictOf};
 ghost use Rattle.splitting.specs.Splits.{splitOf};
 ghost use Rattle.splitting.specs.declared.Split.the-variants.{Two};
 ghost use Rattle.verdicts.specs.declared.Verdict.the-variants.{Accepted};
-ghost use Rattle.reading.specs.Answers.{ruleRead, ReadsRule, ReadsSlip, ReadsLeft};
+ghost use Rattle.reading.specs.Answers.{ruleRead, ReadsRule, ReadsSlip, JudgesLeft, ReadsLeft};
 ghost use Rattle.reading.specs.Sides.{rightOf, unknownOf, PlacedIn, FoundIn, endOf};
 use scanning::Found;
 use splitting::Split;
@@ -29,6 +29,12 @@ pub struct SlipRead {
     pub slip: Slip,
 }
 
+// How a rule text is read, and how many bytes its left side has.
+pub struct LeftJudged {
+    pub verdict: Verdict,
+    pub end: usize,
+}
+
 // How a rule text is read, how many bytes its left side has, and the left side's tokens.
 pub struct LeftRead {
     pub verdict: Verdict,
@@ -38,8 +44,8 @@ pub struct LeftRead {
 
 // ---- slips
 
-// Document 01's refusals of a slip, in their order.
-fn judge_slip(text: &[u8]) -> Verdict
+// Document 01's refusals of a slip, in their order. No slip is built.
+pub fn judge_slip(text: &[u8]) -> Verdict
     ensures { λ r. ⌜ r ≡ verdictOf (readSlip (now (text .entry))) ⌝ }
 {
     if 8192 < text.len() {
@@ -186,25 +192,41 @@ fn left_end(text: &[u8], split: Split) -> usize
     }
 }
 
+// How a rule text is read and where its left side ends, without a rule being built. A text that is refused has no left side.
+pub fn judge_left(text: &[u8]) -> LeftJudged
+    ensures { λ r. ⌜ JudgesLeft (now (text .entry)) r ⌝ }
+{
+    let split = splitting::split_of(text);
+    let verdict = judge_rule(text, split);
+    match verdict {
+        Verdict::Accepted => LeftJudged {
+            verdict: verdict,
+            end: left_end(text, split),
+        },
+        Verdict::Refused(_, _) => LeftJudged {
+            verdict: verdict,
+            end: 0,
+        },
+    }
+}
+
 // Reads a rule's left side as tokens: as the right text of a pair its atom variables have numbers 16 higher, and its constants are places of
 // the right text.
 pub fn read_left(text: &[u8], right: bool) -> LeftRead
     ensures { λ r. ⌜ ReadsLeft right (now (text .entry)) r ⌝ }
 {
-    let split = splitting::split_of(text);
-    let verdict = judge_rule(text, split);
+    let judged = judge_left(text);
+    let verdict = judged.verdict;
+    let end = judged.end;
     match verdict {
-        Verdict::Accepted => {
-            let end = left_end(text, split);
-            LeftRead {
-                verdict: verdict,
-                end: end,
-                rule: text_passes::tokens_in(&text[..end], right),
-            }
-        }
+        Verdict::Accepted => LeftRead {
+            verdict: verdict,
+            end: end,
+            rule: text_passes::tokens_in(&text[..end], right),
+        },
         Verdict::Refused(_, _) => LeftRead {
             verdict: verdict,
-            end: 0,
+            end: end,
             rule: text_passes::blank_token_rule(),
         },
     }

@@ -8,7 +8,7 @@ use mathlib.Core.Bool.{Bool, true, false, cond, decide, Bool-discrete}
 use Prim.Native.Nat.{ℕ, zero, suc, _<_, _≤_}
 use native.Mathlib.Omega.{arith}
 use native.Mathlib.Decide.{ℕ-discrete, decLe}
-use lib.Dec.{T, eqb, eqb→eq, ltb, ltb→lt}
+use lib.Dec.{T, eqb, eqb→eq, leb, ltb, ltb→lt}
 use borrow.Author.Tests.{ne-eqb, le-leb, lt-leb}
 use Rattle.lists.specs.Tables.{allBelow, all-below}
 use Rattle.order.specs.Order.{basic, list}
@@ -16,7 +16,7 @@ use Rattle.order.specs.Types.{integer, string, atom}
 use Rattle.order.specs.Types as types
 use Rattle.order.specs.declared.Kind.the-variants.{Integer, String, Atom, List}
 use Rattle.order.specs.Values.{kindFrom}
-use Rattle.text.specs.Bytes.{letter, digit?, begins}
+use Rattle.text.specs.Bytes.{Digit, letter, digit?, begins}
 use Rattle.scanning.specs.Classes.{within, fineOf, decided}
 use Rattle.scanning.specs.Pieces.{begun, kindAt, isDigit}
 use Rattle.scanning.specs.declared.Spelled.{Spelled}
@@ -136,3 +136,24 @@ module _ (b : ℕ) where
 
   pub names-rest : (b ≡ 105 → ⊥) → (b ≡ 115 → ⊥) → (b ≡ 97 → ⊥) → List ≡ kindFrom (kindAt b)
   names-rest i s a = rw (ne-eqb b 105 i, ne-eqb b 115 s, ne-eqb b 97 a)
+
+-- a digit by its two ends
+pub below : (b : ℕ) → b < 48 → false ≡ isDigit b
+unfolding decide
+below b h = go (digit? b)
+  where
+    go : (d : Dec (Digit b)) → false ≡ decide d
+    go (yes p) = absurd (omega (arith, p .0))
+    go (no n) = refl
+
+pub above : (b : ℕ) → 48 ≤ b → leb b 57 ≡ isDigit b
+unfolding decide
+above b h = go (digit? b)
+  where
+    above-it : Dec (b ≤ 57) → (Digit b → ⊥) → 57 < b
+    above-it (yes p) n = absurd (n (h, p))
+    above-it (no p) n = omega arith
+
+    go : (d : Dec (Digit b)) → leb b 57 ≡ decide d
+    go (yes p) = le-leb b 57 (p .1)
+    go (no n) = lt-leb b 57 (above-it (decLe b 57) n)

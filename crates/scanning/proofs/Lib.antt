@@ -6,3 +6,4 @@ pub mod Pieces
 pub mod Places
 pub mod Runs
 pub mod Steps
+pub mod ClassTable

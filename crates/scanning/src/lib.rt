@@ -62,23 +62,17 @@ pub fn class_of(b: u8) -> u8
     CLASSES[b as usize]
 }
 
-// The state behind a byte.
-fn next_state(state: u8, b: u8) -> u8
-    requires { ⌜ state < 9 ⌝ }
-    ensures { λ r. ⌜ r ≡ next state (fineOf b) ⌝ }
-{
-    let i = (state as usize) * WIDTH + class_of(b) as usize;
-    STEPS[i]
-}
-
 // The place of refusal 2. Document 01: "the first byte that no text of the grammar could have there, or the length where the text stops early".
 pub fn grammar_place(text: &[u8]) -> Found
     ensures { λ r. ⌜ r ≡ foundOf (place2 (now (text .entry))) ⌝ }
 {
+    let classes = CLASSES;
+    let steps = STEPS;
     let mut state = BEFORE;
     let mut i = 0;
     while i < text.len() {
-        state = next_state(state, text[i]);
+        let class = classes[text[i] as usize];
+        state = steps[(state as usize) * WIDTH + class as usize];
         if state == REFUSED {
             return Found::At(i);
         }
@@ -94,10 +88,10 @@ pub fn grammar_place(text: &[u8]) -> Found
 fn is_digit(b: u8) -> bool
     ensures { λ r. ⌜ r ≡ isDigit b ⌝ }
 {
-    match class_of(b) {
-        ZERO | DIGIT => true,
-        _ => false,
+    if b < b'0' {
+        return false;
     }
+    b <= b'9'
 }
 
 // One above the largest integer.

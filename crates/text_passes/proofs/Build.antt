@@ -46,25 +46,28 @@ int-is v h = omega arith
 var-is : (v : ℕ) → v ≤ largestNumber → capped v % 256 ≡ v
 var-is v h = omega arith
 
-module _ {F R : Type 0} (encF : List OurTerm → F) (encR : List (List OurTerm) → R) (blank : F) (add : F → Raw → F) (push : R → F → R) (w : ℕ)
-    (blank-is : encF [] ≡ blank)
-    (add-is : (ts : List OurTerm) (r : Raw) → (Over r → ⊥) → length ts < w → add (encF ts) r ≡ encF (ts ++ termOf r))
-    (push-is : (fs : List (List OurTerm)) (f : List OurTerm) → length fs < mostFields → push (encR fs) (encF f) ≡ encR (fs ++ f ∷ [])) where
-  abbrev Fine : List Raw → Type 0
-  Fine rs = All (λ r. Over r → ⊥) rs × (length rs ≤ w)
-
+-- the terms of a field, over any fields F
+module _ {F : Type 0} (encF : List OurTerm → F) (add : F → Raw → F) (w : ℕ)
+    (add-is : (ts : List OurTerm) (r : Raw) → (Over r → ⊥) → length ts < w → add (encF ts) r ≡ encF (ts ++ termOf r)) where
   term-few : (r : Raw) → length (termOf r) ≤ 1
   term-few (raw-int ds) = omega arith
   term-few (raw-str s) = omega arith
   term-few (raw-var k ds) = omega arith
   term-few raw-empty = omega arith
 
-  adds : (rs : List Raw) (ts : List OurTerm) → All (λ r. Over r → ⊥) rs → length ts + length rs ≤ w → foldl add (encF ts) rs ≡ encF (ts ++ fieldOf rs)
+  pub adds : (rs : List Raw) (ts : List OurTerm) → All (λ r. Over r → ⊥) rs → length ts + length rs ≤ w → foldl add (encF ts) rs ≡ encF (ts ++ fieldOf rs)
   adds [] ts o h = ap encF (sym (append-nil ts))
   adds (r ∷ rs) ts o h =
       ap (λ (f : F). foldl add f rs) (add-is ts r (o .0) (omega arith))
       ∙ adds rs (ts ++ termOf r) (o .1) (omega (arith, length-append ts (termOf r), term-few r))
       ∙ ap encF (append-assoc ts (termOf r) (fieldOf rs))
+
+module _ {F R : Type 0} (encF : List OurTerm → F) (encR : List (List OurTerm) → R) (blank : F) (add : F → Raw → F) (push : R → F → R) (w : ℕ)
+    (blank-is : encF [] ≡ blank)
+    (add-is : (ts : List OurTerm) (r : Raw) → (Over r → ⊥) → length ts < w → add (encF ts) r ≡ encF (ts ++ termOf r))
+    (push-is : (fs : List (List OurTerm)) (f : List OurTerm) → length fs < mostFields → push (encR fs) (encF f) ≡ encR (fs ++ f ∷ [])) where
+  abbrev Fine : List Raw → Type 0
+  Fine rs = All (λ r. Over r → ⊥) rs × (length rs ≤ w)
 
   turns-not : (n i : ℕ) → i ≢ 1 → turns n i ≡ false
   turns-not n i h = rw (ne-eqb i 1 h) (go (ltb 1 n))
@@ -95,7 +98,8 @@ module _ {F R : Type 0} (encF : List OurTerm → F) (encR : List (List OurTerm) 
       ∙ ap (λ (b : R × F). foldl (put blank (ofRaw add) push) b (marksT q (suc (suc (suc n))) fs))
       (ap (λ (c : Bool). foldl (put blank (ofRaw add) push) (turned blank (ofRaw add) push c (encR done, encF cur) .0, add (turned blank (ofRaw add) push c (encR done, encF cur) .1) r) (marksF (suc (p + length (spell r))) (suc (suc n)) 2 rs)) (turns-yes n)
       ∙ more rs (suc (p + length (spell r))) (suc (suc n)) 0 (push (encR done) (encF cur), add blank r)
-      ∙ ap₂ (λ (a : R) (c : F). (a, c)) (push-is done cur (omega arith)) (ap (λ (f : F). foldl add f field) (sym blank-is) ∙ adds field [] (o .0 .0) (omega (arith, o .0 .1)))))
+      ∙ ap₂ (λ (a : R) (c : F). (a, c)) (push-is done cur (omega arith))
+      (ap (λ (f : F). foldl add f field) (sym blank-is) ∙ adds encF add w add-is field [] (o .0 .0) (omega (arith, o .0 .1)))))
       ∙ later fs q (suc n) (done ++ cur ∷ []) (fieldOf field) (g .1) (o .1) (omega (arith, length-append done (cur ∷ [])))
       ∙ ap encR (append-assoc done (cur ∷ []) (fieldOf field ∷ fieldsOf fs))
 
@@ -110,7 +114,7 @@ module _ {F R : Type 0} (encF : List OurTerm → F) (encR : List (List OurTerm) 
       ap (whole blank (ofRaw add) push) (foldl-append (put blank (ofRaw add) push) (encR [], blank) (marksF 0 1 1 field) (marksT q 2 fs)
       ∙ ap (λ (c : R × F). foldl (put blank (ofRaw add) push) c (marksT q 2 fs))
       (more rs (suc (0 + length (spell r))) 1 0 (encR [], add blank r)
-      ∙ ap (λ (c : F). (encR [], c)) (ap (λ (f : F). foldl add f field) (sym blank-is) ∙ adds field [] (o .0 .0) (omega (arith, o .0 .1)))))
+      ∙ ap (λ (c : F). (encR [], c)) (ap (λ (f : F). foldl add f field) (sym blank-is) ∙ adds encF add w add-is field [] (o .0 .0) (omega (arith, o .0 .1)))))
       ∙ later fs q 0 [] (fieldOf field) (g .1 .1) (o .1) (omega arith)
 
 -- one term put, as code does it: whether a field is complete, then the term
@@ -160,7 +164,7 @@ module _ (w : ℕ) (ts : List OurTerm) (h : length ts < w) where
 abbrev ruleField : ℕ × List Term → Field
 ruleField h = record { n = h .0; terms = h .1 }
 
-add-rule : (ts : List OurTerm) (r : Raw) → (Over r → ⊥) → length ts < rule .width → addRaw (encodeField ts) r ≡ encodeField (ts ++ termOf r)
+pub add-rule : (ts : List OurTerm) (r : Raw) → (Over r → ⊥) → length ts < rule .width → addRaw (encodeField ts) r ≡ encodeField (ts ++ termOf r)
 add-rule ts r o h = adds-one (rule .width) ts h ruleField addRaw refl other r o
   where
     other : (r : Raw) → isEmpty r ≡ false → addRaw (encodeField ts) r ≡ ruleField (with (rule .width) ts h (termFrom r))
@@ -174,7 +178,7 @@ push-rule fs f h =
 abbrev slipField : ℕ × List Term → SlipField
 slipField h = record { n = h .0; terms = h .1 }
 
-add-slip : (ts : List OurTerm) (r : Raw) → (Over r → ⊥) → length ts < slip .width → addItem (encodeSlipField ts) r ≡ encodeSlipField (ts ++ termOf r)
+pub add-slip : (ts : List OurTerm) (r : Raw) → (Over r → ⊥) → length ts < slip .width → addItem (encodeSlipField ts) r ≡ encodeSlipField (ts ++ termOf r)
 add-slip ts r o h = adds-one (slip .width) ts h slipField addItem refl other r o
   where
     other : (r : Raw) → isEmpty r ≡ false → addItem (encodeSlipField ts) r ≡ slipField (with (slip .width) ts h (termFrom r))

@@ -8,3 +8,5 @@ pub mod Held
 pub mod Calls
 pub mod Building
 pub mod Passes
+pub mod Picking
+pub mod Fields

@@ -46,6 +46,14 @@ within-fits n a h k = omega arith
 pub fewer-left : (t : List ℕ) (a : At) (p : Piece) → a .place < length t → length t - (behind t a (a .place + spelled p)) .place < length t - a .place
 fewer-left t a p h = let b = behind-place t a (a .place + spelled p) in omega arith
 
+-- what the code has at a term: it may go behind it, and is then nearer to the end
+module _ (t : List ℕ) (a : At) (p : Piece) (is-p : p ≡ pieceOf (termAt t a)) (less : a .place < length t) where
+  pub may-pass : length t ≤ 8192 → Low a → (a .place ≤ 8192) × (a .field ≤ a .place + 1) × (a .index ≤ a .place + 1) × (p .size ≤ 8192)
+  may-pass short low = (within (length t) (a .place) less short, low .0, low .1, piece-small t 8192 (a .place) p is-p short)
+
+  pub nearer : (a′ : At) → a′ ≡ behind t a (a .place + spelled p) → length t - a′ .place < length t - a .place
+  nearer a′ is-a = subst (λ (b : At). length t - b .place < length t - a .place) (sym is-a) (fewer-left t a p less)
+
 module _ {S : Type 0} (f : S → Mark → S) (t : List ℕ) (x₀ : S) where
   -- what is left to fold from the state x at the place a is what was to fold from x₀
   abbrev pub Walked : At → S → Type 0

@@ -3,3 +3,4 @@ pub mod Build
 pub mod Tokens
 pub mod Passes
 pub mod Unknown
+pub mod Fields

@@ -12,13 +12,14 @@ ghost use Rattle.scanning.specs.declared.Found.the-variants.{Nothing};
 ghost use Rattle.scanning.specs.Pieces.{pieceOf};
 ghost use Rattle.verdicts.specs.Verdicts.{sortOf};
 ghost use Rattle.refusals.specs.Refusals.{surveyMark, nothingYet};
-ghost use Rattle.text_passes.specs.Places.{spelled, colonAt, behind, termAt, started, passed};
+ghost use Rattle.text_passes.specs.Places.{first, spelled, colonAt, behind, termAt, started, passed};
 ghost use Rattle.text_passes.specs.Build.{emptyBy, pushTerm, addRaw, pushField, pushItem, addItem, pushSlipField, turns};
 ghost use Rattle.text_passes.specs.Build.{builtSide, builtSlip};
 ghost use Rattle.tokens.specs.Tokens.{blankTokens, blankTokenRule};
 ghost use Rattle.text_passes.specs.Tokens.{numberOn, tokenAt, pushToken, withToken, pushTokens, builtTokens};
 ghost use Rattle.text_passes.specs.Unknown.{unknownWith, unknownMark};
 ghost use Rattle.text_passes.specs.Passes.{surveyIn, unknownIn, sideIn, slipIn, tokensIn};
+ghost use Rattle.text_passes.specs.Fields.{stores, fieldCount, sideField, slipField};
 use linearity::Lists;
 use order::Kind;
 use refusals::At;
@@ -488,4 +489,102 @@ pub fn tokens_in(text: &[u8], right: bool) -> TokenRule
         return blank_token_rule();
     }
     build_tokens(text, right)
+}
+
+// ---- one field of a text at a time
+
+// The place of the first term.
+fn first() -> At
+    ensures { λ r. ⌜ r ≡ first ⌝ }
+{
+    At {
+        place: 0,
+        field: 1,
+        index: 1,
+    }
+}
+
+// Whether the term p, which stands in this field, is stored as one of the field that is wanted, where n of the places are used.
+fn stores(p: Piece, field: usize, wanted: usize, n: usize, places: usize) -> bool
+    ensures { λ r. ⌜ r ≡ stores p field wanted n places ⌝ }
+{
+    if field != wanted {
+        return false;
+    }
+    if places <= n {
+        return false;
+    }
+    !is_empty(p)
+}
+
+// How many fields a text has.
+pub fn field_count(text: &[u8]) -> usize
+    ensures { λ r. ⌜ r ≡ fieldCount (now (text .entry)) ⌝ }
+{
+    if 8192 < text.len() {
+        return 0;
+    }
+    let mut n: usize = 0;
+    let mut a = first();
+    while a.place < text.len() {
+        n = a.field;
+        let p = scanning::piece_at(text, a.place);
+        a = behind(text, a, p);
+    }
+    if 4 < n {
+        return 4;
+    }
+    n
+}
+
+// The field of a rule's side with the number j, from 0. The terms behind it are not gone through.
+pub fn side_field(text: &[u8], j: usize) -> Field
+    ensures { λ f. ⌜ f ≡ sideField (now (text .entry)) j ⌝ }
+{
+    let mut f = terms::blank_field();
+    if 8192 < text.len() {
+        return f;
+    }
+    if 4 <= j {
+        return f;
+    }
+    let wanted = j + 1;
+    let mut n: usize = 0;
+    let mut a = first();
+    while a.place < text.len() && a.field <= wanted {
+        let p = scanning::piece_at(text, a.place);
+        if stores(p, a.field, wanted, n, 16) {
+            f.terms[n] = text_terms::term_at(text, a.place);
+            n += 1;
+        }
+        a = behind(text, a, p);
+    }
+    f.n = n;
+    f
+}
+
+// The field of a slip.
+pub fn slip_field(text: &[u8], j: usize) -> SlipField
+    ensures { λ f. ⌜ f ≡ slipField (now (text .entry)) j ⌝ }
+{
+    let mut f = terms::blank_slip_field();
+    if 8192 < text.len() {
+        return f;
+    }
+    if 4 <= j {
+        return f;
+    }
+    let wanted = j + 1;
+    let mut n: usize = 0;
+    let mut a = first();
+    while a.place < text.len() && a.field <= wanted {
+        let p = scanning::piece_at(text, a.place);
+        if stores(p, a.field, wanted, n, 64) {
+            f.terms[n] = text_terms::term_at(text, a.place);
+            n += 1;
+        }
+        a = behind(text, a, p);
+    }
+    f.n = n;
+    f
 }

@@ -54,9 +54,8 @@ fn near_the_limit(draw: &mut Draw) -> Vec<u8> {
     let list = (Kind::List, draw.below(16) as u32);
     let (copies, others, length) = copies_of_run(62 + draw.below(6), draw);
     let mut left = pattern(draw);
-    let is_list = |term: &Term| matches!(term, Term::Var(Kind::List, _));
     for field in &mut left {
-        field.retain(|term| !is_list(term));
+        field.retain(|term| !term.is_list());
     }
     let at = draw.below(left.len());
     left[at].truncate(15.min(64 - length));

@@ -5,22 +5,23 @@ use super::halves::{of_line_size, rule_text, slip_text, tabbed, with_other_tabs}
 use super::patterns::{few_constant, filling, pattern};
 use super::{any_bytes, any_line, any_slip, damaged, of_size, rarely_a_rule};
 use crate::draw::Draw;
-use crate::terms::{filled, Field, Kind, Side, Term};
+use crate::terms::{filled, Field, Filling, Kind, Side, Term};
 
 /// As long as a line may be.
 const LIMIT: usize = 12_289;
 
 /// A line without its newline: any bytes but 10.
 pub fn match_line(draw: &mut Draw) -> Vec<u8> {
-    match draw.below(20) {
+    match draw.below(24) {
         0..=7 => line(matching(draw), draw),
-        8..=11 => line(almost_matching(draw), draw),
-        12 => line(with_long_slip(draw), draw),
-        13 => line((pattern(draw), any_slip(draw).0), draw),
-        14..=15 => tabbed(rarely_a_rule(draw), slip_text(&any_slip(draw).0, draw)),
-        16 => tabbed(rule_text(&pattern(draw), draw), any_line(draw)),
-        17 => with_other_tabs(line(matching(draw), draw), draw),
-        18 => damaged(line(matching(draw), draw), draw),
+        8..=10 => line(almost_matching(draw), draw),
+        11..=14 => line(with_other_item(draw), draw),
+        15 => line(with_long_slip(draw), draw),
+        16 => line((pattern(draw), any_slip(draw).0), draw),
+        17..=18 => tabbed(rarely_a_rule(draw), slip_text(&any_slip(draw).0, draw)),
+        19..=20 => tabbed(rule_text(&pattern(draw), draw), any_line(draw)),
+        21 => with_other_tabs(line(matching(draw), draw), draw),
+        22 => damaged(line(matching(draw), draw), draw),
         _ if draw.one_in(2) => any_bytes(draw),
         _ => of_line_size(any_start(draw), LIMIT, draw),
     }
@@ -59,6 +60,27 @@ pub(super) fn almost_matching(draw: &mut Draw) -> (Side, Side) {
         change_field(&mut slip[at], draw);
     }
     (left, slip)
+}
+
+/// Another item lies where one of the atoms does, rather a late one. It may
+/// still match, where a variable takes that one too.
+fn with_other_item(draw: &mut Draw) -> (Side, Side) {
+    let left = pattern(draw);
+    let values = filling(&left, 3, draw).into_iter();
+    let (lists, atoms): (Filling, Filling) = values.partition(|(name, _)| name.0 == Kind::List);
+    let mut slip = filled(&left, &atoms);
+    let items = slip.iter_mut().flatten().filter(|term| !term.is_list());
+    let mut items: Vec<&mut Term> = items.collect();
+    if !items.is_empty() {
+        let (at, other) = (draw.below(items.len()), draw.below(items.len()));
+        let at = at.max(other);
+        *items[at] = if draw.one_in(2) {
+            few_constant(draw)
+        } else {
+            of_other_type(items[at], draw)
+        };
+    }
+    (left, filled(&slip, &lists))
 }
 
 /// A field more, a field less, or two in each other's place.
@@ -106,10 +128,9 @@ fn of_other_type(item: &Term, draw: &mut Draw) -> Term {
 pub(super) fn with_long_slip(draw: &mut Draw) -> (Side, Side) {
     let mut left = pattern(draw);
     let at = draw.below(left.len());
-    let is_list = |term: &Term| matches!(term, Term::Var(Kind::List, _));
     let mut slip = filled(&left, &filling(&left, 2, draw));
     let room = (63 + draw.below(3)).saturating_sub(slip[at].len());
-    let Some(place) = left[at].iter().position(is_list) else {
+    let Some(place) = left[at].iter().position(Term::is_list) else {
         // Without one, the rule's field is too short for this slip.
         slip[at].extend((0..room).map(|_| few_constant(draw)));
         return (left, slip);

@@ -154,7 +154,7 @@ pub(super) fn change_field(field: &mut Field, draw: &mut Draw) {
         1 if at < field.len() => {
             field.remove(at);
         }
-        _ if at < field.len() && !matches!(field[at], Term::Var(Kind::List, _)) => field[at] = atom,
+        _ if at < field.len() && !field[at].is_list() => field[at] = atom,
         _ => {}
     }
 }

@@ -101,13 +101,13 @@ fn any_bytes_are_answered() {
 #[test]
 fn matches_are_numbered() {
     assert_eq!(answer("match", b""), "");
-    let one = "match 1\nyes a0=1 l0=empty\n";
+    let one = "match 1\nyes 1 a0=1 l0=empty\n";
     assert_eq!(answer("match", b"a0:l0\t1"), one);
     assert_eq!(answer("match", b"a0:l0\t1\n"), one);
     let input = b"1\t1\n\n\t\n1\n1\t2\n1\t\n1\t2\t";
     let expected = "\
 match 1
-yes
+yes 1
 match 2
 refused rule 2 at 0
 match 3
@@ -115,7 +115,7 @@ refused rule 2 at 0
 match 4
 refused slip 2 at 0
 match 5
-no
+no 1
 match 6
 refused slip 2 at 0
 match 7

@@ -3,6 +3,8 @@
 mod carrying;
 mod carrying_by_trial;
 mod command;
+mod comparing;
+mod comparing_by_trial;
 mod generated;
 mod matching;
 mod matching_by_trial;

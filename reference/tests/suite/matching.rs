@@ -14,81 +14,81 @@ fn assert_match(rule: &str, slip: &str, answer: &str) {
 
 #[test]
 fn constants() {
-    assert_match("1", "1", "yes");
-    assert_match("1", "2", "no");
-    assert_match("007", "7", "yes");
-    assert_match("7", "0000000007", "yes");
-    assert_match("70", "7", "no");
-    assert_match("2147483647", "2147483647", "yes");
-    assert_match("\"m\"", "\"m\"", "yes");
-    assert_match("\"m\"", "\"M\"", "no");
-    assert_match("\"m\"", "\"m \"", "no");
-    assert_match("\"\"", "\"\"", "yes");
-    assert_match("\"\"", "empty", "no");
-    assert_match("\"007\"", "\"7\"", "no");
-    assert_match(&quoted(15), &quoted(15), "yes");
-    assert_match(&quoted(15), &quoted(14), "no");
+    assert_match("1", "1", "yes 1");
+    assert_match("1", "2", "no 1");
+    assert_match("007", "7", "yes 1");
+    assert_match("7", "0000000007", "yes 1");
+    assert_match("70", "7", "no 1");
+    assert_match("2147483647", "2147483647", "yes 1");
+    assert_match("\"m\"", "\"m\"", "yes 1");
+    assert_match("\"m\"", "\"M\"", "no 1");
+    assert_match("\"m\"", "\"m \"", "no 1");
+    assert_match("\"\"", "\"\"", "yes 1");
+    assert_match("\"\"", "empty", "no 0");
+    assert_match("\"007\"", "\"7\"", "no 1");
+    assert_match(&quoted(15), &quoted(15), "yes 1");
+    assert_match(&quoted(15), &quoted(14), "no 1");
 }
 
 #[test]
 fn strings_are_no_integers() {
-    assert_match("1", "\"1\"", "no");
-    assert_match("\"1\"", "1", "no");
-    assert_match("i0", "\"1\"", "no");
-    assert_match("s0", "1", "no");
-    assert_match("i0", "1", "yes i0=1");
-    assert_match("s0", "\"1\"", "yes s0=\"1\"");
-    assert_match("a0", "1", "yes a0=1");
-    assert_match("a0", "\"1\"", "yes a0=\"1\"");
-    assert_match("l0", "1", "yes l0=1");
-    assert_match("l0", "\"1\":1", "yes l0=\"1\":1");
+    assert_match("1", "\"1\"", "no 1");
+    assert_match("\"1\"", "1", "no 1");
+    assert_match("i0", "\"1\"", "no 1");
+    assert_match("s0", "1", "no 1");
+    assert_match("i0", "1", "yes 1 i0=1");
+    assert_match("s0", "\"1\"", "yes 1 s0=\"1\"");
+    assert_match("a0", "1", "yes 1 a0=1");
+    assert_match("a0", "\"1\"", "yes 1 a0=\"1\"");
+    assert_match("l0", "1", "yes 0 l0=1");
+    assert_match("l0", "\"1\":1", "yes 0 l0=\"1\":1");
 }
 
 #[test]
 fn empty_is_dropped() {
-    assert_match("empty", "empty", "yes");
-    assert_match("empty", "empty:empty", "yes");
-    assert_match("empty:1", "1:empty", "yes");
-    assert_match("empty", "1", "no");
-    assert_match("1", "empty", "no");
-    assert_match("a0", "empty", "no");
-    assert_match("a0:empty", "empty:1", "yes a0=1");
+    assert_match("empty", "empty", "yes 0");
+    assert_match("empty", "empty:empty", "yes 0");
+    assert_match("empty:1", "1:empty", "yes 1");
+    assert_match("empty", "1", "no 0");
+    assert_match("1", "empty", "no 0");
+    assert_match("a0", "empty", "no 0");
+    assert_match("a0:empty", "empty:1", "yes 1 a0=1");
 }
 
 #[test]
 fn list_variables_take_any_run() {
-    assert_match("l0", "empty", "yes l0=empty");
-    assert_match("l0:1", "1", "yes l0=empty");
-    assert_match("1:l0", "1", "yes l0=empty");
-    assert_match("1:l0:2", "1:2", "yes l0=empty");
-    assert_match("1:l0:2", "1:3:2", "yes l0=3");
-    assert_match("1:l0:2", "1:2:1:2", "yes l0=2:1");
-    assert_match("1:l0:1", "1", "no");
-    assert_match("1:l0:1", "1:1", "yes l0=empty");
-    assert_match("l0:2", "2:2:2", "yes l0=2:2");
-    assert_match("l0:2", "2:2:3", "no");
-    assert_match("a0:l0:a1", "1:007:\"m\":4", "yes a0=1 a1=4 l0=7:\"m\"");
+    assert_match("l0", "empty", "yes 0 l0=empty");
+    assert_match("l0:1", "1", "yes 1 l0=empty");
+    assert_match("1:l0", "1", "yes 1 l0=empty");
+    assert_match("1:l0:2", "1:2", "yes 2 l0=empty");
+    assert_match("1:l0:2", "1:3:2", "yes 2 l0=3");
+    assert_match("1:l0:2", "1:2:1:2", "yes 2 l0=2:1");
+    assert_match("1:l0:1", "1", "no 0");
+    assert_match("1:l0:1", "1:1", "yes 2 l0=empty");
+    assert_match("l0:2", "2:2:2", "yes 1 l0=2:2");
+    assert_match("l0:2", "2:2:3", "no 1");
+    assert_match("a0:l0:a1", "1:007:\"m\":4", "yes 2 a0=1 a1=4 l0=7:\"m\"");
     let full = times(64, "1");
-    assert_match("l0", &full, &format!("yes l0={full}"));
+    assert_match("l0", &full, &format!("yes 0 l0={full}"));
     let most = times(62, "1");
-    assert_match("a0:l0:a0", &full, &format!("yes a0=1 l0={most}"));
-    assert_match(&format!("{}:l0", times(15, "1")), &times(14, "1"), "no");
+    assert_match("a0:l0:a0", &full, &format!("yes 2 a0=1 l0={most}"));
+    assert_match(&format!("{}:l0", times(15, "1")), &times(14, "1"), "no 0");
 }
 
 #[test]
 fn variables_that_recur() {
-    assert_match("a0:a0", "1:1", "yes a0=1");
-    assert_match("a0:a0", "1:2", "no");
-    assert_match("a0:a0", "7:007", "yes a0=7");
-    assert_match("a0:a0", "1:\"1\"", "no");
-    assert_match("a0|a0", "\"m\"|\"m\"", "yes a0=\"m\"");
-    assert_match("a0|a0", "1|\"m\"", "no");
-    assert_match("i0|i0:l0", "3|3", "yes i0=3 l0=empty");
-    assert_match("i0|i0:l0", "3|4", "no");
-    assert_match("l0:i0|i0:l1|i0", "1:2|2:1|2", "yes i0=2 l0=1 l1=1");
+    assert_match("a0:a0", "1:1", "yes 2 a0=1");
+    assert_match("a0:a0", "1:2", "no 2");
+    assert_match("a0:a0", "7:007", "yes 2 a0=7");
+    assert_match("a0:a0", "1:\"1\"", "no 2");
+    assert_match("a0|a0", "\"m\"|\"m\"", "yes 2 a0=\"m\"");
+    assert_match("a0|a0", "1|\"m\"", "no 2");
+    assert_match("i0|i0:l0", "3|3", "yes 2 i0=3 l0=empty");
+    assert_match("i0|i0:l0", "3|4", "no 2");
+    assert_match("l0:i0|i0:l1|i0", "1:2|2:1|2", "yes 3 i0=2 l0=1 l1=1");
     // The same number under another letter is another variable.
-    assert_match("a0:i0", "1:2", "yes i0=2 a0=1");
-    assert_match("i1:i10", "1:2", "yes i1=1 i10=2");
+    assert_match("a0:i0", "1:2", "yes 2 i0=2 a0=1");
+    assert_match("i1:i10", "1:2", "yes 2 i1=1 i10=2");
 }
 
 #[test]
@@ -96,38 +96,38 @@ fn variables_in_their_order() {
     assert_match(
         "l15:a2:a10|s3:i4:l0|i0:s0|a0:l7",
         "1:2:3|\"s\":4:5|6:\"t\"|\"u\"",
-        "yes i0=6 i4=4 s0=\"t\" s3=\"s\" a0=\"u\" a2=2 a10=3 l0=5 l7=empty l15=1",
+        "yes 7 i0=6 i4=4 s0=\"t\" s3=\"s\" a0=\"u\" a2=2 a10=3 l0=5 l7=empty l15=1",
     );
 }
 
 #[test]
 fn fields_match_one_by_one() {
-    assert_match("l0", "1|2", "no");
-    assert_match("l0|l1", "1", "no");
-    assert_match("l0|l1", "1|2:3", "yes l0=1 l1=2:3");
-    assert_match("1|2|3|4", "1|2|3|4", "yes");
-    assert_match("1|2|3|4", "1|2|4|3", "no");
-    assert_match("empty|l0", "empty|empty", "yes l0=empty");
-    assert_match("a0|a1|a2|a3", "1|2|3|empty", "no");
+    assert_match("l0", "1|2", "no 0");
+    assert_match("l0|l1", "1", "no 0");
+    assert_match("l0|l1", "1|2:3", "yes 0 l0=1 l1=2:3");
+    assert_match("1|2|3|4", "1|2|3|4", "yes 4");
+    assert_match("1|2|3|4", "1|2|4|3", "no 3");
+    assert_match("empty|l0", "empty|empty", "yes 0 l0=empty");
+    assert_match("a0|a1|a2|a3", "1|2|3|empty", "no 3");
 }
 
 #[test]
 fn values_are_plain_text() {
-    assert_match("l0", "007:empty:\"a b\"", "yes l0=7:\"a b\"");
-    assert_match("s0", "\" =a0=\"", "yes s0=\" =a0=\"");
-    assert_match("i0", "0000000000", "yes i0=0");
+    assert_match("l0", "007:empty:\"a b\"", "yes 0 l0=7:\"a b\"");
+    assert_match("s0", "\" =a0=\"", "yes 1 s0=\" =a0=\"");
+    assert_match("i0", "0000000000", "yes 1 i0=0");
 }
 
 /// Matching looks at the left side.
 #[test]
 fn right_sides_play_no_part() {
-    assert_match("1=>2", "1", "yes");
-    assert_match("1=>2", "2", "no");
-    assert_match("a0:l0=>l0:l0|a0", "1:2", "yes a0=1 l0=2");
-    assert_match("l0=>1", "empty", "yes l0=empty");
+    assert_match("1=>2", "1", "yes 1");
+    assert_match("1=>2", "2", "no 1");
+    assert_match("a0:l0=>l0:l0|a0", "1:2", "yes 1 a0=1 l0=2");
+    assert_match("l0=>1", "empty", "yes 0 l0=empty");
     let full = times(64, "1");
-    assert_match("l0=>l0:l0", &full, &format!("yes l0={full}"));
-    assert_match("\"=>\"=>1", "\"=>\"", "yes");
+    assert_match("l0=>l0:l0", &full, &format!("yes 0 l0={full}"));
+    assert_match("\"=>\"=>1", "\"=>\"", "yes 1");
     assert_match("i0=>a0", "1", "refused rule 10 at 4");
     assert_match("1", "1=>2", "refused slip 2 at 1");
 }

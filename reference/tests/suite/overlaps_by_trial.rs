@@ -52,13 +52,9 @@ fn check_slip(left: &Rule, right: &Rule, shown: &[Shown], slip: &Slip) -> Option
     Some(*at)
 }
 
-fn is_list(term: &Term) -> bool {
-    matches!(term, Term::Var(Kind::List, _))
-}
-
 /// How many atoms stand before the list variable and how many behind it.
 fn around_list(field: &Field) -> Option<(usize, usize)> {
-    let at = field.iter().position(is_list)?;
+    let at = field.iter().position(Term::is_list)?;
     Some((at, field.len() - at - 1))
 }
 
@@ -68,9 +64,9 @@ fn candidate(left: &Field, right: &Field, field: &Field) -> usize {
     let (Some((h1, t1)), Some((h2, t2))) = (around_list(left), around_list(right)) else {
         let without_list = [left, right]
             .into_iter()
-            .find(|side| !side.iter().any(is_list));
+            .find(|side| !side.iter().any(Term::is_list));
         assert_eq!(field.len(), without_list.unwrap().len());
-        assert!(!field.iter().any(is_list));
+        assert!(!field.iter().any(Term::is_list));
         return 0;
     };
     let (h, t, m) = (h1.max(h2), t1.max(t2), (h1 + t1).max(h2 + t2));

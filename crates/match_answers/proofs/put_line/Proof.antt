@@ -28,23 +28,19 @@ tab-place-requires c κs = search needs
 behind-requires : tie.Need-behind-requires
 behind-requires c κs = search needs
 
-slice-aggregate-read-rule : tie.Need-slice-aggregate-read-rule
-slice-aggregate-read-rule c = sym (length-take-le (c .before .before .tab-place .result) (c .before .before .before .before .before .before .args .line .now) (c .before .before .tab-place .ensures .1))
+slice-aggregate-put-reads : tie.Need-slice-aggregate-put-reads
+slice-aggregate-put-reads c =
+    sym (length-take-le (c .before .before .tab-place .result) (c .before .before .before .before .before .before .args .line .now)
+    (c .before .before .tab-place .ensures .1))
 
-read-rule-requires : tie.Need-read-rule-requires
-read-rule-requires c κs = search needs
+sub-put-reads : tie.Need-sub-put-reads
+sub-put-reads c = search needs
 
-sub-read-slip : tie.Need-sub-read-slip
-sub-read-slip c = search needs
+part-put-reads-start : tie.Need-part-put-reads-start
+part-put-reads-start c = search needs
 
-part-read-slip-start : tie.Need-part-read-slip-start
-part-read-slip-start c = search needs
-
-part-read-slip-end : tie.Need-part-read-slip-end
-part-read-slip-end c = search needs
-
-read-slip-requires : tie.Need-read-slip-requires
-read-slip-requires c κs = search needs
+part-put-reads-end : tie.Need-part-put-reads-end
+part-put-reads-end c = search needs
 
 put-reads-requires : tie.Need-put-reads-requires
 put-reads-requires c κs = search needs
@@ -54,12 +50,11 @@ same-length-2 c = search needs
 
 returns-2 : tie.Need-returns-2
 returns-2 c =
-    let z = c .before .before .before .before .before .before .before .before .before .before .before .before .before .args in
-    let T = c .before .before .before .before .before .before .before .before .before .tab-place in
-    let D = c .before .before .before .before .before .before .before .before .behind in
-    let R = c .before .before .before .before .before .before .read-rule in
-    let S = c .before .before .before .before .read-slip in
-    placed-as (z .at) (z .out .now) (line-said (z .line .now) (T .result) (D .result) (T .ensures .0) (D .ensures) (R .result) (S .result) (c .before .before .before .before .before .before .before .before .before .before .if1 .left) (R .ensures) (S .ensures)) (c .before .before .put-reads .ensures)
+    let z = c .before .before .before .before .before .before .before .before .before .before .before .args in
+    let T = c .before .before .before .before .before .before .before .tab-place in
+    let D = c .before .before .before .before .before .before .behind in
+    placed-as (z .at) (z .out .now) (line-said (z .line .now) (T .result) (D .result) (T .ensures .0) (D .ensures)
+    (c .before .before .before .before .before .before .before .before .if1 .left)) (c .before .before .put-reads .ensures)
 
 pub put-line-spec : {M : Type 1} → statement M
 put-line-spec =
@@ -71,12 +66,10 @@ put-line-spec =
     returns
     tab-place-requires
     behind-requires
-    slice-aggregate-read-rule
-    read-rule-requires
-    sub-read-slip
-    part-read-slip-start
-    part-read-slip-end
-    read-slip-requires
+    slice-aggregate-put-reads
+    sub-put-reads
+    part-put-reads-start
+    part-put-reads-end
     put-reads-requires
     same-length-2
     returns-2)

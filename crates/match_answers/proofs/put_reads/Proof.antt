@@ -1,16 +1,27 @@
 -- `match_answers::put_reads` meets its contract: by the verdict. Assumes nothing.
-use Rattle.text.specs.Ascii.{ascii}
+use mathlib.Core.Path.{sym}
+use lib.ListN.{take}
+use lib.Seq.{length-take-le}
 use Rattle.pieces.proofs.Pieces.{placed-as}
-use Rattle.match_answers.proofs.Values.{text-accepted, text-refused}
+use Rattle.reading.proofs.Judged.{judged-accepted, judged-refused}
+use Rattle.match_answers.proofs.Said.{slip-said, rule-said}
 use borrow.Author.Needs.{needs}
 use Rattle.match_answers.proofs.put_reads.Statement.{statement}
 use Rattle.match_answers.proofs.put_reads.Tie as tie
 
+judge-left-requires : tie.Need-judge-left-requires
+judge-left-requires c κs = search needs
+
 enum-told : tie.Need-enum-told
 enum-told c = search needs
 
-put-slip-read-requires : tie.Need-put-slip-read-requires
-put-slip-read-requires c κs = search needs
+slice-aggregate-put-slip : tie.Need-slice-aggregate-put-slip
+slice-aggregate-put-slip c =
+    let J = c .before .before .before .judge-left in
+    sym (length-take-le (J .result .end) (c .before .before .before .before .before .before .before .args .rule .now) (J .ensures .inside))
+
+put-slip-requires : tie.Need-put-slip-requires
+put-slip-requires c κs = search needs
 
 enum-known-verdict : tie.Need-enum-known-verdict
 enum-known-verdict c = search needs
@@ -26,23 +37,30 @@ same-length c = search needs
 
 returns : tie.Need-returns
 returns c =
-    let z = c .before .before .before .before .before .before .before .before .args in
-    placed-as (z .at) (z .out .now) (text-accepted (ascii "refused rule ") (z .rule .verdict) _ (c .before .before .before .before .enum-told .given .1)) (c .before .before .put-slip-read .ensures)
+    let z = c .before .before .before .before .before .before .before .before .before .before .before .args in
+    let J = c .before .before .before .before .before .before .before .judge-left in
+    let a = judged-accepted (z .rule .now) (J .result) (J .ensures) (c .before .before .before .before .before .enum-told .given .1) in
+    placed-as (z .at) (z .out .now) (slip-said (z .rule .now) (z .slip .now) (a .0) (take (J .result .end) (z .rule .now)) (a .1) (a .2))
+    (c .before .before .put-slip .ensures)
 
 same-length-2 : tie.Need-same-length-2
 same-length-2 c = search needs
 
 returns-2 : tie.Need-returns-2
 returns-2 c =
-    let z = c .before .before .before .before .before .before .before .before .before .before .args in
-    placed-as (z .at) (z .out .now) (text-refused (ascii "refused rule ") (z .rule .verdict) _ _ _ (c .before .before .before .before .before .before .verdict .given .1)) (c .before .before .put-refusal .ensures)
+    let z = c .before .before .before .before .before .before .before .before .before .before .before .before .args in
+    let J = c .before .before .before .before .before .before .before .before .judge-left in
+    let a = judged-refused (z .rule .now) (J .result) (J .ensures) _ _ (c .before .before .before .before .before .before .verdict .given .1) in
+    placed-as (z .at) (z .out .now) (rule-said (z .rule .now) (z .slip .now) (a .0) _ _ (a .1) (a .2)) (c .before .before .put-refusal .ensures)
 
 pub put-reads-spec : {M : Type 1} → statement M
 put-reads-spec =
     tie.close
     (tie.spec
+    judge-left-requires
     enum-told
-    put-slip-read-requires
+    slice-aggregate-put-slip
+    put-slip-requires
     enum-known-verdict
     slice-aggregate-put-refusal
     put-refusal-requires

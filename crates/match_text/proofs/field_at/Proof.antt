@@ -1,10 +1,11 @@
 -- `match_text::field_at` meets its contract. Assumes nothing.
-use mathlib.Core.Path.{_≡_, sym, _∙_}
+use mathlib.Core.Path.{sym, _∙_}
 use native.Mathlib.Omega.{arith}
-use lib.ListN.{length, List·getD-eq-default}
-use Rattle.lists.specs.Seqs.{long-mapped}
+use lib.ListN.{List·getD-eq-default}
+use Rattle.lists.specs.Seqs.{tabulate-long, tabulate-at}
 use Rattle.terms.specs.Values.{blankSlipField}
-use Rattle.bindings.proofs.Entries.{entry-any}
+use Rattle.text_passes.specs.Fields.{fieldCount, slipField}
+use Rattle.text_matching.specs.Texts.{slipFields}
 use borrow.Author.Needs.{needs}
 use Rattle.match_text.proofs.field_at.Statement.{statement}
 use Rattle.match_text.proofs.field_at.Tie as tie
@@ -14,25 +15,23 @@ blank-slip-field-requires c κs = search needs
 
 returns : tie.Need-returns
 returns c =
-    let z = c .before .before .args in
-    let h : length (z .t1 .fields) ≡ 4 = search long-mapped in
-    let k = c .before .if1 .taken in
-    c .blank-slip-field .ensures ∙ sym (List·getD-eq-default (z .t1 .fields) blankSlipField {n = z .j} (omega arith))
+    let z = c .before .before .before in
+    let t = z .args .slip .now in
+    c .blank-slip-field .ensures
+    ∙ sym (List·getD-eq-default (slipFields t) blankSlipField {n = z .args .j}
+    (omega (arith, z .pre, c .before .if1 .taken, tabulate-long (fieldCount t) (slipField t))))
 
-mul-result : tie.Need-mul-result
-mul-result c = search needs
-
-element-copy-out-result : tie.Need-element-copy-out-result
-element-copy-out-result c = search needs
+slip-field-requires : tie.Need-slip-field-requires
+slip-field-requires c κs = search needs
 
 returns-2 : tie.Need-returns-2
 returns-2 c =
-    let z = c .before .before .args in
-    let h : length (z .t1 .fields) ≡ 4 = search long-mapped in
-    let k = c .before .if1 .left in
-    entry-any (z .t1 .fields) (z .j) _ _ (omega arith)
+    let z = c .before .before .before in
+    let t = z .args .slip .now in
+    c .slip-field .ensures
+    ∙ sym (tabulate-at (fieldCount t) (slipField t) (z .args .j) blankSlipField (omega (arith, z .pre, c .before .if1 .left)))
 
 pub field-at-spec : {M : Type 1} → statement M
 field-at-spec =
     tie.close
-    (tie.spec blank-slip-field-requires returns mul-result element-copy-out-result returns-2)
+    (tie.spec blank-slip-field-requires returns slip-field-requires returns-2)

@@ -21,8 +21,10 @@ same-length c = search needs
 
 returns : tie.Need-returns
 returns c =
-    let z = c .before .before .before .before .before .before .args in
-    placed-as (z .at) (z .out .now) (ap (λ (f : SlipField). fieldText (map viewTerm (itemsFrom f (z .r .start) (z .r .count)))) (sym (c .before .before .before .before .field-at .ensures))) (c .before .before .put-items .ensures)
+    let z = c .before .before .before .before .before .before .before .args in
+    placed-as (z .at) (z .out .now)
+    (ap (λ (f : SlipField). fieldText (map viewTerm (itemsFrom f (z .r .start) (z .r .count)))) (sym (c .before .before .before .before .field-at .ensures)))
+    (c .before .before .put-items .ensures)
 
 pub put-run-spec : {M : Type 1} → statement M
 put-run-spec = tie.close (tie.spec field-at-requires put-items-requires same-length returns)

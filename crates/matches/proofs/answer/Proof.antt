@@ -1,7 +1,6 @@
--- `matches::answer` is safe: what was written is in the text's buffer. Assumes nothing.
+-- `matches::answer` is safe: what was written is in the text's bytes. Assumes nothing.
 use mathlib.Core.Path.{sym}
 use native.Mathlib.Omega.{arith}
-use lib.ListN.{replicate}
 use lib.Seq.{length-take-le}
 use borrow.Author.Needs.{needs}
 use Rattle.pieces.proofs.Pieces.{written-in}
@@ -9,26 +8,26 @@ use Rattle.match_answers.specs.Matches.{matchAnswer}
 use Rattle.matches.proofs.answer.Statement.{statement}
 use Rattle.matches.proofs.answer.Tie as tie
 
-slice-aggregate-match-answer : tie.Need-slice-aggregate-match-answer
-slice-aggregate-match-answer c = search needs
-
 match-answer-requires : tie.Need-match-answer-requires
 match-answer-requires c κs = search needs
 
 enum-known-n : tie.Need-enum-known-n
 enum-known-n c = search needs
 
-array-share-prefix-text : tie.Need-array-share-prefix-text
-array-share-prefix-text c =
-    let W = c .before .before .before .before .match-answer in
-    let z = c .before .before .before .before .before .before .before .before .args in
-    omega (arith, written-in (matchAnswer (z .k) (z .line .now)) (replicate 19583 0) (W .ensures) (c .before .n .given .1), W .kept .1 .1 .0)
+slice-reshare-prefix-put : tie.Need-slice-reshare-prefix-put
+slice-reshare-prefix-put c =
+    let m = c .before .before .before .before .before in
+    let W = m .match-answer in
+    let z = m .before .before .before .before .before .args in
+    omega (arith, written-in (matchAnswer (z .k) (z .line .now)) (z .text .now) (W .ensures) (c .before .n .given .1), W .kept .1 .1 .0)
 
 slice-aggregate-put : tie.Need-slice-aggregate-put
 slice-aggregate-put c =
-    let W = c .before .before .before .before .before .match-answer in
-    let z = c .before .before .before .before .before .before .before .before .before .args in
-    sym (length-take-le _ _ (omega (arith, written-in (matchAnswer (z .k) (z .line .now)) (replicate 19583 0) (W .ensures) (c .before .before .n .given .1), W .kept .1 .1 .0)))
+    let m = c .before .before .before .before .before .before in
+    let W = m .match-answer in
+    let z = m .before .before .before .before .before .args in
+    let inside = written-in (matchAnswer (z .k) (z .line .now)) (z .text .now) (W .ensures) (c .before .before .n .given .1) in
+    sym (length-take-le _ _ (omega (arith, inside, W .kept .1 .1 .0)))
 
 put-requires : tie.Need-put-requires
 put-requires c κs = search needs
@@ -39,8 +38,14 @@ enum-told c = search needs
 same-length : tie.Need-same-length
 same-length c = search needs
 
+same-length-2 : tie.Need-same-length-2
+same-length-2 c = search needs
+
 returns : tie.Need-returns
 returns c = search needs
+
+same-length-3 : tie.Need-same-length-3
+same-length-3 c = search needs
 
 returns-2 : tie.Need-returns-2
 returns-2 c = search needs
@@ -49,13 +54,14 @@ pub answer-spec : {M : Type 1} → statement M
 answer-spec =
     tie.close
     (tie.spec
-    slice-aggregate-match-answer
     match-answer-requires
     enum-known-n
-    array-share-prefix-text
+    slice-reshare-prefix-put
     slice-aggregate-put
     put-requires
     enum-told
     same-length
+    same-length-2
     returns
+    same-length-3
     returns-2)

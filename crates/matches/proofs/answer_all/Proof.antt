@@ -7,17 +7,17 @@ use Rattle.matches.proofs.answer_all.Statement.{statement}
 use Rattle.matches.proofs.answer_all.Tie as tie
 
 abbrev Inv-loop : tie.InvT-loop
-Inv-loop chunk₀ line₀ buffer₀ k₀ s₀ chunk line buffer k s =
-    (length chunk ≡ length chunk₀) × (length line ≡ length line₀) × (length buffer ≡ length buffer₀)
+Inv-loop chunk₀ line₀ text₀ buffer₀ k₀ s₀ chunk line text buffer k s =
+    (length chunk ≡ length chunk₀) × (length line ≡ length line₀) × (length text ≡ length text₀) × (length buffer ≡ length buffer₀)
 
 abbrev μ-loop : tie.MeasureT-loop
-μ-loop chunk₀ line₀ buffer₀ k₀ s₀ chunk line buffer k s = 18446744073709551615 - k
+μ-loop chunk₀ line₀ text₀ buffer₀ k₀ s₀ chunk line text buffer k s = 18446744073709551615 - k
 
 start-requires : tie.Need-start-requires Inv-loop μ-loop
 start-requires c κs = tt
 
 loop-holds : tie.Need-loop-holds Inv-loop μ-loop
-loop-holds c = (refl, refl, refl)
+loop-holds c = (refl, refl, refl, refl)
 
 is-open-requires : tie.Need-is-open-requires Inv-loop μ-loop
 is-open-requires c κs = tt
@@ -33,9 +33,9 @@ loop-less c = omega arith
 
 loop-again : tie.Need-loop-again Inv-loop μ-loop
 loop-again c =
-    let k = c .before .before .before .before .before .before .step .kept in
-    let h = c .before .before .before .before .before .before .before .before .before .before .before .before .before .loop .inv in
-    (k .1 .1 .0 ∙ h .0, k .1 .1 .1 .0 ∙ h .1, k .1 .1 .1 .1 .0 ∙ h .2)
+    let k = c .before .before .before .before .before .before .before .before .step .kept in
+    let h = c .before .before .before .before .before .before .before .before .before .before .before .before .before .before .before .before .loop .inv in
+    (k .1 .1 .0 ∙ h .0, k .1 .1 .1 .0 ∙ h .1, k .1 .1 .1 .1 .0 ∙ h .2, k .1 .1 .1 .1 .1 .0 ∙ h .3)
 
 finish-requires : tie.Need-finish-requires Inv-loop μ-loop
 finish-requires c κs = tt
@@ -48,6 +48,9 @@ same-length-2 c = c .before .before .before .loop .inv .1
 
 same-length-3 : tie.Need-same-length-3 Inv-loop μ-loop
 same-length-3 c = c .before .before .before .loop .inv .2
+
+same-length-4 : tie.Need-same-length-4 Inv-loop μ-loop
+same-length-4 c = c .before .before .before .loop .inv .3
 
 returns : tie.Need-returns Inv-loop μ-loop
 returns c = tt
@@ -69,4 +72,5 @@ answer-all-spec =
     same-length
     same-length-2
     same-length-3
+    same-length-4
     returns)

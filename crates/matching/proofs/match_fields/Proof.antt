@@ -1,29 +1,38 @@
 -- `matching::match_fields` meets its contract. Assumes nothing.
+use mathlib.Core.Path.{_≡_, refl, sym, _∙_, ap, subst}
 use Prim.Native.Nat.{ℕ, _-_, _≤_}
-use borrow.Author.Needs.{needs}
-use mathlib.Core.Path.{_≡_, refl, sym, _∙_, ap}
 use native.Mathlib.Omega.{arith}
-use Rattle.lists.specs.Seqs.{long-mapped}
+use borrow.Author.Needs.{needs}
 use lib.ListN.{length, take}
-use Rattle.matching.specs.Tests.{fieldsTested, noValues}
-use Rattle.matching.proofs.Walks.{Passed, passed-one, passed-fail, passed-all}
+use Rattle.lists.specs.Seqs.{long-mapped}
+use Rattle.bindings.specs.declared.Values.{Values}
+use Rattle.matching.specs.Tests.{fieldsProgress, noValues}
+use Rattle.matching.proofs.Walks.{Passed, passed-none, passed-one, passed-fail, passed-all}
 use Rattle.matching.proofs.match_fields.Statement.{statement}
 use Rattle.matching.proofs.match_fields.Tie as tie
 
 abbrev Inv-loop : tie.InvT-loop
-Inv-loop r s n v₀ i₀ v i = (n ≡ r .n) × (n ≤ 4) × (s .n ≡ n) × Passed (r .fields) (s .fields) (r .n) noValues i v
+Inv-loop r s n v₀ compared₀ i₀ v compared i = (n ≡ r .n) × (n ≤ 4) × (s .n ≡ n) × (i ≤ n) × Passed (r .fields) (s .fields) (r .n) noValues i compared v
 
 abbrev μ-loop : tie.MeasureT-loop
-μ-loop r s n v₀ i₀ v i = n - i
+μ-loop r s n v₀ compared₀ i₀ v compared i = n - i
 
 no-values-requires : tie.Need-no-values-requires Inv-loop μ-loop
 no-values-requires c κs = search needs
 
 loop-holds : tie.Need-loop-holds Inv-loop μ-loop
-loop-holds c = let hf : length (c .before .args .t1 .fields) ≡ 4 = search long-mapped in
-    let hs : length (c .before .args .t2 .fields) ≡ 4 = search long-mapped in
-    let p = c .before .pre in
-    (refl, p .0, p .1, (omega (arith, p .0), omega (arith, p .0), ap (fieldsTested (take (c .before .args .t1 .n) (c .before .args .t1 .fields)) (take (c .before .args .t1 .n) (c .before .args .t2 .fields))) (sym (c .no-values .ensures))))
+loop-holds c =
+    let z = c .before .args in
+    let hf : length (z .t1 .fields) ≡ 4 = search long-mapped in
+    let hs : length (z .t2 .fields) ≡ 4 = search long-mapped in
+    let p = c .before .pre in (
+      refl,
+      p .0,
+      p .1,
+      omega arith,
+      subst (λ (v : Values). Passed (z .t1 .fields) (z .t2 .fields) (z .t1 .n) noValues 0 0 v) (sym (c .no-values .ensures))
+          (passed-none (z .t1 .fields) (z .t2 .fields) (z .t1 .n) noValues (omega (arith, p .0)) (omega (arith, p .0))),
+    )
 
 mul-match-field : tie.Need-mul-match-field Inv-loop μ-loop
 mul-match-field c = let h = c .loop-test .taken in let e = c .before .loop .inv .1 in omega arith
@@ -40,8 +49,18 @@ element-copy-out-match-field-2 c = let h = c .before .loop-test .taken in let e 
 match-field-requires : tie.Need-match-field-requires Inv-loop μ-loop
 match-field-requires c κs = search needs
 
+add-compared : tie.Need-add-compared Inv-loop μ-loop
+add-compared c = search needs
+
 returns : tie.Need-returns Inv-loop μ-loop
-returns c = let v = c .before .before .before .before .before .before .loop .inv in passed-fail (c .before .before .before .before .before .before .before .before .args .t1 .fields) (c .before .before .before .before .before .before .before .before .args .t2 .fields) (c .before .before .before .before .before .before .before .before .args .t1 .n) noValues (c .before .before .before .before .before .before .loop .i) (c .before .before .before .before .before .before .loop .v) _ _ (v .3) (c .before .before .before .before .before .loop-test .taken) (c .before .before .match-field .result) (c .before .before .match-field .ensures) (c .if1 .taken) ∙ ap (λ (k : ℕ). fieldsTested (take (c .before .before .before .before .before .before .before .before .args .t1 .n) (c .before .before .before .before .before .before .before .before .args .t1 .fields)) (take k (c .before .before .before .before .before .before .before .before .args .t2 .fields)) noValues) (sym (v .2))
+returns c =
+    let z = c .before .before .before .before .before .before .before .before .before .before .args in
+    let l = c .before .before .before .before .before .before .before .before .loop in
+    let v = l .inv in
+    let M = c .before .before .before .before .match-field in
+    passed-fail (z .t1 .fields) (z .t2 .fields) (z .t1 .n) noValues (l .i) (l .compared) (l .v) _ _ (v .4)
+    (c .before .before .before .before .before .before .before .loop-test .taken) (M .result) (M .ensures .0) (c .if1 .taken)
+    ∙ ap (λ (k : ℕ). fieldsProgress (take (z .t1 .n) (z .t1 .fields)) (take k (z .t2 .fields)) noValues) (sym (v .2))
 
 add-i : tie.Need-add-i Inv-loop μ-loop
 add-i c = search needs
@@ -50,10 +69,27 @@ loop-less : tie.Need-loop-less Inv-loop μ-loop
 loop-less c = search needs
 
 loop-again : tie.Need-loop-again Inv-loop μ-loop
-loop-again c = let v = c .before .before .before .before .before .before .before .loop .inv in (v .0, v .1, v .2, passed-one (c .before .before .before .before .before .before .before .before .before .args .t1 .fields) (c .before .before .before .before .before .before .before .before .before .args .t2 .fields) (c .before .before .before .before .before .before .before .before .before .args .t1 .n) noValues (c .before .before .before .before .before .before .before .loop .i) (c .before .before .before .before .before .before .before .loop .v) _ _ (v .3) (c .before .before .before .before .before .before .loop-test .taken) (c .before .before .before .match-field .result) (c .before .before .before .match-field .ensures) (c .before .if1 .left))
+loop-again c =
+    let z = c .before .before .before .before .before .before .before .before .before .before .before .args in
+    let l = c .before .before .before .before .before .before .before .before .before .loop in
+    let v = l .inv in
+    let M = c .before .before .before .before .before .match-field in
+    let h = c .before .before .before .before .before .before .before .before .loop-test .taken in (
+      v .0,
+      v .1,
+      v .2,
+      omega arith,
+      passed-one (z .t1 .fields) (z .t2 .fields) (z .t1 .n) noValues (l .i) (l .compared) (l .v) _ _ (v .4) h (M .result)
+          (M .ensures .0) (M .ensures .1) (c .before .if1 .left),
+    )
 
 returns-2 : tie.Need-returns-2 Inv-loop μ-loop
-returns-2 c = let v = c .before .loop .inv in passed-all (c .before .before .before .args .t1 .fields) (c .before .before .before .args .t2 .fields) (c .before .before .before .args .t1 .n) noValues (c .before .loop .i) (c .before .loop .v) (v .3) (c .loop-test .left) ∙ ap (λ (k : ℕ). fieldsTested (take (c .before .before .before .args .t1 .n) (c .before .before .before .args .t1 .fields)) (take k (c .before .before .before .args .t2 .fields)) noValues) (sym (v .2))
+returns-2 c =
+    let z = c .before .before .before .args in
+    let l = c .before .loop in
+    let v = l .inv in
+    passed-all (z .t1 .fields) (z .t2 .fields) (z .t1 .n) noValues (l .i) (l .compared) (l .v) (v .4) (c .loop-test .left)
+    ∙ ap (λ (k : ℕ). fieldsProgress (take (z .t1 .n) (z .t1 .fields)) (take k (z .t2 .fields)) noValues) (sym (v .2))
 
 pub match-fields-spec : {M : Type 1} → statement M
 match-fields-spec =
@@ -68,6 +104,7 @@ match-fields-spec =
     mul-match-field-2
     element-copy-out-match-field-2
     match-field-requires
+    add-compared
     returns
     add-i
     loop-less

@@ -1,26 +1,15 @@
--- `matching::match_rule` meets its contract: what counts as the left side is the left side of what the rule counts as. Assumes nothing.
-use mathlib.Core.Path.{_∙_, ap}
+-- `matching::match_rule` meets its contract. Assumes nothing.
+use mathlib.Core.Path.{ap}
 use borrow.Author.Needs.{needs}
-use Rattle.text.specs.Read.{OurFields}
-use Rattle.terms.specs.declared.RuleSide.{RuleSide}
-use Rattle.accepted.specs.Accepted.{countedLeft}
-use Rattle.accepted_rules.proofs.Rules.{left-counted}
-use Rattle.accepted_slips.specs.Slips.{countedSlip}
-use Rattle.matching.specs.Answers.{matchOf}
+use Rattle.matching.specs.declared.Comparison.{Comparison}
 use Rattle.matching.proofs.match_rule.Statement.{statement}
 use Rattle.matching.proofs.match_rule.Tie as tie
 
-left-of-requires : tie.Need-left-of-requires
-left-of-requires c κs = search needs
-
-match-side-requires : tie.Need-match-side-requires
-match-side-requires c κs = search needs
+compare-rule-requires : tie.Need-compare-rule-requires
+compare-rule-requires c κs = search needs
 
 returns : tie.Need-returns
-returns c =
-    let z = c .before .before .args in
-    c .match-side .ensures
-    ∙ ap (λ (x : OurFields). matchOf x (countedSlip (z .slip))) (ap (λ (r : RuleSide). countedLeft r) (c .before .left-of .ensures) ∙ left-counted (z .rule))
+returns c = ap (λ (x : Comparison). x .found) (c .before .compare-rule .ensures)
 
 pub match-rule-spec : {M : Type 1} → statement M
-match-rule-spec = tie.close (tie.spec left-of-requires match-side-requires returns)
+match-rule-spec = tie.close (tie.spec compare-rule-requires returns)

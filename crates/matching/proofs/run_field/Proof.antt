@@ -1,5 +1,6 @@
 -- `matching::run_field` meets its contract. Assumes nothing.
 use mathlib.Core.Path.{_≡_, refl, _∙_, ap, ap₂}
+use mathlib.Core.Logic.{⊎-elim}
 use Prim.Native.Nat.{ℕ, _+_, _-_, min}
 use native.Mathlib.Omega.{arith}
 use borrow.Author.Needs.{needs}
@@ -7,7 +8,7 @@ use Rattle.lists.specs.Seqs.{long-mapped}
 use Rattle.field_match.specs.Fields.{termsOf}
 use Rattle.field_match.proofs.Walks.{items-count}
 use Rattle.matching.specs.Tests.{runsOver}
-use Rattle.matching.proofs.Walks.{Put, put-one, put-all}
+use Rattle.matching.proofs.Walks.{Put, put-one, put-none, put-all}
 use Rattle.matching.proofs.run_field.Statement.{statement}
 use Rattle.matching.proofs.run_field.Tie as tie
 
@@ -32,11 +33,14 @@ left-over-requires c κs = search needs
 loop-holds : tie.Need-loop-holds Inv-loop μ-loop
 loop-holds c = (c .before .before .at-most .ensures, (search long-mapped, refl))
 
-mul-with-run : tie.Need-mul-with-run Inv-loop μ-loop
-mul-with-run c = let h = c .loop-test .taken in let e = c .before .loop .inv .0 in omega arith
+mul-t : tie.Need-mul-t Inv-loop μ-loop
+mul-t c = let h = c .loop-test .taken in let e = c .before .loop .inv .0 in omega arith
 
-element-copy-out-with-run : tie.Need-element-copy-out-with-run Inv-loop μ-loop
-element-copy-out-with-run c = let h = c .loop-test .taken in let e = c .before .loop .inv .0 in omega arith
+element-copy-out-t : tie.Need-element-copy-out-t Inv-loop μ-loop
+element-copy-out-t c = let h = c .loop-test .taken in let e = c .before .loop .inv .0 in omega arith
+
+is-list-term-requires : tie.Need-is-list-term-requires Inv-loop μ-loop
+is-list-term-requires c κs = search needs
 
 with-run-requires : tie.Need-with-run-requires Inv-loop μ-loop
 with-run-requires c κs = search needs
@@ -49,11 +53,19 @@ loop-less c = search needs
 
 loop-again : tie.Need-loop-again Inv-loop μ-loop
 loop-again c =
-    let l = c .before .before .before .loop in
-    let z = c .before .before .before .before .before .before .before .args in
-    let gap = c .before .before .before .before .left-over .result in
-    let h = c .before .before .loop-test .taken in
-    (l .inv .0, put-one (z .j) gap (z .t2 .n) (z .t2 .terms) 16 (z .x) (l .i) (l .y) _ _ (l .inv .1) (omega (arith, l .inv .0)) (c .with-run .ensures))
+    let l = c .before .before .before .before .loop in
+    let z = c .before .before .before .before .before .before .before .before .args in
+    let gap = c .before .before .before .before .before .left-over .result in
+    let h = c .before .before .before .loop-test .taken in
+    let I = c .before .is-list-term in (
+      l .inv .0,
+      ⊎-elim
+          (λ w. put-one (z .j) gap (z .t2 .n) (z .t2 .terms) 16 (z .x) (l .i) (l .y) (c .if1 .y) _ (l .inv .1) (omega (arith, l .inv .0))
+          (w .2 ∙ w .1 .ensures))
+          (λ w. put-none (z .j) gap (z .t2 .n) (z .t2 .terms) 16 (z .x) (l .i) (l .y) (c .if1 .y) _ (I .result) (l .inv .1) (omega (arith, l .inv .0))
+          (I .ensures) (w .0 .left) (w .1))
+          (c .if1 .came),
+    )
 
 returns : tie.Need-returns Inv-loop μ-loop
 returns c =
@@ -78,8 +90,9 @@ run-field-spec =
     add-left-over
     left-over-requires
     loop-holds
-    mul-with-run
-    element-copy-out-with-run
+    mul-t
+    element-copy-out-t
+    is-list-term-requires
     with-run-requires
     add-i
     loop-less
