@@ -48,7 +48,7 @@ use Rattle.shown.specs.Shown.{blankRun, blankShown, placeIn, isKnown}
 use Rattle.shown.specs.Values.{showField}
 use Rattle.shown.proofs.Places.{atom-rank}
 use Rattle.shown.proofs.Puts.{place-below, put, Right, right-blank, right-field, known-field, run-field}
-use Rattle.rule_shown.proofs.Agree.{value, sidedField, field-put, mark-atom}
+use Rattle.shown.proofs.Fields.{value, sidedField, field-put, mark-atom}
 use Rattle.answer_lines.specs.Answers.{pushIf, pushKnown, knownAtoms, wholeField}
 
 -- ---- those that pass a test, of two lists
@@ -377,7 +377,7 @@ module _ (d : Side) (f : List OurTerm) (is-rule : IsLeft (f ∷ [])) (σ : Bindi
     where
       go : List·Memᴰ (basic k, n) atomVariables ⊎ List·Memᴰ (basic k, n) (ofKind list) → List·Memᴰ (basic k, n) atomVariables
       go (inl i) = i
-      go (inr i) = let m = Memᴰ·of-map (λ (x : ℕ). (list, x)) numbers i in let e : rank list ≡ rank (basic k) = ap (λ (v : variables.Variable). rank (v .0)) (m .2) in absurd (omega (arith, e, atom-rank (basic k) refl))
+      go (inr i) = let m = Memᴰ·of-map (λ (x : ℕ). (list, x)) numbers i in let e : rank list ≡ rank (basic k) = ap (λ (v : variables.Variable). rank (v .0)) (m .2) in absurd (omega (arith, e, atom-rank k))
 
   pub atom-there : (k : Basic) (n : ℕ) → n ≤ largestNumber → occurs (basic k) n (f ∷ []) ≡ true → Any (λ u. u ≡ termOf (θ (of d k n))) atomValues
   atom-there k n l o =

@@ -1,5 +1,5 @@
 // The line of an answer of the search, into lent bytes.
-// The answer's values are laid out as the fields of an entry, so that the line writer of the overlap list numbers and writes them.
+// The answer's values are laid out as the fields of an entry, so that they are numbered and written as an entry's are.
 ghost use mathlib.Core.Path.{_≡_};
 ghost use mathlib.Core.List.{_++_};
 ghost use Prim.Native.Nat.{_≤_, _<_, min};

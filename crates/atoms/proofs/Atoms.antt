@@ -1,4 +1,4 @@
--- The value of an atom settles the atom: equality and kinds on values are those of the atoms.
+-- The value of an atom settles the atom: equality on values is that of the atoms.
 use mathlib.Core.Path.{_≡_, refl, sym, _∙_, ap, ap₂}
 use mathlib.Core.Logic.{_≢_, _↔_}
 use mathlib.Core.Bool.{true, false, false≢true}
@@ -10,20 +10,19 @@ use lib.Dec.{eqb}
 use lib.ListN.{length, replicate}
 use lib.Seq.{take-at}
 use Rattle.lists.specs.Truths.{both-is, false-is}
-use Rattle.order.specs.Order.{Full, basic}
+use Rattle.order.specs.Order.{Full}
 use Rattle.order.specs.Types.{Basic, same}
 use Rattle.order.specs.Values.{kindOf, kindOf-from, same-kind-is}
 use Rattle.theory.specs.Terms.{con, var}
 use Rattle.text.specs.Sizes.{longestString, largestNumber}
 use Rattle.text.specs.Terms.{int, str, OurTerm}
-use Rattle.instance.specs.Constants.{kind-of}
-use Rattle.unifiers.specs.Shapes.{fixed, free, val, Side, left, right, of, kindIn}
+use Rattle.unifiers.specs.Shapes.{fixed, free, Side, left, right, of}
 use Rattle.terms.specs.declared.Form.{Form}
 use Rattle.terms.specs.declared.Form.the-variants.{Int, Str, Var}
 use Rattle.terms.specs.declared.Term.{Term}
 use Rattle.terms.specs.Values.{viewTerm, encodeTerm}
 use Rattle.sides.specs.Sides.{OurAtom, sided, atomTerm, encodeAtom, AtomIn}
-use Rattle.atoms.specs.Atoms.{sameBytes, sameForm, sameAtom, kindOfAtom}
+use Rattle.atoms.specs.Atoms.{sameBytes, sameForm, sameAtom}
 
 -- ---- the test of equality
 
@@ -108,13 +107,3 @@ same-encoded a b e = same-atom-is (encodeAtom a) (encodeAtom b) .1 (ap encodeAto
 
 pub other-encoded : (a b : OurAtom) → AtomIn a → AtomIn b → a ≢ b → sameAtom (encodeAtom a) (encodeAtom b) ≡ false
 other-encoded a b h k n = false-is (sameAtom (encodeAtom a) (encodeAtom b)) .1 (λ e. n (encode-once a b h k (same-atom-is (encodeAtom a) (encodeAtom b) .0 e)))
-
--- ---- kinds
-
-abbrev pub atomKind : OurAtom → Basic
-atomKind a = val kind-of kindIn a
-
-pub kind-encoded : (a : OurAtom) → kindOfAtom ((encodeAtom a) .form) ≡ basic (atomKind a)
-kind-encoded (fixed (int n)) = refl
-kind-encoded (fixed (str s)) = refl
-kind-encoded (free (of d k n)) = kindOf-from (basic k)

@@ -95,7 +95,7 @@ fn slot(k: Kind, n: u8) -> usize
 }
 
 // Whether a variable has a place. (A list variable has none.)
-pub fn has_place(k: Kind, n: u8) -> bool
+fn has_place(k: Kind, n: u8) -> bool
     ensures { λ r. ⌜ r ≡ hasPlace (kindOf k) n ⌝ }
 {
     if order::same_kind(k, Kind::List) {

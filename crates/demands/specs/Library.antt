@@ -21,7 +21,8 @@ use Rattle.rules.specs.Read.{OurRule, RefusesRule, readRule}
 use Rattle.rules.proofs.Read.{rule-refused}
 use Rattle.rules.proofs.Accepted.{rule-read}
 use Rattle.listing.specs.Overlaps.{linesOf, overlapText}
-use Rattle.overlaps.proofs.Rules.{no-right, none-listed}
+use Rattle.overlaps.proofs.Lists.{no-right}
+use Rattle.overlaps.proofs.Rules.{none-listed}
 use Rattle.yopobrush.specs.declared.Reading.{Reading}
 use Rattle.overlaps.specs.declared.Listed.the-variants.{Lines}
 use Rattle.reading.specs.Answers.{leftSaid}

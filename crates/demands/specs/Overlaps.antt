@@ -50,7 +50,8 @@ use Rattle.overlaps.specs.declared.Listed.the-variants.{Lines, TooSmall}
 use Rattle.overlaps.specs.declared.TextsListed.{TextsListed}
 use Rattle.overlaps.specs.Answers.{told, Lists, TextsList}
 use Rattle.overlaps.proofs.Answers.{eight-iff, fits-iff, counts-are, written, kept}
-use Rattle.overlaps.proofs.Rules.{no-right, none-listed, lines-none}
+use Rattle.overlaps.proofs.Lists.{no-right, lines-none}
+use Rattle.overlaps.proofs.Rules.{none-listed}
 use Rattle.demands.specs.Entries.{Filled, lines-filled}
 
 -- What demand 3 says of the bytes of a list of `count` entries of the rules r₁ and r₂. A slip's fields are of any length, and the

@@ -1,8 +1,6 @@
 // The demands as promises of compiled functions: each calls one of the product's and ensures what the demands say of its answer and of
 // the lent bytes, as the theorems of specs/ have it from that function's contract. Nothing calls them: a contract of the product that
 // says less does not pass here.
-ghost use mathlib.Core.Path.{_≡_};
-ghost use Rattle.overlaps.specs.Answers.{textsRoom};
 ghost use Rattle.demands.specs.Texts.{RuleReading, SlipReading, RuleWriting, SlipWriting};
 ghost use Rattle.demands.specs.Matching.{Matching};
 ghost use Rattle.demands.specs.Comparing.{Comparing};
@@ -99,11 +97,10 @@ pub fn list_overlaps(left: Rule, right: Rule, out: &mut [u8]) -> Listed
 }
 
 // The list of the rules that two texts say.
-pub fn list_texts(left: &[u8], right: &[u8], room: &mut [u8], out: &mut [u8]) -> TextsListed
+pub fn list_texts(left: &[u8], right: &[u8], out: &mut [u8]) -> TextsListed
     ensures { λ r. ⌜ TextsSharedSlips (now (left .entry)) (now (right .entry)) (now (out .entry)) r (now (out .exit)) ⌝ }
-    ensures { λ _. ⌜ now (room .exit) ≡ textsRoom (now (left .entry)) (now (right .entry)) (now (room .entry)) ⌝ }
 {
-    overlaps::list_texts(left, right, room, out)
+    overlaps::list_texts(left, right, out)
 }
 
 // What `pairs` prints for a line.

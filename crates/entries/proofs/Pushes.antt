@@ -1,4 +1,4 @@
--- A term pushed to a field's value gives the value of the field with that term behind the others; a field stored behind an entry's fields does the same. Assumes nothing.
+-- A term pushed to a field's value gives the value of the field with that term behind the others. Assumes nothing.
 use mathlib.Core.Path.{_≡_, sym, ap, ap₂, _∙_}
 use mathlib.Core.List.{List, [], _∷_, _++_, map, map-append, append-assoc}
 use Prim.Native.Nat.{ℕ, suc, _+_, _-_, _<_}
@@ -6,13 +6,10 @@ use native.Mathlib.Omega.{arith}
 use lib.ListN.{length, set, replicate, length-append, length-map}
 use lib.Seq.{set-append-seam}
 use borrow.Author.Tests.{lt-leb}
-use Rattle.text.specs.Sizes.{mostFields}
 use Rattle.text.specs.Terms.{OurTerm}
 use Rattle.terms.specs.declared.Term.{Term}
 use Rattle.terms.specs.Values.{pad, blankTerm, encodeTerm}
-use Rattle.entries.specs.declared.Wide.{Wide}
-use Rattle.entries.specs.declared.Entry.{Entry}
-use Rattle.entries.specs.Values.{widest, blankWide, pushed, encodeWide, encodeEntry}
+use Rattle.entries.specs.Values.{widest, pushed, encodeWide}
 
 -- one more in the place behind the used ones
 module _ {A B : Type 0} (w : ℕ) (d : B) (f : A → B) (s : List A) (a : A) (h : length s < w) where
@@ -35,7 +32,3 @@ pub push-agrees : (ts : List OurTerm) (t : OurTerm) → length ts < widest → p
 push-agrees ts t h =
     rw (lt-leb widest (length ts) h)
     (ap₂ (λ (n : ℕ) (l : List Term). record { n = n; terms = l }) (count-more widest blankTerm encodeTerm ts t h) (pad-more widest blankTerm encodeTerm ts t h))
-
-pub entry-more : (fs : List (List OurTerm)) (f : List OurTerm) → length fs < mostFields
-    → _≡_ {A = Entry} (record { n = length fs + 1; fields = set ((encodeEntry fs) .fields) (length fs) (encodeWide f) }) (encodeEntry (fs ++ f ∷ []))
-entry-more fs f h = ap₂ (λ (n : ℕ) (l : List Wide). record { n = n; fields = l }) (count-more mostFields blankWide encodeWide fs f h) (pad-more mostFields blankWide encodeWide fs f h)

@@ -25,9 +25,6 @@ widest = 31
 abbrev pub blankWide : Wide
 blankWide = record { n = 0; terms = replicate widest blankTerm }
 
-abbrev pub blankEntry : Entry
-blankEntry = record { n = 0; fields = replicate mostFields blankWide }
-
 -- ---- the terms in use
 
 abbrev pub wideTerms : Wide → List Term

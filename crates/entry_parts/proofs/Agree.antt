@@ -1,4 +1,4 @@
--- The fields and the bindings of values are those of the overlap list's line, where the values are those of an entry and of a rule's variables on it. Assumes nothing.
+-- The bindings of values are those of the overlap list's definition, where the values are those of an entry and of a rule's variables on it. Assumes nothing.
 use mathlib.Core.Path.{_≡_, refl, sym, ap, ap₂, _∙_}
 use mathlib.Core.Logic.{inl, inr}
 use mathlib.Core.Bool.{Bool, true, false, cond}
@@ -33,7 +33,7 @@ use Rattle.renumbering.proofs.Agree.{wide-terms, entry-fields, renamed-agrees}
 use Rattle.shown.specs.declared.Run.{Run}
 use Rattle.shown.specs.declared.Shown.{Shown}
 use Rattle.shown.specs.Shown.{blankRun, isKnown, runTerms, valueTerms}
-use Rattle.entry_parts.specs.Shown.{renamedTerms, fieldOf, fieldsOf, bindingOf, shownBindings}
+use Rattle.entry_parts.specs.Shown.{renamedTerms, bindingOf, shownBindings}
 use Rattle.entry_parts.specs.Shows.{runIn, Shows}
 use Rattle.entry_parts.proofs.Runs.{map-drop}
 
@@ -126,10 +126,10 @@ every-small =
 -- ---- THE AGREEMENT
 
 module _ (fs : List (List Marked)) (i : All (All MarkedIn) fs) where
-  abbrev pub names : Names
+  abbrev names : Names
   names = namesValue (entryValue fs)
 
-  abbrev pub renumber : Marked → OurTerm
+  abbrev renumber : Marked → OurTerm
   renumber t = rename (numbersOf basics consts ℕ-discrete fs) t
 
   term-agrees : (t : Marked) → Met fs t → viewTerm (renamedTerm names (encodeTerm (markTerm t))) ≡ renumber t
@@ -138,16 +138,6 @@ module _ (fs : List (List Marked)) (i : All (All MarkedIn) fs) where
   terms-agree : (ts : List Marked) → All (Met fs) ts → renamedTerms names (map encodeTerm (map markTerm ts)) ≡ map renumber ts
   terms-agree [] o = refl
   terms-agree (t ∷ ts) o = ap₂ (λ (u : OurTerm) (us : List OurTerm). u ∷ us) (term-agrees t (o .0)) (terms-agree ts (o .1))
-
-  wides-agree : (gs : List (List Marked)) → All (All (Met fs)) gs → map (fieldOf names) (map encodeWide (map (map markTerm) gs)) ≡ map (map renumber) gs
-  wides-agree [] o = refl
-  wides-agree (g ∷ gs) o =
-      ap₂ (λ (f : List OurTerm) (r : List (List OurTerm)). f ∷ r)
-      (ap (renamedTerms names) (wide-terms (map markTerm g)) ∙ terms-agree g (o .0))
-      (wides-agree gs (o .1))
-
-  pub fields-agree : fieldsOf names (entryValue fs) ≡ map (map renumber) fs
-  fields-agree = ap (map (fieldOf names)) (entry-fields (map (map markTerm) fs)) ∙ wides-agree fs (all-met fs)
 
   run-agrees : (r : Run) → renamedTerms names (runTerms (entryValue fs) r) ≡ map renumber (runIn fs r)
   run-agrees r =

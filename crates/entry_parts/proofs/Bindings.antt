@@ -29,7 +29,7 @@ use Rattle.entry_parts.specs.Sizes.{bindingBound}
 use Rattle.shown.specs.Shown.{blankRun, placeIn, isKnown, wideRun, runTerms, valueTerms}
 use Rattle.entry_parts.specs.Shown.{renamedTerms, runWithin, frontText, bindingTo, bindingOf, bindingsFor, kindAt, shownBindings}
 use Rattle.pieces.proofs.Pieces.{Left, all-left, none-left, rest-as, left-next, placed-none}
-use Rattle.entry_parts.proofs.Pieces.{Piece, piece-as, piece-next, piece-byte}
+use Rattle.pieces.proofs.Bounds.{Piece, piece-as, piece-next, piece-byte}
 use Rattle.entry_parts.proofs.Runs.{any-default, member-none, member-is}
 
 -- ---- a binding

@@ -1,4 +1,3 @@
-pub mod Pieces
 pub mod Rows
 pub mod Runs
 pub mod Bindings

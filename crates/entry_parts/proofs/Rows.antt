@@ -1,31 +1,13 @@
--- Laws of items put with a mark between them, over any items: the terms of a run and the fields of an entry are both such a row.
+-- Laws of items put with a mark between them, over any items: the terms of a run are such a row.
 -- A loop that has come to an item has what is left of the row, with its mark in front, still to put. Assumes nothing.
-use mathlib.Core.Path.{_≡_, refl, ap, _∙_}
-use mathlib.Core.List.{List, [], _∷_, _++_, map}
+use mathlib.Core.Path.{_≡_, ap, _∙_}
+use mathlib.Core.List.{List, [], _∷_, _++_}
 use Prim.Native.Nat.{ℕ, _+_, _*_, _≤_, _<_}
 use native.Mathlib.Omega.{arith}
 use lib.ListN.{length, drop, length-append, drop-of-length-le}
-use Rattle.text.specs.Grammar.{bars}
-use Rattle.text.specs.Plain.{rawField, fieldText, plain}
-use Rattle.entries.specs.declared.Wide.{Wide}
-use Rattle.renumbering.specs.declared.Names.{Names}
 use Rattle.writing.proofs.Rows.{Row}
 use Rattle.pieces.specs.Placed.{Placed}
-use Rattle.entry_parts.specs.Shown.{fieldOf}
 use Rattle.pieces.proofs.Pieces.{Left, all-left, none-left, rest-as, left-next, placed-as, placed-next}
-
--- the fields of an entry
-abbrev pub wides : Names → Row Wide
-wides x =
-    record {
-      item = λ w. fieldText (fieldOf x w);
-      mark = 124;
-      rest = λ ws. bars (map rawField (map (fieldOf x) ws));
-      whole = λ ws. plain (map (fieldOf x) ws);
-      none = refl;
-      one = λ w ws. refl;
-      first = λ w ws. refl;
-    }
 
 -- Where a loop is that began behind item 0, at `from` in `old`, when it comes to item i; no item has b bytes or more.
 pub record Rowing {A : Type 0} (R : Row A) (xs : List A) (b : ℕ) (old : List ℕ) (from : ℕ) (out : List ℕ) (p i : ℕ) : Type 0 where

@@ -1,14 +1,11 @@
--- The terms of a run, and the fields of an entry, one by one. Assumes nothing.
+-- The terms of a run one by one, and the field of an entry at a place. Assumes nothing.
 use mathlib.Core.Path.{_≡_, refl, sym, ap, ap₂, _∙_}
 use mathlib.Core.List.{List, [], _∷_, map}
 use Prim.Native.Nat.{ℕ, zero, suc, _+_, _-_, _≤_, _<_, min}
 use native.Mathlib.Numerals.{add-one}
 use native.Mathlib.Omega.{arith}
 use lib.ListN.{length, take, drop, getD, length-take, length-drop, length-map, List·getD-eq-default}
-use lib.Seq.{drop-cons, getD-take, getD-drop, take-take}
-use Rattle.entries.specs.declared.Wide.{Wide}
-use Rattle.entries.specs.Values.{wideTerms}
-use Rattle.shown.specs.Shown.{wideRun}
+use lib.Seq.{drop-cons, getD-take, getD-drop}
 
 pub any-default : {A : Type 0} (s : List A) (p : ℕ) (c d : A) → p < length s → getD s p c ≡ getD s p d
 any-default [] p c d h = absurd (omega arith)
@@ -45,21 +42,6 @@ module _ {A B : Type 0} (f : A → B) (d : A) (xs : List A) (k w start count n :
 
   pub run-none : n ≡ 0 → run f xs k start count ≡ []
   run-none e = no-members (run f xs k start count) (run-long ∙ e)
-
--- the first k of an array xs of w places are n
-module _ {A : Type 0} (d : A) (xs : List A) (k w n : ℕ) (long : length xs ≡ w) (most : n ≡ min k w) where
-  pub used-long : length (take k xs) ≡ n
-  used-long = omega (arith, length-take k xs)
-
-  pub used-here : (i : ℕ) → i < n → drop i (take k xs) ≡ getD xs i d ∷ drop (i + 1) (take k xs)
-  used-here i h = let l : i < length (take k xs) = omega (arith, used-long) in rw (add-one, drop-cons (take k xs) i d l, getD-take k xs i d (omega arith))
-
-  pub used-none : n ≡ 0 → take k xs ≡ []
-  used-none e = no-members (take k xs) (used-long ∙ e)
-
--- all terms of a field
-pub whole-run : (w : Wide) → wideTerms w ≡ wideRun w 0 (w .n)
-whole-run w = sym (take-take (w .n) (w .n) (w .terms) (omega arith))
 
 -- ---- the member at p of the first n of an array s of w places
 

@@ -1,5 +1,5 @@
--- The fields of an entry's line and its bindings, from the entry's value and the values of a rule's variables, as code puts them together.
--- `fields-agree` and `rule-agrees` of proofs/Agree say that they are those of the overlap list's line.
+-- The bindings of an entry's line, from the entry's value and the values of a rule's variables, as code puts them together.
+-- `rule-agrees` of proofs/Agree says that they are those that the overlap list's definition gives.
 use mathlib.Core.Bool.{cond}
 use mathlib.Core.List.{List, [], _∷_, _++_, map}
 use Prim.Native.Nat.{ℕ, min}
@@ -12,26 +12,16 @@ use Rattle.terms.specs.declared.Term.{Term}
 use Rattle.terms.specs.Values.{viewTerm}
 use Rattle.listing.specs.Variables.{Variable, every, keep}
 use Rattle.listing.specs.Lines.{Binding, nameText}
-use Rattle.entries.specs.declared.Wide.{Wide}
 use Rattle.entries.specs.declared.Entry.{Entry}
 use Rattle.renumbering.specs.declared.Names.{Names}
-use Rattle.entries.specs.Values.{wideTerms, entryFields}
 use Rattle.renumbering.specs.Names.{renamedTerm}
 use Rattle.shown.specs.declared.Run.{Run}
 use Rattle.shown.specs.declared.Shown.{Shown}
 use Rattle.shown.specs.Shown.{blankRun, isKnown, valueTerms}
 
--- ---- the fields
-
 -- what terms of the entry stand for once they are renumbered
 abbrev pub renamedTerms : Names → List Term → List OurTerm
 renamedTerms x ts = map viewTerm (map (renamedTerm x) ts)
-
-abbrev pub fieldOf : Names → Wide → List OurTerm
-fieldOf x w = renamedTerms x (wideTerms w)
-
-abbrev pub fieldsOf : Names → Entry → List (List OurTerm)
-fieldsOf x e = map (fieldOf x) (entryFields e)
 
 -- ---- the values of a rule's variables
 

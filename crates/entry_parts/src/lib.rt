@@ -24,7 +24,7 @@ use terms::Term;
 
 // ---- pieces: each is put at a place as far as there is room, and returns the place behind it
 
-pub fn put_byte(b: u8, out: &mut [u8], at: usize) -> usize
+fn put_byte(b: u8, out: &mut [u8], at: usize) -> usize
     ensures { λ r. ⌜ Placed (b ∷ []) at (now (out .entry)) r (now (out .exit)) ⌝ }
 {
     if out.len() <= at {
@@ -54,7 +54,7 @@ fn at_most(n: usize, places: usize) -> usize
 }
 
 // How many terms a run of so many from the start has, of a field that has n.
-pub fn run_length(n: usize, start: usize, count: usize) -> usize
+fn run_length(n: usize, start: usize, count: usize) -> usize
     ensures { λ r. ⌜ r ≡ min count (min n 31 - start) ⌝ }
 {
     let m = at_most(n, 31);
@@ -64,7 +64,7 @@ pub fn run_length(n: usize, start: usize, count: usize) -> usize
     at_most(count, m - start)
 }
 
-pub fn put_renamed(names: Names, t: Term, out: &mut [u8], at: usize) -> usize
+fn put_renamed(names: Names, t: Term, out: &mut [u8], at: usize) -> usize
     ensures { λ r. ⌜ Placed (termText (viewTerm (renamedTerm names t))) at (now (out .entry)) r (now (out .exit)) ⌝ }
     ensures { λ _. ⌜ length (termText (viewTerm (renamedTerm names t))) ≤ 17 ⌝ }
 {
@@ -100,7 +100,7 @@ fn put_run(names: Names, w: Wide, start: usize, count: usize, out: &mut [u8], at
 // ---- the bindings
 
 // The run, or the one with no terms where an entry of n fields has no such field.
-pub fn run_within(r: Run, n: usize) -> Run
+fn run_within(r: Run, n: usize) -> Run
     ensures { λ q. ⌜ q ≡ runWithin n r ⌝ }
     ensures { λ q. ⌜ q .field < 4 ⌝ }
 {
@@ -128,7 +128,7 @@ fn put_name(k: Kind, n: u8, out: &mut [u8], at: usize) -> usize
 }
 
 // Document 01: "a blank, `<`, name, `=`, value"; the mark is `<` or `>`. This is what stands before the value.
-pub fn put_front(mark: u8, k: Kind, n: u8, out: &mut [u8], at: usize) -> usize
+fn put_front(mark: u8, k: Kind, n: u8, out: &mut [u8], at: usize) -> usize
     ensures { λ r. ⌜ Placed (frontText mark (kindOf k) n) at (now (out .entry)) r (now (out .exit)) ⌝ }
     ensures { λ _. ⌜ length (frontText mark (kindOf k) n) ≤ 20 ⌝ }
 {
@@ -159,7 +159,7 @@ fn put_list(names: Names, w: Wide, r: Run, mark: u8, n: usize, out: &mut [u8], a
 }
 
 // The type of the variable whose place is i: 16 places each for integer, string, atom and list variables.
-pub fn kind_at(i: usize) -> Kind
+fn kind_at(i: usize) -> Kind
     ensures { λ r. ⌜ r ≡ kindFrom (kindAt i) ⌝ }
 {
     if i < 16 {

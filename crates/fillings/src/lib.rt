@@ -1,4 +1,4 @@
-// The state of the fillings of a pair of rules: what each atom variable stands for. Its join stands in specs/States; code that joins works on tokens (`token_fillings`).
+// The state of the fillings of a pair of rules: what each atom variable stands for.
 ghost use mathlib.Core.Path.{_≡_};
 ghost use Rattle.order.specs.Values.{kindFrom};
 ghost use Rattle.fillings.specs.States.{look, replaced, kindAt, startValue};
@@ -9,12 +9,6 @@ use terms::Term;
 // What each atom variable stands for: 32 places for each type below list, the right rule's numbers above the left's.
 pub struct Fillings {
     pub atoms: [Term; 96],
-}
-
-// The answer of the join of specs/States: the next state, or a clash with the state as it was.
-pub struct Joined {
-    pub ok: bool,
-    pub next: Fillings,
 }
 
 // The type below list of this rank.

@@ -1,7 +1,7 @@
 -- Every member, some member, none: predicates on lists that compute, and their decisions; the list of a function's values.
 use mathlib.Core.Path.{_≡_, refl, sym, _∙_, ap₂}
 use mathlib.Core.Logic.{_⊎_, inl, inr}
-use mathlib.Core.List.{List, [], _∷_, _++_, map, List·Memᴰ, List·Memᴰ·head, List·Memᴰ·tail}
+use mathlib.Core.List.{List, [], _∷_, _++_, map}
 use Prim.Native.Nat.{ℕ, zero, suc, _<_}
 use native.Mathlib.Omega.{arith}
 use lib.ListN.{length, getD, length-map}
@@ -100,8 +100,3 @@ module _ {A : Type 0} where
   pub tabulate-same : (n : ℕ) (f g : ℕ → A) → ((i : ℕ) → i < n → f i ≡ g i) → tabulate n f ≡ tabulate n g
   tabulate-same zero f g h = refl
   tabulate-same (suc n) f g h = ap₂ (λ a t. a ∷ t) (h 0 (omega arith)) (tabulate-same n (λ i. f (suc i)) (λ i. g (suc i)) (λ i p. h (suc i) (omega arith)))
-
-  pub tabulate-has : (n : ℕ) (f : ℕ → A) (i : ℕ) → i < n → List·Memᴰ (f i) (tabulate n f)
-  tabulate-has zero f i h = absurd (omega arith)
-  tabulate-has (suc n) f zero h = List·Memᴰ·head refl
-  tabulate-has (suc n) f (suc i) h = List·Memᴰ·tail (tabulate-has n (λ j. f (suc j)) i (omega arith))

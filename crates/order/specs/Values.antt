@@ -2,7 +2,8 @@
 use mathlib.Core.Path.{_≡_, refl, ap, _∙_, sym}
 use mathlib.Core.Logic.{_↔_}
 use mathlib.Core.Option.{Option, none, some}
-use mathlib.Core.Bool.{true}
+use mathlib.Core.Bool.{true, cond}
+use Prim.Native.Nat.{ℕ}
 use Rattle.order.specs.Order.{basic, list}
 use Rattle.order.specs.Types.{integer, string, atom}
 use Rattle.order.specs.Types as types
@@ -35,9 +36,13 @@ kind-from-of String = refl
 kind-from-of Atom = refl
 kind-from-of List = refl
 
+-- of two ranks the lower, where they are comparable
+abbrev pub meetRank : ℕ → ℕ → Met
+meetRank j k = cond (types.entry j k) (Is j) (cond (types.entry k j) (Is k) Nothing)
+
 -- the code's answer for a meet
 abbrev pub meetOf : Option types.Kind → Met
-meetOf (some k) = Is (kindFrom k)
+meetOf (some k) = Is (types.rank k)
 meetOf none = Nothing
 
 -- kinds are the same exactly where the code's values are

@@ -1,9 +1,8 @@
-// The type order: which kind of term is below which, and the meet of two kinds.
+// The type order: which kind of term is below which, and the meet of two.
 // Every answer is read from one table, whose laws and whose agreement with document 01 stand in specs/Types.antt.
 ghost use mathlib.Core.Path.{_≡_};
-ghost use Rattle.order.specs.Order.{meet};
-ghost use Rattle.order.specs.Types.{rank, le, same, types};
-ghost use Rattle.order.specs.Values.{kindOf, meetOf};
+ghost use Rattle.order.specs.Types.{rank, le, same, entry};
+ghost use Rattle.order.specs.Values.{kindOf, meetRank};
 
 pub enum Kind {
     Integer,
@@ -12,9 +11,9 @@ pub enum Kind {
     List,
 }
 
-// The answer of `meet`. (`Meet` would differ from it only in case, which one module does not allow.)
+// The answer of `meet_rank`: the meet's rank.
 pub enum Met {
-    Is(Kind),
+    Is(u8),
     Nothing,
 }
 
@@ -58,14 +57,25 @@ pub fn below(j: Kind, k: Kind) -> bool
     BELOW[i]
 }
 
-// The greatest kind below both, read from the table: kinds that have one are comparable, so it is the lower of the two.
-pub fn meet(j: Kind, k: Kind) -> Met
-    ensures { λ r. ⌜ r ≡ meetOf (meet types (kindOf j) (kindOf k)) ⌝ }
+// The same of two ranks; what is no rank is below nothing.
+pub fn below_rank(j: u8, k: u8) -> bool
+    ensures { λ r. ⌜ r ≡ entry j k ⌝ }
 {
-    if below(j, k) {
+    let i = 4 * j as usize + k as usize;
+    if 16 <= i {
+        return false;
+    }
+    BELOW[i]
+}
+
+// The greatest rank below both (`meet-rank-is`), read from the table: kinds that have one are comparable, so it is the lower of the two.
+pub fn meet_rank(j: u8, k: u8) -> Met
+    ensures { λ r. ⌜ r ≡ meetRank j k ⌝ }
+{
+    if below_rank(j, k) {
         return Met::Is(j);
     }
-    if below(k, j) {
+    if below_rank(k, j) {
         return Met::Is(k);
     }
     Met::Nothing

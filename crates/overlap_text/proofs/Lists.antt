@@ -1,5 +1,5 @@
 -- What the lister leaves in the part of the room that is lent to it, by its answer. Assumes nothing.
-use mathlib.Core.Path.{_≡_, refl, sym, ap, _∙_, subst}
+use mathlib.Core.Path.{_≡_, sym, ap, _∙_, subst}
 use mathlib.Core.List.{List, [], _++_, append-assoc}
 use Prim.Native.Nat.{ℕ, _+_, _≤_, _<_}
 use native.Mathlib.Omega.{arith}
@@ -19,11 +19,12 @@ use Rattle.overlaps.proofs.Rules.{none-listed}
 use Rattle.overlaps.proofs.Answers.{written, kept, lines-told, small-told}
 use Rattle.pieces.specs.Placed.{Placed}
 use Rattle.pieces.proofs.Pieces.{placed-as}
-use Rattle.entry_parts.proofs.Pieces.{Piece, piece-as}
+use Rattle.pieces.proofs.Bounds.{Piece, piece-as}
 use Rattle.overlap_text.specs.Texts.{mostBytes, listedText}
 
 -- what stands behind a text at the front of the part of n bytes from `at` on
-part-rest : (t old : List ℕ) (at n : ℕ) → length t ≤ n → at + n ≤ length old → drop (length t) (take n (drop at old)) ++ drop n (drop at old) ≡ drop (at + length t) old
+part-rest : (t old : List ℕ) (at n : ℕ) → length t ≤ n → at + n ≤ length old
+    → drop (length t) (take n (drop at old)) ++ drop n (drop at old) ≡ drop (at + length t) old
 part-rest t old at n h k =
     let d = drop at old in
     sym (drop-append-le (length t) (take n d) (drop n d) (omega (arith, length-take-le n d (omega (arith, length-drop at old)))))
@@ -100,5 +101,8 @@ module _ (x y : List (List OurTerm)) (old : List ℕ) (at n : ℕ) (is-n : n ≡
         let f = too-many h in
         rw (lt-leb (length text) mostBytes (f .1)) (ap (λ (k : ℕ). ascii "too long " ++ digitsOf k ++ newline) (sym (f .0)))
 
-    pub list-refused : r ≡ TooSmall e b → b < 18446744073709551616 → {p : ℕ} {new : List ℕ} → Placed (ascii "too long " ++ digitsOf b ++ newline) at (roomWith m) p new → Piece mostBytes (listedText text) at old p new
-    list-refused h k {p} {new} q = piece-as mostBytes at old (list-long h) (subst (λ (l : List ℕ). Placed (ascii "too long " ++ digitsOf b ++ newline) at l p new) (list-left h) q, long-short b k)
+    pub list-refused : r ≡ TooSmall e b → b < 18446744073709551616 → {p : ℕ} {new : List ℕ}
+        → Placed (ascii "too long " ++ digitsOf b ++ newline) at (roomWith m) p new → Piece mostBytes (listedText text) at old p new
+    list-refused h k {p} {new} q =
+        let there = subst (λ (l : List ℕ). Placed (ascii "too long " ++ digitsOf b ++ newline) at l p new) (list-left h) q in
+        piece-as mostBytes at old (list-long h) (there, long-short b k)

@@ -13,7 +13,7 @@ use Rattle.verdicts.specs.Verdicts.{reasonFrom, numberOf, verdictOf}
 use Rattle.verdicts.proofs.Verdicts.{number-is}
 use Rattle.listing.specs.Overlaps.{linesOf, overlapText}
 use Rattle.reading.specs.Answers.{leftSaid}
-use Rattle.overlaps.proofs.Rules.{no-right}
+use Rattle.overlaps.proofs.Lists.{no-right}
 use Rattle.pieces.specs.Refusals.{numberAt}
 use Rattle.overlap_text.specs.Texts.{mostBytes, listedText, readText, textsIn}
 

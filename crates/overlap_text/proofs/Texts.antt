@@ -17,7 +17,7 @@ use Rattle.overlaps.specs.declared.TextsListed.{TextsListed}
 use Rattle.overlaps.specs.Answers.{TextsList}
 use Rattle.pieces.specs.Placed.{Placed}
 use Rattle.pieces.specs.Refusals.{numberAt}
-use Rattle.entry_parts.proofs.Pieces.{Piece, piece-as}
+use Rattle.pieces.proofs.Bounds.{Piece, piece-as}
 use Rattle.overlap_text.specs.Texts.{mostBytes, readText}
 use Rattle.overlap_text.proofs.Lists.{roomWith, none-put, list-in, list-put, list-refused}
 use Rattle.overlap_text.proofs.Said.{left-said, right-said, both-said, no-lines-left, no-lines-right}

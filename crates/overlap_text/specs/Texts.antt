@@ -10,7 +10,6 @@ use Rattle.text.specs.Read.{number, OutcomeOf, refused, accepted}
 use Rattle.rules.specs.Read.{OurRule, readRule}
 use Rattle.listing.specs.Overlaps.{overlapText}
 use Rattle.pieces.specs.Refusals.{numberAt}
-use Rattle.overlaps.specs.Answers.{textsRoom}
 
 -- "`too long B` where B bytes exceed its 65,536"
 abbrev pub mostBytes : ℕ
@@ -30,10 +29,6 @@ readText (accepted left) (accepted right) = listedText (overlapText (left .0) (r
 abbrev pub textsIn : ℕ → OutcomeOf OurRule → OutcomeOf OurRule → List ℕ
 textsIn k o p = cond (leb mostBytes k) (readText o p) []
 
--- the room that is lent for the lister's work where k bytes are left: as the list leaves it, and as it was where nothing is said
-abbrev pub roomBy : ℕ → List ℕ → List ℕ → List ℕ → List ℕ
-roomBy k t u room = cond (leb mostBytes k) (textsRoom t u room) room
-
 -- ---- of texts, and of the bytes from a place on
 
 abbrev pub saidOf : List ℕ → List ℕ → List ℕ
@@ -41,6 +36,3 @@ saidOf t u = readText (readRule t) (readRule u)
 
 abbrev pub saidIn : List ℕ → ℕ → List ℕ → List ℕ → List ℕ
 saidIn old at t u = textsIn (length old - at) (readRule t) (readRule u)
-
-abbrev pub roomIn : List ℕ → ℕ → List ℕ → List ℕ → List ℕ → List ℕ
-roomIn old at t u room = roomBy (length old - at) t u room

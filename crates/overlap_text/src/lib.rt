@@ -7,14 +7,14 @@ ghost use Rattle.text.specs.Ascii.{newline};
 ghost use Rattle.verdicts.specs.Verdicts.{numberOf};
 ghost use Rattle.pieces.specs.Refusals.{numberAt};
 ghost use Rattle.pieces.specs.Placed.{Placed};
-ghost use Rattle.overlaps.specs.Answers.{textsRoom};
-ghost use Rattle.overlap_text.specs.Texts.{mostBytes, saidOf, saidIn, roomIn};
+ghost use Rattle.overlap_text.specs.Texts.{mostBytes, saidOf, saidIn};
 use overlaps::Listed;
 use verdicts::Reason;
 use verdicts::Verdict;
 
 fn put_refused(words: &[u8], reason: Reason, place: usize, out: &mut [u8], at: usize) -> usize
-    ensures { λ r. ⌜ Placed (now (words .entry) ++ numberAt (numberOf reason) place ++ newline) at (now (out .entry)) r (now (out .exit)) ⌝ }
+    ensures { λ r. ⌜ Placed (now (words .entry) ++ numberAt (numberOf reason) place ++ newline) at (now (out .entry)) r
+        (now (out .exit)) ⌝ }
 {
     let a = line_pieces::put_refusal(words, reason, place, out, at);
     pieces::put_bytes(b"\n", out, a)
@@ -29,14 +29,13 @@ fn bytes_behind(at: usize, n: usize) -> usize
 
 // What is said of two texts, the left one's refusal before the right one's.
 // The list is lent no more than the 65,536 bytes that it may have, so that the lister itself tells a list that is too long.
-fn put_read(left: &[u8], right: &[u8], room: &mut [u8], out: &mut [u8], at: usize) -> usize
+fn put_read(left: &[u8], right: &[u8], out: &mut [u8], at: usize) -> usize
     requires { ⌜ at + mostBytes ≤ length (now out) ⌝ }
     ensures { λ p. ⌜ Placed (saidOf (now (left .entry)) (now (right .entry))) at (now (out .entry)) p (now (out .exit)) ⌝ }
     ensures { λ _. ⌜ length (saidOf (now (left .entry)) (now (right .entry))) ≤ mostBytes ⌝ }
-    ensures { λ _. ⌜ now (room .exit) ≡ textsRoom (now (left .entry)) (now (right .entry)) (now (room .entry)) ⌝ }
 {
     let end = at + 65536;
-    let said = overlaps::list_texts(left, right, room, &mut out[at..end]);
+    let said = overlaps::list_texts(left, right, &mut out[at..end]);
     let l = said.left;
     let r = said.right;
     let listed = said.listed;
@@ -53,13 +52,13 @@ fn put_read(left: &[u8], right: &[u8], room: &mut [u8], out: &mut [u8], at: usiz
 }
 
 // The same behind a place with room for the longest list; with less nothing is put.
-pub fn put_texts(left: &[u8], right: &[u8], room: &mut [u8], out: &mut [u8], at: usize) -> usize
-    ensures { λ p. ⌜ Placed (saidIn (now (out .entry)) at (now (left .entry)) (now (right .entry))) at (now (out .entry)) p (now (out .exit)) ⌝ }
+pub fn put_texts(left: &[u8], right: &[u8], out: &mut [u8], at: usize) -> usize
+    ensures { λ p. ⌜ Placed (saidIn (now (out .entry)) at (now (left .entry)) (now (right .entry))) at (now (out .entry)) p
+        (now (out .exit)) ⌝ }
     ensures { λ _. ⌜ length (saidIn (now (out .entry)) at (now (left .entry)) (now (right .entry))) ≤ mostBytes ⌝ }
-    ensures { λ _. ⌜ now (room .exit) ≡ roomIn (now (out .entry)) at (now (left .entry)) (now (right .entry)) (now (room .entry)) ⌝ }
 {
     if bytes_behind(at, out.len()) < 65536 {
         return at;
     }
-    put_read(left, right, room, out, at)
+    put_read(left, right, out, at)
 }

@@ -1,29 +1,27 @@
--- Laws of the listing on values: lines one behind the other, their counts, and the lent bytes. Assumes nothing.
+-- Laws of the listing: lines one behind the other, their counts, and the lent bytes. Assumes nothing.
 use mathlib.Core.Path.{_≡_, refl, sym, _∙_, ap, ap₂, subst}
-use mathlib.Core.Bool.{Bool, true, false, cond, not}
+use mathlib.Core.Bool.{Bool, true, false, cond}
 use mathlib.Core.List.{List, [], _∷_, _++_, append-nil}
-use Prim.Native.Nat.{ℕ, suc, _+_, _-_, _*_, _≤_, _<_}
+use Prim.Native.Nat.{ℕ, suc, _+_, _-_, _*_, _≤_, _<_, min}
 use native.Mathlib.Omega.{arith}
-use lib.ListN.{length, length-append}
-use borrow.Author.Tests.{not-true, not-false}
-use Rattle.fillings.specs.declared.Fillings.{Fillings}
-use Rattle.fillings.specs.declared.Joined.{Joined}
-use Rattle.candidates.specs.declared.Span.{Span}
-use Rattle.choices.specs.declared.Choice.{Choice}
-use Rattle.choices.specs.Choices.{chosenAt, entryOf}
-use Rattle.joins.specs.Joins.{joinFields}
-use Rattle.entries.specs.declared.Entry.{Entry}
-use Rattle.shown.specs.declared.Shown.{Shown}
-use Rattle.rule_shown.specs.Values.{shownValue}
-use Rattle.entry_lines.specs.Lines.{lineValue, lineBound}
-use Rattle.pieces.proofs.Stored.{bytes-length, stores-append, stores-length}
-use Rattle.overlaps.specs.Pairs.{Pair}
+use native.Mathlib.Decide.{decLt}
+use lib.ListN.{length, set, take, drop, length-append, length-take, length-drop, take-append-drop, drop-of-length-le}
+use lib.Seq.{sets, length-sets, take-all}
+use Rattle.theory.proofs.Seqs.{concat-map-append}
+use Rattle.writing.proofs.Stores.{sets-append}
+use Rattle.pieces.specs.Stored.{bytesOf}
+use Rattle.pieces.proofs.Stored.{bytes-length}
+use Rattle.pieces.proofs.Pieces.{sets-out}
+use Rattle.pair_state.specs.declared.State.{State}
+use Rattle.pair_state.specs.declared.Joined.{Joined}
+use Rattle.overlap_entries.specs.declared.Span.{Span}
+use Rattle.overlap_entries.specs.declared.Choice.{Choice}
+use Rattle.overlap_entries.specs.Entries.{chosenAt}
+use Rattle.overlap_lines.specs.Lines.{lineIn, lineBound}
 use Rattle.overlaps.specs.declared.Tally.{Tally}
 use Rattle.overlaps.specs.declared.Candidate.{Candidate}
-use Rattle.rule_shown.specs.Plain.{plainRule}
-use Rattle.overlaps.specs.Lines.{lineAt}
-use Rattle.pieces.specs.Stored.{bytesOf, storeAll}
-use Rattle.overlaps.specs.Listing.{leftAt, rightAt, spanAt, candidateOf, candidateLines, choiceLines, linesFrom, tallied, Stores, Moderate, Countable}
+use Rattle.overlaps.specs.Listing.{spanAt, candidateOf, joinsAt, candidateLines, choiceLines, linesFrom, linesIn, choicesIn}
+use Rattle.overlaps.specs.Listing.{tallied, Stores, Moderate, Countable}
 
 -- ---- counts
 
@@ -34,15 +32,14 @@ tally-none t = ap₂ (λ (e b : ℕ). record { entries = e; bytes = b }) (omega 
 one-more : (l : List ℕ) → length (bytesOf (l ∷ [])) ≡ length l
 one-more l = ap length (append-nil l)
 
-pub tally-one : (t : Tally) (l : List ℕ) (n : ℕ) → n ≡ length l → record { entries = t .entries + 1; bytes = t .bytes + n } ≡ tallied t (l ∷ [])
-tally-one t l n e = ap (λ (m : ℕ). record { entries = t .entries + 1; bytes = t .bytes + m }) (e ∙ sym (one-more l))
+pub tally-one : (t : Tally) (l : List ℕ) (n : ℕ) → n ≡ 0 + length l → record { entries = t .entries + 1; bytes = t .bytes + n } ≡ tallied t (l ∷ [])
+tally-one t l n e =
+    ap (λ (m : ℕ). record { entries = t .entries + 1; bytes = t .bytes + m })
+    (let q : n ≡ length l = omega (arith, e) in q ∙ sym (one-more l))
 
-module _ (t : Tally) (l : List ℕ) (n : ℕ) (is-n : n ≡ length l) (short : length l ≤ lineBound) (h : Countable t (l ∷ [])) where
-  pub more-bytes : t .bytes + n < 18446744073709551616
-  more-bytes = omega (arith, h .0, h .1, is-n, short)
-
+module _ (t : Tally) (l : List ℕ) (n : ℕ) (short : n ≤ lineBound) (h : Countable t (l ∷ [])) where
   pub still-moderate : t .bytes + n ≤ lineBound * (t .entries + 1)
-  still-moderate = omega (arith, h .0, is-n, short)
+  still-moderate = omega (arith, h .0, short)
 
 pub tally-append : (t : Tally) (a b : List (List ℕ)) → tallied (tallied t a) b ≡ tallied t (a ++ b)
 tally-append t a b = ap₂ (λ (e n : ℕ). record { entries = e; bytes = n }) (omega (arith, length-append a b)) (omega (arith, bytes-length a b))
@@ -54,90 +51,125 @@ module _ (t : Tally) (a b : List (List ℕ)) (h : Countable t (a ++ b)) where
   pub countable-next : (u : Tally) → u ≡ tallied t a → Moderate u → Countable u b
   countable-next u e m = (m, omega (arith, h .1, length-append a b, ap (λ (x : Tally). x .entries) e))
 
+-- ---- bytes
+
+sets-later : (x : ℕ) (l : List ℕ) (i : ℕ) (t : List ℕ) → sets (x ∷ l) (suc i) t ≡ x ∷ sets l i t
+sets-later x l i [] = refl
+sets-later x l i (b ∷ t) = sets-later x (set l i b) (suc i) t
+
+-- what is put behind p leaves p
+sets-behind : (p l t : List ℕ) → sets (p ++ l) (length p) t ≡ p ++ sets l 0 t
+sets-behind [] l t = refl
+sets-behind (x ∷ p) l t = sets-later x (p ++ l) (length p) t ∙ ap (λ (r : List ℕ). x ∷ r) (sets-behind p l t)
+
+-- a place behind the end is as good as the end
+sets-clip : (t old : List ℕ) (n : ℕ) → sets old n t ≡ sets old (min n (length old)) t
+sets-clip t old n = go (decLt n (length old))
+  where
+    go : Dec (n < length old) → sets old n t ≡ sets old (min n (length old)) t
+    go (yes h) = ap (λ (k : ℕ). sets old k t) (let e : n ≡ min n (length old) = omega arith in e)
+    go (no h) = sets-out t old n (omega (arith, h)) ∙ sym (sets-out t old (min n (length old)) (omega (arith, h)))
+
+-- a line in the part of the bytes from its place on, which is lent to the line writer
+pub line-part : (l old : List ℕ) (n at : ℕ) {m : List ℕ} → at ≡ min n (length old) → m ≡ sets (take (length old - at) (drop at old)) 0 l
+    → take at old ++ (m ++ drop (length old - at) (drop at old)) ≡ sets old n (bytesOf (l ∷ []))
+line-part l old n at {m} a e =
+    ap (λ (r : List ℕ). take at old ++ (m ++ r)) (drop-of-length-le (drop at old) {i = length old - at} (omega (arith, length-drop at old)))
+    ∙ ap (λ (r : List ℕ). take at old ++ r)
+    (append-nil m ∙ e ∙ ap (λ (r : List ℕ). sets r 0 l) (take-all (length old - at) (drop at old) (omega (arith, length-drop at old))))
+    ∙ sym (sets-behind (take at old) (drop at old) l)
+    ∙ ap₂ (λ (r : List ℕ) (k : ℕ). sets r k l) (take-append-drop at old)
+    (let q : length (take at old) ≡ min n (length old) = omega (arith, length-take at old, a) in q)
+    ∙ sym (sets-clip l old n)
+    ∙ ap (sets old n) (sym (append-nil l))
+
 -- ---- what is left to list
 
-pub lines-end : (p : Pair) (j : ℕ) (ch : Choice) (st : Fillings) → p .left .n ≤ j → linesFrom (p .left .n - j) p j ch st ≡ lineAt p ch st ∷ []
-lines-end p j ch st h = let e : p .left .n - j ≡ 0 = omega arith in ap (λ (m : ℕ). linesFrom m p j ch st) e
+module _ (row texts : List ℕ) (n j : ℕ) (ch : Choice) (st : State) where
+  pub lines-end : n ≤ j → linesIn row texts n j ch st ≡ lineIn row texts n ch (st .atoms) ∷ []
+  lines-end h = let e : n - j ≡ 0 = omega arith in ap (λ (m : ℕ). linesFrom m row texts n j ch st) e
 
-pub lines-goes : (p : Pair) (j : ℕ) (ch : Choice) (st : Fillings) (s : Span) → s ≡ spanAt p j → j < p .left .n
-    → linesFrom (p .left .n - j) p j ch st ≡ choiceLines (linesFrom (p .left .n - (j + 1)) p (j + 1)) p j (s .count) ch st
-lines-goes p j ch st s e h =
-    let k : p .left .n - j ≡ suc (p .left .n - (j + 1)) = omega arith in
-    ap (λ (m : ℕ). linesFrom m p j ch st) k ∙ ap (λ (x : Span). choiceLines (linesFrom (p .left .n - (j + 1)) p (j + 1)) p j (x .count) ch st) (sym e)
+  pub lines-goes : j < n → linesIn row texts n j ch st ≡ choicesIn row texts n j ch st
+  lines-goes h = let k : n - j ≡ suc (n - (j + 1)) = omega arith in ap (λ (m : ℕ). linesFrom m row texts n j ch st) k
 
-module _ (next : Choice → Fillings → List (List ℕ)) (p : Pair) (j k : ℕ) (ch : Choice) (st : Fillings) where
-  pub choice-none : k ≡ 0 → choiceLines next p j k ch st ≡ []
-  choice-none e = ap (λ (m : ℕ). choiceLines next p j m ch st) e
+module _ (next : Choice → State → List (List ℕ)) (row : List ℕ) (j k : ℕ) (ch : Choice) (st : State) where
+  pub choice-none : k ≡ 0 → choiceLines next row j k ch st ≡ []
+  choice-none e = ap (λ (m : ℕ). choiceLines next row j m ch st) e
 
-  choice-goes : 1 ≤ k → choiceLines next p j k ch st ≡ candidateLines next p j (candidateOf (spanAt p j) k) ch st ++ choiceLines next p j (k - 1) ch st
-  choice-goes h = let e : k ≡ suc (k - 1) = omega arith in
-      ap (λ (m : ℕ). choiceLines next p j m ch st) e ∙ ap (λ (m : ℕ). candidateLines next p j (candidateOf (spanAt p j) m) ch st ++ choiceLines next p j (k - 1) ch st) (sym e)
+  choice-goes : 1 ≤ k
+      → choiceLines next row j k ch st ≡ candidateLines next row j (candidateOf (spanAt row j) k) ch st ++ choiceLines next row j (k - 1) ch st
+  choice-goes h =
+      let e : k ≡ suc (k - 1) = omega arith in
+      ap (λ (m : ℕ). choiceLines next row j m ch st) e
+      ∙ ap (λ (m : ℕ). candidateLines next row j (candidateOf (spanAt row j) m) ch st ++ choiceLines next row j (k - 1) ch st) (sym e)
 
   -- by what the joins of the candidate say
-  module _ (s : Span) (c : Candidate) (r : Joined) (h : 1 ≤ k) (is-s : s ≡ spanAt p j) (is-c : c ≡ candidateOf s k) (is-r : r ≡ joinFields (leftAt p j) (rightAt p j) (c .items) st) where
-    by : choiceLines next p j k ch st ≡ cond (r .ok) (next (chosenAt ch j (c .items) (c .long)) (r .next)) [] ++ choiceLines next p j (k - 1) ch st
+  module _ (s : Span) (c : Candidate) (r : Joined) (h : 1 ≤ k) (is-s : s ≡ spanAt row j) (is-c : c ≡ candidateOf s k)
+      (is-r : r ≡ joinsAt row j (c .items) st) where
+    by : choiceLines next row j k ch st
+        ≡ cond (r .ok) (next (chosenAt ch j (c .items) (c .long)) (r .next)) [] ++ choiceLines next row j (k - 1) ch st
     by =
         choice-goes h
-        ∙ ap (λ (d : Candidate). candidateLines next p j d ch st ++ choiceLines next p j (k - 1) ch st) (ap (λ (x : Span). candidateOf x k) (sym is-s) ∙ sym is-c)
-        ∙ ap (λ (x : Joined). cond (x .ok) (next (chosenAt ch j (c .items) (c .long)) (x .next)) [] ++ choiceLines next p j (k - 1) ch st) (sym is-r)
+        ∙ ap (λ (d : Candidate). candidateLines next row j d ch st ++ choiceLines next row j (k - 1) ch st)
+        (ap (λ (x : Span). candidateOf x k) (sym is-s) ∙ sym is-c)
+        ∙ ap (λ (x : Joined). cond (x .ok) (next (chosenAt ch j (c .items) (c .long)) (x .next)) [] ++ choiceLines next row j (k - 1) ch st) (sym is-r)
 
-    pub choice-clash : not (r .ok) ≡ true → choiceLines next p j k ch st ≡ choiceLines next p j (k - 1) ch st
-    choice-clash e = by ∙ ap (λ (b : Bool). cond b (next (chosenAt ch j (c .items) (c .long)) (r .next)) [] ++ choiceLines next p j (k - 1) ch st) (not-true (r .ok) e)
+    pub choice-clash : r .ok ≡ false → choiceLines next row j k ch st ≡ choiceLines next row j (k - 1) ch st
+    choice-clash e =
+        by
+        ∙ ap (λ (b : Bool). cond b (next (chosenAt ch j (c .items) (c .long)) (r .next)) [] ++ choiceLines next row j (k - 1) ch st) e
 
-    pub choice-alive : (d : Choice) → not (r .ok) ≡ false → d ≡ chosenAt ch j (c .items) (c .long) → choiceLines next p j k ch st ≡ next d (r .next) ++ choiceLines next p j (k - 1) ch st
+    pub choice-alive : (d : Choice) → r .ok ≡ true → d ≡ chosenAt ch j (c .items) (c .long)
+        → choiceLines next row j k ch st ≡ next d (r .next) ++ choiceLines next row j (k - 1) ch st
     choice-alive d e is-d =
         by
-        ∙ ap (λ (b : Bool). cond b (next (chosenAt ch j (c .items) (c .long)) (r .next)) [] ++ choiceLines next p j (k - 1) ch st) (not-false (r .ok) e)
-        ∙ ap (λ (x : Choice). next x (r .next) ++ choiceLines next p j (k - 1) ch st) (sym is-d)
+        ∙ ap (λ (b : Bool). cond b (next (chosenAt ch j (c .items) (c .long)) (r .next)) [] ++ choiceLines next row j (k - 1) ch st) e
+        ∙ ap (λ (x : Choice). next x (r .next) ++ choiceLines next row j (k - 1) ch st) (sym is-d)
 
 -- ---- what a call leaves: the counts and the bytes of its lines, from a tally t and the bytes old
 
 module _ (t : Tally) (old : List ℕ) where
   pub listed-as : (ls ms : List (List ℕ)) {u : Tally} {new : List ℕ} → ls ≡ ms → Stores ms t old u new → Stores ls t old u new
-  listed-as ls ms e h = (h .0 ∙ ap (tallied t) (sym e), h .1 ∙ ap (λ (l : List (List ℕ)). storeAll l (t .bytes) old) (sym e))
+  listed-as ls ms e h = (h .0 ∙ ap (tallied t) (sym e), h .1 ∙ ap (λ (l : List (List ℕ)). sets old (t .bytes) (bytesOf l)) (sym e))
 
   -- the bytes stay as many
   pub listed-length : (ls : List (List ℕ)) {u : Tally} {new : List ℕ} → Stores ls t old u new → length new ≡ length old
-  listed-length ls h = ap length (h .1) ∙ stores-length ls (t .bytes) old
+  listed-length ls h = ap length (h .1) ∙ length-sets old (t .bytes) (bytesOf ls)
 
--- ---- the line of a whole choice
-
-pub line-is : (p : Pair) (ch : Choice) (st : Fillings) (e : Entry) (l r : Shown) → e ≡ entryOf (p .left) (p .sided) ch st → l ≡ shownValue (plainRule (p .left)) (p .left) e st → r ≡ shownValue (plainRule (p .sided)) (p .sided) e st
-    → lineValue e l r ≡ lineAt p ch st
-unfolding lineAt
-line-is p ch st e l r a b c =
-    ap₂ (λ (x y : Shown). lineValue e x y) b c
-    ∙ ap (λ (x : Entry). lineValue x (shownValue (plainRule (p .left)) (p .left) x st) (shownValue (plainRule (p .sided)) (p .sided) x st)) a
+-- lines behind others
+stores-append : (a b : List (List ℕ)) (at : ℕ) (old : List ℕ)
+    → sets (sets old at (bytesOf a)) (at + length (bytesOf a)) (bytesOf b) ≡ sets old at (bytesOf (a ++ b))
+stores-append a b at old = sets-append (bytesOf a) (bytesOf b) old at ∙ ap (sets old at) (sym (concat-map-append (λ l. l) a b))
 
 -- ---- the candidates of field j one after the other, from a tally t and the bytes old: k are left, and what is left makes what was to list
 
-module _ (p : Pair) (j : ℕ) (ch : Choice) (st : Fillings) (t : Tally) (old : List ℕ) where
-  abbrev next : Choice → Fillings → List (List ℕ)
-  next = linesFrom (p .left .n - (j + 1)) p (j + 1)
+module _ (row texts : List ℕ) (n j : ℕ) (ch : Choice) (st : State) (t : Tally) (old : List ℕ) where
+  abbrev next : Choice → State → List (List ℕ)
+  next = linesFrom (n - (j + 1)) row texts n (j + 1)
 
   abbrev rest : ℕ → List (List ℕ)
-  rest k = choiceLines next p j k ch st
+  rest k = choiceLines next row j k ch st
 
   abbrev all : List (List ℕ)
-  all = rest (spanAt p j .count)
+  all = choicesIn row texts n j ch st
 
   pub record Choosing (s : Span) (k : ℕ) (u : Tally) (out : List ℕ) : Type 0 where
-    pub span-is : s ≡ spanAt p j
-    pub within : k ≤ spanAt p j .count
+    pub span-is : s ≡ spanAt row j
+    pub within : k ≤ spanAt row j .count
     pub counts : tallied u (rest k) ≡ tallied t all
-    pub stores : storeAll (rest k) (u .bytes) out ≡ storeAll all (t .bytes) old
+    pub stores : sets out (u .bytes) (bytesOf (rest k)) ≡ sets old (t .bytes) (bytesOf all)
     pub can : Countable u (rest k)
     pub long : length out ≡ length old
 
-  pub choosing-start : (s : Span) → s ≡ spanAt p j → Countable t all → Choosing s (s .count) t old
+  pub choosing-start : (s : Span) → s ≡ spanAt row j → Countable t all → Choosing s (s .count) t old
   choosing-start s e h =
-      let k : s .count ≡ spanAt p j .count = ap (λ (x : Span). x .count) e in
+      let k : s .count ≡ spanAt row j .count = ap (λ (x : Span). x .count) e in
       record {
         span-is = e;
         within = omega arith;
-        counts = ap (λ (n : ℕ). tallied t (rest n)) k;
-        stores = ap (λ (n : ℕ). storeAll (rest n) (t .bytes) old) k;
-        can = subst (λ (n : ℕ). Countable t (rest n)) (sym k) h;
+        counts = ap (λ (m : ℕ). tallied t (rest m)) k;
+        stores = ap (λ (m : ℕ). sets old (t .bytes) (bytesOf (rest m))) k;
+        can = subst (λ (m : ℕ). Countable t (rest m)) (sym k) h;
         long = refl;
       }
 
@@ -145,25 +177,25 @@ module _ (p : Pair) (j : ℕ) (ch : Choice) (st : Fillings) (t : Tally) (old : L
   choosing-as s k u v out new e f C = subst (λ (x : Tally). Choosing s k x new) (sym f) (subst (λ (l : List ℕ). Choosing s k u l) (sym e) C)
 
   module _ (s : Span) (k : ℕ) (u : Tally) (out : List ℕ) (C : Choosing s k u out) where
-    module _ (h : 1 ≤ k) (c : Candidate) (r : Joined) (is-c : c ≡ candidateOf s k) (is-r : r ≡ joinFields (leftAt p j) (rightAt p j) (c .items) st) where
+    module _ (h : 1 ≤ k) (c : Candidate) (r : Joined) (is-c : c ≡ candidateOf s k) (is-r : r ≡ joinsAt row j (c .items) st) where
       pub choosing-clash : r .ok ≡ false → Choosing s (k - 1) u out
       choosing-clash q =
-          let e = choice-clash next p j k ch st s c r h (C .span-is) is-c is-r (ap not q) in
+          let e = choice-clash next row j k ch st s c r h (C .span-is) is-c is-r q in
           record {
             span-is = C .span-is;
             within = omega (arith, C .within);
             counts = ap (tallied u) (sym e) ∙ C .counts;
-            stores = ap (λ (l : List (List ℕ)). storeAll l (u .bytes) out) (sym e) ∙ C .stores;
+            stores = ap (λ (l : List (List ℕ)). sets out (u .bytes) (bytesOf l)) (sym e) ∙ C .stores;
             can = subst (Countable u) e (C .can);
             long = C .long;
           }
 
       module _ (d : Choice) (ok : r .ok ≡ true) (is-d : d ≡ chosenAt ch j (c .items) (c .long)) where
         abbrev here : List (List ℕ)
-        here = next d (r .next)
+        here = linesIn row texts n (j + 1) d (r .next)
 
         splits : rest k ≡ here ++ rest (k - 1)
-        splits = choice-alive next p j k ch st s c r h (C .span-is) is-c is-r d (ap not ok) is-d
+        splits = choice-alive next row j k ch st s c r h (C .span-is) is-c is-r d ok is-d
 
         can-both : Countable u (here ++ rest (k - 1))
         can-both = subst (Countable u) splits (C .can)
@@ -176,12 +208,15 @@ module _ (p : Pair) (j : ℕ) (ch : Choice) (st : Fillings) (t : Tally) (old : L
             record {
               span-is = C .span-is;
               within = omega (arith, C .within);
-              counts = ap (λ (x : Tally). tallied x (rest (k - 1))) (l .0) ∙ tally-append u here (rest (k - 1)) ∙ ap (tallied u) (sym splits) ∙ C .counts;
+              counts =
+                  ap (λ (x : Tally). tallied x (rest (k - 1))) (l .0)
+                  ∙ tally-append u here (rest (k - 1))
+                  ∙ ap (tallied u) (sym splits)
+                  ∙ C .counts;
               stores =
-                  ap (λ (x : Tally). storeAll (rest (k - 1)) (x .bytes) m) (l .0)
-                  ∙ ap (storeAll (rest (k - 1)) (u .bytes + length (bytesOf here))) (l .1)
+                  ap₂ (λ (x : List ℕ) (y : Tally). sets x (y .bytes) (bytesOf (rest (k - 1)))) (l .1) (l .0)
                   ∙ stores-append here (rest (k - 1)) (u .bytes) out
-                  ∙ ap (λ (x : List (List ℕ)). storeAll x (u .bytes) out) (sym splits)
+                  ∙ ap (λ (x : List (List ℕ)). sets out (u .bytes) (bytesOf x)) (sym splits)
                   ∙ C .stores;
               can = countable-next u here (rest (k - 1)) can-both v (l .0) o;
               long = listed-length u out here l ∙ C .long;
@@ -189,5 +224,7 @@ module _ (p : Pair) (j : ℕ) (ch : Choice) (st : Fillings) (t : Tally) (old : L
 
     pub choosing-end : k ≤ 0 → Stores all t old u out × Moderate u
     choosing-end h =
-        let e = choice-none next p j k ch st (omega arith) in
-        ((sym (tally-none u) ∙ ap (tallied u) (sym e) ∙ C .counts, ap (λ (l : List (List ℕ)). storeAll l (u .bytes) out) (sym e) ∙ C .stores), C .can .0)
+        let e = choice-none next row j k ch st (omega arith) in (
+          (sym (tally-none u) ∙ ap (tallied u) (sym e) ∙ C .counts, ap (λ (l : List (List ℕ)). sets out (u .bytes) (bytesOf l)) (sym e) ∙ C .stores),
+          C .can .0,
+        )

@@ -1,116 +1,61 @@
--- Listing the overlaps of two rule values. Assumes nothing.
-use mathlib.Core.Path.{_≡_, refl, sym, _∙_, ap, ap₂, subst}
+-- The list of two sides whose texts are accepted: they are read into the tables of a pair. Assumes nothing.
+use mathlib.Core.Path.{_≡_, refl, sym, _∙_, ap, ap₂, subst, subst₂}
 use mathlib.Core.Logic.{_≢_}
 use mathlib.Core.Bool.{Bool, true, false, cond}
-use mathlib.Core.Option.{Option, none, some}
 use mathlib.Core.List.{List, [], _∷_, _++_, map}
-use Prim.Native.Nat.{ℕ, suc, _≤_}
+use Prim.Native.Nat.{ℕ, _*_, _≤_, _<_}
 use native.Mathlib.Omega.{arith}
-use native.Mathlib.Decide.{ℕ-discrete}
+use native.Mathlib.Decide.{decLt}
 use lib.ListN.{length, length-map}
 use borrow.Author.Tests.{le-leb}
-use Rattle.order.specs.Types.{basics}
+use Rattle.lists.specs.Seqs.{All}
 use Rattle.text.specs.Told.{byRoom}
 use Rattle.text.specs.Terms.{OurTerm}
 use Rattle.text.specs.Limits.{IsLeft}
-use Rattle.instance.specs.Constants.{consts}
-use Rattle.unifiers.specs.Shapes.{left, right, shapesOf}
-use Rattle.unifiers.specs.Candidates.{Cand, cands}
-use Rattle.unifiers.specs.Joins.{joins, start}
-use Rattle.unifiers.specs.Entries.{equations, chosen, branch}
-use Rattle.unifiers.specs.Overlaps.{shown, listed}
+use Rattle.text.specs.Read.{rule, slip, accepted, OurFields, readSide}
+use Rattle.text.proofs.Read.{read-accepted}
+use Rattle.text.proofs.Accepted.{rule-read}
 use Rattle.listing.specs.Lines.{Line, lineText, listText}
-use Rattle.listing.specs.Overlaps.{lineOf, linesOf, overlapText}
-use Rattle.terms.specs.declared.RuleSide.{RuleSide}
-use Rattle.terms.specs.Values.{viewSide, encodeSide}
-use Rattle.accepted.specs.Accepted.{acceptedLeft, countedLeft}
-use Rattle.accepted.proofs.Accepted.{accepted-rule}
-use Rattle.sides.specs.Sides.{OurShape, OurState}
-use Rattle.sides.specs.Values.{rightRule}
-use Rattle.sides.proofs.Sides.{shapes-length}
-use Rattle.fillings.proofs.Agree.{names}
+use Rattle.listing.specs.Overlaps.{linesOf, overlapText}
+use Rattle.math_codes.specs.Whole.{spotsOf}
+use Rattle.math_codes.proofs.Measures.{spotTerms, spots-few}
+use Rattle.pair_table.specs.Notes.{sideNoted, listsNoted, blankRows}
+use Rattle.pair_table.specs.Pairs.{PairIn}
+use Rattle.pair_table.proofs.Pairs.{pair-noted}
+use Rattle.text_passes.specs.Passes.{tooLong}
+use Rattle.text_passes.specs.Fields.{fieldCount}
+use Rattle.text_passes.specs.Notes.{notedIn}
+use Rattle.text_passes.proofs.Passes.{is-short}
+use Rattle.text_passes.proofs.Fields.{side-fields}
+use Rattle.reading.specs.Answers.{sideSaid}
 use Rattle.writing.specs.Answers.{after}
+use Rattle.pieces.specs.Stored.{bytesOf}
+use Rattle.overlap_lines.specs.Lines.{spotsIn}
+use Rattle.overlap_lines.proofs.Lines.{line-is}
 use Rattle.overlaps.specs.declared.Listed.{Listed}
 use Rattle.overlaps.specs.declared.Listed.the-variants.{Lines}
-use Rattle.pieces.specs.Stored.{bytesOf, storeAll}
-use Rattle.overlaps.specs.Listing.{allLines, AsRead}
-use Rattle.tokens.specs.declared.TokenRule.{TokenRule}
-use Rattle.tokens.specs.Tokens.{ruleOf}
-use Rattle.overlaps.specs.Pairs.{saidSide, Said}
-use Rattle.overlaps.specs.Answers.{told, Lists, ListsLines, roomAfter}
-use Rattle.overlaps.proofs.Entries.{Raw, rawFrom}
-use Rattle.overlaps.proofs.Lines.{lines-are}
+use Rattle.overlaps.specs.Listing.{allLines, choices, longestLine, noTally, Countable}
+use Rattle.overlaps.specs.Answers.{told, Lists, Accepts, SidesList, ListsLines}
+use Rattle.overlaps.proofs.Lists.{LineIs, all-lines, lines-none}
+use Rattle.overlaps.proofs.Counts.{rule-short, countable-all}
+use Rattle.overlaps.proofs.Short.{pair-short}
 
 -- ---- no lines
 
-module _ (x y : List (List OurTerm)) (e : linesOf x y ≡ []) where
-  pub none-listed : (old : List ℕ) → Lists x y old (Lines 0 0) old
-  none-listed old =
-      let z = le-leb 0 (length old) (omega arith) in
-      record {
-        answer = subst (λ (l : List Line). told (Lines 0 0) ≡ byRoom (length (listText l)) (length old) (length l ∷ length (listText l) ∷ [])) (sym e) (rw z);
-        bytes = subst (λ (l : List Line). old ≡ after (listText l) old) (sym e) (rw z);
-      }
+pub none-listed : (x y : List (List OurTerm)) → linesOf x y ≡ [] → (old : List ℕ) → Lists x y old (Lines 0 0) old
+none-listed x y e old =
+    let z = le-leb 0 (length old) (omega arith) in
+    record {
+      answer = subst (λ (l : List Line). told (Lines 0 0) ≡ byRoom (length (listText l)) (length old) (length l ∷ length (listText l) ∷ [])) (sym e) (rw z);
+      bytes = subst (λ (l : List Line). old ≡ after (listText l) old) (sym e) (rw z);
+    }
 
-  pub none-stored : (room : List ℕ) → room ≡ roomAfter x y room
-  none-stored room = sym (ap (λ (l : List Line). storeAll (map lineText l) 0 room) e)
-
--- ---- document 01: "Rules with different field counts have no entries."
-
-branch-none : (cs : List Cand) (j : Cand → Option OurState) (k : OurState → List Raw) → ((s : OurState) → k s ≡ []) → branch cs j k ≡ []
-branch-none [] j k h = refl
-branch-none (c ∷ cs) j k h = ap₂ (λ (a b : List Raw). a ++ b) (go (j c)) (branch-none cs j k h)
-  where
-    go : (o : Option OurState) → chosen c o k ≡ []
-    go none = refl
-    go (some s) = ap (map (λ (e : Raw). (c ∷ e .0, e .1))) (h s)
-
-raw-none : (Ss Ts : List OurShape) (s : OurState) → length Ss ≢ length Ts → rawFrom Ss Ts s ≡ []
-raw-none [] [] s n = absurd (n refl)
-raw-none [] (T ∷ Ts) s n = refl
-raw-none (S ∷ Ss) [] s n = refl
-raw-none (S ∷ Ss) (T ∷ Ts) s n =
-    branch-none (cands S T) (λ c. joins basics consts names (equations S T c) s) (λ s′. rawFrom Ss Ts s′) (λ s′. raw-none Ss Ts s′ (λ e. n (ap suc e)))
-
-listed-none : (o p : Option (List OurShape)) → ((Ss Ts : List OurShape) → o ≡ some Ss → p ≡ some Ts → length Ss ≢ length Ts) → listed basics consts ℕ-discrete o p ≡ []
-listed-none none p h = refl
-listed-none (some Ss) none h = refl
-listed-none (some Ss) (some Ts) h = ap (map (shown basics consts ℕ-discrete Ss Ts)) (raw-none Ss Ts (start basics consts names) (h Ss Ts refl refl))
-
-pub lines-none : (r₁ r₂ : List (List OurTerm)) → length r₁ ≢ length r₂ → linesOf r₁ r₂ ≡ []
-lines-none [] r₂ n = refl
-lines-none (f ∷ r₁) r₂ n = ap (map (lineOf (f ∷ r₁) r₂)) (listed-none (shapesOf left (f ∷ r₁)) (shapesOf right r₂)
-    (λ Ss Ts a b e. n (sym (shapes-length left (f ∷ r₁) Ss a) ∙ e ∙ shapes-length right r₂ Ts b)))
-
-pub no-right : (r : List (List OurTerm)) → linesOf r [] ≡ []
-no-right [] = refl
-no-right (f ∷ r) = lines-none (f ∷ r) [] (λ e. absurd (omega (arith, e)))
-
--- ---- rule values
-
-module _ (v : RuleSide) (h : acceptedLeft v ≡ true) where
-  counted-is : countedLeft v ≡ viewSide v
-  counted-is = ap (λ (b : Bool). cond b (viewSide v) []) h
-
-  value-is : encodeSide (countedLeft v) ≡ v
-  value-is = ap encodeSide counted-is ∙ accepted-rule v h .1
-
-  is-rule : IsLeft (countedLeft v)
-  is-rule = subst IsLeft (sym counted-is) (accepted-rule v h .0)
-
-  count-is : v .n ≡ length (countedLeft v)
-  count-is = sym (ap (λ (x : RuleSide). x .n) value-is)
-
-  at-most-four : v .n ≤ 4
-  at-most-four = omega (arith, count-is, is-rule .0 .1)
-
--- ---- the answer
+-- ---- lines as bytes that are the entries' lines
 
 texts-are : (ls : List Line) → bytesOf (map lineText ls) ≡ listText ls
 texts-are [] = refl
 texts-are (l ∷ ls) = ap (λ (t : List ℕ). lineText l ++ t) (texts-are ls)
 
--- lines as bytes that are the entries' lines
 module _ (x y : List (List OurTerm)) {ls : List (List ℕ)} (are : ls ≡ map lineText (linesOf x y)) where
   bytes-are : bytesOf ls ≡ overlapText x y
   bytes-are = ap bytesOf are ∙ texts-are (linesOf x y)
@@ -125,74 +70,105 @@ module _ (x y : List (List OurTerm)) {ls : List (List ℕ)} (are : ls ≡ map li
         bytes = h .bytes ∙ ap (λ (t : List ℕ). after t old) bytes-are;
       }
 
-  pub lines-stored : (room : List ℕ) → storeAll ls 0 room ≡ roomAfter x y room
-  lines-stored room = ap (λ (l : List (List ℕ)). storeAll l 0 room) are
+-- ---- the tables of two rules
 
-no-terms : (r : List (List OurTerm)) → length r ≡ 0 → r ≡ []
-no-terms [] e = refl
-no-terms (f ∷ r) e = absurd (omega (arith, e))
+module _ (r₁ r₂ : List (List OurTerm)) (ok₁ : IsLeft r₁) (ok₂ : IsLeft r₂) (row texts : List ℕ) (pair : PairIn r₁ r₂ row texts) (n : ℕ)
+    (is-left : n ≡ length r₁) (is-right : n ≡ length r₂) where
+  at-most-four : n ≤ 4
+  at-most-four = omega (arith, is-left, ok₁ .0 .1)
 
--- what has no fields counts as that
-no-fields : (v : RuleSide) → v .n ≡ 0 → countedLeft v ≡ []
-no-fields v e = go (acceptedLeft v) refl
+  left-spots : spotsIn row false n ≡ spotsOf 16 0 r₁
+  left-spots = ap (spotsIn row false) is-left ∙ pair .left-shapes
+
+  right-spots : spotsIn row true n ≡ spotsOf 16 64 r₂
+  right-spots = ap (spotsIn row true) is-right ∙ pair .right-shapes
+
+  pub pair-countable : Countable noTally (allLines row texts n)
+  pair-countable = countable-all row texts n (rule-short row false n 0 r₁ ok₁ left-spots) (rule-short row true n 64 r₂ ok₂ right-spots) at-most-four
+
+  -- no line is longer than the longest
+  pub pair-few : length (bytesOf (allLines row texts n)) ≤ choices row 0 n * longestLine
+  pair-few = pair-short row texts n (pair .bytes-few) (pair .left-tops .within) (pair .right-tops .within)
+
+  lines-are : LineIs row texts n
+  lines-are cs last h =
+      line-is row texts n at-most-four cs h
+      (subst (All (λ s. spotTerms s ≤ 16)) (sym left-spots) (spots-few 16 0 r₁ (ok₁ .0 .2)))
+      (subst (All (λ s. spotTerms s ≤ 16)) (sym right-spots) (spots-few 16 64 r₂ (ok₂ .0 .2))) last
+
+  pub pair-lines : allLines row texts n ≡ map lineText (linesOf r₁ r₂)
+  pair-lines =
+      all-lines row texts n r₁ r₂ ok₁ ok₂ left-spots right-spots (pair .tables) (pair .left-index) (pair .right-index) (pair .left-tops) (pair .right-tops)
+      lines-are
+
+-- ---- texts of sides
+
+-- one that is accepted is not too long
+not-long : (t : List ℕ) (x : OurFields) → readSide t ≡ accepted x → tooLong t ≡ false
+not-long t x e =
+    let n = read-accepted rule t x .0 e .0 in
+    is-short t (go (n .0) (decLt (rule .bytes) (length t)))
   where
-    go : (b : Bool) → acceptedLeft v ≡ b → countedLeft v ≡ []
-    go true q = no-terms (countedLeft v) (sym (count-is v q) ∙ e)
-    go false q = ap (λ (b : Bool). cond b (viewSide v) []) q
+    go : ((p : ℕ) → (rule .bytes < length t) × (p ≡ rule .bytes) → ⊥) → Dec (rule .bytes < length t) → length t ≤ slip .bytes
+    go none (yes h) = absurd (none (rule .bytes) (h, refl))
+    go none (no n) = omega arith
 
-nothing-left : (v w : RuleSide) → v .n ≡ 0 → linesOf (countedLeft v) (countedLeft w) ≡ []
-nothing-left v w e = ap (λ (r : List (List OurTerm)). linesOf r (countedLeft w)) (no-fields v e)
+module _ (t u : List ℕ) (h : Accepts t u) where
+  abbrev x : OurFields
+  x = h .left
 
-module _ (v w : RuleSide) (a : acceptedLeft v ≡ true) (b : acceptedLeft w ≡ true) where
-  other-count : v .n ≢ w .n → linesOf (countedLeft v) (countedLeft w) ≡ []
-  other-count n = lines-none (countedLeft v) (countedLeft w) (λ e. n (count-is v a ∙ e ∙ sym (count-is w b)))
+  abbrev y : OurFields
+  y = h .right
 
-  module _ (same : v .n ≡ w .n) (x : RuleSide) (is-x : x ≡ rightRule w) where
-    lines : allLines (record { left = v; sided = x }) ≡ map lineText (linesOf (countedLeft v) (countedLeft w))
-    lines =
-        ap (λ (y : RuleSide). allLines (record { left = v; sided = y })) is-x
-        ∙ ap₂ (λ (y z : RuleSide). allLines (record { left = y; sided = rightRule z })) (sym (value-is v a)) (sym (value-is w b))
-        ∙ lines-are (countedLeft v) (countedLeft w) (is-rule v a) (is-rule w b) (sym (count-is v a) ∙ same ∙ count-is w b)
+  said-listed : {old : List ℕ} {r : Listed} {new : List ℕ} → Lists x y old r new → SidesList t u old r new
+  said-listed {old} {r} {new} l =
+      subst₂ (λ (a b : List (List OurTerm)). Lists a b old r new) (sym (ap sideSaid (h .reads-left))) (sym (ap sideSaid (h .reads-right))) l
 
--- ---- values as reading returns them
+  module _ (n m : ℕ) (is-n : n ≡ fieldCount t) (is-m : m ≡ fieldCount u) where
+    left-count : n ≡ length x
+    left-count = is-n ∙ side-fields t x (h .reads-left) .0
 
-counts-differ : (v w : RuleSide) → AsRead v × AsRead w → v .n ≢ 0 → v .n ≢ w .n → linesOf (countedLeft v) (countedLeft w) ≡ []
-counts-differ v w h k n = go (ℕ-discrete (w .n) 0)
-  where
-    go : Dec (w .n ≡ 0) → linesOf (countedLeft v) (countedLeft w) ≡ []
-    go (yes e) = ap (linesOf (countedLeft v)) (no-fields w e) ∙ no-right (countedLeft v)
-    go (no m) = other-count v w (h .0 k) (h .1 m) n
+    right-count : m ≡ length y
+    right-count = is-m ∙ side-fields u y (h .reads-right) .0
 
-same-accepted : (v w : RuleSide) → AsRead v × AsRead w → v .n ≢ 0 → v .n ≡ w .n → (acceptedLeft v ≡ true) × (acceptedLeft w ≡ true)
-same-accepted v w h k e = (h .0 k, h .1 (λ z. k (e ∙ z)))
+    pub counts-small : n ≤ 4
+    counts-small = omega (arith, left-count, rule-read t x (h .reads-left) .0 .1)
 
--- ---- what two texts say, given by the tokens of each
+    pub counts-differ : n ≢ m → (old : List ℕ) → SidesList t u old (Lines 0 0) old
+    counts-differ d old = said-listed (none-listed x y (lines-none x y (λ e. d (left-count ∙ e ∙ sym right-count))) old)
 
-module _ (l r : List ℕ) (x y : TokenRule) (said : Said l r x y) where
-  left-count : x .n ≡ saidSide l .n
-  left-count = ap (λ (v : RuleSide). v .n) (said .0)
+    -- both are noted, one after the other, in rows that hold nothing
+    module _ (same : n ≡ m) (row₁ texts₁ row₂ texts₂ row : List ℕ) (is-row₁ : row₁ ≡ notedIn false t (blankRows .0) (blankRows .1) .0)
+        (is-texts₁ : texts₁ ≡ notedIn false t (blankRows .0) (blankRows .1) .1) (is-row₂ : row₂ ≡ notedIn true u row₁ texts₁ .0)
+        (is-texts₂ : texts₂ ≡ notedIn true u row₁ texts₁ .1) (is-row : row ≡ listsNoted row₂) where
+      abbrev Rows : Type 0
+      Rows = List ℕ × List ℕ
 
-  right-count : y .n ≡ saidSide r .n
-  right-count = ap (λ (v : RuleSide). v .n) (said .1)
+      first : notedIn false t (blankRows .0) (blankRows .1) ≡ sideNoted false t blankRows
+      first = ap (λ (b : Bool). cond b (blankRows .0, blankRows .1) (sideNoted false t blankRows)) (not-long t x (h .reads-left))
 
-  pub said-none : x .n ≡ 0 → linesOf (countedLeft (saidSide l)) (countedLeft (saidSide r)) ≡ []
-  said-none e = nothing-left (saidSide l) (saidSide r) (sym left-count ∙ e)
+      second : notedIn true u row₁ texts₁ ≡ sideNoted true u (sideNoted false t blankRows)
+      second =
+          ap (λ (b : Bool). cond b (row₁, texts₁) (sideNoted true u (row₁, texts₁))) (not-long u y (h .reads-right))
+          ∙ ap₂ (λ (a b : List ℕ). sideNoted true u (a, b)) is-row₁ is-texts₁
+          ∙ ap (λ (z : Rows). sideNoted true u (z .0, z .1)) first
 
-  module _ (read : AsRead (saidSide l) × AsRead (saidSide r)) (n : x .n ≢ 0) where
-    present : saidSide l .n ≢ 0
-    present e = n (left-count ∙ e)
+      tables-noted : PairIn x y row texts₂
+      tables-noted =
+          subst₂ (λ (a b : List ℕ). PairIn x y a b)
+          (sym (is-row ∙ ap listsNoted (is-row₂ ∙ ap (λ (z : Rows). z .0) second)))
+          (sym (is-texts₂ ∙ ap (λ (z : Rows). z .1) second))
+          (pair-noted t u x y (h .reads-left) (h .reads-right))
 
-    pub said-four : x .n ≤ 4
-    said-four = omega (arith, left-count, at-most-four (saidSide l) (read .0 present))
+      pub read-countable : Countable noTally (allLines row texts₂ n)
+      read-countable =
+          pair-countable x y (rule-read t x (h .reads-left)) (rule-read u y (h .reads-right)) row texts₂ tables-noted n left-count (same ∙ right-count)
 
-    pub said-differ : x .n ≢ y .n → linesOf (countedLeft (saidSide l)) (countedLeft (saidSide r)) ≡ []
-    said-differ m = counts-differ (saidSide l) (saidSide r) read present (λ e. m (left-count ∙ e ∙ sym right-count))
+      pub read-few : length (bytesOf (allLines row texts₂ n)) ≤ choices row 0 n * longestLine
+      read-few =
+          pair-few x y (rule-read t x (h .reads-left)) (rule-read u y (h .reads-right)) row texts₂ tables-noted n left-count (same ∙ right-count)
 
-    -- the lines that are listed are those of the rules that the texts say
-    pub said-lines : x .n ≡ y .n
-        → allLines (record { left = ruleOf l r x; sided = ruleOf l r y }) ≡ map lineText (linesOf (countedLeft (saidSide l)) (countedLeft (saidSide r)))
-    said-lines same =
-        let counts : saidSide l .n ≡ saidSide r .n = sym left-count ∙ same ∙ right-count in
-        let a = same-accepted (saidSide l) (saidSide r) read present counts in
-        ap (λ (v : RuleSide). allLines (record { left = v; sided = ruleOf l r y })) (said .0)
-        ∙ lines (saidSide l) (saidSide r) (a .0) (a .1) counts (ruleOf l r y) (said .1)
+      pub read-listed : {old : List ℕ} {r : Listed} {new : List ℕ} → ListsLines (allLines row texts₂ n) old r new → SidesList t u old r new
+      read-listed l =
+          said-listed (lines-list x y
+          (pair-lines x y (rule-read t x (h .reads-left)) (rule-read u y (h .reads-right)) row texts₂ tables-noted n left-count (same ∙ right-count)) l)

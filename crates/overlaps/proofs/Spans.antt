@@ -1,41 +1,47 @@
--- How many candidates a field pair can have, of any values; and the candidate that comes next. Assumes nothing.
-use mathlib.Core.Path.{_≡_, refl, sym, _∙_, ap, ap₂}
+-- The candidate that comes next, and what is read of a pair's fields. Assumes nothing.
+use mathlib.Core.Path.{_≡_, refl, _∙_, ap, ap₂}
 use mathlib.Core.Logic.{_≢_}
 use mathlib.Core.Bool.{Bool, true, false, _&&_}
-use mathlib.Core.List.{List, [], map}
+use mathlib.Core.Option.{Option, none, some}
+use mathlib.Core.List.{List}
 use Prim.Native.Nat.{ℕ, _+_, _-_, _≤_, _<_}
 use native.Mathlib.Omega.{arith}
-use lib.ListN.{length, getD, length-map, List·getD-map}
+use lib.Dec.{eqb, leb}
 use borrow.Author.Tests.{eq-eqb, ne-eqb}
-use Rattle.shapes.specs.declared.Shape.{Shape}
-use Rattle.candidates.specs.declared.Span.{Span}
-use Rattle.shapes.specs.Shapes.{termsOf, shapeValue}
-use Rattle.candidates.specs.Candidates.{spanValue}
-use Rattle.candidates.proofs.Tests.{span-bounds}
-use Rattle.terms.specs.declared.Term.{Term}
-use Rattle.terms.specs.Values.{blankField}
-use Rattle.fillings.specs.declared.Fillings.{Fillings}
-use Rattle.fillings.specs.declared.Joined.{Joined}
-use Rattle.fillings.proofs.Arrays.{entry-any}
-use Rattle.joins.specs.Joins.{joinFields}
-use Rattle.tokens.specs.declared.TokenField.{TokenField}
-use Rattle.tokens.specs.Tokens.{fieldOf}
-use Rattle.overlaps.specs.declared.TokenPair.{TokenPair}
-use Rattle.overlaps.specs.Pairs.{Pair, pairOf}
-use Rattle.overlaps.specs.Listing.{leftAt, rightAt, spanAt, candidateOf}
-
-pub few-left : (p : Pair) (j : ℕ) → spanAt p j .count ≤ 17
-few-left p j = let f = span-bounds (shapeValue (leftAt p j)) (shapeValue (rightAt p j)) in omega (arith, f .1)
+use Rattle.order.specs.Types.{entry}
+use Rattle.math_codes.specs.Spots.{Spot, cellAt, joinFrom}
+use Rattle.pair_row.specs.declared.Shape.{Shape}
+use Rattle.pair_row.specs.Row.{tableIn, shapeIn, spotOf}
+use Rattle.pair_state.specs.declared.State.{State}
+use Rattle.pair_state.specs.declared.Joined.{Joined}
+use Rattle.pair_state.specs.States.{joinedOf}
+use Rattle.overlap_entries.specs.declared.Span.{Span}
+use Rattle.overlap_entries.specs.Entries.{only, spanFrom, spanOf}
+use Rattle.overlaps.specs.Listing.{spanAt, candidateOf, joinsAt}
 
 -- ---- the candidate that comes next where k are left
 
-pub some-left : (k : ℕ) → k ≢ 0 → 1 ≤ k
-some-left k n = omega (arith, n)
+-- heads and tails are bytes, so a candidate's number of atoms fits in two
+span-low : (s s′ : Spot ℕ) → s .head ≤ 255 → s .tail ≤ 255 → s′ .head ≤ 255 → s′ .tail ≤ 255 → spanOf s s′ .least + spanOf s s′ .count ≤ 511
+span-low s s′ a b c d = go (s .name) (s′ .name)
+  where
+    fewest : (n : ℕ) (fits : Bool) → n ≤ 255 → only n fits .least + only n fits .count ≤ 511
+    fewest n true h = omega arith
+    fewest n false h = omega arith
 
-pub few-candidates : (p : Pair) (j k : ℕ) (s : Span) → s ≡ spanAt p j → k ≢ 0 → k ≤ spanAt p j .count → (1 ≤ k) × (k ≤ s .count) × (s .least + s .count ≤ 128)
-few-candidates p j k s e n h =
-    let f = span-bounds (shapeValue (leftAt p j)) (shapeValue (rightAt p j)) in
-    (some-left k n, omega (arith, ap (λ (x : Span). x .count) e), omega (arith, f .0, f .1, ap (λ (x : Span). x .count) e, ap (λ (x : Span). x .least) e))
+    go : (x y : Option ℕ)
+        → spanFrom (s .head) (s .tail) x (s′ .head) (s′ .tail) y .least + spanFrom (s .head) (s .tail) x (s′ .head) (s′ .tail) y .count ≤ 511
+    go none none = fewest (s .head) (eqb (s′ .head) (s .head)) a
+    go none (some m) = fewest (s .head) (leb (s′ .head + s′ .tail) (s .head)) a
+    go (some l) none = fewest (s′ .head) (leb (s .head + s .tail) (s′ .head)) c
+    go (some l) (some m) = omega arith
+
+-- of two fields' shapes as they are read
+pub few-candidates : (f g : Shape) (s : Span) (k : ℕ) → s ≡ spanOf (spotOf f) (spotOf g) → f .head < 256 → f .tail < 256 → g .head < 256 → g .tail < 256
+    → 0 < k → k ≤ s .count → (1 ≤ k) × (k ≤ s .count) × (s .least + s .count ≤ 1024)
+few-candidates f g s k e a b c d p h =
+    let q = span-low (spotOf f) (spotOf g) (omega arith) (omega arith) (omega arith) (omega arith) in
+    (omega arith, h, omega (arith, q, ap (λ (x : Span). x .count) e, ap (λ (x : Span). x .least) e))
 
 and-true : (b : Bool) → b ≡ b && true
 and-true true = refl
@@ -51,26 +57,13 @@ candidate-last s k e = rw (eq-eqb k 1 e) (ap (λ (b : Bool). record { items = s 
 pub candidate-before : (s : Span) (k : ℕ) → k ≢ 1 → record { items = s .least + (s .count - k); long = false } ≡ candidateOf s k
 candidate-before s k n = rw (ne-eqb k 1 n) (ap (λ (b : Bool). record { items = s .least + (s .count - k); long = b }) (and-false (s .long)))
 
--- ---- what is read of a pair's fields: behind an array's end the reads speak of a field with no terms
+-- ---- what is read of field j
 
-abbrev pub no-tokens : TokenField
-no-tokens = record { n = 0; tokens = [] }
+module _ (row : List ℕ) (j : ℕ) (f g : Shape) (is-f : f ≡ shapeIn row false j) (is-g : g ≡ shapeIn row true j) where
+  pub span-is : (s : Span) → s ≡ spanOf (spotOf f) (spotOf g) → s ≡ spanAt row j
+  span-is s e = e ∙ ap₂ (λ (x y : Shape). spanOf (spotOf x) (spotOf y)) is-f is-g
 
-module _ (l r : List ℕ) (p : TokenPair) (j : ℕ) (h : j < 4) (long-l : length (p .left .fields) ≡ 4) (long-r : length (p .right .fields) ≡ 4) where
-  field-is : (fs : List TokenField) → length fs ≡ 4 → termsOf (fieldOf l r (getD fs j no-tokens)) ≡ termsOf (getD (map (fieldOf l r) fs) j blankField)
-  field-is fs e = ap termsOf (sym (List·getD-map (fieldOf l r) fs j no-tokens) ∙ entry-any (map (fieldOf l r) fs) j (fieldOf l r no-tokens) blankField (omega (arith, length-map fs (fieldOf l r), e)))
-
-  left-is : termsOf (fieldOf l r (getD (p .left .fields) j no-tokens)) ≡ leftAt (pairOf l r p) j
-  left-is = field-is (p .left .fields) long-l
-
-  right-is : termsOf (fieldOf l r (getD (p .right .fields) j no-tokens)) ≡ rightAt (pairOf l r p) j
-  right-is = field-is (p .right .fields) long-r
-
-  pub span-is : (s t : Shape) (x : Span) → s ≡ shapeValue (termsOf (fieldOf l r (getD (p .left .fields) j no-tokens))) → t ≡ shapeValue (termsOf (fieldOf l r (getD (p .right .fields) j no-tokens))) → x ≡ spanValue s t
-      → x ≡ spanAt (pairOf l r p) j
-  span-is s t x a b e = e ∙ ap₂ spanValue (a ∙ ap shapeValue left-is) (b ∙ ap shapeValue right-is)
-
-  pub join-is : (n : ℕ) (st : Fillings) (x : Joined)
-      → x ≡ joinFields (termsOf (fieldOf l r (getD (p .left .fields) j no-tokens))) (termsOf (fieldOf l r (getD (p .right .fields) j no-tokens))) n st
-      → x ≡ joinFields (leftAt (pairOf l r p) j) (rightAt (pairOf l r p) j) n st
-  join-is n st x e = e ∙ ap₂ (λ (f g : List Term). joinFields f g n st) left-is right-is
+  pub join-is : (n : ℕ) (st : State) (r : Joined)
+      → r ≡ joinedOf st (joinFrom entry (tableIn row) (cellAt (spotOf f) n) (cellAt (spotOf g) n) n 0 (st .atoms)) → r ≡ joinsAt row j n st
+  join-is n st r e =
+      e ∙ ap₂ (λ (x y : Shape). joinedOf st (joinFrom entry (tableIn row) (cellAt (spotOf x) n) (cellAt (spotOf y) n) n 0 (st .atoms))) is-f is-g

@@ -1,88 +1,67 @@
 -- Listing the overlaps of the rules that two texts say, and of two rule values. Assumes nothing.
-use mathlib.Core.Path.{_≡_, refl, sym, ap, ap₂, _∙_, subst₂}
+use mathlib.Core.Path.{_≡_, refl, sym, ap, _∙_, subst₂}
 use mathlib.Core.Bool.{Bool, true, false, cond}
 use mathlib.Core.List.{List, []}
 use Prim.Native.Nat.{ℕ}
 use native.Mathlib.Decide.{decLt}
 use lib.ListN.{take}
 use Rattle.text.specs.Terms.{OurTerm}
-use Rattle.text.specs.Read.{Outcome, refused, accepted, readSide}
 use Rattle.text.specs.Plain.{plain}
-use Rattle.text.proofs.Accepted.{rule-read, rule-plain}
+use Rattle.text.proofs.Accepted.{rule-plain}
 use Rattle.rules.specs.Read.{readRule}
 use Rattle.rules.proofs.Before.{one-sided}
+use Rattle.listing.specs.Overlaps.{linesOf}
 use Rattle.terms.specs.declared.RuleSide.{RuleSide}
 use Rattle.terms.specs.declared.Rule.{Rule}
-use Rattle.terms.specs.Values.{viewSide, encodeSide}
+use Rattle.terms.specs.Values.{viewSide}
 use Rattle.accepted.specs.Accepted.{acceptedLeft, countedLeft}
-use Rattle.accepted.proofs.Accepted.{accepted-rule, view-encode-rule, encode-accepted-rule}
+use Rattle.accepted.proofs.Accepted.{accepted-rule}
 use Rattle.accepted_rules.specs.Rules.{countedRule, leftValue}
 use Rattle.accepted_rules.proofs.Rules.{left-counted}
-use Rattle.sides.specs.Values.{rightRule}
-use Rattle.reading.specs.declared.LeftRead.{LeftRead}
-use Rattle.reading.specs.Answers.{sideSaid, leftSaid, ReadsLeft}
+use Rattle.verdicts.specs.declared.Reason as values
+use Rattle.verdicts.specs.declared.Verdict.the-variants.{Accepted, Refused}
+use Rattle.reading.specs.declared.LeftJudged.{LeftJudged}
+use Rattle.reading.specs.Answers.{leftSaid, JudgesLeft}
+use Rattle.reading.proofs.Judged.{judged-accepted, judged-refused}
 use Rattle.overlaps.specs.declared.Listed.{Listed}
+use Rattle.overlaps.specs.declared.Listed.the-variants.{Lines}
 use Rattle.overlaps.specs.declared.TextsListed.{TextsListed}
-use Rattle.overlaps.specs.Pairs.{saidSide, Said}
-use Rattle.overlaps.specs.Listing.{AsRead}
-use Rattle.overlaps.specs.Answers.{Lists, TextsList, SaidLists, roomAfter, textsRoom, saidRoom}
-
--- ---- left sides' texts
-
--- the value that such a text says has no fields, or is accepted
-as-read : (t : List ℕ) → AsRead (saidSide t)
-as-read t = go (readSide t) refl
-  where
-    go : (o : Outcome) → readSide t ≡ o → AsRead (encodeSide (sideSaid o))
-    go (refused r p) e = λ n. absurd (n refl)
-    go (accepted x) e = λ n. encode-accepted-rule x (rule-read t x e)
-
--- so are the two of a pair
-pub both-read : (t u : List ℕ) → AsRead (saidSide t) × AsRead (saidSide u)
-both-read t u = (as-read t, as-read u)
-
--- it counts as the side that the text says
-counted-said : (t : List ℕ) → countedLeft (saidSide t) ≡ sideSaid (readSide t)
-counted-said t = go (readSide t) refl
-  where
-    go : (o : Outcome) → readSide t ≡ o → countedLeft (encodeSide (sideSaid o)) ≡ sideSaid o
-    go (refused r p) e = refl
-    go (accepted x) e = let h = rule-read t x e in rw (encode-accepted-rule x h, view-encode-rule x h)
+use Rattle.overlaps.specs.Answers.{Lists, TextsList, Accepts, SidesList}
+use Rattle.overlaps.proofs.Lists.{no-right}
+use Rattle.overlaps.proofs.Rules.{none-listed}
 
 -- ---- rule texts, of which the left sides' texts are listed
 
-module _ (t u : List ℕ) {l r : LeftRead} (is-l : ReadsLeft false t l) (is-r : ReadsLeft true u r) where
-  abbrev leftPart : List ℕ
-  leftPart = take (l .end) t
+module _ (t u : List ℕ) (l r : LeftJudged) (is-l : JudgesLeft t l) (is-r : JudgesLeft u r) where
+  pub both-accepted : l .verdict ≡ Accepted → r .verdict ≡ Accepted → Accepts (take (l .end) t) (take (r .end) u)
+  both-accepted a b =
+      let x = judged-accepted t l is-l a in
+      let y = judged-accepted u r is-r b in
+      record { left = x .0 .0; right = y .0 .0; reads-left = x .2; reads-right = y .2 }
 
-  abbrev rightPart : List ℕ
-  rightPart = take (r .end) u
+  -- how each text is read, and the list
+  judged : {old : List ℕ} {x : Listed} {new : List ℕ} → Lists (leftSaid (readRule t)) (leftSaid (readRule u)) old x new
+      → TextsList t u old (record { left = l .verdict; right = r .verdict; listed = x }) new
+  judged h = record { left = is-l .verdict; right = is-r .verdict; listed = h }
 
-  -- the tokens stand for what these parts say
-  pub parts-said : Said leftPart rightPart (l .rule) (r .rule)
-  parts-said = (
-    is-l .tokens rightPart ∙ ap encodeSide (sym (is-l .left)),
-    is-r .tokens leftPart ∙ ap (λ (x : List (List OurTerm)). rightRule (encodeSide x)) (sym (is-r .left)),
-  )
+  pub texts-listed : {old : List ℕ} {x : Listed} {new : List ℕ} → SidesList (take (l .end) t) (take (r .end) u) old x new
+      → TextsList t u old (record { left = l .verdict; right = r .verdict; listed = x }) new
+  texts-listed {old} {x} {new} h =
+      judged (subst₂ (λ (a b : List (List OurTerm)). Lists a b old x new) (is-l .left) (is-r .left) h)
 
-  left-said : countedLeft (saidSide leftPart) ≡ leftSaid (readRule t)
-  left-said = counted-said leftPart ∙ is-l .left
+  -- a text that is refused says the rule with no fields
+  pub left-refused : (q : values.Reason) (p : ℕ) → l .verdict ≡ Refused q p → (old : List ℕ)
+      → TextsList t u old (record { left = l .verdict; right = r .verdict; listed = Lines 0 0 }) old
+  left-refused q p e old =
+      let no = ap leftSaid (judged-refused t l is-l q p e .1) in
+      judged (none-listed (leftSaid (readRule t)) (leftSaid (readRule u)) (ap (λ (a : List (List OurTerm)). linesOf a (leftSaid (readRule u))) no) old)
 
-  right-said : countedLeft (saidSide rightPart) ≡ leftSaid (readRule u)
-  right-said = counted-said rightPart ∙ is-r .left
-
-  -- how each text is read, and the list of what the parts say
-  pub texts-listed : {old : List ℕ} {x : TextsListed} {new : List ℕ} → x .left ≡ l .verdict → x .right ≡ r .verdict
-      → SaidLists leftPart rightPart old (x .listed) new → TextsList t u old x new
-  texts-listed {old} {x} {new} is-left is-right h =
-      record {
-        left = is-left ∙ is-l .verdict;
-        right = is-right ∙ is-r .verdict;
-        listed = subst₂ (λ (y z : List (List OurTerm)). Lists y z old (x .listed) new) left-said right-said h;
-      }
-
-  pub texts-stored : (room : List ℕ) → saidRoom leftPart rightPart room ≡ textsRoom t u room
-  texts-stored room = ap₂ (λ (x y : List (List OurTerm)). roomAfter x y room) left-said right-said
+  pub right-refused : (q : values.Reason) (p : ℕ) → r .verdict ≡ Refused q p → (old : List ℕ)
+      → TextsList t u old (record { left = l .verdict; right = r .verdict; listed = Lines 0 0 }) old
+  right-refused q p e old =
+      let no = ap leftSaid (judged-refused u r is-r q p e .1) in
+      judged (none-listed (leftSaid (readRule t)) (leftSaid (readRule u))
+      (ap (linesOf (leftSaid (readRule t))) no ∙ no-right (leftSaid (readRule t))) old)
 
 -- ---- values of left sides, by their plain texts
 
@@ -100,7 +79,7 @@ said-again v = go (acceptedLeft v) refl
         let c : countedLeft v ≡ [] = ap (λ (b : Bool). cond b (viewSide v) []) e in
         ap (λ (x : List (List OurTerm)). leftSaid (readRule (plain x))) c ∙ sym c
 
--- two texts that are the plain texts of values
+-- two texts that are the plain texts of values: their list is the list of the values
 module _ (v w : RuleSide) {t u : List ℕ} (is-t : t ≡ plain (countedLeft v)) (is-u : u ≡ plain (countedLeft w)) where
   left-again : leftSaid (readRule t) ≡ countedLeft v
   left-again = ap (λ (z : List ℕ). leftSaid (readRule z)) is-t ∙ said-again v
@@ -108,12 +87,8 @@ module _ (v w : RuleSide) {t u : List ℕ} (is-t : t ≡ plain (countedLeft v)) 
   right-again : leftSaid (readRule u) ≡ countedLeft w
   right-again = ap (λ (z : List ℕ). leftSaid (readRule z)) is-u ∙ said-again w
 
-  -- their list is the list of the values
   pub sides-listed : {old : List ℕ} {r : TextsListed} {new : List ℕ} → TextsList t u old r new → Lists (countedLeft v) (countedLeft w) old (r .listed) new
   sides-listed {old} {r} {new} h = subst₂ (λ (x y : List (List OurTerm)). Lists x y old (r .listed) new) left-again right-again (h .listed)
-
-  pub sides-stored : (room : List ℕ) → textsRoom t u room ≡ roomAfter (countedLeft v) (countedLeft w) room
-  sides-stored room = ap₂ (λ (x y : List (List OurTerm)). roomAfter x y room) left-again right-again
 
 -- ---- values of rules, by the left sides of what they count as
 
@@ -127,6 +102,3 @@ module _ (v w : Rule) {x y : RuleSide} (is-x : x ≡ leftValue v) (is-y : y ≡ 
   pub values-listed : {old : List ℕ} {r : Listed} {new : List ℕ} → Lists (countedLeft x) (countedLeft y) old r new
       → Lists (countedRule v .0) (countedRule w .0) old r new
   values-listed {old} {r} {new} h = subst₂ (λ (a b : List (List OurTerm)). Lists a b old r new) left-value right-value h
-
-  pub values-stored : (room : List ℕ) → roomAfter (countedLeft x) (countedLeft y) room ≡ roomAfter (countedRule v .0) (countedRule w .0) room
-  values-stored room = ap₂ (λ (a b : List (List OurTerm)). roomAfter a b room) left-value right-value

@@ -1,22 +1,20 @@
--- What listing overlaps answers, and what it leaves in the lent bytes and in the room. Document 01: "The lines written are those of the
--- entries, in their order. The entry count, which is their number, and the byte count, which is the length of all their lines, are
--- returned. 8: as in searching, with the entry count and the needed byte count, the old bytes left."
+-- What listing overlaps answers, and what it leaves in the lent bytes. Document 01: "The lines written are those of the entries, in their
+-- order. The entry count, which is their number, and the byte count, which is the length of all their lines, are returned.
+-- 8: as in searching, with the entry count and the needed byte count, the old bytes left."
 use mathlib.Core.Path.{_≡_}
-use mathlib.Core.List.{List, [], _∷_, map}
+use mathlib.Core.List.{List, [], _∷_}
 use mathlib.Core.Option.{none, some}
 use Prim.Native.Nat.{ℕ}
 use lib.ListN.{length}
 use Rattle.text.specs.Told.{Told, byRoom}
 use Rattle.text.specs.Terms.{OurTerm}
+use Rattle.text.specs.Read.{OurFields, readSide, accepted}
 use Rattle.rules.specs.Read.{readRule}
 use Rattle.verdicts.specs.Verdicts.{verdictOf}
-use Rattle.reading.specs.Answers.{leftSaid}
-use Rattle.accepted.specs.Accepted.{countedLeft}
+use Rattle.reading.specs.Answers.{leftSaid, sideSaid}
 use Rattle.writing.specs.Answers.{after}
-use Rattle.pieces.specs.Stored.{bytesOf, storeAll}
-use Rattle.listing.specs.Lines.{lineText}
+use Rattle.pieces.specs.Stored.{bytesOf}
 use Rattle.listing.specs.Overlaps.{linesOf, overlapText}
-use Rattle.overlaps.specs.Pairs.{saidSide}
 use Rattle.overlaps.specs.declared.Listed.{Listed}
 use Rattle.overlaps.specs.declared.Listed.the-variants.{Lines, TooSmall}
 use Rattle.overlaps.specs.declared.TextsListed.{TextsListed}
@@ -32,10 +30,6 @@ pub record Lists (x y : List (List OurTerm)) (old : List ℕ) (r : Listed) (new 
   pub answer : told r ≡ byRoom (length (overlapText x y)) (length old) (length (linesOf x y) ∷ length (overlapText x y) ∷ [])
   pub bytes : new ≡ after (overlapText x y) old
 
--- the room that is lent for the work: the lines one behind the other, each where it has room there
-abbrev pub roomAfter : List (List OurTerm) → List (List OurTerm) → List ℕ → List ℕ
-roomAfter x y room = storeAll (map lineText (linesOf x y)) 0 room
-
 -- ---- of texts
 
 -- WHAT LISTING PROMISES of the texts t and u: how each is read, and the list of the left sides of the rules that they say
@@ -44,17 +38,18 @@ pub record TextsList (t u old : List ℕ) (r : TextsListed) (new : List ℕ) : T
   pub right : r .right ≡ verdictOf (readRule u)
   pub listed : Lists (leftSaid (readRule t)) (leftSaid (readRule u)) old (r .listed) new
 
-abbrev pub textsRoom : List ℕ → List ℕ → List ℕ → List ℕ
-textsRoom t u room = roomAfter (leftSaid (readRule t)) (leftSaid (readRule u)) room
+-- texts of two left sides that are accepted
+pub record Accepts (t u : List ℕ) : Type 0 where
+  pub left : OurFields
+  pub right : OurFields
+  pub reads-left : readSide t ≡ accepted left
+  pub reads-right : readSide u ≡ accepted right
 
--- the same of the values that the left sides' texts say
-abbrev pub SaidLists : List ℕ → List ℕ → List ℕ → Listed → List ℕ → Type 0
-SaidLists t u old r new = Lists (countedLeft (saidSide t)) (countedLeft (saidSide u)) old r new
+-- the list of what the texts of two left sides say
+abbrev pub SidesList : List ℕ → List ℕ → List ℕ → Listed → List ℕ → Type 0
+SidesList t u old r new = Lists (sideSaid (readSide t)) (sideSaid (readSide u)) old r new
 
-abbrev pub saidRoom : List ℕ → List ℕ → List ℕ → List ℕ
-saidRoom t u room = roomAfter (countedLeft (saidSide t)) (countedLeft (saidSide u)) room
-
--- ---- of lines as bytes: `lines-list` of proofs/Rules says that they are listed as `Lists` has it
+-- ---- of lines as bytes: `lines-list` of proofs/ says that they are listed as `Lists` has it
 
 pub record ListsLines (ls : List (List ℕ)) (old : List ℕ) (r : Listed) (new : List ℕ) : Type 0 where
   pub answer : told r ≡ byRoom (length (bytesOf ls)) (length old) (length ls ∷ length (bytesOf ls) ∷ [])

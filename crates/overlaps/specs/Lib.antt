@@ -1,4 +1,2 @@
-pub mod Pairs
-pub mod Lines
 pub mod Listing
 pub mod Answers

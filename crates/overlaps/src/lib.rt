@@ -1,32 +1,27 @@
 // Listing the overlaps of two rules, which are those of their left sides: every choice of one candidate a field that nothing kills,
 // the first field slowest.
-// The sides are worked on as tokens: a constant is a place of one of the two sides' texts, which go along wherever constants are compared
-// or written.
+// The two sides are read into the tables of a pair; the list is made on these alone,
+// measured first where it might not fit, and then written.
 ghost use mathlib.Core.Path.{_≡_};
 ghost use mathlib.Core.List.{[], _∷_};
-ghost use Prim.Native.Nat.{_-_, _+_, _≤_, _<_, min};
+ghost use Prim.Native.Nat.{_+_, _-_, _*_, _≤_, _<_, min};
 ghost use lib.ListN.{length};
 ghost use Rattle.accepted.specs.Accepted.{countedLeft};
 ghost use Rattle.accepted_rules.specs.Rules.{countedRule};
-ghost use Rattle.entry_lines.specs.Lines.{lineBound};
-ghost use Rattle.overlaps.specs.Pairs.{Said};
-ghost use Rattle.pieces.specs.Stored.{storeAll};
-ghost use Rattle.overlaps.specs.Lines.{PutLine};
-ghost use Rattle.overlaps.specs.Listing.{candidateOf, noTally, Stores, lineIn, linesIn, choicesIn, allIn, Moderate, Countable};
-ghost use Rattle.overlaps.specs.Answers.{Lists, ListsLines, TextsList, SaidLists, roomAfter, textsRoom, saidRoom};
-use candidates::Span;
-use choices::Choice;
+ghost use Rattle.pieces.specs.Stored.{bytesOf};
+ghost use Rattle.overlap_lines.specs.Lines.{lineIn};
+ghost use Rattle.overlaps.specs.Listing.{candidateOf, noTally, Stores, linesIn, choicesIn, allLines, choices, longestLine};
+ghost use Rattle.overlaps.specs.Listing.{Moderate, Countable};
+ghost use Rattle.overlaps.specs.Answers.{Lists, ListsLines, Accepts, SidesList, TextsList};
+use overlap_entries::Choice;
+use overlap_entries::Span;
+use pair_state::State;
 use terms::Rule;
 use terms::RuleSide;
-use token_fillings::Fillings;
-use tokens::TokenRule;
 use verdicts::Verdict;
 
-// The left sides of the two rules as tokens, the right rule's variables kept apart from the left one's.
-pub struct TokenPair {
-    pub left: TokenRule,
-    pub right: TokenRule,
-}
+// The most bytes that the line of an entry has.
+const LONGEST_LINE: usize = 24285;
 
 // How many lines so far, and how many bytes they have.
 pub struct Tally {
@@ -49,30 +44,10 @@ pub struct TextsListed {
     pub listed: Listed,
 }
 
-// How many items a field has, and whether a list variable stands among them.
+// How many atoms a field has, and whether a list variable stands among them.
 struct Candidate {
-    items: usize,
+    items: u16,
     long: bool,
-}
-
-// The line of a whole choice into the lent bytes, or none of it where they are too few; and its size.
-fn line_into(
-    p: TokenPair,
-    ch: Choice,
-    st: Fillings,
-    left: &[u8],
-    right: &[u8],
-    out: &mut [u8],
-) -> usize
-    ensures { λ n. ⌜ PutLine (lineIn (now (left .entry)) (now (right .entry)) p ch st) (now (out .entry)) n (now (out .exit)) ⌝ }
-    ensures { λ _. ⌜ length (lineIn (now (left .entry)) (now (right .entry)) p ch st) ≤ lineBound ⌝ }
-{
-    let l = p.left;
-    let r = p.right;
-    let e = choices::entry_of(l, r, ch, st);
-    let x = rule_shown::shown_of(l, e, st);
-    let y = rule_shown::shown_of(r, e, st);
-    entry_lines::put_line(e, x, y, left, right, out)
 }
 
 fn at_most(n: usize, most: usize) -> usize
@@ -81,22 +56,23 @@ fn at_most(n: usize, most: usize) -> usize
     if n < most { n } else { most }
 }
 
-// An entry's line goes into the part of the buffer behind the line before it.
+// An entry's line goes into the part of the buffer behind the line before it, as far as there is room.
 fn put_entry(
-    p: TokenPair,
+    row: &[u8],
+    texts: &[u8],
+    fields: u8,
     ch: Choice,
-    st: Fillings,
-    left: &[u8],
-    right: &[u8],
+    st: State,
     out: &mut [u8],
     t: Tally,
 ) -> Tally
-    requires { ⌜ Countable t (lineIn (now left) (now right) p ch st ∷ []) ⌝ }
-    ensures { λ r. ⌜ Stores (lineIn (now (left .entry)) (now (right .entry)) p ch st ∷ []) t (now (out .entry)) r (now (out .exit)) ⌝ }
+    requires { ⌜ Countable t (lineIn (now row) (now texts) fields ch (st .atoms) ∷ []) ⌝ }
+    ensures { λ r. ⌜ Stores (lineIn (now (row .entry)) (now (texts .entry)) fields ch (st .atoms) ∷ []) t (now (out .entry)) r
+        (now (out .exit)) ⌝ }
     ensures { λ r. ⌜ Moderate r ⌝ }
 {
     let at = at_most(t.bytes, out.len());
-    let n = line_into(p, ch, st, left, right, &mut out[at..]);
+    let n = overlap_lines::put_line(row, texts, fields, ch, &st.atoms, &mut out[at..]);
     Tally {
         entries: t.entries + 1,
         bytes: t.bytes + n,
@@ -104,73 +80,67 @@ fn put_entry(
 }
 
 // The candidate that comes next where k are left.
-fn candidate_of(s: Span, k: usize) -> Candidate
-    requires { ⌜ (1 ≤ k) × (k ≤ s .count) × (s .least + s .count ≤ 128) ⌝ }
+fn candidate_of(s: Span, k: u16) -> Candidate
+    requires { ⌜ (1 ≤ k) × (k ≤ s .count) × (s .least + s .count ≤ 1024) ⌝ }
     ensures { λ r. ⌜ r ≡ candidateOf s k ⌝ }
 {
     let items = s.least + (s.count - k);
     if k == 1 {
         return Candidate {
-            items: items,
+            items,
             long: s.long,
         };
     }
-    Candidate {
-        items: items,
-        long: false,
-    }
+    Candidate { items, long: false }
 }
 
 // All fields from j on: each choice of the next field, or the line where every field is chosen.
 fn next_field(
-    p: TokenPair,
-    j: usize,
+    row: &[u8],
+    texts: &[u8],
+    fields: u8,
+    j: u8,
     ch: Choice,
-    st: Fillings,
-    left: &[u8],
-    right: &[u8],
+    st: State,
     out: &mut [u8],
     t: Tally,
 ) -> Tally
-    requires { ⌜ (p .left .n ≤ 4) × (j ≤ p .left .n) × Countable t (linesIn (now left) (now right) p j ch st) ⌝ }
-    ensures { λ r. ⌜ Stores (linesIn (now (left .entry)) (now (right .entry)) p j ch st) t (now (out .entry)) r (now (out .exit)) ⌝ }
+    requires { ⌜ (j ≤ fields) × Countable t (linesIn (now row) (now texts) fields j ch st) ⌝ }
+    ensures { λ r. ⌜ Stores (linesIn (now (row .entry)) (now (texts .entry)) fields j ch st) t (now (out .entry)) r (now (out .exit)) ⌝ }
     ensures { λ r. ⌜ Moderate r ⌝ }
 {
-    let l = p.left;
-    if l.n <= j {
-        return put_entry(p, ch, st, left, right, out, t);
+    if fields <= j {
+        return put_entry(row, texts, fields, ch, st, out, t);
     }
-    choose(p, j, ch, st, left, right, out, t)
+    choose(row, texts, fields, j, ch, st, out, t)
 }
 
 // The candidates of field j: each leads to the next field's choices.
 fn choose(
-    p: TokenPair,
-    j: usize,
+    row: &[u8],
+    texts: &[u8],
+    fields: u8,
+    j: u8,
     ch: Choice,
-    st: Fillings,
-    left: &[u8],
-    right: &[u8],
+    st: State,
     out: &mut [u8],
     t: Tally,
 ) -> Tally
-    requires { ⌜ (p .left .n ≤ 4) × (j < p .left .n) × Countable t (choicesIn (now left) (now right) p j ch st) ⌝ }
-    ensures { λ r. ⌜ Stores (choicesIn (now (left .entry)) (now (right .entry)) p j ch st) t (now (out .entry)) r (now (out .exit)) ⌝ }
+    requires { ⌜ (j < fields) × Countable t (choicesIn (now row) (now texts) fields j ch st) ⌝ }
+    ensures { λ r. ⌜ Stores (choicesIn (now (row .entry)) (now (texts .entry)) fields j ch st) t (now (out .entry)) r (now (out .exit)) ⌝ }
     ensures { λ r. ⌜ Moderate r ⌝ }
 {
-    let l = p.left;
-    let r = p.right;
-    let f = l.fields[j];
-    let g = r.fields[j];
-    let s = candidates::span_of(token_shapes::shape_of(f), token_shapes::shape_of(g));
+    let f = pair_row::shape_at(row, false, j);
+    let g = pair_row::shape_at(row, true, j);
+    let s = overlap_entries::span_of(f, g);
     let mut u = t;
     let mut k = s.count;
     while 0 < k {
         let c = candidate_of(s, k);
-        let joined = joins::join_fields(f, g, c.items, st, left, right);
+        let joined = overlap_entries::join_fields(row, f, g, c.items, st);
         if joined.ok {
-            let chosen = choices::choose_at(ch, j, c.items, c.long);
-            u = next_field(p, j + 1, chosen, joined.next, left, right, out, u);
+            let chosen = overlap_entries::choose_at(ch, j, c.items, c.long);
+            u = next_field(row, texts, fields, j + 1, chosen, joined.next, out, u);
         }
         k -= 1;
     }
@@ -189,112 +159,116 @@ fn no_tally() -> Tally
 }
 
 // Every choice from the first field on.
-fn all_lines(p: TokenPair, left: &[u8], right: &[u8], out: &mut [u8]) -> Tally
-    requires { ⌜ p .left .n ≤ 4 ⌝ }
-    ensures { λ r. ⌜ Stores (allIn (now (left .entry)) (now (right .entry)) p) noTally (now (out .entry)) r (now (out .exit)) ⌝ }
+fn all_lines(row: &[u8], texts: &[u8], fields: u8, out: &mut [u8]) -> Tally
+    requires { ⌜ Countable noTally (allLines (now row) (now texts) fields) ⌝ }
+    ensures { λ r. ⌜ Stores (allLines (now (row .entry)) (now (texts .entry)) fields) noTally (now (out .entry)) r (now (out .exit)) ⌝ }
 {
     next_field(
-        p,
+        row,
+        texts,
+        fields,
         0,
-        choices::no_choice(),
-        token_fillings::start(),
-        left,
-        right,
+        overlap_entries::no_choice(),
+        pair_state::start(row),
         out,
         no_tally(),
     )
 }
 
-// The lines go into the room first, so that a buffer that is too small keeps its old bytes; a room that is too small has counted them.
-fn list_pair(p: TokenPair, left: &[u8], right: &[u8], room: &mut [u8], out: &mut [u8]) -> Listed
-    requires { ⌜ p .left .n ≤ 4 ⌝ }
-    ensures { λ r. ⌜ ListsLines (allIn (now (left .entry)) (now (right .entry)) p) (now (out .entry)) r (now (out .exit)) ⌝ }
-    ensures { λ _. ⌜ now (room .exit) ≡ storeAll (allIn (now (left .entry)) (now (right .entry)) p) 0 (now (room .entry)) ⌝ }
+// How many choices of one candidate a field there are, with those that something kills.
+fn choices(row: &[u8], fields: u8) -> usize
+    requires { ⌜ fields ≤ 4 ⌝ }
+    ensures { λ r. ⌜ r ≡ choices (now (row .entry)) 0 fields ⌝ }
 {
-    let t = all_lines(p, left, right, room);
-    let n = t.bytes;
-    if out.len() < n {
-        return Listed::TooSmall(t.entries, n);
+    let mut n = 1usize;
+    let mut j = fields;
+    while 0 < j {
+        j -= 1;
+        let f = pair_row::shape_at(row, false, j);
+        let g = pair_row::shape_at(row, true, j);
+        n = overlap_entries::span_of(f, g).count as usize * n;
     }
-    if room.len() < n {
-        let u = all_lines(p, left, right, out);
-        return Listed::Lines(u.entries, u.bytes);
-    }
-    bytes::copy(&room[..n], out);
-    Listed::Lines(t.entries, n)
+    n
 }
 
-// The list of the left sides that two texts say, which their tokens stand for. A text that is refused says the side with no fields.
-fn list_tokens(
-    l: TokenRule,
-    r: TokenRule,
-    left: &[u8],
-    right: &[u8],
-    room: &mut [u8],
-    out: &mut [u8],
-) -> Listed
-    requires { ⌜ Said (now left) (now right) l r ⌝ }
-    ensures { λ x. ⌜ SaidLists (now (left .entry)) (now (right .entry)) (now (out .entry)) x (now (out .exit)) ⌝ }
-    ensures { λ _. ⌜ now (room .exit) ≡ saidRoom (now (left .entry)) (now (right .entry)) (now (room .entry)) ⌝ }
+// Measured with no room unless it surely fits, so that a buffer that is too small keeps its old bytes; then written.
+fn list_pair(row: &[u8], texts: &[u8], fields: u8, out: &mut [u8]) -> Listed
+    requires { ⌜ fields ≤ 4 ⌝ }
+    requires { ⌜ Countable noTally (allLines (now row) (now texts) fields) ⌝ }
+    requires { ⌜ length (bytesOf (allLines (now row) (now texts) fields)) ≤ choices (now row) 0 fields * longestLine ⌝ }
+    ensures { λ r. ⌜ ListsLines (allLines (now (row .entry)) (now (texts .entry)) fields) (now (out .entry)) r (now (out .exit)) ⌝ }
 {
-    if l.n == 0 {
+    // No list has more bytes than its choices have lines of the longest: one that then fits need not be measured.
+    if choices(row, fields) <= out.len() / LONGEST_LINE {
+        let u = all_lines(row, texts, fields, out);
+        return Listed::Lines(u.entries, u.bytes);
+    }
+    let t = all_lines(row, texts, fields, &mut out[..0]);
+    if out.len() < t.bytes {
+        return Listed::TooSmall(t.entries, t.bytes);
+    }
+    let u = all_lines(row, texts, fields, out);
+    Listed::Lines(u.entries, u.bytes)
+}
+
+// The list of two left sides by their texts, which are accepted.
+fn list_read(left: &[u8], right: &[u8], out: &mut [u8]) -> Listed
+    requires { ⌜ Accepts (now left) (now right) ⌝ }
+    ensures { λ r. ⌜ SidesList (now (left .entry)) (now (right .entry)) (now (out .entry)) r (now (out .exit)) ⌝ }
+{
+    let mut row = [0u8; 689];
+    let mut texts = [0u8; 2048];
+    let n = text_passes::note_side(left, false, &mut row, &mut texts);
+    let m = text_passes::note_side(right, true, &mut row, &mut texts);
+    if n != m {
         return Listed::Lines(0, 0);
     }
-    if l.n != r.n {
-        return Listed::Lines(0, 0);
-    }
-    let p = TokenPair { left: l, right: r };
-    list_pair(p, left, right, room, out)
+    pair_table::note_lists(&mut row);
+    list_pair(&row, &texts, n as u8, out)
 }
 
 // THE OVERLAP LIST of the rules that two texts say, and how each is read: every choice of one candidate a field that nothing kills,
 // a line for each, the first field slowest. What a rule makes of a slip is no part of it, so only the bytes of each left side go along.
 // Rules with different field counts have no entries, and a text that is refused says the rule with no fields, which has none.
-// The room is for the work: one that has as many bytes as `out` saves making the list twice.
-pub fn list_texts(left: &[u8], right: &[u8], room: &mut [u8], out: &mut [u8]) -> TextsListed
+pub fn list_texts(left: &[u8], right: &[u8], out: &mut [u8]) -> TextsListed
     ensures { λ r. ⌜ TextsList (now (left .entry)) (now (right .entry)) (now (out .entry)) r (now (out .exit)) ⌝ }
-    ensures { λ _. ⌜ now (room .exit) ≡ textsRoom (now (left .entry)) (now (right .entry)) (now (room .entry)) ⌝ }
 {
-    let l = reading::read_left(left, false);
-    let r = reading::read_left(right, true);
-    let listed = list_tokens(l.rule, r.rule, &left[..l.end], &right[..r.end], room, out);
+    let l = reading::judge_left(left);
+    let r = reading::judge_left(right);
     let left_verdict = l.verdict;
     let right_verdict = r.verdict;
+    let listed = match left_verdict {
+        Verdict::Accepted => match right_verdict {
+            Verdict::Accepted => list_read(&left[..l.end], &right[..r.end], out),
+            Verdict::Refused(_, _) => Listed::Lines(0, 0),
+        },
+        Verdict::Refused(_, _) => Listed::Lines(0, 0),
+    };
     TextsListed {
         left: left_verdict,
         right: right_verdict,
-        listed: listed,
+        listed,
     }
 }
 
 // The list of two left sides: that of their plain texts, which have at most 1,151 bytes. What no reading returns has no text,
 // and so no overlaps.
-fn list_sides(left: RuleSide, right: RuleSide, room: &mut [u8], out: &mut [u8]) -> Listed
+fn list_sides(left: RuleSide, right: RuleSide, out: &mut [u8]) -> Listed
     ensures { λ r. ⌜ Lists (countedLeft left) (countedLeft right) (now (out .entry)) r (now (out .exit)) ⌝ }
-    ensures { λ _. ⌜ now (room .exit) ≡ roomAfter (countedLeft left) (countedLeft right) (now (room .entry)) ⌝ }
 {
     let mut a = [0u8; 1151];
     let mut b = [0u8; 1151];
     let n = pieces::size_of(plain_text::write_side(left, &mut a));
     let m = pieces::size_of(plain_text::write_side(right, &mut b));
-    let said = list_texts(&a[..n], &b[..m], room, out);
+    let said = list_texts(&a[..n], &b[..m], out);
     said.listed
 }
 
 // The list of two rule values: a value counts as one with no fields also where only its right side is none that reading returns.
-pub fn list_with(left: Rule, right: Rule, room: &mut [u8], out: &mut [u8]) -> Listed
-    ensures { λ r. ⌜ Lists ((countedRule left) .0) ((countedRule right) .0) (now (out .entry)) r (now (out .exit)) ⌝ }
-    ensures { λ _. ⌜ now (room .exit) ≡ roomAfter ((countedRule left) .0) ((countedRule right) .0) (now (room .entry)) ⌝ }
-{
-    let x = accepted_rules::left_of(left);
-    let y = accepted_rules::left_of(right);
-    list_sides(x, y, room, out)
-}
-
-// The same with no room but the lent bytes.
 pub fn list_overlaps(left: Rule, right: Rule, out: &mut [u8]) -> Listed
     ensures { λ r. ⌜ Lists ((countedRule left) .0) ((countedRule right) .0) (now (out .entry)) r (now (out .exit)) ⌝ }
 {
-    let mut room = [0u8; 1];
-    list_with(left, right, &mut room, out)
+    let x = accepted_rules::left_of(left);
+    let y = accepted_rules::left_of(right);
+    list_sides(x, y, out)
 }

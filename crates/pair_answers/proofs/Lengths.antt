@@ -31,5 +31,7 @@ unfolding pairAnswer
 cut-same n k t h = go (decLt n (length t))
   where
     go : Dec (n < length t) → pairAnswer k (take n t) ≡ pairAnswer k t
-    go (yes l) = ap (λ (s : List ℕ). titleText k ++ s) (line-long (take n t) (omega (arith, length-take-le n t (omega arith))) ∙ sym (line-long t (omega arith)))
+    go (yes l) =
+        let cut = line-long (take n t) (omega (arith, length-take-le n t (omega arith))) in
+        ap (λ (s : List ℕ). titleText k ++ s) (cut ∙ sym (line-long t (omega arith)))
     go (no l) = ap (pairAnswer k) (take-all n t (omega arith))

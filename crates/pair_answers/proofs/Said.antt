@@ -2,19 +2,18 @@
 use mathlib.Core.Path.{_≡_, sym, ap, ap₂, _∙_}
 use mathlib.Core.Bool.{Bool, cond}
 use mathlib.Core.List.{List, _++_}
-use Prim.Native.Nat.{ℕ, suc, _+_, _-_, _≤_, _<_, min}
+use Prim.Native.Nat.{ℕ, suc, _+_, _-_, _≤_, min}
 use native.Mathlib.Omega.{arith}
 use native.Mathlib.Decide.{decLe}
-use borrow.Author.Tests.{le-leb, le-ltb, lt-ltb}
+use borrow.Author.Tests.{le-ltb}
 use lib.ListN.{length, take, drop, length-drop, drop-of-length-le}
 use lib.Seq.{take-all}
 use Rattle.bytes.specs.Bytes.{indexOf}
 use Rattle.text.specs.Ascii.{ascii, newline}
 use Rattle.rules.specs.Read.{readRule}
-use Rattle.overlaps.specs.Answers.{textsRoom}
-use Rattle.overlap_text.specs.Texts.{mostBytes, readText, textsIn, roomBy}
+use Rattle.overlap_text.specs.Texts.{mostBytes, readText, textsIn}
 use Rattle.overlap_text.proofs.Said.{in-room}
-use Rattle.pair_answers.specs.Pairs.{longestLine, leftPart, rightPart, lineText, lineRoom}
+use Rattle.pair_answers.specs.Pairs.{longestLine, leftPart, rightPart, lineText}
 
 module _ (t : List ℕ) (tab rest : ℕ) (is-tab : tab ≡ indexOf 9 t) (is-rest : rest ≡ min (tab + 1) (length t)) where
   -- what is lent from the place behind the tab on
@@ -33,17 +32,3 @@ module _ (t : List ℕ) (tab rest : ℕ) (is-tab : tab ≡ indexOf 9 t) (is-rest
       ap (λ (b : Bool). cond b (ascii "line too long" ++ newline) (readText (readRule (leftPart t)) (readRule (rightPart t)))) (le-ltb longestLine (length t) h)
       ∙ ap₂ (λ (a b : List ℕ). readText (readRule a) (readRule b)) (ap (λ (i : ℕ). take i t) (sym is-tab)) (sym right-part)
       ∙ sym (in-room k (readRule (take tab t)) (readRule (take (length t - rest) (drop rest t))) room)
-
-  -- what the lister leaves in the room
-  pub line-room : (k : ℕ) (room : List ℕ) → length t ≤ longestLine → mostBytes ≤ k
-      → roomBy k (take tab t) (take (length t - rest) (drop rest t)) room ≡ lineRoom t room
-  unfolding lineRoom
-  line-room k room h enough =
-      ap (λ (b : Bool). cond b (textsRoom (take tab t) (take (length t - rest) (drop rest t)) room) room) (le-leb mostBytes k enough)
-      ∙ ap₂ (λ (a b : List ℕ). textsRoom a b room) (ap (λ (i : ℕ). take i t) is-tab) right-part
-      ∙ sym (ap (λ (b : Bool). cond b room (textsRoom (leftPart t) (rightPart t) room)) (le-ltb longestLine (length t) h))
-
--- a line that is too long is not listed
-pub long-room : (t room : List ℕ) → longestLine < length t → room ≡ lineRoom t room
-unfolding lineRoom
-long-room t room h = rw (lt-ltb longestLine (length t) h)

@@ -7,7 +7,6 @@ use lib.ListN.{length, take, drop}
 use Rattle.bytes.specs.Bytes.{indexOf}
 use Rattle.text.specs.Ascii.{ascii, newline}
 use Rattle.text.specs.Numbers.{digitsOf}
-use Rattle.overlaps.specs.Answers.{textsRoom}
 use Rattle.overlap_text.specs.Texts.{saidOf}
 
 -- ---- a line
@@ -33,10 +32,6 @@ rightPart t = drop (suc (indexOf tab t)) t
 -- a line over its limit is too long whatever it holds
 unfoldable pub lineText : List ℕ → List ℕ
 lineText t = cond (ltb longestLine (length t)) (ascii "line too long" ++ newline) (saidOf (leftPart t) (rightPart t))
-
--- the room that is lent for the lister's work: as the list of the two parts leaves it, and as it was where the line is too long
-unfoldable pub lineRoom : List ℕ → List ℕ → List ℕ
-lineRoom t room = cond (ltb longestLine (length t)) room (textsRoom (leftPart t) (rightPart t) room)
 
 -- "`pair K` (K the line number from 1)"
 abbrev pub titleText : ℕ → List ℕ

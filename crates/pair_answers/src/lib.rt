@@ -1,24 +1,22 @@
 // The text that `pairs` prints for one line, into lent bytes: the overlaps of the line's two rules.
 // It is put together piece behind piece where the room is known to be enough: in the lent bytes, or else in bytes of its own that are then
 // given whole or not at all.
-// The room that is handed on is for the lister's work.
 ghost use mathlib.Core.Path.{_≡_};
 ghost use Prim.Native.Nat.{_+_, _≤_};
 ghost use lib.ListN.{length};
 ghost use Rattle.writing.specs.Answers.{Writes};
 ghost use Rattle.pieces.specs.Placed.{Placed};
 ghost use Rattle.overlap_text.specs.Texts.{mostBytes};
-ghost use Rattle.pair_answers.specs.Pairs.{lineText, lineRoom, longestAnswer, pairAnswer};
+ghost use Rattle.pair_answers.specs.Pairs.{lineText, longestAnswer, pairAnswer};
 use writing::Written;
 
 // ---- pieces: each is put at a place of the room, and returns the place behind it
 
 // What is said of a line. Two of the longest rules and the tab have 8,193 bytes.
-fn put_line(line: &[u8], room: &mut [u8], out: &mut [u8], at: usize) -> usize
+fn put_line(line: &[u8], out: &mut [u8], at: usize) -> usize
     requires { ⌜ at + mostBytes ≤ length (now out) ⌝ }
     ensures { λ r. ⌜ Placed (lineText (now (line .entry))) at (now (out .entry)) r (now (out .exit)) ⌝ }
     ensures { λ _. ⌜ length (lineText (now (line .entry))) ≤ mostBytes ⌝ }
-    ensures { λ _. ⌜ now (room .exit) ≡ lineRoom (now (line .entry)) (now (room .entry)) ⌝ }
 {
     let n = line.len();
     if 8193 < n {
@@ -26,18 +24,17 @@ fn put_line(line: &[u8], room: &mut [u8], out: &mut [u8], at: usize) -> usize
     }
     let tab = pieces::tab_place(line);
     let rest = line_pieces::behind(tab, n);
-    overlap_text::put_texts(&line[..tab], &line[rest..], room, out, at)
+    overlap_text::put_texts(&line[..tab], &line[rest..], out, at)
 }
 
 // The title and what is said of the line.
-fn put_answer(k: u64, line: &[u8], room: &mut [u8], out: &mut [u8]) -> usize
+fn put_answer(k: u64, line: &[u8], out: &mut [u8]) -> usize
     requires { ⌜ longestAnswer ≤ length (now out) ⌝ }
     ensures { λ r. ⌜ Placed (pairAnswer k (now (line .entry))) 0 (now (out .entry)) r (now (out .exit)) ⌝ }
     ensures { λ _. ⌜ length (pairAnswer k (now (line .entry))) ≤ longestAnswer ⌝ }
-    ensures { λ _. ⌜ now (room .exit) ≡ lineRoom (now (line .entry)) (now (room .entry)) ⌝ }
 {
     let a = line_pieces::put_title(b"pair ", k, out, 0);
-    put_line(line, room, out, a)
+    put_line(line, out, a)
 }
 
 // Bytes for any answer: a title of at most 26 and a list of at most 65,536.
@@ -47,25 +44,15 @@ fn longest() -> [u8; 65562]
     [0; 65562]
 }
 
-// The lines that `pairs` prints for line number k. A room of 65,536 bytes saves making the list twice.
-pub fn answer_with(k: u64, line: &[u8], room: &mut [u8], out: &mut [u8]) -> Written
-    ensures { λ w. ⌜ Writes (pairAnswer k (now (line .entry))) (now (out .entry)) w (now (out .exit)) ⌝ }
-    ensures { λ _. ⌜ length (pairAnswer k (now (line .entry))) ≤ longestAnswer ⌝ }
-    ensures { λ _. ⌜ now (room .exit) ≡ lineRoom (now (line .entry)) (now (room .entry)) ⌝ }
-{
-    if 65562 <= out.len() {
-        return Written::Bytes(put_answer(k, line, room, out));
-    }
-    let mut text = longest();
-    let n = put_answer(k, line, room, &mut text);
-    pieces::give(&text[..n], out)
-}
-
-// The same with no room but the lent bytes.
+// The lines that `pairs` prints for line number k.
 pub fn pair_answer(k: u64, line: &[u8], out: &mut [u8]) -> Written
     ensures { λ w. ⌜ Writes (pairAnswer k (now (line .entry))) (now (out .entry)) w (now (out .exit)) ⌝ }
     ensures { λ _. ⌜ length (pairAnswer k (now (line .entry))) ≤ longestAnswer ⌝ }
 {
-    let mut room = [0u8; 1];
-    answer_with(k, line, &mut room, out)
+    if 65562 <= out.len() {
+        return Written::Bytes(put_answer(k, line, out));
+    }
+    let mut text = longest();
+    let n = put_answer(k, line, &mut text);
+    pieces::give(&text[..n], out)
 }

@@ -3,16 +3,10 @@ use lines::Output;
 use lines::State;
 use writing::Written;
 
-// Puts the answer to line number k behind those that wait. It has room in the 65,562 bytes of the text: no answer has more (`answer_with` ensures it).
-fn answer(
-    k: u64,
-    line: &[u8],
-    room: &mut [u8],
-    text: &mut [u8],
-    buffer: &mut [u8],
-    output: Output,
-) -> Output {
-    match pair_answers::answer_with(k, line, room, text) {
+// Puts the answer to line number k behind those that wait. It has room in the 65,562 bytes of the text: no answer has more
+// (`pair_answer` ensures it).
+fn answer(k: u64, line: &[u8], text: &mut [u8], buffer: &mut [u8], output: Output) -> Output {
+    match pair_answers::pair_answer(k, line, text) {
         Written::Bytes(n) => lines::put(&text[..n], buffer, output),
         Written::TooSmall(_) => output,
     }
@@ -24,7 +18,6 @@ fn step(
     s: State,
     chunk: &mut [u8],
     line: &mut [u8],
-    room: &mut [u8],
     text: &mut [u8],
     buffer: &mut [u8],
 ) -> State {
@@ -35,7 +28,7 @@ fn step(
     }
     let input = t.input;
     let kept = l.kept;
-    let output = answer(k, &line[..kept], room, text, buffer, t.output);
+    let output = answer(k, &line[..kept], text, buffer, t.output);
     State {
         input: input,
         output: output,
@@ -44,18 +37,12 @@ fn step(
 }
 
 // A proved loop has to end, so the lines are counted to a number that no run reaches.
-fn answer_all(
-    chunk: &mut [u8],
-    line: &mut [u8],
-    room: &mut [u8],
-    text: &mut [u8],
-    buffer: &mut [u8],
-) {
+fn answer_all(chunk: &mut [u8], line: &mut [u8], text: &mut [u8], buffer: &mut [u8]) {
     let mut k: u64 = 0;
     let mut s = lines::start();
     while k < u64::MAX && lines::is_open(s) {
         k += 1;
-        s = step(k, s, chunk, line, room, text, buffer);
+        s = step(k, s, chunk, line, text, buffer);
     }
     lines::finish(s, buffer);
 }
@@ -65,8 +52,7 @@ fn answer_all(
 fn main() {
     let mut chunk = io::large_buffer();
     let mut line = [0u8; 8194];
-    let mut room = io::large_buffer();
     let mut text = [0u8; 65562];
     let mut buffer = io::large_buffer();
-    answer_all(&mut chunk, &mut line, &mut room, &mut text, &mut buffer);
+    answer_all(&mut chunk, &mut line, &mut text, &mut buffer);
 }

@@ -2,3 +2,4 @@ pub mod Pieces
 pub mod Refusals
 pub mod Stored
 pub mod Rows
+pub mod Bounds

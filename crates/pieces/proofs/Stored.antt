@@ -6,7 +6,7 @@ use Prim.Native.Nat.{ℕ, _+_, _-_, _≤_, min}
 use native.Mathlib.Nat.{zero-add}
 use native.Mathlib.Omega.{arith}
 use lib.Dec.{leb}
-use lib.ListN.{length, take, drop, length-append, length-take, length-drop, drop-of-length-le}
+use lib.ListN.{length, take, drop, length-append, length-drop, drop-of-length-le}
 use lib.Seq.{sets, sets-eq, length-sets, drop-drop, take-all}
 use borrow.Author.Tests.{leb-true, le-leb}
 use Rattle.theory.proofs.Seqs.{concat-map-append}
@@ -20,7 +20,7 @@ bytes-append a b = concat-map-append (λ l. l) a b
 pub bytes-length : (a b : List (List ℕ)) → length (bytesOf (a ++ b)) ≡ length (bytesOf a) + length (bytesOf b)
 bytes-length a b = ap length (bytes-append a b) ∙ length-append (bytesOf a) (bytesOf b)
 
--- ---- lengths stay
+-- ---- one line
 
 pub after-length : (l old : List ℕ) → length (after l old) ≡ length old
 after-length l old = go (leb (length l) (length old)) refl
@@ -28,23 +28,6 @@ after-length l old = go (leb (length l) (length old)) refl
     go : (b : Bool) → leb (length l) (length old) ≡ b → length (cond b (l ++ drop (length l) old) old) ≡ length old
     go true e = omega (arith, length-append l (drop (length l) old), length-drop (length l) old, leb-true (length l) (length old) e)
     go false e = refl
-
-pub store-length : (l : List ℕ) (at : ℕ) (old : List ℕ) → length (storeLine l at old) ≡ length old
-store-length l at old =
-    let m = min at (length old) in
-    omega (arith, length-append (take m old) (after l (drop m old)), length-take m old, after-length l (drop m old), length-drop m old)
-
-pub stores-length : (ls : List (List ℕ)) (at : ℕ) (old : List ℕ) → length (storeAll ls at old) ≡ length old
-stores-length [] at old = refl
-stores-length (l ∷ ls) at old = stores-length ls (at + length l) (storeLine l at old) ∙ store-length l at old
-
--- ---- lines one behind the other
-
-pub stores-append : (a b : List (List ℕ)) (at : ℕ) (old : List ℕ) → storeAll b (at + length (bytesOf a)) (storeAll a at old) ≡ storeAll (a ++ b) at old
-stores-append [] b at old = ap (λ (k : ℕ). storeAll b k old) (omega arith)
-stores-append (l ∷ a) b at old =
-    ap (λ (k : ℕ). storeAll b k (storeAll a (at + length l) (storeLine l at old))) (omega (arith, length-append l (bytesOf a)))
-    ∙ stores-append a b (at + length l) (storeLine l at old)
 
 -- a line in the part of the bytes from its place on, which is lent to the line writer
 pub store-part : (l old : List ℕ) (n at : ℕ) {m : List ℕ} → at ≡ min n (length old) → m ≡ after l (take (length old - at) (drop at old))

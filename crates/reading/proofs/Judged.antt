@@ -5,7 +5,7 @@ use Prim.Native.Nat.{ℕ}
 use native.Mathlib.Omega.{arith}
 use lib.ListN.{take}
 use Rattle.lists.specs.Seqs.{IsCons}
-use Rattle.text.specs.Read.{Reason, number, OutcomeOf, OurFields, Outcome, refused, accepted, readSide, readSlip}
+use Rattle.text.specs.Read.{Reason, number, OutcomeOf, OurFields, Outcome, refused, accepted, readSide}
 use Rattle.rules.specs.Read.{OurRule, readRule}
 use Rattle.rules.proofs.Accepted.{rule-read}
 use Rattle.verdicts.specs.declared.Reason as values
@@ -31,15 +31,6 @@ module _ {X : Type 0} where
       let same-place : k ≡ p = cc in
       (s, ap (refused s) same-place, ap numberOf same-reason ∙ number-is s)
   refused-of (accepted x) v q p e h = let z : _≡_ {A = ℕ} 0 1 = cc in absurd (omega arith)
-
--- ---- slips
-
-pub judged-slip : (u : List ℕ) (v : Verdict) → v ≡ verdictOf (readSlip u) → v ≡ Accepted → (y : OurFields) × (readSlip u ≡ accepted y)
-judged-slip u v e q = accepted-of (readSlip u) v e q
-
-pub judged-slip-refused : (u : List ℕ) (v : Verdict) (q : values.Reason) (p : ℕ) → v ≡ verdictOf (readSlip u) → v ≡ Refused q p
-    → (s : Reason) × (readSlip u ≡ refused s p) × (numberOf q ≡ number s)
-judged-slip-refused u v q p e h = refused-of (readSlip u) v q p e h
 
 -- ---- rules
 

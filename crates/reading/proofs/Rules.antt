@@ -178,7 +178,7 @@ right-base d t e = go (readSide t) refl e
 
 -- building gives its fields
 module _ (t : List ℕ) (base : Base rule t) where
-  pub base-short : length t ≤ rule .bytes
+  base-short : length t ≤ rule .bytes
   base-short = go (decLt (rule .bytes) (length t))
     where
       go : Dec (rule .bytes < length t) → length t ≤ rule .bytes
@@ -188,7 +188,7 @@ module _ (t : List ℕ) (base : Base rule t) where
   base-says : (x : List (List Raw)) × Says t x
   base-says = in-grammar t (base .1)
 
-  pub built-side : builtSide (walked t) ≡ encodeSide (fieldsOf (said t))
+  built-side : builtSide (walked t) ≡ encodeSide (fieldsOf (said t))
   built-side =
       let g = base-says in
       ap builtSide (walk-says t (g .0) (g .1))

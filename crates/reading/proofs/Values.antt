@@ -1,6 +1,5 @@
--- What is built from a rule text that is accepted is what reading returns: the rule, where its left side ends, and that side's tokens.
+-- What is built from a rule text that is accepted is what reading returns: the rule, and where its left side ends.
 use mathlib.Core.Path.{_≡_, refl, sym, _∙_, ap, ap₂, subst}
-use mathlib.Core.Bool.{Bool, cond}
 use mathlib.Core.Option.{Option, none, some, Option·map}
 use mathlib.Core.List.{List, []}
 use Prim.Native.Nat.{ℕ, _+_, _-_, _<_, _≤_}
@@ -9,31 +8,23 @@ use native.Mathlib.Decide.{decLt}
 use lib.ListN.{length, take, drop}
 use lib.Seq.{take-all}
 use Rattle.text.specs.Terms.{fieldsOf}
-use Rattle.text.specs.Walk.{walked}
 use Rattle.text.specs.Read.{rule, said, unknown, OutcomeOf, OurFields, Outcome, refused, accepted, tell, readSide}
 use Rattle.rules.specs.Read.{OurRule, readRule}
 use Rattle.rules.specs.Judge.{asRule, lackingAt, known}
 use Rattle.terms.specs.declared.RuleSide.{RuleSide}
 use Rattle.terms.specs.declared.Rule.{Rule}
-use Rattle.terms.specs.Values.{blankSide, blankRule, encodeSide}
-use Rattle.tokens.specs.declared.TokenRule.{TokenRule}
-use Rattle.tokens.specs.Tokens.{ruleOf, blankTokenRule}
+use Rattle.terms.specs.Values.{blankSide, blankRule}
 use Rattle.splitting.specs.declared.Split.{Split}
 use Rattle.splitting.specs.declared.Split.the-variants as split
 use Rattle.splitting.specs.Splits.{splitOf}
 use Rattle.verdicts.specs.declared.Verdict.{Verdict}
 use Rattle.verdicts.specs.declared.Verdict.the-variants.{Accepted, Refused}
 use Rattle.verdicts.specs.Verdicts.{verdictOf}
-use Rattle.text_passes.specs.Tokens.{onSide, builtTokens}
-use Rattle.text_passes.specs.Passes.{sideIn, tokensIn}
-use Rattle.text_passes.proofs.Passes.{is-short}
-use Rattle.text_passes.proofs.Tokens.{tokens-built, tokens-blank}
+use Rattle.text_passes.specs.Passes.{sideIn}
 use Rattle.reading.specs.Sides.{endOf}
-use Rattle.reading.specs.declared.LeftJudged.{LeftJudged}
-use Rattle.reading.specs.Answers.{ruleRead, sideSaid, leftSaid, leftEnd, JudgesLeft, ReadsLeft}
-use Rattle.reading.proofs.Judged.{judged-accepted}
+use Rattle.reading.specs.Answers.{ruleRead, sideSaid, leftSaid, leftEnd, JudgesLeft}
 use Rattle.reading.proofs.Rules.{judged-long, judged-stops, one-read, orElse, accepted-base, accepted-said}
-use Rattle.reading.proofs.Rules.{side-built, built-side, base-short, both-fine}
+use Rattle.reading.proofs.Rules.{side-built, both-fine}
 use Rattle.reading.proofs.Rules.{first, two-verdict, two-is, slice-is, left-base, right-fine, left-accepted, sides}
 
 refused≢accepted : {r : _} {p : ℕ} → Refused r p ≡ Accepted → ⊥
@@ -161,35 +152,3 @@ module _ (t : List ℕ) where
     pub left-no : (k : _) (p : ℕ) → v ≡ Refused k p → JudgesLeft t (record { verdict = v; end = 0 })
     unfolding decLt
     left-no k p q = record { verdict = is-v; ends = sym (ap (λ (w : Verdict). leftEnd w t) q); inside = omega arith; left = sym (refused-out (readRule t) (sym is-v ∙ q) .1) }
-
-  -- ---- the left side's tokens
-
-  module _ (right : Bool) (j : LeftJudged) (judged : JudgesLeft t j) (x : TokenRule) where
-    abbrev front : List ℕ
-    front = take (j .end) t
-
-    -- they stand for what the text up to the end of the left side says
-    reads : ((o : List ℕ) → ruleOf (cond right o front) (cond right front o) x ≡ onSide right (encodeSide (leftSaid (readRule t))))
-        → ReadsLeft right t (record { verdict = j .verdict; end = j .end; rule = x })
-    reads tokens = record { verdict = judged .verdict; inside = judged .inside; left = judged .left; tokens = tokens }
-
-    pub tokens-yes : j .verdict ≡ Accepted → x ≡ tokensIn right front → ReadsLeft right t (record { verdict = j .verdict; end = j .end; rule = x })
-    tokens-yes q is-x =
-        let yes : Accepted ≡ verdictOf (readSide front) = sym (ap verdictOf (judged-accepted t j judged q .2)) in
-        let base = accepted-base front yes in
-        let short = base-short front base in
-        let built : x ≡ builtTokens right (walked front) = is-x ∙ rw (is-short front (omega arith)) in
-        let says = ap sideSaid (sym (accepted-said front yes)) ∙ judged .left in
-        reads (λ o.
-        ap (ruleOf (cond right o front) (cond right front o)) built
-        ∙ tokens-built right front o
-        ∙ ap (onSide right) (built-side front base ∙ ap encodeSide says))
-
-    pub tokens-no : (k : _) (p : ℕ) → j .verdict ≡ Refused k p → x ≡ blankTokenRule
-        → ReadsLeft right t (record { verdict = j .verdict; end = j .end; rule = x })
-    tokens-no k p q is-x =
-        let none = refused-out (readRule t) (sym (judged .verdict) ∙ q) .1 in
-        reads (λ o.
-        ap (ruleOf (cond right o front) (cond right front o)) is-x
-        ∙ tokens-blank right front o
-        ∙ ap (λ (z : OurFields). onSide right (encodeSide z)) (sym none))

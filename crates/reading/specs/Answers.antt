@@ -1,14 +1,11 @@
 -- What the reading functions answer, in the documents' numbers and values.
 use mathlib.Core.Path.{_≡_}
-use mathlib.Core.Bool.{Bool, cond}
 use mathlib.Core.List.{List, []}
 use Prim.Native.Nat.{ℕ, _≤_}
 use lib.ListN.{length, take}
 use Rattle.text.specs.Read.{OutcomeOf, Outcome, refused, accepted, OurFields, readSide, readSlip}
 use Rattle.rules.specs.Read.{OurRule, readRule}
-use Rattle.terms.specs.Values.{blankRule, blankSlip, encodeSide, encodeRule, encodeSlip}
-use Rattle.tokens.specs.Tokens.{ruleOf}
-use Rattle.text_passes.specs.Tokens.{onSide}
+use Rattle.terms.specs.Values.{blankRule, blankSlip, encodeRule, encodeSlip}
 use Rattle.splitting.specs.Splits.{splitOf}
 use Rattle.verdicts.specs.declared.Verdict.{Verdict}
 use Rattle.verdicts.specs.declared.Verdict.the-variants.{Accepted, Refused}
@@ -16,7 +13,6 @@ use Rattle.verdicts.specs.Verdicts.{reasonFrom, verdictOf}
 use Rattle.reading.specs.declared.RuleRead.{RuleRead}
 use Rattle.reading.specs.declared.SlipRead.{SlipRead}
 use Rattle.reading.specs.declared.LeftJudged.{LeftJudged}
-use Rattle.reading.specs.declared.LeftRead.{LeftRead}
 use Rattle.reading.specs.Sides.{endOf}
 
 -- document 01: "A refusal returns its number, its place and the rule with no fields"
@@ -59,13 +55,3 @@ pub record JudgesLeft (t : List ℕ) (r : LeftJudged) : Type 0 where
   pub ends : r .end ≡ leftEnd (r .verdict) t
   pub inside : r .end ≤ length t
   pub left : sideSaid (readSide (take (r .end) t)) ≡ leftSaid (readRule t)
-
--- how the whole text is read; the part of it that is the left side's text, none of it where the text is refused; and that the tokens stand
--- for that side, as the right text of a pair or as the left one, whatever the other text is
-pub record ReadsLeft (right : Bool) (t : List ℕ) (r : LeftRead) : Type 0 where
-  pub verdict : r .verdict ≡ verdictOf (readRule t)
-  pub inside : r .end ≤ length t
-  pub left : sideSaid (readSide (take (r .end) t)) ≡ leftSaid (readRule t)
-  pub tokens : (o : List ℕ)
-      → ruleOf (cond right o (take (r .end) t)) (cond right (take (r .end) t) o) (r .rule)
-      ≡ onSide right (encodeSide (leftSaid (readRule t)))

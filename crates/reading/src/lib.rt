@@ -1,5 +1,5 @@
 // Reading a rule and a slip: the grammar first, then one pass over each side that meets every other refusal of one side, then refusal 10,
-// then the value, or the tokens of a rule's left side.
+// then the value.
 ghost use mathlib.Core.Path.{_≡_};
 ghost use Prim.Native.Nat.{_≤_};
 ghost use lib.ListN.{length};
@@ -9,13 +9,12 @@ ghost use Rattle.verdicts.specs.Verdicts.{verdictOf};
 ghost use Rattle.splitting.specs.Splits.{splitOf};
 ghost use Rattle.splitting.specs.declared.Split.the-variants.{Two};
 ghost use Rattle.verdicts.specs.declared.Verdict.the-variants.{Accepted};
-ghost use Rattle.reading.specs.Answers.{ruleRead, ReadsRule, ReadsSlip, JudgesLeft, ReadsLeft};
+ghost use Rattle.reading.specs.Answers.{ruleRead, ReadsRule, ReadsSlip, JudgesLeft};
 ghost use Rattle.reading.specs.Sides.{rightOf, unknownOf, PlacedIn, FoundIn, endOf};
 use scanning::Found;
 use splitting::Split;
 use terms::Rule;
 use terms::Slip;
-use tokens::TokenRule;
 use verdicts::Reason;
 use verdicts::Verdict;
 
@@ -33,13 +32,6 @@ pub struct SlipRead {
 pub struct LeftJudged {
     pub verdict: Verdict,
     pub end: usize,
-}
-
-// How a rule text is read, how many bytes its left side has, and the left side's tokens.
-pub struct LeftRead {
-    pub verdict: Verdict,
-    pub end: usize,
-    pub rule: TokenRule,
 }
 
 // ---- slips
@@ -206,28 +198,6 @@ pub fn judge_left(text: &[u8]) -> LeftJudged
         Verdict::Refused(_, _) => LeftJudged {
             verdict: verdict,
             end: 0,
-        },
-    }
-}
-
-// Reads a rule's left side as tokens: as the right text of a pair its atom variables have numbers 16 higher, and its constants are places of
-// the right text.
-pub fn read_left(text: &[u8], right: bool) -> LeftRead
-    ensures { λ r. ⌜ ReadsLeft right (now (text .entry)) r ⌝ }
-{
-    let judged = judge_left(text);
-    let verdict = judged.verdict;
-    let end = judged.end;
-    match verdict {
-        Verdict::Accepted => LeftRead {
-            verdict: verdict,
-            end: end,
-            rule: text_passes::tokens_in(&text[..end], right),
-        },
-        Verdict::Refused(_, _) => LeftRead {
-            verdict: verdict,
-            end: end,
-            rule: text_passes::blank_token_rule(),
         },
     }
 }

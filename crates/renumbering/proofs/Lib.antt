@@ -1,5 +1,4 @@
 pub mod Loops
-pub mod Tokens
 pub mod Counts
 pub mod Places
 pub mod Firsts

@@ -1,20 +1,15 @@
 // The renumbering of an entry's variables: from 0 in each type, by first occurrence.
 ghost use mathlib.Core.Path.{_≡_};
-ghost use mathlib.Core.List.{List};
-ghost use Prim.Native.Nat.{ℕ, _≤_, min};
+ghost use Prim.Native.Nat.{_≤_, min};
 ghost use lib.ListN.{length};
 ghost use Rattle.order.specs.Values.{kindOf};
 ghost use Rattle.entries.specs.Values.{wideTerms};
-ghost use Rattle.tokens.specs.Tokens.{termOf};
-ghost use Rattle.token_entries.specs.Entries.{wideOf, entryOf};
 ghost use Rattle.renumbering.specs.Names.{noNames, AtMost, nameVariable, nameTerm, nameWide, namesValue, numberIn, renamedTerm};
 use entries::Entry;
 use entries::Wide;
 use order::Kind;
 use terms::Form;
 use terms::Term;
-use tokens::Token;
-use tokens::What;
 
 // The entry's numbers for its variables: 32 places for each of the four types; 0 where a variable was not met, else its number and one.
 pub struct Names {
@@ -94,47 +89,6 @@ pub fn names_of(e: Entry) -> Names
     let mut i: usize = 0;
     while i < n {
         x = name_field(x, e.fields[i]);
-        i += 1;
-    }
-    x
-}
-
-// ---- the same of an entry of tokens; no text is asked, since a constant is no variable
-
-fn name_token(x: Names, t: Token) -> Names
-    requires { ⌜ AtMost 123 x ⌝ }
-    ensures { λ y. ⌜ ((l r : List ℕ) → y ≡ nameTerm x (termOf l r t)) ⌝ }
-{
-    let what = t.what;
-    match what {
-        What::Blank => x,
-        What::Text(_, _) => x,
-        What::Var(k, n) => name_variable(x, k, n),
-    }
-}
-
-fn name_tokens(x: Names, w: token_entries::Wide) -> Names
-    requires { ⌜ AtMost 93 x ⌝ }
-    ensures { λ y. ⌜ ((l r : List ℕ) → (y ≡ nameWide x (wideOf l r w)) × (length (wideTerms (wideOf l r w)) ≤ 31)) ⌝ }
-{
-    let n = at_most(w.n, 31);
-    let mut y = x;
-    let mut i: usize = 0;
-    while i < n {
-        y = name_token(y, w.tokens[i]);
-        i += 1;
-    }
-    y
-}
-
-pub fn token_names(e: token_entries::Entry) -> Names
-    ensures { λ x. ⌜ ((l r : List ℕ) → x ≡ namesValue (entryOf l r e)) ⌝ }
-{
-    let n = at_most(e.n, 4);
-    let mut x = no_names();
-    let mut i: usize = 0;
-    while i < n {
-        x = name_tokens(x, e.fields[i]);
         i += 1;
     }
     x

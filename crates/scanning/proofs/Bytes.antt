@@ -1,24 +1,23 @@
--- What the class of a byte tells of it: each by one computed test over all bytes, and then by what the code knows of the class. Assumes nothing.
+-- What the class of a byte tells of it, each by one computed test over all bytes; and what a byte begins, by comparisons. Assumes nothing.
 --     fine-small    there are 13 classes
---     digit-is      which classes are the digits
 --     begun-is      which term each class begins
---     names         which type a letter names
+--     starts-int, starts-str, starts-var, starts-empty    what a byte begins, by what the code compares it with
 use mathlib.Core.Path.{_≡_, refl, sym, _∙_, ap}
-use mathlib.Core.Bool.{Bool, true, false, cond, decide, Bool-discrete}
+use mathlib.Core.Bool.{Bool, true, false, cond, decide, false≢true}
 use Prim.Native.Nat.{ℕ, zero, suc, _<_, _≤_}
 use native.Mathlib.Omega.{arith}
 use native.Mathlib.Decide.{ℕ-discrete, decLe}
 use lib.Dec.{T, eqb, eqb→eq, leb, ltb, ltb→lt}
-use borrow.Author.Tests.{ne-eqb, le-leb, lt-leb}
+use borrow.Author.Tests.{le-leb, lt-leb}
 use Rattle.lists.specs.Tables.{allBelow, all-below}
 use Rattle.order.specs.Order.{basic, list}
 use Rattle.order.specs.Types.{integer, string, atom}
 use Rattle.order.specs.Types as types
 use Rattle.order.specs.declared.Kind.the-variants.{Integer, String, Atom, List}
 use Rattle.order.specs.Values.{kindFrom}
-use Rattle.text.specs.Bytes.{Digit, letter, digit?, begins}
-use Rattle.scanning.specs.Classes.{within, fineOf, decided}
-use Rattle.scanning.specs.Pieces.{begun, kindAt, isDigit}
+use Rattle.text.specs.Bytes.{Digit, letter, digit?, Begins, b-digit, b-quote, b-letter, b-e, b-none, begins}
+use Rattle.scanning.specs.Classes.{within, fineOf}
+use Rattle.scanning.specs.Pieces.{begun, isDigit}
 use Rattle.scanning.specs.declared.Spelled.{Spelled}
 use Rattle.scanning.specs.declared.Spelled.the-variants.{Int, Str, Var, Empty}
 
@@ -31,25 +30,17 @@ small = tt
 pub fine-small : (b : ℕ) → b < 256 → fineOf b < 13
 fine-small b h = ltb→lt (fineOf b) 13 (all-below (λ b. ltb (fineOf b) 13) 256 small b h)
 
--- ---- digits
+-- ---- which term a class begins
 
-abbrev pub digitClass : ℕ → Bool
-digitClass c = within 1 2 c
-
-abbrev digit-same : ℕ → Bool
-digit-same b = decide (Bool-discrete (isDigit b) (digitClass (fineOf b)))
-
-digits-agree : T (allBelow digit-same 256)
-unfolding fineOf decide digit? decLe
-digits-agree = tt
-
-pub digit-is : (b : ℕ) → b < 256 → isDigit b ≡ digitClass (fineOf b)
-digit-is b h = decided (Bool-discrete (isDigit b) (digitClass (fineOf b))) (all-below digit-same 256 digits-agree b h)
-
--- ---- what a byte begins
+-- the type that a letter names
+abbrev kindAt : ℕ → types.Kind
+kindAt b =
+    cond (eqb b (letter (basic integer))) (basic integer)
+    (cond (eqb b (letter (basic string))) (basic string)
+    (cond (eqb b (letter (basic atom))) (basic atom) list))
 
 abbrev pub begunClass : ℕ → ℕ → Spelled
-begunClass c b = cond (digitClass c) Int (cond (eqb c 3) (Var (kindFrom (kindAt b))) (cond (eqb c 4) Str Empty))
+begunClass c b = cond (within 1 2 c) Int (cond (eqb c 3) (Var (kindFrom (kindAt b))) (cond (eqb c 4) Str Empty))
 
 abbrev number : Spelled → ℕ
 number Int = 0
@@ -91,51 +82,64 @@ begun-is b h =
     ∙ ap numbered (eqb→eq (number (begun (begins b))) (number (begunClass (fineOf b) b)) (all-below begun-same 256 begun-agree b h))
     ∙ numbered-number (begunClass (fineOf b) b)
 
--- ---- what the code answers of a byte b of class c
+-- ---- what the code answers of a byte b
 
-module _ (c : ℕ) where
-  pub in-digits : 1 ≤ c → c < 3 → digitClass c ≡ true
-  in-digits l u = rw (le-leb 1 c l, le-leb c 2 (omega arith))
+no-letter : (b : ℕ) (k : types.Kind) → b ≡ letter k → 57 < b
+no-letter b (basic integer) h = omega (arith, h)
+no-letter b (basic string) h = omega (arith, h)
+no-letter b (basic atom) h = omega (arith, h)
+no-letter b list h = omega (arith, h)
 
-  pub below-digits : c < 1 → digitClass c ≡ false
-  below-digits u = rw (lt-leb 1 c u)
+quote-begun : Str ≡ begun (begins 34)
+unfolding begins digit? decLe ℕ-discrete
+quote-begun = refl
 
-  pub above-digits : 3 ≤ c → digitClass c ≡ false
-  above-digits l = rw (le-leb 1 c (omega arith), lt-leb c 2 (omega arith))
-
-module _ (b c : ℕ) (hb : b < 256) (e : c ≡ fineOf b) where
-  pub tells-digit : {r : Bool} → digitClass c ≡ r → r ≡ isDigit b
-  tells-digit d = sym d ∙ ap digitClass e ∙ sym (digit-is b hb)
-
-  by-class : begunClass c b ≡ begun (begins b)
-  by-class = ap (λ (n : ℕ). begunClass n b) e ∙ sym (begun-is b hb)
-
-  pub starts-int : digitClass c ≡ true → Int ≡ begun (begins b)
-  starts-int d = rw d at by-class
-
-  pub starts-var : c ≡ 3 → Var (kindFrom (kindAt b)) ≡ begun (begins b)
-  starts-var h = ap (λ (n : ℕ). begunClass n b) (sym h) ∙ by-class
-
-  pub starts-str : c ≡ 4 → Str ≡ begun (begins b)
-  starts-str h = ap (λ (n : ℕ). begunClass n b) (sym h) ∙ by-class
-
-  pub starts-empty : digitClass c ≡ false → (c ≡ 3 → ⊥) → (c ≡ 4 → ⊥) → Empty ≡ begun (begins b)
-  starts-empty d n m = rw (d, ne-eqb c 3 n, ne-eqb c 4 m) at by-class
-
--- ---- the type that a letter names
-
-kind-letter : (k : types.Kind) → kindAt (letter k) ≡ k
-kind-letter (basic integer) = refl
-kind-letter (basic string) = refl
-kind-letter (basic atom) = refl
-kind-letter list = refl
+letter-begun : (k : types.Kind) → Var (kindFrom k) ≡ begun (begins (letter k))
+unfolding begins digit? decLe ℕ-discrete
+letter-begun (basic integer) = refl
+letter-begun (basic string) = refl
+letter-begun (basic atom) = refl
+letter-begun list = refl
 
 module _ (b : ℕ) where
-  pub names : (k : types.Kind) → b ≡ letter k → kindFrom k ≡ kindFrom (kindAt b)
-  names k h = ap kindFrom (sym (kind-letter k) ∙ ap kindAt (sym h))
+  starts-digit : Digit b → (v : Begins b) → Int ≡ begun v
+  starts-digit d (b-digit h) = refl
+  starts-digit d (b-quote h) = absurd (omega (arith, h, d .0))
+  starts-digit d (b-letter k h) = absurd (omega (arith, no-letter b k h, d .1))
+  starts-digit d (b-e h) = absurd (omega (arith, h, d .1))
+  starts-digit d (b-none n q l e) = absurd (n d)
 
-  pub names-rest : (b ≡ 105 → ⊥) → (b ≡ 115 → ⊥) → (b ≡ 97 → ⊥) → List ≡ kindFrom (kindAt b)
-  names-rest i s a = rw (ne-eqb b 105 i, ne-eqb b 115 s, ne-eqb b 97 a)
+  pub starts-int : isDigit b ≡ true → Int ≡ begun (begins b)
+  unfolding decide
+  starts-int e = go (digit? b) e
+    where
+      go : (d : Dec (Digit b)) → decide d ≡ true → Int ≡ begun (begins b)
+      go (yes p) t = starts-digit p (begins b)
+      go (no n) t = absurd (false≢true t)
+
+  pub starts-str : b ≡ 34 → Str ≡ begun (begins b)
+  starts-str h = quote-begun ∙ ap (λ (n : ℕ). begun (begins n)) (sym h)
+
+  pub starts-var : (k : types.Kind) → b ≡ letter k → Var (kindFrom k) ≡ begun (begins b)
+  starts-var k h = letter-begun k ∙ ap (λ (n : ℕ). begun (begins n)) (sym h)
+
+  pub starts-empty : isDigit b ≡ false → (b ≡ 34 → ⊥) → (b ≡ 105 → ⊥) → (b ≡ 115 → ⊥) → (b ≡ 97 → ⊥) → (b ≡ 108 → ⊥) → Empty ≡ begun (begins b)
+  unfolding decide
+  starts-empty e q i s a l = go (begins b) (digit? b) e
+    where
+      none-of : (k : types.Kind) → b ≡ letter k → ⊥
+      none-of (basic integer) = i
+      none-of (basic string) = s
+      none-of (basic atom) = a
+      none-of list = l
+
+      go : (v : Begins b) (d : Dec (Digit b)) → decide d ≡ false → Empty ≡ begun v
+      go v (yes p) t = absurd (false≢true (sym t))
+      go (b-digit h) (no n) t = absurd (n h)
+      go (b-quote h) (no n) t = absurd (q h)
+      go (b-letter k h) (no n) t = absurd (none-of k h)
+      go (b-e h) (no n) t = refl
+      go (b-none d h m o) (no n) t = refl
 
 -- a digit by its two ends
 pub below : (b : ℕ) → b < 48 → false ≡ isDigit b

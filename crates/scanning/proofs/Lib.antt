@@ -1,4 +1,4 @@
--- Laws that the functions' proofs cite: of classes (Bytes), the step table (Steps), the place of refusal 2 (Places), digits and strings (Runs),
+-- Laws that the functions' proofs cite: of bytes and their classes (Bytes), the step table (Steps), the place of refusal 2 (Places), digits and strings (Runs),
 -- and terms as they are written (Pieces); and examples (Examples).
 pub mod Bytes
 pub mod Examples

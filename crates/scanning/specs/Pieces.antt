@@ -1,14 +1,11 @@
 -- A term as it is written, as the code answers it: what it is, how long its digits or its bytes are, and their value.
 -- The bytes themselves stay in the text.
-use mathlib.Core.Bool.{Bool, cond, decide}
+use mathlib.Core.Bool.{Bool, decide}
 use mathlib.Core.List.{List}
 use Prim.Native.Nat.{ℕ, suc, min}
-use lib.Dec.{eqb}
 use lib.ListN.{length}
-use Rattle.order.specs.Order.{basic, list}
-use Rattle.order.specs.Types.{integer, string, atom, Kind}
 use Rattle.order.specs.Values.{kindFrom}
-use Rattle.text.specs.Bytes.{letter, digit?, Begins, b-digit, b-quote, b-letter, b-e, b-none}
+use Rattle.text.specs.Bytes.{digit?, Begins, b-digit, b-quote, b-letter, b-e, b-none}
 use Rattle.text.specs.Grammar.{Raw, raw-int, raw-str, raw-var, raw-empty}
 use Rattle.text.specs.Numbers.{value}
 use Rattle.text.specs.Sizes.{largestInteger}
@@ -42,13 +39,6 @@ begun (b-quote h) = Str
 begun (b-letter k h) = Var (kindFrom k)
 begun (b-e h) = Empty
 begun (b-none d q l e) = Empty
-
--- the type that a letter names
-abbrev pub kindAt : ℕ → Kind
-kindAt b =
-    cond (eqb b (letter (basic integer))) (basic integer)
-    (cond (eqb b (letter (basic string))) (basic string)
-    (cond (eqb b (letter (basic atom))) (basic atom) list))
 
 abbrev pub isDigit : ℕ → Bool
 isDigit b = decide (digit? b)

@@ -1,14 +1,13 @@
 // Texts from the left, byte by byte: where a text stops being of the grammar, and which term stands at a place.
-// Both go by one table over all bytes (tables.rt); what its classes mean, and that they are the grammar's, is in specs/Classes.antt.
+// The place goes by one table over all bytes (tables.rt); what its classes mean, and that they are the grammar's, is in specs/Classes.antt.
 ghost use mathlib.Core.Path.{_≡_};
 ghost use Prim.Native.Nat.{_<_, _≤_};
 ghost use lib.ListN.{length, drop};
-ghost use Rattle.order.specs.Values.{kindFrom};
 ghost use Rattle.text.specs.Bytes.{begins};
 ghost use Rattle.text.specs.Machine.{place2};
 ghost use Rattle.text.specs.Walk.{leadingDigits, untilQuote, front};
 ghost use Rattle.scanning.specs.Classes.{fineOf};
-ghost use Rattle.scanning.specs.Pieces.{capped, counted, withDigits, pieceOf, begun, kindAt, isDigit};
+ghost use Rattle.scanning.specs.Pieces.{capped, counted, withDigits, pieceOf, begun, isDigit};
 ghost use Rattle.scanning.specs.Places.{foundOf};
 ghost use Rattle.scanning.specs.Steps.{next};
 
@@ -18,14 +17,10 @@ use order::Kind;
 use tables::BEFORE;
 use tables::BEHIND;
 use tables::CLASSES;
-use tables::DIGIT;
 use tables::IN_DIGITS;
-use tables::LETTER;
-use tables::QUOTE;
 use tables::REFUSED;
 use tables::STEPS;
 use tables::WIDTH;
-use tables::ZERO;
 
 // Document 01's place of refusal 2, where there is one.
 pub enum Found {
@@ -133,26 +128,19 @@ fn quoted_from(text: &[u8], at: usize) -> usize
     i - at
 }
 
-// The type that a variable's letter names.
-fn kind_of(b: u8) -> Kind
-    ensures { λ r. ⌜ r ≡ kindFrom (kindAt b) ⌝ }
-{
-    match b {
-        b'i' => Kind::Integer,
-        b's' => Kind::String,
-        b'a' => Kind::Atom,
-        _ => Kind::List,
-    }
-}
-
-// What a byte begins, by its class.
+// What a byte begins. By comparisons: a function that reads the table for one byte would first have to build all of it.
 fn begun_by(b: u8) -> Spelled
     ensures { λ r. ⌜ r ≡ begun (begins b) ⌝ }
 {
-    match class_of(b) {
-        ZERO | DIGIT => Spelled::Int,
-        LETTER => Spelled::Var(kind_of(b)),
-        QUOTE => Spelled::Str,
+    if is_digit(b) {
+        return Spelled::Int;
+    }
+    match b {
+        b'"' => Spelled::Str,
+        b'i' => Spelled::Var(Kind::Integer),
+        b's' => Spelled::Var(Kind::String),
+        b'a' => Spelled::Var(Kind::Atom),
+        b'l' => Spelled::Var(Kind::List),
         _ => Spelled::Empty,
     }
 }

@@ -22,7 +22,7 @@ use Rattle.solving.specs.Answers as answers
 use Rattle.solving.specs.Answers.{bytesOf}
 use Rattle.pieces.specs.Placed.{Placed}
 use Rattle.pieces.proofs.Pieces.{placed-next, placed-as}
-use Rattle.entry_parts.proofs.Pieces.{Piece, piece-as}
+use Rattle.pieces.proofs.Bounds.{Piece, piece-as}
 use Rattle.search.specs.declared.Searched.{Searched}
 use Rattle.search.specs.declared.Searched.the-variants.{Lines, TooSmall, Full}
 use Rattle.search.specs.Answers.{told, searchedOf, foundIn, Searches}

@@ -1,4 +1,4 @@
 pub mod Places
 pub mod Loops
-pub mod Stands
 pub mod Puts
+pub mod Fields

@@ -17,15 +17,15 @@ use Rattle.shown.proofs.Places.{atomPut, runPut, form-atom, form-run, f
 
 -- the member at i, and those behind it
 module _ {A : Type 0} (s : List A) (i : ℕ) (d : A) (l : i < length s) where
-  pub here : drop i s ≡ getD s i d ∷ drop (i + 1) s
+  here : drop i s ≡ getD s i d ∷ drop (i + 1) s
   here = rw (add-one, drop-cons s i d l)
 
-  pub here-of : (n : ℕ) → i < n → drop i (take n s) ≡ getD s i d ∷ drop (i + 1) (take n s)
+  here-of : (n : ℕ) → i < n → drop i (take n s) ≡ getD s i d ∷ drop (i + 1) (take n s)
   here-of n h =
       let k : i < length (take n s) = omega (arith, length-take n s) in
       rw (add-one, drop-cons (take n s) i d k, getD-take n s i d h)
 
-pub no-more : {A : Type 0} (s : List A) (n i : ℕ) → min n (length s) ≤ i → drop i (take n s) ≡ []
+no-more : {A : Type 0} (s : List A) (n i : ℕ) → min n (length s) ≤ i → drop i (take n s) ≡ []
 no-more s n i h = drop-of-length-le (take n s) {i = i} (omega (arith, length-take n s))
 
 -- ---- the terms of a field

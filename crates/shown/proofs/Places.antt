@@ -1,29 +1,27 @@
 -- What goes to a variable's place, by the place. Assumes nothing.
-use mathlib.Core.Path.{_≡_, refl, sym, _∙_, ap}
-use mathlib.Core.Bool.{Bool, true, false, cond, false≢true}
+use mathlib.Core.Path.{_≡_, refl, _∙_, ap}
+use mathlib.Core.Bool.{Bool, true, false, cond}
 use Prim.Native.Nat.{ℕ, _+_, _-_, _*_, _<_, _≤_}
 use native.Mathlib.Omega.{arith}
 use borrow.Author.Tests.{leb-false, le-leb, lt-leb}
 use lib.Dec.{leb}
 use lib.ListN.{set}
 use Rattle.order.specs.Order.{basic, list}
-use Rattle.order.specs.Types.{integer, string, atom, Kind, rank}
+use Rattle.order.specs.Types.{Basic, integer, string, atom, Kind, rank}
 use Rattle.order.specs.Values.{kindOf}
 use Rattle.terms.specs.declared.Form.{Form}
 use Rattle.terms.specs.declared.Form.the-variants.{Int, Str, Var}
 use Rattle.terms.specs.declared.Term.{Term}
-use Rattle.shapes.specs.Shapes.{isList}
 use Rattle.sides.specs.Sides.{numbersOfSide}
 use Rattle.shown.specs.declared.Run.{Run}
 use Rattle.shown.specs.declared.Shown.{Shown}
 use Rattle.shown.specs.Shown.{placeIn}
 use Rattle.shown.specs.Values.{ofKind, showForm, placeBy}
 
-pub atom-rank : (k : Kind) → isList k ≡ false → rank k ≤ 2
-atom-rank (basic integer) h = omega arith
-atom-rank (basic string) h = omega arith
-atom-rank (basic atom) h = omega arith
-atom-rank list h = absurd (false≢true (sym h))
+pub atom-rank : (k : Basic) → rank (basic k) ≤ 2
+atom-rank integer = omega arith
+atom-rank string = omega arith
+atom-rank atom = omega arith
 
 module _ (run : Run) (s : Shown) (value : Term) where
   abbrev pub atomPut : ℕ → Shown

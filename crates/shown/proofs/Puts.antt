@@ -5,7 +5,7 @@ use mathlib.Core.List.{List, [], _∷_, foldl}
 use Prim.Native.Nat.{ℕ, _<_, _≤_}
 use native.Mathlib.Omega.{arith}
 use native.Mathlib.Decide.{ℕ-discrete}
-use borrow.Author.Tests.{eq-eqb, ne-eqb}
+use borrow.Author.Tests.{eq-eqb, ne-eqb, eqb-true}
 use lib.Dec.{eqb}
 use lib.ListN.{length, getD, set, length-set, getD-replicate}
 use lib.Seq.{getD-set-same, getD-set-other}
@@ -25,9 +25,11 @@ use Rattle.shown.specs.declared.Shown.{Shown}
 use Rattle.shown.specs.Shown.{blankRun, blankShown, placeIn, isKnown}
 use Rattle.shown.specs.Values.{withAtom, ofKind}
 use Rattle.shown.proofs.Places.{atom-rank}
-use Rattle.shown.proofs.Stands.{variable-is}
 
 -- ---- places
+
+variable-is : (k j : Kind) (n m : ℕ) → isVariable k n (var j m) ≡ true → (k ≡ j) × (n ≡ m)
+variable-is k j n m e = let h = both-is (same k j) (eqb n m) .0 e in (same-is k j .0 (h .0), eqb-true n m (h .1))
 
 abbrev Numbered : ℕ → Type 0
 Numbered n = n ≤ largestNumber
@@ -36,7 +38,7 @@ pub place-below : (k : Kind) (n : ℕ) → Numbered n → placeIn k n < 64
 place-below k n h = omega (arith, rank-below k)
 
 atom-below : (k : Basic) (n : ℕ) → Numbered n → placeIn (basic k) n < 48
-atom-below k n h = omega (arith, atom-rank (basic k) refl)
+atom-below k n h = omega (arith, atom-rank k)
 
 -- no two variables share a place
 same-place : (k j : Kind) (n m : ℕ) → Numbered n → Numbered m → placeIn k n ≡ placeIn j m → (k ≡ j) × (n ≡ m)
@@ -84,7 +86,7 @@ module _ (value : Kind → ℕ → Term) where
     right-put (var list m) i =
         record {
           long = (length-set (s .known) (placeIn list m) _ ∙ ok .long .0, ok .long .1, length-set (s .runs) m run ∙ ok .long .2);
-          atoms-are = λ k n h e. ok .atoms-are k n h (sym (getD-set-other (s .known) (placeIn list m) (placeIn (basic k) n) _ false (λ q. omega (arith, atom-rank (basic k) refl, q))) ∙ e);
+          atoms-are = λ k n h e. ok .atoms-are k n h (sym (getD-set-other (s .known) (placeIn list m) (placeIn (basic k) n) _ false (λ q. omega (arith, atom-rank k, q))) ∙ e);
         }
     right-put (var (basic j) m) i =
         record {

@@ -3,7 +3,7 @@ use mathlib.Core.Bool.{true, cond}
 use mathlib.Core.List.{List, [], _∷_}
 use Prim.Native.Nat.{ℕ}
 use lib.Dec.{leb}
-use lib.ListN.{set}
+use lib.ListN.{set, take}
 use Rattle.order.specs.Order.{basic, list}
 use Rattle.order.specs.Types.{Kind}
 use Rattle.order.specs.Values.{kindOf}
@@ -12,7 +12,6 @@ use Rattle.terms.specs.declared.Form.the-variants.{Int, Str, Var}
 use Rattle.terms.specs.declared.Term.{Term}
 use Rattle.terms.specs.declared.Field.{Field}
 use Rattle.sides.specs.Sides.{numbersOfSide}
-use Rattle.shapes.specs.Shapes.{termsOf}
 use Rattle.fillings.specs.declared.Fillings.{Fillings}
 use Rattle.fillings.specs.States.{look}
 use Rattle.shown.specs.declared.Run.{Run}
@@ -60,6 +59,10 @@ abbrev pub showTerms : Run → Fillings → Shown → List Term → List Term �
 showTerms run st s [] us = s
 showTerms run st s (t ∷ ts) [] = s
 showTerms run st s (t ∷ ts) (u ∷ us) = showTerms run st (showTerm run s t (look st u)) ts us
+
+-- a count beyond the array counts for the whole array
+abbrev pub termsOf : Field → List Term
+termsOf f = take (f .n) (f .terms)
 
 abbrev pub showField : Run → Fillings → Shown → Field → Field → Shown
 showField run st s f g = showTerms run st s (termsOf f) (g .terms)

@@ -1,4 +1,4 @@
-// The values of one rule's variables on an entry of the overlap list, as the line writer takes them: their places, and those of one field.
+// The values of one rule's variables on an entry, as the line writer takes them: their places, and those of one field.
 ghost use mathlib.Core.Path.{_≡_};
 ghost use Prim.Native.Nat.{min};
 ghost use Rattle.shown.specs.Shown.{blankShown};

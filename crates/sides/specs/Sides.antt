@@ -1,6 +1,5 @@
 -- The atoms and variables of a pair of rules as values. Document 01: "variables are distinct by side even if spelled alike";
 -- in a value the numbers of the right rule's atom variables stand above those of the left rule's.
-use mathlib.Core.List.{List, _∷_, _++_, map}
 use Prim.Native.Nat.{ℕ, suc, _+_, _≤_}
 use native.Mathlib.Decide.{ℕ-discrete}
 use Rattle.order.specs.Order.{basic, list}
@@ -11,19 +10,16 @@ use Rattle.text.specs.Sizes.{largestNumber}
 use Rattle.text.specs.Terms.{Con, OurTerm}
 use Rattle.text.specs.Limits.{TermIn}
 use Rattle.instance.specs.Constants.{consts}
-use Rattle.unifiers.specs.Shapes.{Atom, fixed, free, Side, left, right, Variable, of, pairVars, Shape, closed, gapped}
+use Rattle.unifiers.specs.Shapes.{Atom, fixed, free, Side, left, right, Variable, of, pairVars}
 use Rattle.unifiers.specs.Joins.{State}
 use Rattle.unifiers.specs.Overlaps.{Mark, named, place}
 use Rattle.terms.specs.declared.Term.{Term}
 use Rattle.terms.specs.Values.{encodeTerm}
 
--- ---- the theory's atoms, shapes and states at document 01's constants
+-- ---- the theory's atoms and states at document 01's constants
 
 abbrev pub OurAtom : Type 0
 OurAtom = Atom Con (Variable Basic ℕ)
-
-abbrev pub OurShape : Type 0
-OurShape = Shape OurAtom ℕ
 
 abbrev pub OurState : Type 0
 OurState = State basics consts (pairVars basics ℕ-discrete)
@@ -47,10 +43,6 @@ abbrev pub sideTerm : Side → OurTerm → OurTerm
 sideTerm d (con c) = con c
 sideTerm d (var (basic k) n) = var (basic k) (sided d n)
 sideTerm d (var list n) = var list n
-
-abbrev pub shapeTerms : OurShape → List OurTerm
-shapeTerms (closed xs) = map atomTerm xs
-shapeTerms (gapped f l t) = map atomTerm f ++ var list l ∷ map atomTerm t
 
 -- a term of an entry before the renumbering: a list variable has the place of its field
 abbrev pub markTerm : TermOver basics consts (Mark ℕ) → OurTerm

@@ -1,4 +1,4 @@
--- The right rule of a pair as a value. `right-encoded` of proofs/Sides says that it is the value of the rule with `sideTerm right`.
+-- A field of the right rule of a pair as a value. `right-field` of proofs/Sides says that it is the value of the field with `sideTerm right`.
 use mathlib.Core.Bool.{cond}
 use mathlib.Core.List.{List, _++_, map}
 use Prim.Native.Nat.{ℕ}
@@ -11,7 +11,6 @@ use Rattle.terms.specs.declared.Form.{Form}
 use Rattle.terms.specs.declared.Form.the-variants.{Int, Str, Var}
 use Rattle.terms.specs.declared.Term.{Term}
 use Rattle.terms.specs.declared.Field.{Field}
-use Rattle.terms.specs.declared.RuleSide.{RuleSide}
 use Rattle.unifiers.specs.Shapes.{right}
 use Rattle.sides.specs.Sides.{numbersOfSide, sided}
 
@@ -34,6 +33,3 @@ mapFirst g n s = map g (take n s) ++ drop n s
 
 abbrev pub rightField : Field → Field
 rightField f = record { n = f .n; terms = mapFirst rightTerm (f .n) (f .terms) }
-
-abbrev pub rightRule : RuleSide → RuleSide
-rightRule r = record { n = r .n; fields = mapFirst rightField (r .n) (r .fields) }

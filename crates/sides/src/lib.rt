@@ -9,7 +9,7 @@ use terms::Form;
 use terms::Term;
 
 // The number of a variable of the right rule: 16 higher for the types below list. (A number over 15, which no reading returns, stays as it is.)
-pub fn right_number(k: Kind, n: u8) -> u8
+fn right_number(k: Kind, n: u8) -> u8
     ensures { λ r. ⌜ r ≡ rightNumber (kindOf k) n ⌝ }
 {
     if 16 <= n {

@@ -26,7 +26,7 @@ use Rattle.terms.specs.Values.{pad, blankTerm, blankField, blankSlipField, enco
 use Rattle.scanning.specs.Pieces.{capped}
 use Rattle.text_terms.specs.Terms.{termFrom}
 use Rattle.text_terms.proofs.Copies.{pad-set}
-use Rattle.text_passes.specs.Build.{isEmpty, addRaw, pushField, addItem, pushSlipField, turns, ofRaw, turned, put, whole, builtSide, builtSlip}
+use Rattle.text_passes.specs.Build.{isEmpty, addRaw, pushField, addItem, pushSlipField, turns, turned, put, whole, builtSide, builtSlip}
 
 -- one more in the place behind the used ones, of what a list of A is encoded as
 module _ {A B : Type 0} (enc : A → B) (d : B) (w : ℕ) (s : List A) (a : A) (h : length s < w) where
@@ -77,10 +77,10 @@ module _ {F R : Type 0} (encF : List OurTerm → F) (encR : List (List OurTerm) 
       go false = refl
 
   -- the further terms of a field
-  more : (rs : List Raw) (p n i : ℕ) (b : R × F) → foldl (put blank (ofRaw add) push) b (marksF p n (suc (suc i)) rs) ≡ (b .0, foldl add (b .1) rs)
+  more : (rs : List Raw) (p n i : ℕ) (b : R × F) → foldl (put blank add push) b (marksF p n (suc (suc i)) rs) ≡ (b .0, foldl add (b .1) rs)
   more [] p n i b = refl
   more (r ∷ rs) p n i b =
-      ap (λ (c : Bool). foldl (put blank (ofRaw add) push) (turned blank (ofRaw add) push c b .0, add (turned blank (ofRaw add) push c b .1) r) (marksF (suc (p + length (spell r))) n (suc (suc (suc i))) rs)) (turns-not n (suc (suc i)) (λ e. omega arith))
+      ap (λ (c : Bool). foldl (put blank add push) (turned blank add push c b .0, add (turned blank add push c b .1) r) (marksF (suc (p + length (spell r))) n (suc (suc (suc i))) rs)) (turns-not n (suc (suc i)) (λ e. omega arith))
       ∙ more rs (suc (p + length (spell r))) n (suc i) (b .0, add (b .1) r)
 
   turns-yes : (n : ℕ) → turns (suc (suc n)) 1 ≡ true
@@ -88,15 +88,15 @@ module _ {F R : Type 0} (encF : List OurTerm → F) (encR : List (List OurTerm) 
 
   -- the fields behind the first, which is cur
   later : (x : List (List Raw)) (p n : ℕ) (done : List (List OurTerm)) (cur : List OurTerm) → All FieldOk x → All Fine x → length done + length x < mostFields
-      → whole blank (ofRaw add) push (foldl (put blank (ofRaw add) push) (encR done, encF cur) (marksT p (suc (suc n)) x)) ≡ encR (done ++ cur ∷ fieldsOf x)
+      → whole blank add push (foldl (put blank add push) (encR done, encF cur) (marksT p (suc (suc n)) x)) ≡ encR (done ++ cur ∷ fieldsOf x)
   later [] p n done cur g o h = push-is done cur (omega arith)
   later ([] ∷ fs) p n done cur g o h = absurd (g .0 .0)
   later ((r ∷ rs) ∷ fs) p n done cur g o h =
       let q = suc (p + length (spellF (r ∷ rs))) in
       let field = r ∷ rs in
-      ap (whole blank (ofRaw add) push) (foldl-append (put blank (ofRaw add) push) (encR done, encF cur) (marksF p (suc (suc n)) 1 field) (marksT q (suc (suc (suc n))) fs)
-      ∙ ap (λ (b : R × F). foldl (put blank (ofRaw add) push) b (marksT q (suc (suc (suc n))) fs))
-      (ap (λ (c : Bool). foldl (put blank (ofRaw add) push) (turned blank (ofRaw add) push c (encR done, encF cur) .0, add (turned blank (ofRaw add) push c (encR done, encF cur) .1) r) (marksF (suc (p + length (spell r))) (suc (suc n)) 2 rs)) (turns-yes n)
+      ap (whole blank add push) (foldl-append (put blank add push) (encR done, encF cur) (marksF p (suc (suc n)) 1 field) (marksT q (suc (suc (suc n))) fs)
+      ∙ ap (λ (b : R × F). foldl (put blank add push) b (marksT q (suc (suc (suc n))) fs))
+      (ap (λ (c : Bool). foldl (put blank add push) (turned blank add push c (encR done, encF cur) .0, add (turned blank add push c (encR done, encF cur) .1) r) (marksF (suc (p + length (spell r))) (suc (suc n)) 2 rs)) (turns-yes n)
       ∙ more rs (suc (p + length (spell r))) (suc (suc n)) 0 (push (encR done) (encF cur), add blank r)
       ∙ ap₂ (λ (a : R) (c : F). (a, c)) (push-is done cur (omega arith))
       (ap (λ (f : F). foldl add f field) (sym blank-is) ∙ adds encF add w add-is field [] (o .0 .0) (omega (arith, o .0 .1)))))
@@ -105,28 +105,28 @@ module _ {F R : Type 0} (encF : List OurTerm → F) (encR : List (List OurTerm) 
 
   -- THE WHOLE
   pub built-is : (x : List (List Raw)) → TextOk x → All Fine x → length x ≤ mostFields
-      → whole blank (ofRaw add) push (foldl (put blank (ofRaw add) push) (encR [], blank) (marks x)) ≡ encR (fieldsOf x)
+      → whole blank add push (foldl (put blank add push) (encR [], blank) (marks x)) ≡ encR (fieldsOf x)
   built-is [] g o h = absurd (g .0)
   built-is ([] ∷ fs) g o h = absurd (g .1 .0 .0)
   built-is ((r ∷ rs) ∷ fs) g o h =
       let q = suc (0 + length (spellF (r ∷ rs))) in
       let field = r ∷ rs in
-      ap (whole blank (ofRaw add) push) (foldl-append (put blank (ofRaw add) push) (encR [], blank) (marksF 0 1 1 field) (marksT q 2 fs)
-      ∙ ap (λ (c : R × F). foldl (put blank (ofRaw add) push) c (marksT q 2 fs))
+      ap (whole blank add push) (foldl-append (put blank add push) (encR [], blank) (marksF 0 1 1 field) (marksT q 2 fs)
+      ∙ ap (λ (c : R × F). foldl (put blank add push) c (marksT q 2 fs))
       (more rs (suc (0 + length (spell r))) 1 0 (encR [], add blank r)
       ∙ ap (λ (c : F). (encR [], c)) (ap (λ (f : F). foldl add f field) (sym blank-is) ∙ adds encF add w add-is field [] (o .0 .0) (omega (arith, o .0 .1)))))
       ∙ later fs q 0 [] (fieldOf field) (g .1 .1) (o .1) (omega arith)
 
 -- one term put, as code does it: whether a field is complete, then the term
-module _ {F R : Type 0} (blank : F) (add : F → Mark → F) (push : R → F → R) where
+module _ {F R : Type 0} (blank : F) (add : F → Raw → F) (push : R → F → R) where
   pub turned-yes : (c : Bool) (b : R × F) (r : R) (f : F) → c ≡ true → r ≡ push (b .0) (b .1) → f ≡ blank → (r, f) ≡ turned blank add push c b
   turned-yes c b r f e p q = ap₂ (λ (x : R) (y : F). (x, y)) p q ∙ ap (λ (d : Bool). turned blank add push d b) (sym e)
 
   pub turned-no : (c : Bool) (b : R × F) (r : R) (f : F) → c ≡ false → r ≡ b .0 → f ≡ b .1 → (r, f) ≡ turned blank add push c b
   turned-no c b r f e p q = ap₂ (λ (x : R) (y : F). (x, y)) p q ∙ ap (λ (d : Bool). turned blank add push d b) (sym e)
 
-  pub put-is : (b j : R × F) (m : Mark) (g : F) → j ≡ turned blank add push (turns (m .inField) (m .index)) b → g ≡ add (j .1) m → (j .0, g) ≡ put blank add push b m
-  put-is b j m g e q = ap (λ (y : F). (j .0, y)) q ∙ ap (λ (i : R × F). (i .0, add (i .1) m)) e
+  pub put-is : (b j : R × F) (m : Mark) (g : F) → j ≡ turned blank add push (turns (m .inField) (m .index)) b → g ≡ add (j .1) (m .raw) → (j .0, g) ≡ put blank add push b m
+  put-is b j m g e q = ap (λ (y : F). (j .0, y)) q ∙ ap (λ (i : R × F). (i .0, add (i .1) (m .raw))) e
 
 -- ---- the two instances
 

@@ -30,7 +30,7 @@ use denote.Slice.{sliceTy}
 use denote.Struct.Laws as LL
 use denote.Triple.Statement.{Contract, Triple}
 use lib.Ieee.Bits.{is-true, is-false}
-use Rattle.text.specs.Marks.{Mark}
+use Rattle.text.specs.Grammar.{Raw}
 use Rattle.text.specs.Walk.{walked as terms-of}
 use Rattle.scanning.specs.declared.Piece.{Piece}
 use Rattle.scanning.specs.Pieces.{pieceOf}
@@ -98,7 +98,7 @@ module _ {M : Type 1} (𝓤 : URA M) (H : Heap 𝓤) (A : Atoms 𝓤) (mem : Mem
 
 -- ---- the walk
 module _ {M : Type 1} (𝓤 : URA M) (H : Heap 𝓤) (A : Atoms 𝓤) (W : Given 𝓤 H A) (mem : Memory → SProp 𝓤) (run : Routine → Fun 𝓤) (κ : Lft) (q : Share) (s : RefT (List ℕ))
-    (#blank-whole #blank-field #push #with : Name) (X Y : Spelt) (bR : X .row .Denot) (bF : Y .row .Denot) (add : Y .row .Denot → Mark → Y .row .Denot) (push : X .row .Denot → Y .row .Denot → X .row .Denot) where
+    (#blank-whole #blank-field #push #with : Name) (X Y : Spelt) (bR : X .row .Denot) (bF : Y .row .Denot) (add : Y .row .Denot → Raw → Y .row .Denot) (push : X .row .Denot → Y .row .Denot → X .row .Denot) where
   -- what the walk keeps of the text
   abbrev Own : List (Item 𝓤)
   Own = Kept 𝓤 H A W mem run κ q s
@@ -122,7 +122,7 @@ module _ {M : Type 1} (𝓤 : URA M) (H : Heap 𝓤) (A : Atoms 𝓤) (W : Given
 
   -- a field with the term
   abbrev f′ : At → Y .row .Denot → Y .row .Denot
-  f′ a f = add f (markAt a (termAt (now s) a))
+  f′ a f = add f (termAt (now s) a)
 
   abbrev turning : At → Bool
   turning a = turns (a .field) (a .index)
@@ -140,7 +140,7 @@ module _ {M : Type 1} (𝓤 : URA M) (H : Heap 𝓤) (A : Atoms 𝓤) (W : Given
       (k-whole : Returns 𝓤 H A (𝓣 .C) #blank-whole [] (X .row) bR [] (raw (emp 𝓤))) (k-field : Returns 𝓤 H A (𝓣 .C) #blank-field [] (Y .row) bF [] (raw (emp 𝓤)))
       (k-push : (x : X .row .Denot) (f : Y .row .Denot) → Good X x → Good Y f → Returns 𝓤 H A (𝓣 .C) #push (X .val x ∷ Y .val f ∷ []) (X .row) (push x f) [] (raw (emp 𝓤)))
       (k-with : (f : Y .row .Denot) (a : At) → Good Y f → a .place < 2 ^ 64 → Piece-is (piece a) → a .place < length (now s)
-      → Returns 𝓤 H A (𝓣 .C) #with (Y .val f ∷ mach-text s ∷ vint w64 (a .place) ∷ mach-piece (piece a) ∷ []) (Y .row) (add f (markAt a (termAt (now s) a))) (‵ (Text κ s) ∷ Token 𝓤 κ q ∷ []) (Token 𝓤 κ q)) where
+      → Returns 𝓤 H A (𝓣 .C) #with (Y .val f ∷ mach-text s ∷ vint w64 (a .place) ∷ mach-piece (piece a) ∷ []) (Y .row) (add f (termAt (now s) a)) (‵ (Text κ s) ∷ Token 𝓤 κ q ∷ []) (Token 𝓤 κ q)) where
     abbrev C : Calls 𝓤 H
     C = 𝓣 .C
 

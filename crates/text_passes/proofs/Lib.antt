@@ -1,6 +1,5 @@
 pub mod Places
 pub mod Build
-pub mod Tokens
 pub mod Unknown
 pub mod Loops
 pub mod Terms

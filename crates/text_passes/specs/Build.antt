@@ -55,12 +55,8 @@ pushSlipField s f = cond (ltb (s .n) mostFields) (record { n = s .n + 1; fields 
 abbrev pub turns : ℕ → ℕ → Bool
 turns field index = ltb 1 field && eqb index 1
 
--- what a mark adds is what its written term does
-abbrev pub ofRaw : {F : Type 0} → (F → Raw → F) → F → Mark → F
-ofRaw add f m = add f (m .raw)
-
--- over any fields F and wholes R: what a mark adds to a field, how a field is added to the whole, and the blank field
-module _ {F R : Type 0} (blank : F) (add : F → Mark → F) (push : R → F → R) where
+-- over any fields F and wholes R: what a written term adds to a field, how a field is added to the whole, and the blank field
+module _ {F R : Type 0} (blank : F) (add : F → Raw → F) (push : R → F → R) where
   abbrev pub Building : Type 0
   Building = R × F
 
@@ -69,13 +65,13 @@ module _ {F R : Type 0} (blank : F) (add : F → Mark → F) (push : R → F →
   turned false b = b
 
   abbrev pub put : Building → Mark → Building
-  put b m = let c = turned (turns (m .inField) (m .index)) b in (c .0, add (c .1) m)
+  put b m = let c = turned (turns (m .inField) (m .index)) b in (c .0, add (c .1) (m .raw))
 
   abbrev pub whole : Building → R
   whole b = push (b .0) (b .1)
 
 abbrev pub builtSide : List Mark → RuleSide
-builtSide ms = whole blankField (ofRaw addRaw) pushField (foldl (put blankField (ofRaw addRaw) pushField) (blankSide, blankField) ms)
+builtSide ms = whole blankField addRaw pushField (foldl (put blankField addRaw pushField) (blankSide, blankField) ms)
 
 abbrev pub builtSlip : List Mark → Slip
-builtSlip ms = whole blankSlipField (ofRaw addItem) pushSlipField (foldl (put blankSlipField (ofRaw addItem) pushSlipField) (blankSlip, blankSlipField) ms)
+builtSlip ms = whole blankSlipField addItem pushSlipField (foldl (put blankSlipField addItem pushSlipField) (blankSlip, blankSlipField) ms)

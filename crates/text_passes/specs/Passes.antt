@@ -11,15 +11,12 @@ use Rattle.terms.specs.declared.Slip.{Slip}
 use Rattle.terms.specs.Values.{blankSide, blankSlip}
 use Rattle.scanning.specs.declared.Found.{Found}
 use Rattle.scanning.specs.declared.Found.the-variants.{Nothing}
-use Rattle.tokens.specs.declared.TokenRule.{TokenRule}
-use Rattle.tokens.specs.Tokens.{blankTokenRule}
 use Rattle.verdicts.specs.Verdicts.{sortOf}
 use Rattle.refusals.specs.declared.Survey.{Survey}
 use Rattle.refusals.specs.Refusals.{surveyMark, nothingYet}
 use Rattle.scanning.specs.Places.{foundOf}
 use Rattle.unknown.specs.Unknown.{unknownAt}
 use Rattle.text_passes.specs.Build.{builtSide, builtSlip}
-use Rattle.text_passes.specs.Tokens.{builtTokens}
 
 -- more bytes than document 01 lets a slip have, the longer of the two
 abbrev pub tooLong : List ℕ → Bool
@@ -37,6 +34,3 @@ sideIn t = cond (tooLong t) blankSide (builtSide (walked t))
 
 abbrev pub slipIn : List ℕ → Slip
 slipIn t = cond (tooLong t) blankSlip (builtSlip (walked t))
-
-abbrev pub tokensIn : Bool → List ℕ → TokenRule
-tokensIn right t = cond (tooLong t) blankTokenRule (builtTokens right (walked t))

@@ -1,5 +1,5 @@
 // Going through the terms of a text: all refusals of one side from 3 on in one pass, the first variable that a left side lacks,
-// and the value or the tokens that a text without refusals says.
+// and the value that a text without refusals says.
 // The passes move a reader from term to term. They are proved by hand; the public functions over them have plain parameters.
 ghost use mathlib.Core.Path.{_≡_};
 ghost use mathlib.Core.List.{foldl};
@@ -15,13 +15,11 @@ ghost use Rattle.refusals.specs.Refusals.{surveyMark, nothingYet};
 ghost use Rattle.text_passes.specs.Places.{first, spelled, colonAt, behind, termAt, started, passed};
 ghost use Rattle.text_passes.specs.Build.{emptyBy, pushTerm, addRaw, pushField, pushItem, addItem, pushSlipField, turns};
 ghost use Rattle.text_passes.specs.Build.{builtSide, builtSlip};
-ghost use Rattle.tokens.specs.Tokens.{blankTokens, blankTokenRule};
-ghost use Rattle.text_passes.specs.Tokens.{numberOn, tokenAt, pushToken, withToken, pushTokens, builtTokens};
 ghost use Rattle.text_passes.specs.Unknown.{unknownWith, unknownMark};
-ghost use Rattle.text_passes.specs.Passes.{surveyIn, unknownIn, sideIn, slipIn, tokensIn};
+ghost use Rattle.text_passes.specs.Passes.{surveyIn, unknownIn, sideIn, slipIn};
 ghost use Rattle.text_passes.specs.Fields.{stores, fieldCount, sideField, slipField};
+ghost use Rattle.text_passes.specs.Notes.{notedIn};
 use linearity::Lists;
-use order::Kind;
 use refusals::At;
 use refusals::Survey;
 use scanning::Found;
@@ -32,10 +30,6 @@ use terms::RuleSide;
 use terms::Slip;
 use terms::SlipField;
 use terms::Term;
-use tokens::Token;
-use tokens::TokenField;
-use tokens::TokenRule;
-use tokens::What;
 use verdicts::Verdict;
 
 // A text with the place where it is read. Document 01: "the reading place travels together with the text it reads".
@@ -331,114 +325,6 @@ fn build_slip(text: &[u8]) -> Slip
     push_slip_field(slip, field)
 }
 
-// The tokens of a field with no terms.
-fn blank_tokens() -> TokenField
-    ensures { λ r. ⌜ r ≡ blankTokens ⌝ }
-{
-    let t = tokens::blank_token();
-    TokenField {
-        n: 0,
-        tokens: [t; 16],
-    }
-}
-
-// The tokens of a rule with no fields.
-pub fn blank_token_rule() -> TokenRule
-    ensures { λ r. ⌜ r ≡ blankTokenRule ⌝ }
-{
-    let f = blank_tokens();
-    TokenRule {
-        n: 0,
-        fields: [f; 4],
-    }
-}
-
-// A variable's number on its side: the right rule's atom variables have numbers 16 higher.
-fn number_on(right: bool, k: Kind, n: u8) -> u8
-    ensures { λ r. ⌜ r ≡ numberOn right k n ⌝ }
-{
-    if !right {
-        return n;
-    }
-    sides::right_number(k, n)
-}
-
-// The token of the term p, which stands at a place of the right text or the left.
-fn token_at(p: Piece, place: usize, right: bool) -> Token
-    requires { ⌜ place ≤ 8192 ⌝ }
-    ensures { λ r. ⌜ r ≡ tokenAt right place p ⌝ }
-{
-    let here = Token {
-        what: What::Text(right, place as u16),
-    };
-    let what = p.what;
-    match what {
-        Spelled::Int => here,
-        Spelled::Str => here,
-        Spelled::Var(k) => tokens::variable(k, number_on(right, k, (p.value % 256) as u8)),
-        Spelled::Empty => tokens::blank_token(),
-    }
-}
-
-fn push_token(f: TokenField, t: Token) -> TokenField
-    ensures { λ r. ⌜ r ≡ pushToken f t ⌝ }
-{
-    let n = f.n;
-    if 16 <= n {
-        return f;
-    }
-    let mut g = f;
-    g.tokens[n] = t;
-    g.n = n + 1;
-    g
-}
-
-// The field with the token of the term p behind its others; `empty` adds none.
-fn with_token(f: TokenField, place: usize, p: Piece, right: bool) -> TokenField
-    requires { ⌜ place ≤ 8192 ⌝ }
-    ensures { λ r. ⌜ r ≡ withToken right f place p ⌝ }
-{
-    if is_empty(p) {
-        return f;
-    }
-    push_token(f, token_at(p, place, right))
-}
-
-fn push_tokens(r: TokenRule, f: TokenField) -> TokenRule
-    ensures { λ s. ⌜ s ≡ pushTokens r f ⌝ }
-{
-    let n = r.n;
-    if 4 <= n {
-        return r;
-    }
-    let mut s = r;
-    s.fields[n] = f;
-    s.n = n + 1;
-    s
-}
-
-// The tokens of the rule that a text without refusals says.
-fn build_tokens(text: &[u8], right: bool) -> TokenRule
-    requires { ⌜ length (now text) ≤ 8192 ⌝ }
-    ensures { λ r. ⌜ r ≡ builtTokens right (walked (now (text .entry))) ⌝ }
-{
-    let mut rule = blank_token_rule();
-    let mut field = blank_tokens();
-    let mut r = start(text);
-    while has_term(r) {
-        let p = term(r);
-        if is_turn(r.at) {
-            rule = push_tokens(rule, field);
-            let next = blank_tokens();
-            field = next;
-        }
-        field = with_token(field, r.at.place, p, right);
-        let q = passed(r, p);
-        r = q;
-    }
-    push_tokens(rule, field)
-}
-
 // ---- the public functions: a text of more than 8,192 bytes, which is no rule and no slip, is not gone through
 
 // All refusals from 3 on.
@@ -479,16 +365,6 @@ pub fn slip_in(text: &[u8]) -> Slip
         return terms::blank_slip();
     }
     build_slip(text)
-}
-
-// The rule's tokens, as the right one of a pair or the left one.
-pub fn tokens_in(text: &[u8], right: bool) -> TokenRule
-    ensures { λ r. ⌜ r ≡ tokensIn right (now (text .entry)) ⌝ }
-{
-    if 8192 < text.len() {
-        return blank_token_rule();
-    }
-    build_tokens(text, right)
 }
 
 // ---- one field of a text at a time
@@ -587,4 +463,27 @@ pub fn slip_field(text: &[u8], j: usize) -> SlipField
     }
     f.n = n;
     f
+}
+
+// The terms of a rule's side into the tables of a pair, and how many fields there are.
+pub fn note_side(text: &[u8], right: bool, row: &mut [u8], texts: &mut [u8]) -> usize
+    ensures { λ r. ⌜ r ≡ fieldCount (now (text .entry)) ⌝ }
+    ensures { λ _. ⌜ now (row .exit) ≡ (notedIn right (now (text .entry)) (now (row .entry)) (now (texts .entry))) .0 ⌝ }
+    ensures { λ _. ⌜ now (texts .exit) ≡ (notedIn right (now (text .entry)) (now (row .entry)) (now (texts .entry))) .1 ⌝ }
+{
+    if 8192 < text.len() {
+        return 0;
+    }
+    let mut n: usize = 0;
+    let mut a = first();
+    while a.place < text.len() {
+        n = a.field;
+        let p = scanning::piece_at(text, a.place);
+        pair_table::note(row, texts, right, text, a.place, a.field, p);
+        a = behind(text, a, p);
+    }
+    if 4 < n {
+        return 4;
+    }
+    n
 }

@@ -81,8 +81,7 @@ pub extern "C" fn yopobrush_read_rule(text: &[u8]) -> Reading
 pub extern "C" fn yopobrush_list_overlaps(left: &[u8], right: &[u8], out: &mut [u8]) -> Listing
     ensures { λ r. ⌜ LibraryLists (now (left .entry)) (now (right .entry)) (now (out .entry)) r (now (out .exit)) ⌝ }
 {
-    let mut room = [0u8; 1];
-    let said = overlaps::list_texts(left, right, &mut room, out);
+    let said = overlaps::list_texts(left, right, out);
     let left_verdict = said.left;
     let right_verdict = said.right;
     let listed = said.listed;

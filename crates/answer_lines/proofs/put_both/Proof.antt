@@ -9,7 +9,7 @@ use Rattle.entries.specs.declared.Entry.{Entry}
 use Rattle.renumbering.specs.declared.Names.{Names}
 use Rattle.shown.specs.declared.Shown.{Shown}
 use Rattle.entry_parts.specs.Shown.{shownBindings}
-use Rattle.entry_parts.proofs.Pieces.{Piece, piece-next}
+use Rattle.pieces.proofs.Bounds.{Piece, piece-next}
 use Rattle.answer_lines.specs.Sizes.{bindingsBound}
 use Rattle.answer_lines.proofs.put_both.Statement.{statement}
 use Rattle.answer_lines.proofs.put_both.Tie as tie

@@ -1,6 +1,6 @@
 -- `answer_lines::put_parts` meets its contract. Assumes nothing.
 use borrow.Author.Needs.{needs}
-use Rattle.entry_parts.proofs.Pieces.{piece-as}
+use Rattle.pieces.proofs.Bounds.{piece-as}
 use Rattle.answer_lines.specs.Sizes.{bindingsBound}
 use Rattle.answer_lines.proofs.Parts.{parts-are}
 use Rattle.answer_lines.proofs.put_parts.Statement.{statement}

@@ -1,7 +1,7 @@
 -- `answer_lines::put_whole` meets its contract: the bindings and the newline. Assumes nothing.
 use native.Mathlib.Omega.{arith}
 use Rattle.text.specs.Ascii.{newline}
-use Rattle.entry_parts.proofs.Pieces.{piece-next, piece-byte}
+use Rattle.pieces.proofs.Bounds.{piece-next, piece-byte}
 use Rattle.answer_lines.specs.Sizes.{bindingsBound, answerBound}
 use Rattle.answer_lines.specs.Answers.{bindingsOf}
 use borrow.Author.Needs.{needs}

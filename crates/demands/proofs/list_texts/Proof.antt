@@ -10,14 +10,10 @@ list-texts-requires c κs = search needs
 same-length : tie.Need-same-length
 same-length c = search needs
 
-same-length-2 : tie.Need-same-length-2
-same-length-2 c = search needs
-
 returns : tie.Need-returns
 returns c =
-    let z = c .before .before .before .before .before .before .before .before .before .before .before .args in
-    let o = c .before .before .before .before .list-texts .ensures in
-    (texts-shared (z .left .now) (z .right .now) (o .0), o .1)
+    let z = c .before .before .before .before .before .before .before .args in
+    texts-shared (z .left .now) (z .right .now) (c .before .before .list-texts .ensures)
 
 pub list-texts-spec : {M : Type 1} → statement M
-list-texts-spec = tie.close (tie.spec list-texts-requires same-length same-length-2 returns)
+list-texts-spec = tie.close (tie.spec list-texts-requires same-length returns)

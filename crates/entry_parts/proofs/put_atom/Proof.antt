@@ -3,7 +3,7 @@ use mathlib.Core.List.{[], _∷_}
 use native.Mathlib.Omega.{arith}
 use Rattle.order.specs.Values.{kindOf}
 use Rattle.entry_parts.specs.Shown.{bindingTo}
-use Rattle.entry_parts.proofs.Pieces.{piece-as}
+use Rattle.pieces.proofs.Bounds.{piece-as}
 use Rattle.entry_parts.proofs.Bindings.{front-value, one-term}
 use borrow.Author.Needs.{needs}
 use Rattle.entry_parts.proofs.put_atom.Statement.{statement}

@@ -1,6 +1,6 @@
 -- `entry_parts::put_byte` meets its contract. Assumes nothing.
 use borrow.Author.Needs.{needs}
-use Rattle.entry_parts.proofs.Pieces.{placed-out}
+use Rattle.pieces.proofs.Bounds.{placed-out}
 use Rattle.entry_parts.proofs.put_byte.Statement.{statement}
 use Rattle.entry_parts.proofs.put_byte.Tie as tie
 

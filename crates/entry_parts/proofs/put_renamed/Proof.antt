@@ -3,7 +3,7 @@ use mathlib.Core.Path.{subst}
 use Rattle.text.specs.Plain.{termText}
 use Rattle.terms.specs.declared.Term.{Term}
 use Rattle.terms.specs.Values.{viewTerm}
-use Rattle.entry_parts.proofs.Pieces.{Piece}
+use Rattle.pieces.proofs.Bounds.{Piece}
 use borrow.Author.Needs.{needs}
 use Rattle.entry_parts.proofs.put_renamed.Statement.{statement}
 use Rattle.entry_parts.proofs.put_renamed.Tie as tie

@@ -8,7 +8,7 @@ use Rattle.lists.specs.Seqs.{long-mapped}
 use Rattle.renumbering.specs.Names.{renamedTerm}
 use Rattle.writing.proofs.Rows.{terms}
 use Rattle.renumbering.proofs.Loops.{no-term}
-use Rattle.entry_parts.proofs.Pieces.{piece-as}
+use Rattle.pieces.proofs.Bounds.{piece-as}
 use Rattle.entry_parts.proofs.Runs.{run, run-long, run-here, run-first, run-none}
 use Rattle.entry_parts.proofs.Rows.{Rowing, rowing-start, rowing-next, rowing-last}
 use Rattle.entry_parts.proofs.put_run.Statement.{statement}

@@ -1,5 +1,5 @@
 -- `overlap_text::put_read` meets its contract: by how the texts are read and by the lister's answer. Assumes nothing.
-use Prim.Native.Nat.{_+_, _-_}
+use Prim.Native.Nat.{_+_, _-_, _<_}
 use native.Mathlib.Omega.{arith}
 use Rattle.overlap_text.proofs.Texts.{left-refused, right-refused, texts-in, texts-put, texts-long}
 use borrow.Author.Needs.{needs}
@@ -33,20 +33,15 @@ put-refused-requires c κs = search needs
 same-length : tie.Need-same-length
 same-length c = search needs
 
-same-length-2 : tie.Need-same-length-2
-same-length-2 c = search needs
-
 returns : tie.Need-returns
 returns c =
-    let z = c .before .before .before .before .before .before .before .before .before .before .before .before .before .before .before .before .before .before .before in
+    let z = c .before .before .before .before .before .before .before .before .before .before .before .before .before .before .before in
     let a = z .args in
     let n = a .at + 65536 - a .at in
-    let L = c .before .before .before .before .before .before .before .before .before .before .before .before .list-texts in
+    let L = c .before .before .before .before .before .before .before .before .before .before .list-texts in
     let v = c .before .before .before .before .before .before .l .given in
-    let q = left-refused
-    (a .left .now) (a .right .now) (a .out .now) (a .at) n (omega arith) (z .pre)
-    (L .ensures .0) (v .0 .0) (v .0 .1 .0) (search needs) (v .1) (c .before .before .put-refused .ensures)
-    in (q .0, (q .1, L .ensures .1))
+    left-refused (a .left .now) (a .right .now) (a .out .now) (a .at) n (omega arith) (z .pre)
+    (L .ensures) (v .0 .0) (v .0 .1 .0) (search needs) (v .1) (c .before .before .put-refused .ensures)
 
 enum-told : tie.Need-enum-told
 enum-told c = search needs
@@ -60,24 +55,19 @@ slice-aggregate-put-refused-2 c = search needs
 put-refused-requires-2 : tie.Need-put-refused-requires-2
 put-refused-requires-2 c κs = search needs
 
-same-length-3 : tie.Need-same-length-3
-same-length-3 c = search needs
-
-same-length-4 : tie.Need-same-length-4
-same-length-4 c = search needs
+same-length-2 : tie.Need-same-length-2
+same-length-2 c = search needs
 
 returns-2 : tie.Need-returns-2
 returns-2 c =
-    let z = c .before .before .before .before .before .before .before .before .before .before .before .before .before .before .before .before .before .before .before .before .before in
+    let z = c .before .before .before .before .before .before .before .before .before .before .before .before .before .before .before .before .before in
     let a = z .args in
     let n = a .at + 65536 - a .at in
-    let L = c .before .before .before .before .before .before .before .before .before .before .before .before .before .before .list-texts in
+    let L = c .before .before .before .before .before .before .before .before .before .before .before .before .list-texts in
     let v = c .before .before .before .before .before .before .r .given in
     let e = c .before .before .before .before .before .before .before .before .enum-told .given .1 in
-    let q = right-refused
-    (a .left .now) (a .right .now) (a .out .now) (a .at) n (omega arith) (z .pre)
-    (L .ensures .0) (v .0 .0) (v .0 .1 .0) (search needs) e (v .1) (c .before .before .put-refused2 .ensures)
-    in (q .0, (q .1, L .ensures .1))
+    right-refused (a .left .now) (a .right .now) (a .out .now) (a .at) n (omega arith) (z .pre)
+    (L .ensures) (v .0 .0) (v .0 .1 .0) (search needs) e (v .1) (c .before .before .put-refused2 .ensures)
 
 enum-told-2 : tie.Need-enum-told-2
 enum-told-2 c = search needs
@@ -87,12 +77,12 @@ enum-known-listed c = search needs
 
 add-result : tie.Need-add-result
 add-result c =
-    let z = c .before .before .before .before .before .before .before .before .before .before .before .before .before .before .before .before .before .before in
+    let z = c .before .before .before .before .before .before .before .before .before .before .before .before .before .before in
     let a = z .args in
     let n = a .at + 65536 - a .at in
-    let L = c .before .before .before .before .before .before .before .before .before .before .before .list-texts in
+    let L = c .before .before .before .before .before .before .before .before .before .list-texts in
     let v = c .before .listed .given in
-    omega (arith, texts-in (a .left .now) (a .right .now) (a .out .now) (a .at) n (omega arith) (z .pre) (L .ensures .0) _ _ (v .1))
+    omega (arith, texts-in (a .left .now) (a .right .now) (a .out .now) (a .at) n (omega arith) (z .pre) (L .ensures) _ _ (v .1))
 
 enum-known-listed-2 : tie.Need-enum-known-listed-2
 enum-known-listed-2 c = search needs
@@ -103,45 +93,36 @@ slice-aggregate-put-title c = search needs
 put-title-requires : tie.Need-put-title-requires
 put-title-requires c κs = search needs
 
-same-length-5 : tie.Need-same-length-5
-same-length-5 c = search needs
-
-same-length-6 : tie.Need-same-length-6
-same-length-6 c = search needs
+same-length-3 : tie.Need-same-length-3
+same-length-3 c = search needs
 
 returns-3 : tie.Need-returns-3
 returns-3 c =
-    let z = c .before .before .before .before .before .before .before .before .before .before .before .before .before .before .before .before .before .before in
+    let z = c .before .before .before .before .before .before .before .before .before .before .before .before .before .before in
     let a = z .args in
     let n = a .at + 65536 - a .at in
-    let L = c .before .before .before .before .before .before .before .before .before .before .before .list-texts in
+    let L = c .before .before .before .before .before .before .before .before .before .list-texts in
     let v = c .before .listed .given in
     let e = c .before .before .before .before .before .enum-told .given .1 in
     let f = c .before .before .before .enum-told2 .given .1 in
-    let q = texts-put
-    (a .left .now) (a .right .now) (a .out .now) (a .at) n (omega arith) (z .pre)
-    (L .ensures .0) e f _ _ (v .1)
-    in (q .0, (q .1, L .ensures .1))
+    texts-put (a .left .now) (a .right .now) (a .out .now) (a .at) n (omega arith) (z .pre) (L .ensures) e f _ _ (v .1)
 
-same-length-7 : tie.Need-same-length-7
-same-length-7 c = search needs
-
-same-length-8 : tie.Need-same-length-8
-same-length-8 c = search needs
+same-length-4 : tie.Need-same-length-4
+same-length-4 c = search needs
 
 returns-4 : tie.Need-returns-4
 returns-4 c =
-    let z = c .before .before .before .before .before .before .before .before .before .before .before .before .before .before .before .before .before .before .before .before .before .before .before in
+    let small : c .before .before .before .before .before .before .listed2 .given .0 .1 .0 < 18446744073709551616 = search needs in
+    let s = c .before .before .before .before .before .before .before .before .before .before .before .before .before .before in
+    let z = s .before .before .before .before .before in
     let a = z .args in
     let n = a .at + 65536 - a .at in
-    let L = c .before .before .before .before .before .before .before .before .before .before .before .before .before .before .before .before .list-texts in
+    let L = s .list-texts in
     let v = c .before .before .before .before .before .before .listed2 .given in
     let e = c .before .before .before .before .before .before .before .before .before .before .enum-told .given .1 in
     let f = c .before .before .before .before .before .before .before .before .enum-told2 .given .1 in
-    let q = texts-long
-    (a .left .now) (a .right .now) (a .out .now) (a .at) n (omega arith) (z .pre)
-    (L .ensures .0) e f _ _ (v .1) (search needs) (c .before .before .put-title .ensures)
-    in (q .0, (q .1, L .ensures .1))
+    texts-long (a .left .now) (a .right .now) (a .out .now) (a .at) n (omega arith) (z .pre)
+    (L .ensures) e f _ _ (v .1) small (c .before .before .put-title .ensures)
 
 pub put-read-spec : {M : Type 1} → statement M
 put-read-spec =
@@ -156,14 +137,12 @@ put-read-spec =
     slice-aggregate-put-refused
     put-refused-requires
     same-length
-    same-length-2
     returns
     enum-told
     enum-known-r
     slice-aggregate-put-refused-2
     put-refused-requires-2
-    same-length-3
-    same-length-4
+    same-length-2
     returns-2
     enum-told-2
     enum-known-listed
@@ -171,9 +150,7 @@ put-read-spec =
     enum-known-listed-2
     slice-aggregate-put-title
     put-title-requires
-    same-length-5
-    same-length-6
+    same-length-3
     returns-3
-    same-length-7
-    same-length-8
+    same-length-4
     returns-4)

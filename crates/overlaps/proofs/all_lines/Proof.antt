@@ -1,7 +1,5 @@
 -- `overlaps::all_lines` meets its contract. Assumes nothing.
 use borrow.Author.Needs.{needs}
-use Rattle.token_fillings.specs.States.{fillingsOf}
-use Rattle.overlaps.specs.Pairs.{pairOf}
 use Rattle.overlaps.proofs.Counts.{all-requires, all-listed}
 use Rattle.overlaps.proofs.all_lines.Statement.{statement}
 use Rattle.overlaps.proofs.all_lines.Tie as tie
@@ -20,19 +18,21 @@ next-field-requires c κs =
     let z = c .before .before .before .before .before .before .before in
     let n = c .before .before .before .no-choice in
     let s = c .before .before .start in
-    all-requires (pairOf (z .args .left .now) (z .args .right .now) (z .args .p)) (n .result) (fillingsOf (z .args .left .now) (z .args .right .now) (s .result)) (c .no-tally .result) (n .ensures) (s .ensures (z .args .left .now) (z .args .right .now)) (c .no-tally .ensures) (z .pre)
+    let t = c .no-tally in
+    all-requires (z .args .row .now) (z .args .texts .now) (z .args .fields) (n .result) (s .result) (t .result) (n .ensures) (s .ensures) (t .ensures) (z .pre)
 
 same-length : tie.Need-same-length
 same-length c = search needs
 
 returns : tie.Need-returns
 returns c =
-    let z = c .before .before .before .before .before .before .before .before .before .before in
+    let z = c .before .before .before .before .before .before .before .before .before .before .args in
     let n = c .before .before .before .before .before .before .no-choice in
     let s = c .before .before .before .before .before .start in
     let t = c .before .before .before .no-tally in
     let u = c .before .before .next-field in
-    all-listed (pairOf (z .args .left .now) (z .args .right .now) (z .args .p)) (n .result) (fillingsOf (z .args .left .now) (z .args .right .now) (s .result)) (t .result) (n .ensures) (s .ensures (z .args .left .now) (z .args .right .now)) (t .ensures) (u .result) (z .args .out .now) _ (u .ensures .0)
+    all-listed (z .row .now) (z .texts .now) (z .fields) (n .result) (s .result) (t .result) (n .ensures) (s .ensures) (t .ensures) (u .result) (z .out .now) _
+    (u .ensures .0)
 
 pub all-lines-spec : {M : Type 1} → statement M
 all-lines-spec =

@@ -1,12 +1,11 @@
 -- `overlaps::list_sides` meets its contract: the plain text of a value says what the value counts as. Assumes nothing.
-use mathlib.Core.Path.{_∙_}
 use lib.ListN.{replicate}
 use Rattle.text.specs.Plain.{plain}
 use Rattle.accepted.specs.Accepted.{countedLeft}
 use Rattle.pieces.proofs.Pieces.{written-long, written-count, written-front}
 use Rattle.plain_text.proofs.Lengths.{plain-short}
-use Rattle.overlaps.proofs.Texts.{sides-listed, sides-stored}
 use borrow.Author.Needs.{needs}
+use Rattle.overlaps.proofs.Texts.{sides-listed}
 use Rattle.overlaps.proofs.list_sides.Statement.{statement}
 use Rattle.overlaps.proofs.list_sides.Tie as tie
 
@@ -30,28 +29,28 @@ size-of-requires-2 c κs = search needs
 
 array-share-prefix-a : tie.Need-array-share-prefix-a
 array-share-prefix-a c =
-    let v = c .before .before .before .before .before .before .before .before .before .before .args .left in
+    let v = c .before .before .before .before .before .before .before .before .before .args .left in
     written-long (plain (countedLeft v)) (replicate 1151 0) (plain-short v)
     (c .before .before .before .before .size-of .ensures)
     (c .before .before .before .before .before .before .write-side .ensures)
 
 slice-aggregate-list-texts : tie.Need-slice-aggregate-list-texts
 slice-aggregate-list-texts c =
-    let v = c .before .before .before .before .before .before .before .before .before .before .before .args .left in
+    let v = c .before .before .before .before .before .before .before .before .before .before .args .left in
     written-count (plain (countedLeft v)) (replicate 1151 0) (plain-short v)
     (c .before .before .before .before .before .size-of .ensures)
     (c .before .before .before .before .before .before .before .write-side .ensures)
 
 array-share-prefix-b : tie.Need-array-share-prefix-b
 array-share-prefix-b c =
-    let v = c .before .before .before .before .before .before .before .before .before .before .before .args .right in
+    let v = c .before .before .before .before .before .before .before .before .before .before .args .right in
     written-long (plain (countedLeft v)) (replicate 1151 0) (plain-short v)
     (c .before .size-of2 .ensures)
     (c .before .before .before .write-side2 .ensures)
 
 slice-aggregate-list-texts-2 : tie.Need-slice-aggregate-list-texts-2
 slice-aggregate-list-texts-2 c =
-    let v = c .before .before .before .before .before .before .before .before .before .before .before .before .args .right in
+    let v = c .before .before .before .before .before .before .before .before .before .before .before .args .right in
     written-count (plain (countedLeft v)) (replicate 1151 0) (plain-short v)
     (c .before .before .size-of2 .ensures)
     (c .before .before .before .before .write-side2 .ensures)
@@ -62,21 +61,18 @@ list-texts-requires c κs = search needs
 same-length : tie.Need-same-length
 same-length c = search needs
 
-same-length-2 : tie.Need-same-length-2
-same-length-2 c = search needs
-
 returns : tie.Need-returns
 returns c =
-    let called = c .before .before .before .before in
-    let z = called .before .before .before .before .before .before .before .before .before .before .before .before .before .before .before .args in
-    let o = called .list-texts in
-    let s = c .before .before .before .before .before .before .before .before .before .before .before .before .before .size-of .ensures in
-    let t = c .before .before .before .before .before .before .before .before .before .size-of2 .ensures in
-    let v = c .before .before .before .before .before .before .before .before .before .before .before .before .before .before .before .write-side .ensures in
-    let w = c .before .before .before .before .before .before .before .before .before .before .before .write-side2 .ensures in
-    let a = written-front (plain (countedLeft (z .left))) (replicate 1151 0) (plain-short (z .left)) s v in
-    let b = written-front (plain (countedLeft (z .right))) (replicate 1151 0) (plain-short (z .right)) t w in
-    (sides-listed (z .left) (z .right) a b (o .ensures .0), o .ensures .1 ∙ sides-stored (z .left) (z .right) a b (z .room .now))
+    let z = c .before .before .before .before .before .before .before .before .before .before .before .before .before .before .before .args in
+    let a =
+    written-front (plain (countedLeft (z .left))) (replicate 1151 0) (plain-short (z .left))
+    (c .before .before .before .before .before .before .before .before .before .before .size-of .ensures)
+    (c .before .before .before .before .before .before .before .before .before .before .before .before .write-side .ensures) in
+    let b =
+    written-front (plain (countedLeft (z .right))) (replicate 1151 0) (plain-short (z .right))
+    (c .before .before .before .before .before .before .size-of2 .ensures)
+    (c .before .before .before .before .before .before .before .before .write-side2 .ensures) in
+    sides-listed (z .left) (z .right) a b (c .before .before .list-texts .ensures)
 
 pub list-sides-spec : {M : Type 1} → statement M
 list-sides-spec =
@@ -94,5 +90,4 @@ list-sides-spec =
     slice-aggregate-list-texts-2
     list-texts-requires
     same-length
-    same-length-2
     returns)

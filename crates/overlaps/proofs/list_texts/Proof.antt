@@ -1,56 +1,82 @@
--- `overlaps::list_texts` meets its contract: each text's left side is listed, and what is read of it is accepted, or has no fields. Assumes nothing.
-use mathlib.Core.Path.{refl, sym, _∙_}
+-- `overlaps::list_texts` meets its contract: the left sides' texts of two rule texts that are accepted are accepted. Assumes nothing.
+use mathlib.Core.Path.{sym}
 use native.Mathlib.Omega.{arith}
 use lib.Seq.{length-take-le}
 use borrow.Author.Needs.{needs}
-use Rattle.overlaps.proofs.Texts.{parts-said, texts-listed, texts-stored}
+use Rattle.overlaps.proofs.Texts.{both-accepted, texts-listed, left-refused, right-refused}
 use Rattle.overlaps.proofs.list_texts.Statement.{statement}
 use Rattle.overlaps.proofs.list_texts.Tie as tie
 
-read-left-requires : tie.Need-read-left-requires
-read-left-requires c κs = search needs
+judge-left-requires : tie.Need-judge-left-requires
+judge-left-requires c κs = search needs
 
-read-left-requires-2 : tie.Need-read-left-requires-2
-read-left-requires-2 c κs = search needs
+judge-left-requires-2 : tie.Need-judge-left-requires-2
+judge-left-requires-2 c κs = search needs
 
-slice-aggregate-list-tokens : tie.Need-slice-aggregate-list-tokens
-slice-aggregate-list-tokens c = sym (length-take-le _ _ (omega (arith, c .before .before .read-left .ensures .inside)))
+enum-told : tie.Need-enum-told
+enum-told c = search needs
 
-slice-aggregate-list-tokens-2 : tie.Need-slice-aggregate-list-tokens-2
-slice-aggregate-list-tokens-2 c = sym (length-take-le _ _ (omega (arith, c .before .before .read-left2 .ensures .inside)))
+enum-told-2 : tie.Need-enum-told-2
+enum-told-2 c = search needs
 
-list-tokens-requires : tie.Need-list-tokens-requires
-list-tokens-requires c κs =
-    let z = c .before .before .before .before .before .before .before .before .before .before .args in
-    let l = c .before .before .before .before .before .read-left in
-    let r = c .before .before .before .before .read-left2 in
-    parts-said (z .left .now) (z .right .now) (l .ensures) (r .ensures)
+slice-aggregate-list-read : tie.Need-slice-aggregate-list-read
+slice-aggregate-list-read c = sym (length-take-le _ _ (omega (arith, c .before .before .before .before .before .before .judge-left .ensures .inside)))
+
+slice-aggregate-list-read-2 : tie.Need-slice-aggregate-list-read-2
+slice-aggregate-list-read-2 c = sym (length-take-le _ _ (omega (arith, c .before .before .before .before .before .before .judge-left2 .ensures .inside)))
+
+list-read-requires : tie.Need-list-read-requires
+list-read-requires c κs =
+    let z = c .before .before .before .before .before .before .before .before .before .before .before .before .args in
+    let l = c .before .before .before .before .before .before .before .before .judge-left in
+    let r = c .before .before .before .before .before .before .before .judge-left2 in
+    both-accepted (z .left .now) (z .right .now) (l .result) (r .result) (l .ensures) (r .ensures)
+    (c .before .before .before .before .before .enum-told .given .1) (c .before .before .before .enum-told2 .given .1)
+
+enum-told-3 : tie.Need-enum-told-3
+enum-told-3 c = search needs
+
+enum-told-4 : tie.Need-enum-told-4
+enum-told-4 c = search needs
 
 same-length : tie.Need-same-length
 same-length c = search needs
 
-same-length-2 : tie.Need-same-length-2
-same-length-2 c = search needs
-
 returns : tie.Need-returns
 returns c =
     let z = c .before .before .before .before .before .before .before .before .before .before .before .before .before .before .before .args in
-    let l = c .before .before .before .before .before .before .before .before .before .before .read-left in
-    let r = c .before .before .before .before .before .before .before .before .before .read-left2 in
-    let o = c .before .before .before .before .list-tokens in (
-      texts-listed (z .left .now) (z .right .now) (l .ensures) (r .ensures) refl refl (o .ensures .0),
-      o .ensures .1 ∙ texts-stored (z .left .now) (z .right .now) (l .ensures) (r .ensures) (z .room .now),
-    )
+    let l = c .before .before .before .before .before .before .before .before .before .before .before .judge-left in
+    let r = c .before .before .before .before .before .before .before .before .before .before .judge-left2 in
+    texts-listed (z .left .now) (z .right .now) (l .result) (r .result) (l .ensures) (r .ensures) (c .before .before .list-read .ensures)
+
+returns-2 : tie.Need-returns-2
+returns-2 c =
+    let z = c .before .before .before .before .before .before .before .before .before .args in
+    let l = c .before .before .before .before .before .judge-left in
+    let r = c .before .before .before .before .judge-left2 in
+    right-refused (z .left .now) (z .right .now) (l .result) (r .result) (l .ensures) (r .ensures) _ _ (c .enum-told3 .given .1) (z .out .now)
+
+returns-3 : tie.Need-returns-3
+returns-3 c =
+    let z = c .before .before .before .before .before .before .before .args in
+    let l = c .before .before .before .judge-left in
+    let r = c .before .before .judge-left2 in
+    left-refused (z .left .now) (z .right .now) (l .result) (r .result) (l .ensures) (r .ensures) _ _ (c .enum-told4 .given .1) (z .out .now)
 
 pub list-texts-spec : {M : Type 1} → statement M
 list-texts-spec =
     tie.close
     (tie.spec
-    read-left-requires
-    read-left-requires-2
-    slice-aggregate-list-tokens
-    slice-aggregate-list-tokens-2
-    list-tokens-requires
+    judge-left-requires
+    judge-left-requires-2
+    enum-told
+    enum-told-2
+    slice-aggregate-list-read
+    slice-aggregate-list-read-2
+    list-read-requires
+    enum-told-3
+    enum-told-4
     same-length
-    same-length-2
-    returns)
+    returns
+    returns-2
+    returns-3)

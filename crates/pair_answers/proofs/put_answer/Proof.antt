@@ -15,25 +15,24 @@ put-title-requires c κs = search needs
 
 put-line-requires : tie.Need-put-line-requires
 put-line-requires c κs =
-    let z = c .before .before .before .before .before .before .before .before .before .before .args in
-    let T = c .before .before .before .before .put-title in
-    omega (arith, title-short (z .k) (search needs), T .ensures .0, c .before .before .before .before .before .before .before .before .before .before .pre, T .kept .1 .1 .0)
+    let s = c .before .before .before .before .before .before .before .before in
+    let T = c .before .before .before .put-title in
+    omega (arith, title-short (s .args .k) (search needs), T .ensures .0, s .pre, T .kept .1 .1 .0)
 
 same-length : tie.Need-same-length
 same-length c = search needs
 
-same-length-2 : tie.Need-same-length-2
-same-length-2 c = search needs
-
 returns : tie.Need-returns
 unfolding pairAnswer
 returns c =
-    let z = c .before .before .before .before .before .before .before .before .before .before .before .before .before .before .before .args in
-    let L = c .before .before .before .before .put-line .ensures in
-    let T = c .before .before .before .before .before .before .before .before .before .put-title .ensures in
-    let short = answer-short (z .k) (z .line .now) (search needs) (L .1 .0) in
-    (placed-next (titleText (z .k)) (lineText (z .line .now)) 0 (z .out .now) T (L .0), (short, L .1 .1))
+    let z = c .before .before .before .before .before .before .before .before .before .before .before .args in
+    let L = c .before .before .put-line .ensures in
+    let T = c .before .before .before .before .before .before .put-title .ensures in (
+      placed-next (titleText (z .k)) (lineText (z .line .now)) 0 (z .out .now) T (L .0),
+      answer-short (z .k) (z .line .now) (search needs) (L .1),
+    )
 
 pub put-answer-spec : {M : Type 1} → statement M
 put-answer-spec =
-    tie.close (tie.spec slice-aggregate-put-title put-title-requires put-line-requires same-length same-length-2 returns)
+    tie.close
+    (tie.spec slice-aggregate-put-title put-title-requires put-line-requires same-length returns)

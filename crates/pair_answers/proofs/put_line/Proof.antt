@@ -1,12 +1,12 @@
 -- `pair_answers::put_line` meets its contract: too long, or what is said of the two parts. Assumes nothing.
-use mathlib.Core.Path.{sym, _∙_}
+use mathlib.Core.Path.{sym}
 use Prim.Native.Nat.{_-_}
 use native.Mathlib.Omega.{arith}
 use lib.ListN.{length}
 use lib.Seq.{length-take-le}
-use Rattle.entry_parts.proofs.Pieces.{piece-as}
+use Rattle.pieces.proofs.Bounds.{piece-as}
 use Rattle.overlap_text.specs.Texts.{mostBytes}
-use Rattle.pair_answers.proofs.Said.{line-said, line-room, long-room}
+use Rattle.pair_answers.proofs.Said.{line-said}
 use Rattle.pair_answers.proofs.Lengths.{line-long}
 use borrow.Author.Needs.{needs}
 use Rattle.pair_answers.proofs.put_line.Statement.{statement}
@@ -23,10 +23,9 @@ same-length c = search needs
 
 returns : tie.Need-returns
 returns c =
-    let z = c .before .before .before .before .before .before .before .before .before .args in
-    let long = c .before .before .before .before .before .if1 .taken in
-    let q = piece-as mostBytes (z .at) (z .out .now) (line-long (z .line .now) long) (c .before .before .put-bytes .ensures, omega arith) in
-    (q .0, (q .1, long-room (z .line .now) (z .room .now) long))
+    let z = c .before .before .before .before .before .before .before .before .args in
+    let said = line-long (z .line .now) (c .before .before .before .before .before .if1 .taken) in
+    piece-as mostBytes (z .at) (z .out .now) said (c .before .before .put-bytes .ensures, omega arith)
 
 tab-place-requires : tie.Need-tab-place-requires
 tab-place-requires c κs = search needs
@@ -37,7 +36,7 @@ behind-requires c κs = search needs
 slice-aggregate-put-texts : tie.Need-slice-aggregate-put-texts
 slice-aggregate-put-texts c =
     let t = c .before .before .tab-place in
-    sym (length-take-le (t .result) (c .before .before .before .before .before .before .before .args .line .now) (t .ensures .1))
+    sym (length-take-le (t .result) (c .before .before .before .before .before .before .args .line .now) (t .ensures .1))
 
 sub-put-texts : tie.Need-sub-put-texts
 sub-put-texts c = search needs
@@ -54,22 +53,16 @@ put-texts-requires c κs = search needs
 same-length-2 : tie.Need-same-length-2
 same-length-2 c = search needs
 
-same-length-3 : tie.Need-same-length-3
-same-length-3 c = search needs
-
 returns-2 : tie.Need-returns-2
 returns-2 c =
-    let s = c .before .before .before .before .before .before .before .before .before .before .before .before .before .before .before in
+    let s = c .before .before .before .before .before .before .before .before .before .before .before in
     let z = s .args in
-    let T = c .before .before .before .before .before .before .before .before .before .before .tab-place in
-    let D = c .before .before .before .before .before .before .before .before .before .behind in
+    let T = c .before .before .before .before .before .before .before .tab-place in
+    let D = c .before .before .before .before .before .before .behind in
     let k = length (z .out .now) - z .at in
-    let short = c .before .before .before .before .before .before .before .before .before .before .before .if1 .left in
+    let short = c .before .before .before .before .before .before .before .before .if1 .left in
     let said = line-said (z .line .now) (T .result) (D .result) (T .ensures .0) (D .ensures) k short (omega (arith, s .pre)) in
-    let stays = line-room (z .line .now) (T .result) (D .result) (T .ensures .0) (D .ensures) k (z .room .now) short (omega (arith, s .pre)) in
-    let e = c .before .before .before .before .put-texts .ensures in
-    let q = piece-as mostBytes (z .at) (z .out .now) said (e .0, e .1 .0) in
-    (q .0, (q .1, e .1 .1 ∙ stays))
+    piece-as mostBytes (z .at) (z .out .now) said (c .before .before .put-texts .ensures)
 
 pub put-line-spec : {M : Type 1} → statement M
 put-line-spec =
@@ -87,5 +80,4 @@ put-line-spec =
     part-put-texts-end
     put-texts-requires
     same-length-2
-    same-length-3
     returns-2)

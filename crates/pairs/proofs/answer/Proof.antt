@@ -8,23 +8,24 @@ use Rattle.pair_answers.specs.Pairs.{pairAnswer}
 use Rattle.pairs.proofs.answer.Statement.{statement}
 use Rattle.pairs.proofs.answer.Tie as tie
 
-answer-with-requires : tie.Need-answer-with-requires
-answer-with-requires c κs = search needs
+pair-answer-requires : tie.Need-pair-answer-requires
+pair-answer-requires c κs = search needs
 
 enum-known-n : tie.Need-enum-known-n
 enum-known-n c = search needs
 
 slice-reshare-prefix-put : tie.Need-slice-reshare-prefix-put
 slice-reshare-prefix-put c =
-    let W = c .before .before .before .before .before .before .before .answer-with in
-    let z = c .before .before .before .before .before .before .before .before .before .before .before .before .before .before .args in
+    let W = c .before .before .before .before .before .pair-answer in
+    let z = c .before .before .before .before .before .before .before .before .before .before .args in
     omega (arith, written-in (pairAnswer (z .k) (z .line .now)) (z .text .now) (W .ensures .0) (c .before .n .given .1), W .kept)
 
 slice-aggregate-put : tie.Need-slice-aggregate-put
 slice-aggregate-put c =
-    let W = c .before .before .before .before .before .before .before .before .answer-with in
-    let z = c .before .before .before .before .before .before .before .before .before .before .before .before .before .before .before .args in
-    sym (length-take-le _ _ (omega (arith, written-in (pairAnswer (z .k) (z .line .now)) (z .text .now) (W .ensures .0) (c .before .before .n .given .1), W .kept)))
+    let W = c .before .before .before .before .before .before .pair-answer in
+    let z = c .before .before .before .before .before .before .before .before .before .before .before .args in
+    let inside = written-in (pairAnswer (z .k) (z .line .now)) (z .text .now) (W .ensures .0) (c .before .before .n .given .1) in
+    sym (length-take-le _ _ (omega (arith, inside, W .kept)))
 
 put-requires : tie.Need-put-requires
 put-requires c κs = search needs
@@ -38,17 +39,11 @@ same-length c = search needs
 same-length-2 : tie.Need-same-length-2
 same-length-2 c = search needs
 
-same-length-3 : tie.Need-same-length-3
-same-length-3 c = search needs
-
 returns : tie.Need-returns
 returns c = search needs
 
-same-length-4 : tie.Need-same-length-4
-same-length-4 c = search needs
-
-same-length-5 : tie.Need-same-length-5
-same-length-5 c = search needs
+same-length-3 : tie.Need-same-length-3
+same-length-3 c = search needs
 
 returns-2 : tie.Need-returns-2
 returns-2 c = search needs
@@ -57,7 +52,7 @@ pub answer-spec : {M : Type 1} → statement M
 answer-spec =
     tie.close
     (tie.spec
-    answer-with-requires
+    pair-answer-requires
     enum-known-n
     slice-reshare-prefix-put
     slice-aggregate-put
@@ -65,8 +60,6 @@ answer-spec =
     enum-told
     same-length
     same-length-2
-    same-length-3
     returns
-    same-length-4
-    same-length-5
+    same-length-3
     returns-2)

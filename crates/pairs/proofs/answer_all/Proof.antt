@@ -8,17 +8,17 @@ use Rattle.pairs.proofs.answer_all.Statement.{statement}
 use Rattle.pairs.proofs.answer_all.Tie as tie
 
 abbrev Inv-loop : tie.InvT-loop
-Inv-loop chunk₀ line₀ room₀ text₀ buffer₀ k₀ s₀ chunk line room text buffer k s =
-    (length chunk ≡ length chunk₀) × (length line ≡ length line₀) × (length room ≡ length room₀) × (length text ≡ length text₀) × (length buffer ≡ length buffer₀)
+Inv-loop chunk₀ line₀ text₀ buffer₀ k₀ s₀ chunk line text buffer k s =
+    (length chunk ≡ length chunk₀) × (length line ≡ length line₀) × (length text ≡ length text₀) × (length buffer ≡ length buffer₀)
 
 abbrev μ-loop : tie.MeasureT-loop
-μ-loop chunk₀ line₀ room₀ text₀ buffer₀ k₀ s₀ chunk line room text buffer k s = 18446744073709551615 - k
+μ-loop chunk₀ line₀ text₀ buffer₀ k₀ s₀ chunk line text buffer k s = 18446744073709551615 - k
 
 start-requires : tie.Need-start-requires Inv-loop μ-loop
 start-requires c κs = search needs
 
 loop-holds : tie.Need-loop-holds Inv-loop μ-loop
-loop-holds c = (refl, refl, refl, refl, refl)
+loop-holds c = (refl, refl, refl, refl)
 
 is-open-requires : tie.Need-is-open-requires Inv-loop μ-loop
 is-open-requires c κs = search needs
@@ -34,9 +34,9 @@ loop-less c = omega arith
 
 loop-again : tie.Need-loop-again Inv-loop μ-loop
 loop-again c =
-    let k = c .before .before .before .before .before .before .before .before .before .before .step .kept in
-    let h = c .before .before .before .before .before .before .before .before .before .before .before .before .before .before .before .before .before .before .before .loop .inv in
-    (k .1 .1 .0 ∙ h .0, k .1 .1 .1 .0 ∙ h .1, k .1 .1 .1 .1 .0 ∙ h .2, k .1 .1 .1 .1 .1 .0 ∙ h .3, k .1 .1 .1 .1 .1 .1 .0 ∙ h .4)
+    let k = c .before .before .before .before .before .before .before .before .step .kept in
+    let h = c .before .before .before .before .before .before .before .before .before .before .before .before .before .before .before .before .loop .inv in
+    (k .1 .1 .0 ∙ h .0, k .1 .1 .1 .0 ∙ h .1, k .1 .1 .1 .1 .0 ∙ h .2, k .1 .1 .1 .1 .1 .0 ∙ h .3)
 
 finish-requires : tie.Need-finish-requires Inv-loop μ-loop
 finish-requires c κs = search needs
@@ -52,9 +52,6 @@ same-length-3 c = c .before .before .before .loop .inv .2
 
 same-length-4 : tie.Need-same-length-4 Inv-loop μ-loop
 same-length-4 c = c .before .before .before .loop .inv .3
-
-same-length-5 : tie.Need-same-length-5 Inv-loop μ-loop
-same-length-5 c = c .before .before .before .loop .inv .4
 
 returns : tie.Need-returns Inv-loop μ-loop
 returns c = search needs
@@ -77,5 +74,4 @@ answer-all-spec =
     same-length-2
     same-length-3
     same-length-4
-    same-length-5
     returns)

@@ -1,5 +1,5 @@
 -- `shown::show_field` meets its contract. The loop's invariant: showing the terms from i on shows them all. Assumes nothing.
-use mathlib.Core.Path.{_≡_, refl, _∙_}
+use mathlib.Core.Path.{_≡_, refl}
 use mathlib.Core.Logic.{⊎-elim}
 use Prim.Native.Nat.{_-_, min}
 use native.Mathlib.Omega.{arith}

@@ -2,7 +2,7 @@
 use mathlib.Core.Path.{sym}
 use native.Mathlib.Omega.{arith}
 use lib.Seq.{length-take-le}
-use Rattle.entry_parts.proofs.Pieces.{piece-as}
+use Rattle.pieces.proofs.Bounds.{piece-as}
 use Rattle.search_text.specs.Found.{longestBody}
 use Rattle.solve_answers.proofs.Said.{line-said}
 use Rattle.solve_answers.proofs.Lengths.{line-long}

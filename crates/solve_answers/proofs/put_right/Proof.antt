@@ -2,7 +2,7 @@
 use mathlib.Core.Path.{sym}
 use lib.Seq.{length-take-le}
 use Rattle.accepted.specs.Accepted.{countedField}
-use Rattle.entry_parts.proofs.Pieces.{piece-as}
+use Rattle.pieces.proofs.Bounds.{piece-as}
 use Rattle.search_text.specs.Found.{longestBody}
 use Rattle.solve_answers.proofs.Said.{right-said}
 use borrow.Author.Needs.{needs}

@@ -4,7 +4,7 @@ use mathlib.Core.Option.{some}
 use Prim.Native.Nat.{ℕ, min}
 use native.Mathlib.Omega.{arith}
 use Rattle.accepted.specs.Accepted.{countedField}
-use Rattle.entry_parts.proofs.Pieces.{piece-as}
+use Rattle.pieces.proofs.Bounds.{piece-as}
 use Rattle.solving.specs.Answers.{linesFor}
 use Rattle.sizes.specs.Sizes.{sizeOf}
 use Rattle.sizes.proofs.Digits.{size-least, size-of, size-bad}

@@ -4,7 +4,7 @@ use mathlib.Core.Option.{Option}
 use Prim.Native.Nat.{ℕ}
 use native.Mathlib.Omega.{arith}
 use Rattle.accepted.specs.Accepted.{countedField}
-use Rattle.entry_parts.proofs.Pieces.{piece-as}
+use Rattle.pieces.proofs.Bounds.{piece-as}
 use Rattle.sizes.specs.Sizes.{sizeOf}
 use Rattle.sizes.proofs.Digits.{size-least, size-of, size-bad}
 use Rattle.search_text.specs.Found.{mostRecords, mostBytes, longestBody}

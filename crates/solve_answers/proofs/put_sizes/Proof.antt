@@ -3,7 +3,7 @@ use mathlib.Core.Path.{sym}
 use native.Mathlib.Omega.{arith}
 use lib.Seq.{length-take-le}
 use Rattle.accepted.specs.Accepted.{countedField}
-use Rattle.entry_parts.proofs.Pieces.{piece-as}
+use Rattle.pieces.proofs.Bounds.{piece-as}
 use Rattle.search_text.specs.Found.{longestBody}
 use Rattle.solve_answers.proofs.Said.{tab-there, no-tab-there}
 use borrow.Author.Needs.{needs}

@@ -55,7 +55,7 @@ use Rattle.scanning.proofs.Piece.Laws as O′
 use Rattle.walks.proofs.Returns.{Spelt, Good, Returns, Met, returns-of, returns-plain}
 use Rattle.refusals.specs.declared.At.{At}
 use Rattle.text_passes.specs.Places.{termAt}
-use Rattle.text_passes.specs.Build.{addItem, ofRaw, pushSlipField, builtSlip}
+use Rattle.text_passes.specs.Build.{addItem, pushSlipField, builtSlip}
 use Rattle.text_passes.proofs.Held.{mach-text, mach-piece, Text, Token, Piece-is}
 use Rattle.text_passes.proofs.Calls.{Start, HasTerm, Term, Passed, Kept}
 use Rattle.text_passes.proofs.Building.{Is-turn, walk}
@@ -153,7 +153,7 @@ build-slip-spec 𝓤 H 𝓜 𝓖 𝓡 =
     (walk-meets 𝓤 H A build.ended stayed W (goes-none-slice 𝓤 H A W 1 (0 ∷ []) tt (plain (λ _. u8)) yes, tt) clauses goes (WpFn-mono 𝓤 H (W .laws) 𝓣 code.function)
     (walked 𝓤 H A build.ended stayed clauses goes (λ κs. (slice-vals, tt)) (λ κs. (shr-slice-tells (named 0) (κs .0) u8, tt))
     (λ κs qs bounds a g are. needs 𝓤 _ _ (λ short. via 𝓤 _ (entry 𝓤 H A W (𝓜 .mem) (𝓡 .run) (κs .0) (qs .0) (a .0))
-    (walk 𝓤 H A W (𝓜 .mem) (𝓡 .run) (κs .0) (qs .0) (a .0) #terms·blank-slip #terms·blank-slip-field #text-passes·push-slip-field #text-passes·with-item (X 𝓤 H A W) (Y 𝓤 H A W) blankSlip blankSlipField (ofRaw addItem) pushSlipField
+    (walk 𝓤 H A W (𝓜 .mem) (𝓡 .run) (κs .0) (qs .0) (a .0) #terms·blank-slip #terms·blank-slip-field #text-passes·push-slip-field #text-passes·with-item (X 𝓤 H A W) (Y 𝓤 H A W) blankSlip blankSlipField addItem pushSlipField
     (Post 𝓤 H A W (𝓜 .mem) (𝓡 .run) (κs .0) (qs .0) (a .0)) (exits 𝓤 H A W (𝓜 .mem) (𝓡 .run) (κs .0) (qs .0) (a .0)) (are .0) short 𝓣
     (cited 𝓤 H (Start 𝓤 H A (𝓜 .mem) (𝓡 .run)) 𝓜 𝓡 code.env #text-passes·start start-def.routine code.calls-text-passes·start (start-thm.met 𝓤 H 𝓜 𝓖 𝓡))
     (cited 𝓤 H (HasTerm 𝓤 H A (𝓜 .mem) (𝓡 .run)) 𝓜 𝓡 code.env #text-passes·has-term has-term-def.routine code.calls-text-passes·has-term (has-term-thm.met 𝓤 H 𝓜 𝓖 𝓡))

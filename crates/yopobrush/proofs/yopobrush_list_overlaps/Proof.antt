@@ -4,9 +4,6 @@ use Rattle.yopobrush.proofs.Said.{texts-said}
 use Rattle.yopobrush.proofs.yopobrush_list_overlaps.Statement.{statement}
 use Rattle.yopobrush.proofs.yopobrush_list_overlaps.Tie as tie
 
-slice-aggregate-list-texts : tie.Need-slice-aggregate-list-texts
-slice-aggregate-list-texts c = search needs
-
 list-texts-requires : tie.Need-list-texts-requires
 list-texts-requires c κs = search needs
 
@@ -24,17 +21,16 @@ same-length c = search needs
 
 returns : tie.Need-returns
 returns c =
-    let z = c .before .before .before .before .before .before .before .before .before .before .before .before .args in
-    let said = c .before .before .before .before .before .before .list-texts in
+    let z = c .before .before .before .before .before .before .before .before .before .before .args in
+    let said = c .before .before .before .before .before .list-texts in
     let a = c .before .before .reading-of .ensures in
     let b = c .before .reading-of2 .ensures in
-    record { answer = texts-said (z .left .now) (z .right .now) _ _ _ (said .ensures .0) a b (c .listing-of .ensures); bytes = said .ensures .0 .listed .bytes }
+    record { answer = texts-said (z .left .now) (z .right .now) _ _ _ (said .ensures) a b (c .listing-of .ensures); bytes = said .ensures .listed .bytes }
 
 pub yopobrush-list-overlaps-spec : {M : Type 1} → statement M
 yopobrush-list-overlaps-spec =
     tie.close
     (tie.spec
-    slice-aggregate-list-texts
     list-texts-requires
     reading-of-requires
     reading-of-requires-2

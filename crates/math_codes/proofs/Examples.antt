@@ -1,0 +1,53 @@
+-- Lists computed on codes.
+use Prim.Native.Nat.{ℕ}
+use mathlib.Core.Path.{_≡_, refl}
+use mathlib.Core.Bool.{false}
+use mathlib.Core.List.{List, [], _∷_}
+use native.Mathlib.Decide.{ℕ-discrete, decLt}
+use Rattle.order.specs.Order.{basic, list}
+use Rattle.order.specs.Types.{integer, atom, entry}
+use Rattle.theory.specs.Terms.{con, var}
+use Rattle.text.specs.Ascii.{ascii}
+use Rattle.text.specs.Terms.{OurTerm, int}
+use Rattle.unifiers.specs.Shapes.{left, right}
+use Rattle.math_codes.specs.Lines.{ourTable, ourTexts}
+use Rattle.math_codes.specs.Whole.{spotsOf}
+use Rattle.math_codes.specs.Index.{ourIndex, ourTops, indexedList}
+use Rattle.math_codes.specs.Makers.{someOn}
+
+abbrev num : ℕ → OurTerm
+num n = con (int n)
+
+abbrev a : ℕ → OurTerm
+a n = var (basic atom) n
+
+abbrev l : ℕ → OurTerm
+l n = var list n
+
+abbrev i : ℕ → OurTerm
+i n = var (basic integer) n
+
+abbrev listed : List (List OurTerm) → List (List OurTerm) → List (List ℕ)
+listed r₁ r₂ = indexedList (ourTable r₁ r₂) (ourTexts r₁ r₂) r₁ r₂ (ourIndex r₁ r₂ left r₁) ourTops (ourIndex r₁ r₂ right r₂) ourTops
+
+-- `a0:l0` and `l0:2`
+first-list : listed ((a 0 ∷ l 0 ∷ []) ∷ []) ((l 0 ∷ num 2 ∷ []) ∷ [])
+    ≡ ascii "2 <a0=2 <l0=empty >l0=empty\n" ∷ ascii "a0:l0:2 <a0=a0 <l0=l0:2 >l0=a0:l0\n" ∷ []
+unfolding ℕ-discrete decLt
+first-list = refl
+
+-- `i0:l0|i0` and `3|a0`
+second-list : listed ((i 0 ∷ l 0 ∷ []) ∷ (i 0 ∷ []) ∷ []) ((num 3 ∷ []) ∷ (a 0 ∷ []) ∷ []) ≡ ascii "3|3 <i0=3 <l0=empty >a0=3\n" ∷ []
+unfolding ℕ-discrete decLt
+second-list = refl
+
+-- `i1:a2` and `a0:a0`
+kept-list : listed ((i 1 ∷ a 2 ∷ []) ∷ []) ((a 0 ∷ a 0 ∷ []) ∷ []) ≡ ascii "i0:i0 <i1=i0 <a2=i0 >a0=i0\n" ∷ []
+unfolding ℕ-discrete decLt
+kept-list = refl
+
+-- `1` and `2` do not overlap
+no-entry : someOn entry (ourTable ((num 1 ∷ []) ∷ []) ((num 2 ∷ []) ∷ [])) (spotsOf 16 0 ((num 1 ∷ []) ∷ [])) (spotsOf 16 64 ((num 2 ∷ []) ∷ []))
+    (ourTable ((num 1 ∷ []) ∷ []) ((num 2 ∷ []) ∷ []) .first) ≡ false
+unfolding ℕ-discrete decLt
+no-entry = refl

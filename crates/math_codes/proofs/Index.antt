@@ -1,0 +1,194 @@
+-- The values of a line by an index and tops are those of the rule's variables in their order, so the list made with them is the overlap list.
+use mathlib.Core.Path.{_≡_, refl, sym, ap, ap₂, _∙_, subst}
+use mathlib.Core.Bool.{Bool, true, false, cond}
+use mathlib.Core.List.{List, [], _∷_, _++_, map, List·Memᴰ, List·Memᴰ·head, List·Memᴰ·tail}
+use Prim.Native.Nat.{ℕ, zero, suc, _+_, _-_, _/_, _%_, _≤_, _<_}
+use native.Mathlib.Omega.{arith}
+use lib.ListN.{getD}
+use Rattle.lists.specs.Seqs.{All}
+use Rattle.order.specs.Order.{basic, list}
+use Rattle.order.specs.Types.{integer, string, atom, Kind, basics, entry, rank, rank-below}
+use Rattle.theory.specs.Seqs.{concat-map}
+use Rattle.theory.proofs.Seqs.{concat-map-append}
+use Rattle.text.specs.Limits.{TermIn, IsLeft}
+use Rattle.text.specs.Terms.{OurTerm}
+use Rattle.instance.specs.Constants.{consts}
+use Rattle.unifiers.specs.Shapes.{free, Side, left, right, of}
+use Rattle.unifiers.specs.Candidates.{range}
+use Rattle.listing.specs.Lines.{lineText, leftMark, rightMark}
+use Rattle.listing.specs.Overlaps.{linesOf}
+use Rattle.listing.specs.Variables.{Variable, kinds, numbersFrom, numbers, ofKind, occurs, keep, every, variables}
+use Rattle.listing.proofs.Variables.{every-mem, occurs-is, in-variables}
+use Rattle.listing.proofs.Rising.{keep-mem}
+use Rattle.math_codes.specs.Tables.{codeOf, Table, same}
+use Rattle.math_codes.specs.Names.{noNames, nameFields}
+use Rattle.math_codes.specs.Lines.{fieldsText, valueText, valuesText, ourVars, ourRow, OurTables, ourTable, ourTexts}
+use Rattle.math_codes.specs.Spots.{Spot}
+use Rattle.math_codes.specs.Walks.{walkOn}
+use Rattle.math_codes.specs.Whole.{spotsOf, itemsFrom, valueOn, lineItems, lineSpots}
+use Rattle.math_codes.specs.Index.{slot, Right, Indexes, Tops, isThere, indexedValue, shownValue, everyValue, rankedValue, rankValues, indexedValues}
+use Rattle.math_codes.specs.Index.{indexedItems, indexedLine, indexedList, kindOfRank, codeIn, indexAt, ourIndex, ourTops}
+use Rattle.math_codes.proofs.Walks.{concat-mapped}
+use Rattle.math_codes.proofs.Lists.{our-tables}
+use Rattle.math_codes.proofs.Whole.{concat-same, walk-same, spots-agree}
+
+-- ---- a loop over all that passes over some
+
+module _ {A B : Type 0} (p : A → Bool) (f g : A → List B) where
+  kept : (l : List A) → ((v : A) → List·Memᴰ v l → (p v ≡ true → f v ≡ g v) × (p v ≡ false → [] ≡ g v)) → concat-map f (keep p l) ≡ concat-map g l
+  kept [] h = refl
+  kept (v ∷ l) h = go (p v) refl (kept l (λ w i. h w (List·Memᴰ·tail i)))
+    where
+      go : (b : Bool) → p v ≡ b → concat-map f (keep p l) ≡ concat-map g l → concat-map f (cond b (v ∷ keep p l) (keep p l)) ≡ g v ++ concat-map g l
+      go true e rec = ap₂ (λ (x y : List B). x ++ y) (h v (List·Memᴰ·head refl) .0 e) rec
+      go false e rec = ap₂ (λ (x y : List B). x ++ y) (h v (List·Memᴰ·head refl) .1 e) rec
+
+-- ---- loops within loops
+
+module _ {A B C : Type 0} (f : B → List C) (g : A → List B) where
+  concat-twice : (l : List A) → concat-map f (concat-map g l) ≡ concat-map (λ x. concat-map f (g x)) l
+  concat-twice [] = refl
+  concat-twice (x ∷ l) = concat-map-append f (g x) (concat-map g l) ∙ ap (λ (s : List C). concat-map f (g x) ++ s) (concat-twice l)
+
+module _ {B : Type 0} (f : ℕ → List B) where
+  -- numbers from the top on that give nothing
+  below-top : (m t a : ℕ) → t ≤ m → ((n : ℕ) → a + t ≤ n → n < a + m → f n ≡ []) → concat-map f (numbersFrom m a) ≡ concat-map f (range a t)
+  below-top zero zero a h k = refl
+  below-top zero (suc t) a h k = absurd (omega arith)
+  below-top (suc m) zero a h k = ap₂ (λ (s t : List B). s ++ t) (k a (omega arith) (omega arith))
+      (below-top m zero (suc a) (omega arith) (λ n l u. k n (omega arith) (omega arith)))
+  below-top (suc m) (suc t) a h k = ap (λ (s : List B). f a ++ s) (below-top m t (suc a) (omega arith) (λ n l u. k n (omega arith) (omega arith)))
+
+-- ---- the values over all variables
+
+module _ (r₁ r₂ : List (List OurTerm)) (d : Side) (r : List (List OurTerm)) (x : ℕ → ℕ) (ix : Indexes r₁ r₂ d r x)
+    (T : Table) (texts : ℕ → List ℕ) (Ps : List (Spot ℕ)) (atoms : List ℕ) (is : List (List ℕ)) (ns : List ℕ) (mark : ℕ) where
+  there : (v : ℕ) → 0 < v → isThere v ≡ true
+  there zero h = absurd (omega arith)
+  there (suc c) h = refl
+
+  right-there : (k : Kind) (n v : ℕ) → Right r₁ r₂ d k n v → isThere v ≡ true
+  right-there (basic k) n v e = ap isThere e
+  right-there list n v h = there v h
+
+  value-there : (k : Kind) (n : ℕ) → Right r₁ r₂ d k n (x (slot k n)) → valueOn r₁ r₂ d Ps atoms is k n ≡ indexedValue x Ps atoms is k n
+  value-there (basic k) n e =
+      ap (λ (c : ℕ). getD atoms c 0 ∷ [])
+      (let z : codeOf (same basics consts ourVars) (ourRow r₁ r₂) (free (of d k n)) ≡ x (slot (basic k) n) - 1 = omega (arith, e) in z)
+  value-there list n e = refl
+
+  value-shown : (v : Variable) → v .1 ≤ 15 → occurs (v .0) (v .1) r ≡ true
+      → valueText T texts ns mark v (valueOn r₁ r₂ d Ps atoms is (v .0) (v .1)) ≡ shownValue T texts ns mark x Ps atoms is v
+  value-shown v l o =
+      let e = ix .present (v .0) (v .1) l o in
+      rw (right-there (v .0) (v .1) (x (slot (v .0) (v .1))) e) (ap (valueText T texts ns mark v) (value-there (v .0) (v .1) e))
+
+  value-hidden : (v : Variable) → v .1 ≤ 15 → occurs (v .0) (v .1) r ≡ false → [] ≡ shownValue T texts ns mark x Ps atoms is v
+  value-hidden v l o = rw (ix .absent (v .0) (v .1) l o)
+
+  -- THE VALUES of a rule's variables in their order
+  pub values-indexed : valuesText T texts ns mark (λ v. valueOn r₁ r₂ d Ps atoms is (v .0) (v .1)) (variables r) ≡ everyValue T texts ns mark x Ps atoms is
+  values-indexed =
+      kept (λ v. occurs (v .0) (v .1) r) (λ v. valueText T texts ns mark v (valueOn r₁ r₂ d Ps atoms is (v .0) (v .1)))
+      (shownValue T texts ns mark x Ps atoms is) every
+      (λ v i. (value-shown v (every-mem (v .0) (v .1) .0 i), value-hidden v (every-mem (v .0) (v .1) .0 i)))
+
+  -- ---- by rank and number
+
+  module _ (tops : ℕ → ℕ) (tp : Tops r tops) where
+    -- the same for a variable
+    at-rank : (k : Kind) (n : ℕ) → shownValue T texts ns mark x Ps atoms is (k, n) ≡ rankedValue T texts ns mark x Ps atoms is (rank k) n
+    at-rank (basic integer) n = refl
+    at-rank (basic string) n = refl
+    at-rank (basic atom) n = refl
+    at-rank list n = refl
+
+    -- nothing from the top on
+    past-top : (k : Kind) (n : ℕ) → n ≤ 15 → tops (rank k) ≤ n → rankedValue T texts ns mark x Ps atoms is (rank k) n ≡ []
+    past-top k n l h = go (occurs k n r) refl
+      where
+        go : (b : Bool) → occurs k n r ≡ b → rankedValue T texts ns mark x Ps atoms is (rank k) n ≡ []
+        go true e = absurd (let m = tp .above k n e in omega arith)
+        go false e = rw (ix .absent k n l e)
+
+    kind-values : (k : Kind) → concat-map (shownValue T texts ns mark x Ps atoms is) (ofKind k) ≡ rankValues T texts ns mark x tops Ps atoms is (rank k)
+    kind-values k =
+        concat-mapped (shownValue T texts ns mark x Ps atoms is) (λ (n : ℕ). (k, n)) numbers
+        ∙ concat-same (λ n. shownValue T texts ns mark x Ps atoms is (k, n)) (rankedValue T texts ns mark x Ps atoms is (rank k)) numbers (λ n i. at-rank k n)
+        ∙ below-top (rankedValue T texts ns mark x Ps atoms is (rank k)) 16 (tops (rank k)) 0 (tp .within (rank k) (rank-below k))
+        (λ n l m. past-top k n (omega arith) (omega arith))
+
+    -- THE LOOPS write the same
+    pub values-ranked : everyValue T texts ns mark x Ps atoms is ≡ indexedValues T texts ns mark x tops Ps atoms is
+    values-ranked =
+        concat-twice (shownValue T texts ns mark x Ps atoms is) ofKind kinds
+        ∙ concat-same (λ k. concat-map (shownValue T texts ns mark x Ps atoms is) (ofKind k))
+        (λ k. rankValues T texts ns mark x tops Ps atoms is (rank k)) kinds (λ k i. kind-values k)
+
+-- ---- the list
+
+module _ (r₁ r₂ : List (List OurTerm)) (T : Table) (texts : ℕ → List ℕ) (ot : OurTables r₁ r₂ T texts) (ok₁ : IsLeft r₁) (ok₂ : IsLeft r₂)
+    (x₁ t₁ x₂ t₂ : ℕ → ℕ) (ix₁ : Indexes r₁ r₂ left r₁ x₁) (ix₂ : Indexes r₁ r₂ right r₂ x₂) (tp₁ : Tops r₁ t₁) (tp₂ : Tops r₂ t₂) where
+  line-indexed : (Ps Qs : List (Spot ℕ)) (is : List (List ℕ)) (last : List ℕ)
+      → indexedItems T texts x₁ t₁ x₂ t₂ Ps Qs last is (nameFields T (noNames 132 4) is .numbers) ≡ lineItems r₁ r₂ T texts Ps Qs last is
+  line-indexed Ps Qs is last =
+      let ns = nameFields T (noNames 132 4) is .numbers in
+      sym (ap₂ (λ (a b : List ℕ). fieldsText T texts ns is ++ (a ++ (b ++ 10 ∷ [])))
+      (values-indexed r₁ r₂ left r₁ x₁ ix₁ T texts Ps last is ns leftMark ∙ values-ranked r₁ r₂ left r₁ x₁ ix₁ T texts Ps last is ns leftMark t₁ tp₁)
+      (values-indexed r₁ r₂ right r₂ x₂ ix₂ T texts Qs last is ns rightMark ∙ values-ranked r₁ r₂ right r₂ x₂ ix₂ T texts Qs last is ns rightMark t₂ tp₂))
+
+  -- THE LIST as the code makes it
+  pub lines-agree : walkOn entry T (spotsOf 16 0 r₁) (spotsOf 16 64 r₂) (T .first)
+      (λ cs last. indexedLine T texts x₁ t₁ x₂ t₂ (spotsOf 16 0 r₁) (spotsOf 16 64 r₂) cs last ∷ [])
+      ≡ map lineText (linesOf r₁ r₂)
+  lines-agree =
+      let Ps = spotsOf 16 0 r₁ in
+      let Qs = spotsOf 16 64 r₂ in
+      walk-same entry T Ps Qs (T .first) (λ cs last. indexedLine T texts x₁ t₁ x₂ t₂ Ps Qs cs last ∷ [])
+      (λ cs last. lineSpots r₁ r₂ T texts Ps Qs cs last ∷ [])
+      (λ cs last h. ap (λ (l : List ℕ). l ∷ []) (line-indexed Ps Qs (itemsFrom last 128 0 Ps Qs cs) last))
+      ∙ spots-agree r₁ r₂ T texts ot ok₁ ok₂
+
+-- ---- there are such indexes and tops
+
+kind-of-rank : (k : Kind) → kindOfRank (rank k) ≡ k
+kind-of-rank (basic integer) = refl
+kind-of-rank (basic string) = refl
+kind-of-rank (basic atom) = refl
+kind-of-rank list = refl
+
+module _ (r₁ r₂ : List (List OurTerm)) (d : Side) (r : List (List OurTerm)) where
+  at-slot : (k : Kind) (n : ℕ) → n ≤ 15 → ourIndex r₁ r₂ d r (slot k n) ≡ indexAt r₁ r₂ d r k n
+  at-slot k n l =
+      let e : slot k n / 16 ≡ rank k = omega arith in
+      let m : slot k n % 16 ≡ n = omega arith in
+      ap₂ (λ (q : ℕ) (i : ℕ). indexAt r₁ r₂ d r (kindOfRank q) i) e m ∙ ap (λ (q : Kind). indexAt r₁ r₂ d r q n) (kind-of-rank k)
+
+  index-right : (k : Kind) (n : ℕ) → Right r₁ r₂ d k n (suc (codeIn r₁ r₂ d k n))
+  index-right (basic k) n = refl
+  index-right list n = omega arith
+
+  pub our-index : Indexes r₁ r₂ d r (ourIndex r₁ r₂ d r)
+  our-index =
+      record {
+        absent = λ k n l e. at-slot k n l ∙ ap (λ (b : Bool). cond b (suc (codeIn r₁ r₂ d k n)) 0) e;
+        present = λ k n l e. subst (Right r₁ r₂ d k n) (sym (at-slot k n l ∙ ap (λ (b : Bool). cond b (suc (codeIn r₁ r₂ d k n)) 0) e)) (index-right k n);
+      }
+
+pub our-tops : (r : List (List OurTerm)) → All (All TermIn) r → Tops r ourTops
+our-tops r i =
+    record {
+      within = λ k l. omega arith;
+      above = λ k n e.
+          let m = in-variables r i k n .1 (occurs-is k n r .0 e) in
+          let l = every-mem k n .0 (keep-mem (λ (v : Variable). occurs (v .0) (v .1) r) (k, n) every .0 m .0) in
+          omega arith;
+    }
+
+-- so the list can be made by numbers alone
+pub lines-text : (r₁ r₂ : List (List OurTerm)) → IsLeft r₁ → IsLeft r₂
+    → indexedList (ourTable r₁ r₂) (ourTexts r₁ r₂) r₁ r₂ (ourIndex r₁ r₂ left r₁) ourTops (ourIndex r₁ r₂ right r₂) ourTops
+    ≡ map lineText (linesOf r₁ r₂)
+lines-text r₁ r₂ ok₁ ok₂ =
+    lines-agree r₁ r₂ (ourTable r₁ r₂) (ourTexts r₁ r₂) (our-tables r₁ r₂) ok₁ ok₂ (ourIndex r₁ r₂ left r₁) ourTops (ourIndex r₁ r₂ right r₂) ourTops
+    (our-index r₁ r₂ left r₁) (our-index r₁ r₂ right r₂) (our-tops r₁ (ok₁ .0 .3)) (our-tops r₂ (ok₂ .0 .3))

@@ -1,0 +1,9 @@
+pub mod Bounds
+pub mod Laying
+pub mod Lines
+pub mod Loops
+pub mod Naming
+pub mod Puts
+pub mod Texts
+pub mod Values
+pub mod Short

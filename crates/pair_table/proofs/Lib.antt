@@ -1,0 +1,12 @@
+pub mod Loops
+pub mod Examples
+pub mod PairsRow
+pub mod PairsCells
+pub mod PairsNotes
+pub mod PairsConstants
+pub mod PairsMarks
+pub mod PairsVariables
+pub mod PairsTerms
+pub mod PairsTexts
+pub mod PairsRules
+pub mod Pairs

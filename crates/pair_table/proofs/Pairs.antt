@@ -1,0 +1,443 @@
+-- THE TABLES of two texts that are accepted are those of their rules.
+use mathlib.Core.Path.{_≡_, refl, sym, ap, ap₂, _∙_, subst}
+use mathlib.Core.Logic.{_⊎_, inl, inr}
+use mathlib.Core.Bool.{Bool, true, false, cond, _||_, false≢true}
+use mathlib.Core.Option.{Option, none, some, Option·none-ne-some, Option·some-injective}
+use mathlib.Core.List.{List, [], _∷_, _++_, map, append-assoc, append-nil}
+use Prim.Native.Nat.{ℕ, zero, suc, _+_, _-_, _*_, _≤_, _<_}
+use native.Mathlib.Omega.{arith}
+use native.Mathlib.Decide.{decLt}
+use lib.Dec.{eqb, ltb}
+use lib.ListN.{length, getD, replicate, length-append, length-map, length-replicate, getD-replicate, List·getD-append, List·getD-map, List·getD-eq-default}
+use lib.Seq.{getD-append-add}
+use borrow.Author.Tests.{lt-ltb, le-ltb}
+use Rattle.lists.specs.Seqs.{tabulate, tabulate-long, tabulate-at}
+use Rattle.order.specs.Order.{basic, list}
+use Rattle.order.specs.Types.{Kind, basics, rank}
+use Rattle.theory.specs.Terms.{con, var}
+use Rattle.text.specs.Limits.{IsLeft}
+use Rattle.text.specs.Plain.{termText}
+use Rattle.text.specs.Read.{accepted, readSide}
+use Rattle.text.specs.Terms.{OurTerm, Con, int, str}
+use Rattle.text.proofs.Accepted.{rule-read}
+use Rattle.instance.specs.Constants.{consts, kind-of}
+use Rattle.unifiers.specs.Shapes.{fixed, free, left, right, of}
+use Rattle.unifiers.specs.Candidates.{range}
+use Rattle.unifiers.specs.Overlaps.{Mark, place, termOf}
+use Rattle.listing.specs.Variables.{inField, occurs}
+use Rattle.math_codes.specs.Tables.{Holds, kindA, isFree, Made}
+use Rattle.math_codes.specs.Entries.{ruleRow}
+use Rattle.math_codes.specs.Items.{shownAt}
+use Rattle.math_codes.specs.Names.{isVar, MadeTerms}
+use Rattle.math_codes.specs.Spots.{Spot}
+use Rattle.math_codes.specs.Lines.{ourVars, OurAtom, OurMarked, ourRanks, ourRow, ourTerms}
+use Rattle.math_codes.specs.Whole.{spotsOf}
+use Rattle.math_codes.specs.Index.{Right, Indexes, Tops}
+use Rattle.math_codes.proofs.Tables.{holds-below}
+use Rattle.math_codes.proofs.Items.{con-once, con≢var, kind-once, range-at}
+use Rattle.math_codes.proofs.Places.{left-stand, left-long, right-stand, pair-long}
+use Rattle.pair_row.specs.Row.{isSet, tableIn, textIn, bytesIn, spotIn, indexIn, topIn}
+use Rattle.pair_table.specs.Notes.{sideOf, classed, listsNoted, sideNoted, blankRows, rowsOf}
+use Rattle.pair_table.specs.Pairs.{PairIn}
+use Rattle.pair_table.proofs.PairsRow.{classed-long, classed-other, classed-kind, classed-variable, spotAt, spot-is, spot-same}
+use Rattle.pair_table.proofs.PairsCells.{Cell, bytesOf, cell-bytes}
+use Rattle.pair_table.proofs.PairsNotes.{Same, Gap}
+use Rattle.pair_table.proofs.PairsMarks.{sideIn, in-append, RightIn, Marked, untouched, marked-keep}
+use Rattle.pair_table.proofs.PairsTerms.{fieldSpot, Noted, turn}
+use Rattle.pair_table.proofs.PairsRules.{gap-at, Gaps, rule-long, gaps-at, flat, rule-noted}
+
+-- ---- rows that hold nothing
+
+abbrev zerosOf : ℕ → List ℕ
+zerosOf n = replicate n 0
+
+zero-at : (n j : ℕ) → getD (zerosOf n) j 0 ≡ 0
+zero-at n j = go (decLt j n)
+  where
+    go : Dec (j < n) → getD (zerosOf n) j 0 ≡ 0
+    go (yes h) = getD-replicate n j 0 0 h
+    go (no h) = List·getD-eq-default (zerosOf n) 0 {n = j} (omega (arith, length-replicate {A = ℕ} n 0))
+
+module _ (t : List (Option OurAtom)) (G : ℕ → List OurTerm) (row texts : List ℕ) (z : (j : ℕ) → getD row j 0 ≡ 0)
+    (y : (j : ℕ) → getD texts j 0 ≡ 0) (long : length row ≡ 689) (wide : length texts ≡ 2048) where
+  blank-marks : (s : Bool) → Marked t s [] 0 row
+  blank-marks s =
+      record {
+        absent = λ k n l e. z (424 + 64 * sideOf s + 16 * rank k + n);
+        present = λ k n l e. absurd (false≢true e);
+        met = λ q k n l v. absurd (omega arith);
+        within = λ k l. omega (arith, z (552 + 4 * sideOf s + k));
+        above = λ k n e. absurd (false≢true e);
+      }
+
+  blank-spot : (f : ℕ) → spotAt row f ≡ fieldSpot (16 * f) []
+  blank-spot f = spot-is row f 0 0 false 0 (z (392 + 4 * f)) (z (392 + 4 * f + 1)) (ap isSet (z (392 + 4 * f + 3))) (z (392 + 4 * f + 2))
+
+  blank-noted : Noted t G false 0 [] [] [] 0 row texts
+  blank-noted =
+      record {
+        place = refl;
+        long = long;
+        wide = wide;
+        codes =
+            record {
+              firsts = λ q a l k. absurd (omega arith);
+              kinds = λ q a l k. absurd (omega arith);
+              variables = λ q a l k. absurd (omega arith);
+            };
+        members =
+            record {
+              few = omega (arith, z 560);
+              each = λ i l. absurd (omega (arith, z 560));
+              all = λ q d l k. absurd (omega arith);
+            };
+        cells = λ q d l k. absurd (omega arith);
+        small = λ q. omega (arith, y (16 * q));
+        marks = blank-marks false;
+        beside = blank-marks true;
+        shaped =
+            record {
+              before = λ g a b. absurd (omega arith);
+              here = λ b. blank-spot 0;
+              later = λ g a b. blank-spot g;
+            };
+      }
+
+-- ---- the fields of a pair
+
+abbrev fieldIn : List (List OurTerm) → List (List OurTerm) → ℕ → List OurTerm
+fieldIn r₁ r₂ g = cond (ltb g 4) (getD r₁ g []) (getD r₂ (g - 4) [])
+
+field-left : (r₁ r₂ : List (List OurTerm)) (g : ℕ) → g < 4 → fieldIn r₁ r₂ g ≡ getD r₁ g []
+field-left r₁ r₂ g h = ap (λ (b : Bool). cond b (getD r₁ g []) (getD r₂ (g - 4) [])) (lt-ltb g 4 h)
+
+field-right : (r₁ r₂ : List (List OurTerm)) (g : ℕ) → fieldIn r₁ r₂ (4 + g) ≡ getD r₂ g []
+field-right r₁ r₂ g =
+    ap (λ (b : Bool). cond b (getD r₁ (4 + g) []) (getD r₂ (4 + g - 4) [])) (le-ltb (4 + g) 4 (omega arith))
+    ∙ ap (λ (j : ℕ). getD r₂ j []) (let e : 4 + g - 4 ≡ g = omega arith in e)
+
+-- ---- both texts
+
+module _ (r₁ r₂ : List (List OurTerm)) (ok₁ : IsLeft r₁) (ok₂ : IsLeft r₂) where
+  abbrev Row : Type 0
+  Row = List (Option OurAtom)
+
+  abbrev t : Row
+  t = ourRow r₁ r₂
+
+  abbrev rest₁ : ℕ
+  rest₁ = 64 - length r₁ * 16
+
+  abbrev rest₂ : ℕ
+  rest₂ = 64 - length r₂ * 16
+
+  abbrev part₁ : Row
+  part₁ = ruleRow 16 left r₁ ++ replicate rest₁ none
+
+  abbrev part₂ : Row
+  part₂ = ruleRow 16 right r₂ ++ replicate rest₂ none
+
+  few₁ : length r₁ * 16 ≤ 4 * 16
+  few₁ = omega (arith, ok₁ .0 .1)
+
+  few₂ : length r₂ * 16 ≤ 4 * 16
+  few₂ = omega (arith, ok₂ .0 .1)
+
+  long₁ : length part₁ ≡ 64
+  long₁ = left-long 16 4 r₁ r₂ (ok₁ .0 .2) (ok₂ .0 .2) few₁
+
+  row-long : length t ≡ 128
+  row-long = pair-long 16 4 r₁ r₂ (ok₁ .0 .2) (ok₂ .0 .2) few₁ few₂
+
+  spread : t ≡ ruleRow 16 left r₁ ++ (replicate rest₁ none ++ part₂)
+  spread = append-assoc (ruleRow 16 left r₁) (replicate rest₁ none) part₂
+
+  gaps₁ : Gaps t 0 r₁
+  gaps₁ = subst (λ (x : Row). Gaps x 0 r₁) (sym spread) (gaps-at left r₁ (ok₁ .0 .2) [] (replicate rest₁ none ++ part₂) 0 refl)
+
+  gap₁ : Gap t (16 * (0 + length r₁)) 64
+  gap₁ =
+      subst (λ (x : Row). Gap x (16 * (0 + length r₁)) 64) (sym spread)
+      (gap-at (ruleRow 16 left r₁) rest₁ part₂ (16 * (0 + length r₁)) 64 (omega (arith, rule-long left r₁ (ok₁ .0 .2))) (omega (arith, ok₁ .0 .1)))
+
+  gaps₂ : Gaps t 64 r₂
+  gaps₂ = gaps-at right r₂ (ok₂ .0 .2) part₁ (replicate rest₂ none) 64 long₁
+
+  gap₂ : Gap t (16 * (4 + length r₂)) 128
+  gap₂ =
+      subst (λ (x : Row). Gap x (16 * (4 + length r₂)) 128)
+      (append-assoc part₁ (ruleRow 16 right r₂) (replicate rest₂ none ++ [])
+      ∙ ap (λ (x : Row). part₁ ++ (ruleRow 16 right r₂ ++ x)) (append-nil (replicate rest₂ none)))
+      (gap-at (part₁ ++ ruleRow 16 right r₂) rest₂ [] (16 * (4 + length r₂)) 128
+      (omega (arith, long₁, length-append part₁ (ruleRow 16 right r₂), rule-long right r₂ (ok₂ .0 .2))) (omega (arith, ok₂ .0 .1)))
+
+  -- ALL is noted
+  both-noted : (u v : List ℕ) → readSide u ≡ accepted r₁ → readSide v ≡ accepted r₂
+      → Noted t (fieldIn r₁ r₂) true 8 [] (flat r₂) (flat r₁) 128
+      (sideNoted true v (sideNoted false u blankRows) .0) (sideNoted true v (sideNoted false u blankRows) .1)
+  both-noted u v a b =
+      let x = sideNoted false u blankRows in
+      let n = rule-noted t (fieldIn r₁ r₂) false u [] r₁ 0 [] blankRows a refl (left-stand 16 4 r₁ r₂ (ok₁ .0 .2) (ok₂ .0 .2) few₁) gaps₁ gap₁
+      (λ j l. ap (fieldIn r₁ r₂) (let e : 0 + j ≡ j = omega arith in e) ∙ field-left r₁ r₂ j l)
+      (blank-noted t (fieldIn r₁ r₂) (blankRows .0) (blankRows .1) (zero-at 689) (zero-at 2048)
+      (length-replicate {A = ℕ} 689 0) (length-replicate {A = ℕ} 2048 0)) in
+      rule-noted t (fieldIn r₁ r₂) true v (flat r₁) r₂ 4 [] x b refl (right-stand 16 4 r₁ r₂ (ok₁ .0 .2) (ok₂ .0 .2) few₁) gaps₂ gap₂
+      (λ j l. field-right r₁ r₂ j) (turn t (fieldIn r₁ r₂) (flat r₁) [] 4 64 [] (x .0) (x .1) n)
+
+-- ---- the list variables of an entry's fields
+
+module _ (row : List ℕ) (long : length row ≡ 689) where
+  abbrev l₁ : List ℕ
+  l₁ = classed 128 3 1 row
+
+  abbrev l₂ : List ℕ
+  l₂ = classed 129 3 1 l₁
+
+  abbrev l₃ : List ℕ
+  l₃ = classed 130 3 1 l₂
+
+  lists-other : (j : ℕ) → (256 ≤ j → j < 260 → ⊥) → (388 ≤ j → j < 392 → ⊥) → Same row (listsNoted row) j
+  lists-other j a b =
+      classed-other 131 3 1 l₃ j (λ e. a (omega arith) (omega arith)) (λ e. b (omega arith) (omega arith))
+      ∙ classed-other 130 3 1 l₂ j (λ e. a (omega arith) (omega arith)) (λ e. b (omega arith) (omega arith))
+      ∙ classed-other 129 3 1 l₁ j (λ e. a (omega arith) (omega arith)) (λ e. b (omega arith) (omega arith))
+      ∙ classed-other 128 3 1 row j (λ e. a (omega arith) (omega arith)) (λ e. b (omega arith) (omega arith))
+
+  long₂ : length l₁ ≡ 689
+  long₂ = classed-long 128 3 1 row ∙ long
+
+  long₃ : length l₂ ≡ 689
+  long₃ = classed-long 129 3 1 l₁ ∙ long₂
+
+  long₄ : length l₃ ≡ 689
+  long₄ = classed-long 130 3 1 l₂ ∙ long₃
+
+  lists-kind : (g : ℕ) → g < 4 → getD (listsNoted row) (128 + (128 + g)) 0 ≡ 3
+  lists-kind zero h =
+      classed-other 131 3 1 l₃ 256 (λ e. omega arith) (λ e. omega arith) ∙ classed-other 130 3 1 l₂ 256 (λ e. omega arith) (λ e. omega arith)
+      ∙ classed-other 129 3 1 l₁ 256 (λ e. omega arith) (λ e. omega arith) ∙ classed-kind 128 3 1 row (omega (arith, long))
+  lists-kind (suc zero) h =
+      classed-other 131 3 1 l₃ 257 (λ e. omega arith) (λ e. omega arith) ∙ classed-other 130 3 1 l₂ 257 (λ e. omega arith) (λ e. omega arith)
+      ∙ classed-kind 129 3 1 l₁ (omega (arith, long₂))
+  lists-kind (suc (suc zero)) h = classed-other 131 3 1 l₃ 258 (λ e. omega arith) (λ e. omega arith) ∙ classed-kind 130 3 1 l₂ (omega (arith, long₃))
+  lists-kind (suc (suc (suc zero))) h = classed-kind 131 3 1 l₃ (omega (arith, long₄))
+  lists-kind (suc (suc (suc (suc g)))) h = absurd (omega arith)
+
+  lists-variable : (g : ℕ) → g < 4 → getD (listsNoted row) (260 + (128 + g)) 0 ≡ 1
+  lists-variable zero h =
+      classed-other 131 3 1 l₃ 388 (λ e. omega arith) (λ e. omega arith) ∙ classed-other 130 3 1 l₂ 388 (λ e. omega arith) (λ e. omega arith)
+      ∙ classed-other 129 3 1 l₁ 388 (λ e. omega arith) (λ e. omega arith) ∙ classed-variable 128 3 1 row (omega (arith, long))
+  lists-variable (suc zero) h =
+      classed-other 131 3 1 l₃ 389 (λ e. omega arith) (λ e. omega arith) ∙ classed-other 130 3 1 l₂ 389 (λ e. omega arith) (λ e. omega arith)
+      ∙ classed-variable 129 3 1 l₁ (omega (arith, long₂))
+  lists-variable (suc (suc zero)) h = classed-other 131 3 1 l₃ 390 (λ e. omega arith) (λ e. omega arith) ∙ classed-variable 130 3 1 l₂ (omega (arith, long₃))
+  lists-variable (suc (suc (suc zero))) h = classed-variable 131 3 1 l₃ (omega (arith, long₄))
+  lists-variable (suc (suc (suc (suc g)))) h = absurd (omega arith)
+
+-- ---- a field's numbers in their order
+
+spots-are : (r : List (List OurTerm)) (b : ℕ) (F : ℕ → Spot ℕ) → ((j : ℕ) → j < length r → F j ≡ fieldSpot (b + 16 * j) (getD r j []))
+    → tabulate (length r) F ≡ spotsOf 16 b r
+spots-are [] b F h = refl
+spots-are (f ∷ r) b F h =
+    ap₂ (λ (x : Spot ℕ) (l : List (Spot ℕ)). x ∷ l) (h 0 (omega arith) ∙ ap (λ (n : ℕ). fieldSpot n f) (let e : b + 16 * 0 ≡ b = omega arith in e))
+    (spots-are r (b + 16) (λ j. F (suc j)) (λ j l. h (suc j) (omega arith)
+    ∙ ap (λ (n : ℕ). fieldSpot n (getD r j [])) (let e : b + 16 * suc j ≡ b + 16 + 16 * j = omega arith in e)))
+
+-- ---- occurrence in a rule and in its terms
+
+occurs-flat : (k : Kind) (n : ℕ) (r : List (List OurTerm)) → inField k n (flat r) ≡ occurs k n r
+occurs-flat k n [] = refl
+occurs-flat k n (f ∷ r) = in-append k n f (flat r) ∙ ap (λ (b : Bool). inField k n f || b) (occurs-flat k n r)
+
+-- ---- THE TABLES
+
+module _ (r₁ r₂ : List (List OurTerm)) (ok₁ : IsLeft r₁) (ok₂ : IsLeft r₂) (row texts : List ℕ)
+    (c : Noted (ourRow r₁ r₂) (fieldIn r₁ r₂) true 8 [] (flat r₂) (flat r₁) 128 row texts) where
+  abbrev whole : List ℕ
+  whole = listsNoted row
+
+  abbrev atoms : List (Option OurAtom)
+  atoms = ourRow r₁ r₂
+
+  many : length atoms ≡ 128
+  many = row-long r₁ r₂ ok₁ ok₂
+
+  below : (p : ℕ) (a : OurAtom) → Holds atoms p a → p < 128
+  below p a h = omega (arith, many, holds-below atoms p a h)
+
+  kind-at : (p : ℕ) (a : OurAtom) → Holds atoms p a → getD whole (128 + p) 0 ≡ rank (basic (kindA basics consts ourVars a))
+  kind-at p a h =
+      let l = below p a h in
+      lists-other row (c .long) (128 + p) (λ x y. omega arith) (λ x y. omega arith) ∙ c .codes .kinds p a l h
+
+  variable-at : (p : ℕ) (a : OurAtom) → Holds atoms p a → isSet (getD whole (260 + p) 0) ≡ isFree basics consts ourVars a
+  variable-at p a h =
+      let l = below p a h in
+      ap isSet (lists-other row (c .long) (260 + p) (λ x y. omega arith) (λ x y. omega arith)) ∙ c .codes .variables p a l h
+
+  made-atoms : Made basics consts ourVars ourRanks (tableIn whole) atoms
+  made-atoms =
+      record {
+        long = tabulate-long 128 (λ p. getD whole p 0) ∙ sym many;
+        firsts = λ p a h.
+            let l = below p a h in
+            tabulate-at 128 (λ p. getD whole p 0) p 0 l
+            ∙ lists-other row (c .long) p (λ x y. omega arith) (λ x y. omega arith) ∙ c .codes .firsts p a l h;
+        kinds = kind-at;
+        variables = variable-at;
+      }
+
+  -- an item's term is that of an atom, or an entry's list variable
+  abbrev Item : ℕ → OurMarked → Type 0
+  Item p u = ((a : OurAtom) × Holds atoms p a × (termOf a ≡ u)) ⊎ ((g : ℕ) × (g < 4) × (p ≡ 128 + g) × (var list (place g) ≡ u))
+
+  shown : (o : Option OurAtom) (u : OurMarked) → shownAt o ≡ some u → (a : OurAtom) × (o ≡ some a) × (termOf a ≡ u)
+  shown none u e = absurd (Option·none-ne-some u e)
+  shown (some a) u e = (a, refl, Option·some-injective (termOf a) u e)
+
+  abbrev listTerm : ℕ → Option OurMarked
+  listTerm g = some (var list (place g))
+
+  item-is : (p : ℕ) (u : OurMarked) → Holds (ourTerms r₁ r₂) p u → Item p u
+  item-is p u h = go (decLt p 128) (decLt (p - 128) 4)
+    where
+      go : Dec (p < 128) → Dec (p - 128 < 4) → Item p u
+      go (yes l) d =
+          inl (shown (getD atoms p none) u
+          (sym (List·getD-append (map shownAt atoms) (map listTerm (range 0 4)) none p (omega (arith, l, many, length-map atoms shownAt))
+          ∙ List·getD-map shownAt atoms p none) ∙ h))
+      go (no n) d = behind d (let e : p ≡ length (map shownAt atoms) + (p - 128) = omega (arith, many, length-map atoms shownAt) in e)
+        where
+          at : p ≡ length (map shownAt atoms) + (p - 128) → getD (map listTerm (range 0 4)) (p - 128) none ≡ some u
+          at e =
+              sym (getD-append-add (map shownAt atoms) (map listTerm (range 0 4)) (p - 128) none)
+              ∙ ap (λ (j : ℕ). getD (ourTerms r₁ r₂) j none) (sym e) ∙ h
+
+          behind : Dec (p - 128 < 4) → p ≡ length (map shownAt atoms) + (p - 128) → Item p u
+          behind (yes l) e =
+              inr (
+                p - 128,
+                l,
+                omega arith,
+                ap (λ (j : ℕ). var list (place j)) (let z : p - 128 ≡ 0 + (p - 128) = omega arith in z)
+                    ∙ Option·some-injective (var list (place (0 + (p - 128)))) u (sym (range-at listTerm 0 4 (p - 128) none l) ∙ at e),
+              )
+          behind (no m) e = absurd (Option·none-ne-some u (sym (List·getD-eq-default (map listTerm (range 0 4)) none {n = p - 128} (omega arith)) ∙ at e))
+
+  made-terms : MadeTerms rank (tableIn whole) (ourTerms r₁ r₂)
+  made-terms =
+      record {
+        kinds = λ p k b h. kinds-by p k b (item-is p (var k b) h);
+        variables = λ p u h. variables-by p u (item-is p u h);
+      }
+    where
+      kinds-by : (p : ℕ) (k : Kind) (b : Mark ℕ) → Item p (var k b) → getD whole (128 + p) 0 ≡ rank k
+      kinds-by p k b (inl (fixed d, h, e)) = absurd (con≢var e)
+      kinds-by p k b (inl (free (of s j n), h, e)) = kind-at p (free (of s j n)) h ∙ ap rank (kind-once e)
+      kinds-by p k b (inr (g, l, e, q)) =
+          ap (λ (j : ℕ). getD whole (128 + j) 0) e ∙ lists-kind row (c .long) g l ∙ ap rank (kind-once q)
+
+      variables-by : (p : ℕ) (u : OurMarked) → Item p u → isSet (getD whole (260 + p) 0) ≡ isVar u
+      variables-by p u (inl (fixed d, h, e)) = variable-at p (fixed d) h ∙ ap isVar e
+      variables-by p u (inl (free (of s j n), h, e)) = variable-at p (free (of s j n)) h ∙ ap isVar e
+      variables-by p u (inr (g, l, e, q)) =
+          ap (λ (j : ℕ). isSet (getD whole (260 + j) 0)) e ∙ ap isSet (lists-variable row (c .long) g l) ∙ ap isVar q
+
+  -- plain texts
+  plain-by : (p : ℕ) (d : Con) → Holds atoms p (fixed d) → textIn whole texts p ≡ termText (con d)
+  plain-by p d h = go d (kind-at p (fixed d) h) (cell-bytes texts p (bytesOf d) (c .wide) l (o .1) (o .0))
+    where
+      l : p < 128
+      l = below p (fixed d) h
+
+      o : Cell texts p (bytesOf d) × (length (bytesOf d) ≤ 15)
+      o = c .cells p d l h
+
+      go : (b : Con) → getD whole (128 + p) 0 ≡ rank (basic (kind-of b)) → bytesIn texts p ≡ bytesOf b → textIn whole texts p ≡ termText (con b)
+      go (int n) k e = ap (λ (j : ℕ). cond (eqb j 1) (34 ∷ (bytesIn texts p ++ 34 ∷ [])) (bytesIn texts p)) k ∙ e
+      go (str b) k e =
+          ap (λ (j : ℕ). cond (eqb j 1) (34 ∷ (bytesIn texts p ++ 34 ∷ [])) (bytesIn texts p)) k ∙ ap (λ (z : List ℕ). 34 ∷ (z ++ 34 ∷ [])) e
+
+  plain-at : (p : ℕ) (d : Con) → Holds (ourTerms r₁ r₂) p (con d) → textIn whole texts p ≡ termText (con d)
+  plain-at p d h = go (item-is p (con d) h)
+    where
+      go : Item p (con d) → textIn whole texts p ≡ termText (con d)
+      go (inl (fixed b, k, e)) = plain-by p b k ∙ ap (λ (z : Con). termText (con z)) (con-once e)
+      go (inl (free (of s j n), k, e)) = absurd (con≢var (sym e))
+      go (inr (g, l, e, q)) = absurd (con≢var (sym q))
+
+  -- ---- shapes
+
+  spot-at : (g : ℕ) → g < 8 → spotAt whole g ≡ fieldSpot (16 * g) (fieldIn r₁ r₂ g)
+  spot-at g l = spot-same row whole g (λ j a b. lists-other row (c .long) j (λ x y. omega arith) (λ x y. omega arith)) ∙ c .shaped .before g l l
+
+  shapes₁ : tabulate (length r₁) (spotIn whole false) ≡ spotsOf 16 0 r₁
+  shapes₁ =
+      spots-are r₁ 0 (spotIn whole false) (λ j l.
+      spot-at j (omega (arith, l, ok₁ .0 .1)) ∙ ap₂ fieldSpot (let e : 16 * j ≡ 0 + 16 * j = omega arith in e)
+      (field-left r₁ r₂ j (omega (arith, l, ok₁ .0 .1))))
+
+  shapes₂ : tabulate (length r₂) (spotIn whole true) ≡ spotsOf 16 64 r₂
+  shapes₂ =
+      spots-are r₂ 64 (spotIn whole true) (λ j l.
+      spot-at (4 + j) (omega (arith, l, ok₂ .0 .1)) ∙ ap₂ fieldSpot (let e : 16 * (4 + j) ≡ 64 + 16 * j = omega arith in e) (field-right r₁ r₂ j))
+
+  -- ---- variables
+
+  marked-whole : (s : Bool) (d : List OurTerm) → Marked atoms s d 128 row → Marked atoms s d 128 whole
+  marked-whole s d m =
+      marked-keep atoms s d 128 128 row whole
+      (untouched atoms s row whole (λ j a b. lists-other row (c .long) j (λ x y. omega arith) (λ x y. omega arith)))
+      (λ q k n a b v. absurd (omega arith)) m
+
+  index-read : (s : Bool) (k : Kind) (n : ℕ) → indexIn whole s (16 * rank k + n) ≡ getD whole (424 + 64 * sideOf s + 16 * rank k + n) 0
+  index-read true k n = ap (λ (j : ℕ). getD whole j 0) (let e : 488 + (16 * rank k + n) ≡ 488 + 16 * rank k + n = omega arith in e)
+  index-read false k n = ap (λ (j : ℕ). getD whole j 0) (let e : 424 + (16 * rank k + n) ≡ 424 + 16 * rank k + n = omega arith in e)
+
+  top-read : (s : Bool) (k : ℕ) → topIn whole s k ≡ getD whole (552 + 4 * sideOf s + k) 0
+  top-read true k = refl
+  top-read false k = refl
+
+  right-read : (s : Bool) (k : Kind) (n v : ℕ) → RightIn atoms s k n v → Right r₁ r₂ (sideIn s) k n v
+  right-read s (basic k) n v h = h
+  right-read s list n v h = h
+
+  indexes : (s : Bool) (r : List (List OurTerm)) → Marked atoms s (flat r) 128 row → Indexes r₁ r₂ (sideIn s) r (indexIn whole s)
+  indexes s r m =
+      let w = marked-whole s (flat r) m in
+      record {
+        absent = λ k n l e. index-read s k n ∙ w .absent k n l (occurs-flat k n r ∙ e);
+        present = λ k n l e. right-read s k n (indexIn whole s (16 * rank k + n))
+            (subst (RightIn atoms s k n) (sym (index-read s k n)) (w .present k n l (occurs-flat k n r ∙ e)));
+      }
+
+  tops : (s : Bool) (r : List (List OurTerm)) → Marked atoms s (flat r) 128 row → Tops r (topIn whole s)
+  tops s r m =
+      let w = marked-whole s (flat r) m in
+      record {
+        within = λ k l. omega (arith, top-read s k, w .within k l);
+        above = λ k n e. omega (arith, top-read s (rank k), w .above k n (occurs-flat k n r ∙ e));
+      }
+
+  pub pair-in : PairIn r₁ r₂ whole texts
+  pair-in =
+      record {
+        tables = record { atoms = made-atoms; terms = made-terms; plain = plain-at };
+        bytes-few = c .small;
+        left-shapes = shapes₁;
+        right-shapes = shapes₂;
+        left-index = indexes false r₁ (c .beside);
+        right-index = indexes true r₂ (c .marks);
+        left-tops = tops false r₁ (c .beside);
+        right-tops = tops true r₂ (c .marks);
+      }
+
+-- THE TABLES of two texts
+pub pair-noted : (t u : List ℕ) (r₁ r₂ : List (List OurTerm)) → readSide t ≡ accepted r₁ → readSide u ≡ accepted r₂
+    → PairIn r₁ r₂ (rowsOf t u .0) (rowsOf t u .1)
+pair-noted t u r₁ r₂ a b =
+    let x = sideNoted true u (sideNoted false t blankRows) in
+    let ok₁ = rule-read t r₁ a in
+    let ok₂ = rule-read u r₂ b in
+    pair-in r₁ r₂ ok₁ ok₂ (x .0) (x .1) (both-noted r₁ r₂ ok₁ ok₂ t u a b)

@@ -1,0 +1,147 @@
+-- What noting a term makes of the row and of the constants' bytes, as code does it.
+-- `pair-noted` of proofs/ says that, of two texts that are accepted, the tables are those of their rules (specs/Pairs).
+use mathlib.Core.Bool.{Bool, true, false, cond, _&&_}
+use mathlib.Core.List.{List, [], _∷_, foldl}
+use Prim.Native.Nat.{ℕ, zero, suc, _+_, _-_, _*_, _%_}
+use lib.Dec.{eqb, leb, ltb}
+use lib.ListN.{length, getD, set, replicate}
+use lib.Seq.{sets}
+use Rattle.lists.specs.Seqs.{tabulate}
+use Rattle.order.specs.Order.{list, basic}
+use Rattle.order.specs.Types.{rank, same, integer, string}
+use Rattle.order.specs.Values.{kindOf}
+use Rattle.text.specs.Marks.{Mark}
+use Rattle.text.specs.Walk.{walked}
+use Rattle.math_codes.specs.Texts.{zeros}
+use Rattle.scanning.specs.declared.Piece.{Piece}
+use Rattle.scanning.specs.declared.Spelled.{Spelled}
+use Rattle.scanning.specs.declared.Spelled.the-variants.{Int, Str, Var, Empty}
+use Rattle.scanning.specs.Pieces.{pieceOf}
+use Rattle.pair_row.specs.Row.{kindsAt, variablesAt, shapesAt, indexesAt, topsAt, countAt, membersAt, cellBytes, rowBytes, textsBytes}
+use Rattle.pair_row.specs.Row.{fieldOf, isSet}
+
+-- n bytes of a text from a place on
+abbrev pub partOf : List ℕ → ℕ → ℕ → List ℕ
+partOf text from n = tabulate n (λ i. getD text (from + i) 0)
+
+-- ---- constants
+
+-- the bytes of the constant at place p, their number before them
+abbrev pub celled : ℕ → List ℕ → List ℕ → List ℕ
+celled p bs texts = sets (set texts (cellBytes * p) (length bs)) (cellBytes * p + 1) bs
+
+-- the bytes from a and from b on are the same, k of them
+abbrev pub sameFrom : List ℕ → ℕ → ℕ → ℕ → Bool
+sameFrom texts a b zero = true
+sameFrom texts a b (suc k) = eqb (getD texts a 0) (getD texts b 0) && sameFrom texts (suc a) (suc b) k
+
+-- one type, one number of bytes, and these alike
+abbrev pub sameConstant : List ℕ → List ℕ → ℕ → ℕ → Bool
+sameConstant row texts p q =
+    eqb (getD row (kindsAt + p) 0) (getD row (kindsAt + q) 0)
+    && sameFrom texts (cellBytes * p) (cellBytes * q) (suc (getD texts (cellBytes * p) 0))
+
+-- the first of k members, from the m-th on, that is the constant at p; else p
+abbrev pub memberFrom : List ℕ → List ℕ → ℕ → ℕ → ℕ → ℕ
+memberFrom row texts p m zero = p
+memberFrom row texts p m (suc k) =
+    cond (sameConstant row texts p (getD row (membersAt + m) 0)) (getD row (membersAt + m) 0) (memberFrom row texts p (suc m) k)
+
+abbrev pub codeIn : List ℕ → List ℕ → ℕ → ℕ
+codeIn row texts p = memberFrom row texts p 0 (getD row countAt 0)
+
+abbrev pub classed : ℕ → ℕ → ℕ → List ℕ → List ℕ
+classed p k v row = set (set row (kindsAt + p) k) (variablesAt + p) v
+
+-- one member more
+abbrev pub joinedMember : ℕ → List ℕ → List ℕ
+joinedMember p row =
+    cond (ltb (getD row countAt 0) 128) (set (set row (membersAt + getD row countAt 0) p) countAt (getD row countAt 0 + 1)) row
+
+-- the row, with `texts` the bytes that hold the constant already
+abbrev pub constantNoted : ℕ → ℕ → List ℕ → List ℕ → List ℕ
+constantNoted p k texts row =
+    let r = classed p k 0 row in
+    let c = codeIn r texts p in
+    cond (eqb c p) (joinedMember p (set r p c)) (set r p c)
+
+-- ---- variables
+
+abbrev pub sideOf : Bool → ℕ
+sideOf true = 1
+sideOf false = 0
+
+-- its place is its code where it is met first
+abbrev pub indexed : ℕ → ℕ → List ℕ → List ℕ
+indexed i p row = cond (eqb (getD row i 0) 0) (set (set row i (p + 1)) p p) (set row p (getD row i 0 - 1))
+
+abbrev pub topped : ℕ → ℕ → List ℕ → List ℕ
+topped t n row = cond (leb (getD row t 0) n) (set row t (n + 1)) row
+
+abbrev pub variableNoted : ℕ → Bool → ℕ → ℕ → List ℕ → List ℕ
+variableNoted p right k n row =
+    topped (topsAt + 4 * sideOf right + k) n (indexed (indexesAt + 64 * sideOf right + 16 * k + n) p (classed p k 1 row))
+
+-- ---- shapes
+
+-- no field has more than 16 terms
+abbrev pub more : ℕ → ℕ
+more n = cond (leb 16 n) 16 (n + 1)
+
+abbrev pub shapeNoted : ℕ → Bool → ℕ → List ℕ → List ℕ
+shapeNoted f isList n row =
+    let k = shapesAt + 4 * f in
+    cond (isSet (getD row (k + 3) 0)) (set row (k + 1) (more (getD row (k + 1) 0)))
+    (cond isList (set (set row (k + 2) n) (k + 3) 1) (set row k (more (getD row k 0))))
+
+-- ---- terms
+
+-- a rule has four fields, counted from 1
+abbrev pub isField : ℕ → Bool
+isField field = leb 1 field && leb field 4
+
+-- how many terms of the pair's field f are noted: `empty` is none, so this is the next term's place in the field, and a mark's index is not
+abbrev pub termsIn : List ℕ → ℕ → ℕ
+termsIn row f =
+    let k = shapesAt + 4 * f in
+    getD row k 0 + getD row (k + 1) 0 + cond (isSet (getD row (k + 3) 0)) 1 0
+
+-- the term at place p of the pair, which is a term of the pair's field f
+abbrev pub noteBy : Bool → List ℕ → ℕ → ℕ → ℕ → Spelled → ℕ → ℕ → List ℕ → List ℕ → List ℕ × List ℕ
+noteBy right text at f p Int size v row texts =
+    let z = zeros (partOf text at size) in
+    let cells = celled p (partOf text (at + z) (size - z)) texts in
+    (constantNoted p (rank (basic integer)) cells (shapeNoted f false 0 row), cells)
+noteBy right text at f p Str size v row texts =
+    let cells = celled p (partOf text (at + 1) size) texts in
+    (constantNoted p (rank (basic string)) cells (shapeNoted f false 0 row), cells)
+noteBy right text at f p (Var k) size v row texts =
+    (variableNoted p right (rank (kindOf k)) (v % 16) (shapeNoted f (same (kindOf k) list) (v % 16) row), texts)
+noteBy right text at f p Empty size v row texts = (row, texts)
+
+-- the field's number among the pair's eight, and the term's place
+abbrev pub notePiece : Bool → List ℕ → ℕ → ℕ → Piece → List ℕ → List ℕ → List ℕ × List ℕ
+notePiece right text at field t row texts =
+    let f = fieldOf right (field - 1) in
+    cond (isField field && (ltb (termsIn row f) 16 && (ltb at (length text) && leb (t .size) 15)))
+    (noteBy right text at f (16 * f + termsIn row f) (t .what) (t .size) (t .value) row texts) (row, texts)
+
+abbrev pub listsNoted : List ℕ → List ℕ
+listsNoted row = classed 131 3 1 (classed 130 3 1 (classed 129 3 1 (classed 128 3 1 row)))
+
+-- ---- texts
+
+-- all terms of a rule's side
+abbrev pub noteMark : Bool → List ℕ → List ℕ × List ℕ → Mark → List ℕ × List ℕ
+noteMark right text x m = notePiece right text (m .place) (m .inField) (pieceOf (m .raw)) (x .0) (x .1)
+
+abbrev pub sideNoted : Bool → List ℕ → List ℕ × List ℕ → List ℕ × List ℕ
+sideNoted right text x = foldl (noteMark right text) x (walked text)
+
+-- rows that hold nothing
+abbrev pub blankRows : List ℕ × List ℕ
+blankRows = (replicate rowBytes 0, replicate textsBytes 0)
+
+-- THE TABLES of two texts, the left rule's side and the right one's
+abbrev pub rowsOf : List ℕ → List ℕ → List ℕ × List ℕ
+rowsOf t u = let x = sideNoted true u (sideNoted false t blankRows) in (listsNoted (x .0), x .1)

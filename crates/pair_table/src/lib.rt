@@ -1,0 +1,352 @@
+// Making the tables of a pair of rules: each term that is read is noted at its place. A constant's bytes are compared here, once, and
+// never again.
+ghost use mathlib.Core.Path.{_≡_};
+ghost use Prim.Native.Nat.{_+_, _-_, _*_, _≤_, _<_};
+ghost use lib.ListN.{length, getD, set};
+ghost use Rattle.lists.specs.Seqs.{tabulate};
+ghost use Rattle.order.specs.Order.{list};
+ghost use Rattle.order.specs.Types.{rank, same};
+ghost use Rattle.order.specs.Values.{kindOf};
+ghost use Rattle.math_codes.specs.Texts.{zeros};
+ghost use Rattle.pair_row.specs.Row.{fieldOf};
+ghost use Rattle.pair_table.specs.Notes.{partOf, isField, termsIn, classed, celled, sameConstant, codeIn, joinedMember};
+ghost use Rattle.pair_table.specs.Notes.{constantNoted, sideOf, indexed, topped, variableNoted, more, shapeNoted, noteBy};
+ghost use Rattle.pair_table.specs.Notes.{notePiece, listsNoted};
+use order::Kind;
+use pair_row::byte_at;
+use scanning::Piece;
+use scanning::Spelled;
+
+// A place that the row lacks stays unwritten.
+fn put_byte(row: &mut [u8], i: usize, b: u8)
+    ensures { λ _. ⌜ now (row .exit) ≡ set (now (row .entry)) i b ⌝ }
+{
+    if i < row.len() {
+        row[i] = b;
+    }
+}
+
+// ---- constants
+
+// The bytes of a text from a place on, n of them, become those of the constant at place p.
+fn put_bytes(texts: &mut [u8], p: u8, text: &[u8], from: usize, n: usize)
+    requires { ⌜ (n ≤ 15) × (from ≤ length (now text)) ⌝ }
+    ensures { λ _. ⌜ now (texts .exit) ≡ celled p (partOf (now (text .entry)) from n) (now (texts .entry)) ⌝ }
+{
+    let at = pair_row::CELL * p as usize;
+    put_byte(texts, at, n as u8);
+    let mut i: usize = 0;
+    while i < n {
+        let b = byte_at(text, from + i);
+        put_byte(texts, at + 1 + i, b);
+        i += 1;
+    }
+}
+
+// Whether the constants at two places are one: their types and all their bytes.
+fn same_constant(row: &[u8], texts: &[u8], p: u8, q: u8) -> bool
+    ensures { λ r. ⌜ r ≡ sameConstant (now (row .entry)) (now (texts .entry)) p q ⌝ }
+{
+    if pair_row::kind_at(row, p) != pair_row::kind_at(row, q) {
+        return false;
+    }
+    let a = pair_row::CELL * p as usize;
+    let b = pair_row::CELL * q as usize;
+    let n = byte_at(texts, a) as usize;
+    let mut i: usize = 0;
+    while i <= n {
+        if byte_at(texts, a + i) != byte_at(texts, b + i) {
+            return false;
+        }
+        i += 1;
+    }
+    true
+}
+
+// The code of the constant at place p: the place of the member that it is, else its own.
+fn code_of(row: &[u8], texts: &[u8], p: u8) -> u8
+    ensures { λ r. ⌜ r ≡ codeIn (now (row .entry)) (now (texts .entry)) p ⌝ }
+{
+    let n = byte_at(row, pair_row::COUNT) as usize;
+    let mut k: usize = 0;
+    while k < n {
+        let q = byte_at(row, pair_row::MEMBERS + k);
+        if same_constant(row, texts, p, q) {
+            return q;
+        }
+        k += 1;
+    }
+    p
+}
+
+// The type's rank of the term at place p, and whether it is a variable.
+fn put_class(row: &mut [u8], p: u8, rank: u8, variable: u8)
+    ensures { λ _. ⌜ now (row .exit) ≡ classed p rank variable (now (row .entry)) ⌝ }
+{
+    put_byte(row, pair_row::KINDS + p as usize, rank);
+    put_byte(row, pair_row::VARIABLES + p as usize, variable);
+}
+
+// The constant at place p is one more member. (There are at most 128.)
+fn join_member(row: &mut [u8], p: u8)
+    ensures { λ _. ⌜ now (row .exit) ≡ joinedMember p (now (row .entry)) ⌝ }
+{
+    let k = byte_at(row, pair_row::COUNT);
+    if 128 <= k {
+        return;
+    }
+    put_byte(row, pair_row::MEMBERS + k as usize, p);
+    put_byte(row, pair_row::COUNT, k + 1);
+}
+
+// A constant stands at place p; its bytes are n of the text from a place on.
+fn note_constant(
+    row: &mut [u8],
+    texts: &mut [u8],
+    p: u8,
+    rank: u8,
+    text: &[u8],
+    from: usize,
+    n: usize,
+)
+    requires { ⌜ (n ≤ 15) × (from ≤ length (now text)) ⌝ }
+    ensures { λ _. ⌜ now (texts .exit) ≡ celled p (partOf (now (text .entry)) from n) (now (texts .entry)) ⌝ }
+    ensures { λ _. ⌜ now (row .exit) ≡ constantNoted p rank (celled p (partOf (now (text .entry)) from n) (now (texts .entry)))
+        (now (row .entry)) ⌝ }
+{
+    put_bytes(texts, p, text, from, n);
+    put_class(row, p, rank, 0);
+    let c = code_of(row, texts, p);
+    put_byte(row, p as usize, c);
+    if c == p {
+        join_member(row, p);
+    }
+}
+
+// Where the plain text of an integer of n digits begins: its leading zeros are skipped, but for the last digit.
+fn leading_zeros(text: &[u8], at: usize, n: usize) -> usize
+    requires { ⌜ (n ≤ 15) × (at ≤ length (now text)) ⌝ }
+    ensures { λ r. ⌜ r ≡ zeros (partOf (now (text .entry)) at n) ⌝ }
+    ensures { λ r. ⌜ r ≤ n ⌝ }
+    ensures { λ r. ⌜ at + r ≤ length (now (text .entry)) ⌝ }
+{
+    let mut i: usize = 0;
+    while i + 1 < n {
+        if byte_at(text, at + i) != 48 {
+            return i;
+        }
+        i += 1;
+    }
+    i
+}
+
+// ---- variables
+
+// The place of a variable that is met first is its code.
+fn put_index(row: &mut [u8], i: usize, p: u8)
+    requires { ⌜ p < 128 ⌝ }
+    ensures { λ _. ⌜ now (row .exit) ≡ indexed i p (now (row .entry)) ⌝ }
+{
+    let x = byte_at(row, i);
+    if x == 0 {
+        put_byte(row, i, p + 1);
+        put_byte(row, p as usize, p);
+        return;
+    }
+    put_byte(row, p as usize, x - 1);
+}
+
+// More than the largest number, with n among the numbers.
+fn put_top(row: &mut [u8], t: usize, n: u8)
+    requires { ⌜ n < 16 ⌝ }
+    ensures { λ _. ⌜ now (row .exit) ≡ topped t n (now (row .entry)) ⌝ }
+{
+    if byte_at(row, t) <= n {
+        put_byte(row, t, n + 1);
+    }
+}
+
+fn side_of(right: bool) -> usize
+    ensures { λ r. ⌜ r ≡ sideOf right ⌝ }
+    ensures { λ r. ⌜ r ≤ 1 ⌝ }
+{
+    if right { 1 } else { 0 }
+}
+
+// A rule's variable stands at place p.
+fn note_variable(row: &mut [u8], p: u8, right: bool, rank: u8, n: u8)
+    requires { ⌜ (p < 128) × (rank < 4) × (n < 16) ⌝ }
+    ensures { λ _. ⌜ now (row .exit) ≡ variableNoted p right rank n (now (row .entry)) ⌝ }
+{
+    let side = side_of(right);
+    put_class(row, p, rank, 1);
+    put_index(
+        row,
+        pair_row::INDEXES + 64 * side + 16 * rank as usize + n as usize,
+        p,
+    );
+    put_top(row, pair_row::TOPS + 4 * side + rank as usize, n);
+}
+
+// ---- shapes
+
+// Field f of the pair's eight has a term more: a list variable of number n, or another. (No field has more than 16.)
+fn note_shape(row: &mut [u8], f: usize, list: bool, n: u8)
+    requires { ⌜ f < 8 ⌝ }
+    ensures { λ _. ⌜ now (row .exit) ≡ shapeNoted f list n (now (row .entry)) ⌝ }
+{
+    let k = pair_row::SHAPES + 4 * f;
+    if byte_at(row, k + 3) != 0 {
+        let t = byte_at(row, k + 1);
+        put_byte(row, k + 1, more(t));
+        return;
+    }
+    if list {
+        put_byte(row, k + 2, n);
+        put_byte(row, k + 3, 1);
+        return;
+    }
+    let h = byte_at(row, k);
+    put_byte(row, k, more(h));
+}
+
+fn more(n: u8) -> u8
+    ensures { λ r. ⌜ r ≡ more n ⌝ }
+{
+    if 16 <= n { 16 } else { n + 1 }
+}
+
+// ---- terms
+
+fn is_list(k: Kind) -> bool
+    ensures { λ r. ⌜ r ≡ same (kindOf k) list ⌝ }
+{
+    match k {
+        Kind::Integer => false,
+        Kind::String => false,
+        Kind::Atom => false,
+        Kind::List => true,
+    }
+}
+
+fn rank_of(k: Kind) -> u8
+    ensures { λ r. ⌜ r ≡ rank (kindOf k) ⌝ }
+    ensures { λ r. ⌜ r < 4 ⌝ }
+{
+    match k {
+        Kind::Integer => 0,
+        Kind::String => 1,
+        Kind::Atom => 2,
+        Kind::List => 3,
+    }
+}
+
+fn is_field(field: usize) -> bool
+    ensures { λ r. ⌜ r ≡ isField field ⌝ }
+{
+    if field < 1 {
+        return false;
+    }
+    field <= 4
+}
+
+// How many terms of field f are noted.
+fn terms_in(row: &[u8], f: usize) -> usize
+    requires { ⌜ f < 8 ⌝ }
+    ensures { λ r. ⌜ r ≡ termsIn (now (row .entry)) f ⌝ }
+{
+    let k = pair_row::SHAPES + 4 * f;
+    let n = byte_at(row, k) as usize + byte_at(row, k + 1) as usize;
+    if byte_at(row, k + 3) != 0 {
+        return n + 1;
+    }
+    n
+}
+
+// The number of a rule's field among the pair's eight.
+fn field_among(right: bool, field: usize) -> usize
+    requires { ⌜ (1 ≤ field) × (field ≤ 4) ⌝ }
+    ensures { λ r. ⌜ r ≡ fieldOf right (field - 1) ⌝ }
+    ensures { λ r. ⌜ r < 8 ⌝ }
+{
+    if right { field + 3 } else { field - 1 }
+}
+
+// The term t is the one at place p, which is a place of field f.
+fn note_term(
+    row: &mut [u8],
+    texts: &mut [u8],
+    right: bool,
+    text: &[u8],
+    at: usize,
+    f: usize,
+    p: u8,
+    t: Piece,
+)
+    requires { ⌜ (at < length (now text)) × (f < 8) × (p < 128) × (t .size ≤ 15) ⌝ }
+    ensures { λ _. ⌜ now (row .exit)
+        ≡ (noteBy right (now (text .entry)) at f p (t .what) (t .size) (t .value) (now (row .entry)) (now (texts .entry))) .0 ⌝ }
+    ensures { λ _. ⌜ now (texts .exit)
+        ≡ (noteBy right (now (text .entry)) at f p (t .what) (t .size) (t .value) (now (row .entry)) (now (texts .entry))) .1 ⌝ }
+{
+    let what = t.what;
+    match what {
+        Spelled::Int => {
+            let z = leading_zeros(text, at, t.size);
+            note_shape(row, f, false, 0);
+            note_constant(row, texts, p, 0, text, at + z, t.size - z);
+        }
+        Spelled::Str => {
+            note_shape(row, f, false, 0);
+            note_constant(row, texts, p, 1, text, at + 1, t.size);
+        }
+        Spelled::Var(k) => {
+            let n = (t.value % 16) as u8;
+            note_shape(row, f, is_list(k), n);
+            note_variable(row, p, right, rank_of(k), n);
+        }
+        Spelled::Empty => {}
+    }
+}
+
+// The term t, which stands at a place of a rule's text, is the next one of that field, counted from 1; `empty` is no term.
+// One that no reading returns is not noted.
+pub fn note(
+    row: &mut [u8],
+    texts: &mut [u8],
+    right: bool,
+    text: &[u8],
+    at: usize,
+    field: usize,
+    t: Piece,
+)
+    ensures { λ _. ⌜ now (row .exit) ≡ (notePiece right (now (text .entry)) at field t (now (row .entry)) (now (texts .entry))) .0 ⌝ }
+    ensures { λ _. ⌜ now (texts .exit) ≡ (notePiece right (now (text .entry)) at field t (now (row .entry)) (now (texts .entry))) .1 ⌝ }
+{
+    if !is_field(field) {
+        return;
+    }
+    let f = field_among(right, field);
+    let k = terms_in(row, f);
+    if 16 <= k {
+        return;
+    }
+    if text.len() <= at {
+        return;
+    }
+    if 15 < t.size {
+        return;
+    }
+    let p = (pair_row::FIELD_PLACES * f + k) as u8;
+    note_term(row, texts, right, text, at, f, p, t);
+}
+
+// The list variables of an entry's four fields are items behind the places.
+pub fn note_lists(row: &mut [u8])
+    ensures { λ _. ⌜ now (row .exit) ≡ listsNoted (now (row .entry)) ⌝ }
+{
+    put_class(row, 128, 3, 1);
+    put_class(row, 129, 3, 1);
+    put_class(row, 130, 3, 1);
+    put_class(row, 131, 3, 1);
+}

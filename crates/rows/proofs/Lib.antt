@@ -1,4 +1,0 @@
-pub mod Tests
-pub mod Places
-pub mod Cells
-pub mod Agree

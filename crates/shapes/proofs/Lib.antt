@@ -1,3 +1,0 @@
-pub mod Terms
-pub mod Small
-pub mod Agree
