@@ -3,10 +3,10 @@ use mathlib.Core.Bool.{Bool, true, false, cond, not}
 use mathlib.Core.Option.{none, some}
 use mathlib.Core.List.{List, [], _∷_, _++_}
 use Prim.Native.Nat.{ℕ, _+_, _*_}
-use lib.Dec.{eqb}
+use lib.Dec.{eqb, leb}
 use lib.ListN.{getD, take, drop}
 use Rattle.lists.specs.Seqs.{tabulate}
-use Rattle.order.specs.Order.{basic}
+use Rattle.order.specs.Order.{basic, list}
 use Rattle.order.specs.Types.{string, rank}
 use Rattle.math_codes.specs.Tables.{Table}
 use Rattle.math_codes.specs.Spots.{Spot}
@@ -19,25 +19,25 @@ abbrev pub kindsAt : ℕ
 kindsAt = 128
 
 abbrev pub variablesAt : ℕ
-variablesAt = 260
+variablesAt = 256
 
 abbrev pub shapesAt : ℕ
-shapesAt = 392
+shapesAt = 384
 
 abbrev pub indexesAt : ℕ
-indexesAt = 424
+indexesAt = 416
 
 abbrev pub topsAt : ℕ
-topsAt = 552
+topsAt = 544
 
 abbrev pub countAt : ℕ
-countAt = 560
+countAt = 552
 
 abbrev pub membersAt : ℕ
-membersAt = 561
+membersAt = 553
 
 abbrev pub rowBytes : ℕ
-rowBytes = 689
+rowBytes = 681
 
 -- a constant's bytes, with their number before them
 abbrev pub cellBytes : ℕ
@@ -51,13 +51,13 @@ isSet n = not (eqb n 0)
 
 -- ---- by place
 
--- the table that the mathematics speaks of
+-- the table that the mathematics speaks of; items behind the places are list variables
 abbrev pub tableIn : List ℕ → Table
 tableIn row =
     record {
       first = tabulate pairPlaces (λ p. getD row p 0);
-      kind = λ c. getD row (kindsAt + c) 0;
-      variable = λ c. isSet (getD row (variablesAt + c) 0);
+      kind = λ c. cond (leb pairPlaces c) (rank list) (getD row (kindsAt + c) 0);
+      variable = λ c. cond (leb pairPlaces c) true (isSet (getD row (variablesAt + c) 0));
     }
 
 -- the bytes of a constant: digits without leading zeros, or what stands between a string's quotes

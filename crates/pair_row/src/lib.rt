@@ -1,7 +1,6 @@
 // The tables of a pair of rules in a lent row of bytes: by place a term's type, whether it is a variable, and its code, the first place
-// with
-// the same atom; by field its shape; by variable where it stands. The constants' bytes have a row of their own.
-// Reading a place that a row lacks gives 0.
+// with the same atom; by field its shape; by variable where it stands. The constants' bytes have a row of their own.
+// Reading a place that a row lacks gives 0. An item is a code, or from LISTS on a list variable.
 ghost use mathlib.Core.Path.{_≡_};
 ghost use Prim.Native.Nat.{_+_, _*_};
 ghost use lib.ListN.{getD};
@@ -13,24 +12,28 @@ ghost use Rattle.pair_row.specs.Row.{tableIn, shapeIn, fieldOf, indexIn,
 pub const FIELD_PLACES: usize = 16;
 
 pub const PAIR_PLACES: usize = 128;
-// The first of the items that are list variables of an entry's fields: they come behind the places.
+// The first of the items that are list variables: behind the places, those of an entry by field, those of a search by number.
 pub const LISTS: u8 = 128;
+// How many of them there are, and the rank of their type.
+pub const LIST_ITEMS: usize = 32;
+
+pub const LIST_RANK: u8 = 3;
 // From 0 on: codes by place.
 pub const KINDS: usize = 128;
 
-pub const VARIABLES: usize = 260;
+pub const VARIABLES: usize = 256;
 
-pub const SHAPES: usize = 392;
+pub const SHAPES: usize = 384;
 
-pub const INDEXES: usize = 424;
+pub const INDEXES: usize = 416;
 
-pub const TOPS: usize = 552;
+pub const TOPS: usize = 544;
 // How many constants that differ were met, and their places.
-pub const COUNT: usize = 560;
+pub const COUNT: usize = 552;
 
-pub const MEMBERS: usize = 561;
+pub const MEMBERS: usize = 553;
 
-pub const ROW: usize = 689;
+pub const ROW: usize = 681;
 // A constant's bytes: how many they are, and behind that number at most 15.
 pub const CELL: usize = 16;
 
@@ -59,12 +62,18 @@ pub fn byte_at(row: &[u8], i: usize) -> u8
 pub fn kind_at(row: &[u8], c: u8) -> u8
     ensures { λ r. ⌜ r ≡ (tableIn (now (row .entry))) .kind c ⌝ }
 {
+    if LISTS <= c {
+        return LIST_RANK;
+    }
     byte_at(row, KINDS + c as usize)
 }
 
 pub fn is_variable(row: &[u8], c: u8) -> bool
     ensures { λ r. ⌜ r ≡ (tableIn (now (row .entry))) .variable c ⌝ }
 {
+    if LISTS <= c {
+        return true;
+    }
     byte_at(row, VARIABLES + c as usize) != 0
 }
 

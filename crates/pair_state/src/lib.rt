@@ -44,7 +44,7 @@ fn goes_over(x: u8, m: u8, k: u8, row: &[u8]) -> bool
 
 impl State {
     // The state where every place that has x gets w.
-    fn replace(self, x: u8, w: u8) -> State
+    pub fn replace(self, x: u8, w: u8) -> State
         ensures { λ r. ⌜ r .atoms ≡ replaced x w (self .atoms) ⌝ }
     {
         let mut st = self;

@@ -1,7 +1,12 @@
 -- `pair_row::is_variable` meets its contract. Assumes nothing.
 use borrow.Author.Needs.{needs}
+use borrow.Author.Tests.{le-leb, lt-leb}
+use Rattle.math_codes.specs.Lines.{pairPlaces}
 use Rattle.pair_row.proofs.is_variable.Statement.{statement}
 use Rattle.pair_row.proofs.is_variable.Tie as tie
+
+returns : tie.Need-returns
+returns c = rw (le-leb pairPlaces (c .before .before .args .c) (c .if1 .taken))
 
 add-byte-at : tie.Need-add-byte-at
 add-byte-at c = search needs
@@ -9,8 +14,8 @@ add-byte-at c = search needs
 byte-at-requires : tie.Need-byte-at-requires
 byte-at-requires c κs = search needs
 
-returns : tie.Need-returns
-returns c = rw (c .byte-at .ensures)
+returns-2 : tie.Need-returns-2
+returns-2 c = rw (lt-leb pairPlaces (c .before .before .before .args .c) (c .before .if1 .left), c .byte-at .ensures)
 
 pub is-variable-spec : {M : Type 1} → statement M
-is-variable-spec = tie.close (tie.spec add-byte-at byte-at-requires returns)
+is-variable-spec = tie.close (tie.spec returns add-byte-at byte-at-requires returns-2)
