@@ -10,7 +10,7 @@ use native.Mathlib.Decide.{decLt}
 use lib.Dec.{eqb, ltb}
 use lib.ListN.{length, getD, replicate, length-append, length-map, length-replicate, getD-replicate, List·getD-append, List·getD-map, List·getD-eq-default}
 use lib.Seq.{getD-append-add}
-use borrow.Author.Tests.{lt-ltb, le-ltb}
+use borrow.Author.Tests.{lt-ltb, le-ltb, le-leb, lt-leb}
 use Rattle.lists.specs.Seqs.{tabulate, tabulate-long, tabulate-at}
 use Rattle.order.specs.Order.{basic, list}
 use Rattle.order.specs.Types.{Kind, basics, rank}
@@ -30,19 +30,20 @@ use Rattle.math_codes.specs.Entries.{ruleRow}
 use Rattle.math_codes.specs.Items.{shownAt}
 use Rattle.math_codes.specs.Names.{isVar, MadeTerms}
 use Rattle.math_codes.specs.Spots.{Spot}
-use Rattle.math_codes.specs.Lines.{ourVars, OurAtom, OurMarked, ourRanks, ourRow, ourTerms}
+use Rattle.math_codes.specs.Lines.{ourVars, OurAtom, OurMarked, ourRanks, ourRow, ourTerms, pairPlaces}
 use Rattle.math_codes.specs.Whole.{spotsOf}
 use Rattle.math_codes.specs.Index.{Right, Indexes, Tops}
 use Rattle.math_codes.proofs.Tables.{holds-below}
 use Rattle.math_codes.proofs.Items.{con-once, con≢var, kind-once, range-at}
 use Rattle.math_codes.proofs.Places.{left-stand, left-long, right-stand, pair-long}
-use Rattle.pair_row.specs.Row.{isSet, tableIn, textIn, bytesIn, spotIn, indexIn, topIn}
-use Rattle.pair_table.specs.Notes.{sideOf, classed, listsNoted, sideNoted, blankRows, rowsOf}
+use Rattle.pair_row.specs.Row.{kindsAt, indexesAt, countAt, rowBytes, textsBytes, isSet}
+use Rattle.pair_row.specs.Row.{tableIn, textIn, bytesIn, spotIn, indexIn, topIn}
+use Rattle.pair_table.specs.Notes.{sideNoted, blankRows, rowsOf}
 use Rattle.pair_table.specs.Pairs.{PairIn}
-use Rattle.pair_table.proofs.PairsRow.{classed-long, classed-other, classed-kind, classed-variable, spotAt, spot-is, spot-same}
+use Rattle.pair_table.proofs.PairsRow.{shapeAt, spotAt, spot-is}
 use Rattle.pair_table.proofs.PairsCells.{Cell, bytesOf, cell-bytes}
-use Rattle.pair_table.proofs.PairsNotes.{Same, Gap}
-use Rattle.pair_table.proofs.PairsMarks.{sideIn, in-append, RightIn, Marked, untouched, marked-keep}
+use Rattle.pair_table.proofs.PairsNotes.{Gap}
+use Rattle.pair_table.proofs.PairsMarks.{sideIn, indexOn, topOn, in-append, RightIn, Marked}
 use Rattle.pair_table.proofs.PairsTerms.{fieldSpot, Noted, turn}
 use Rattle.pair_table.proofs.PairsRules.{gap-at, Gaps, rule-long, gaps-at, flat, rule-noted}
 
@@ -59,19 +60,19 @@ zero-at n j = go (decLt j n)
     go (no h) = List·getD-eq-default (zerosOf n) 0 {n = j} (omega (arith, length-replicate {A = ℕ} n 0))
 
 module _ (t : List (Option OurAtom)) (G : ℕ → List OurTerm) (row texts : List ℕ) (z : (j : ℕ) → getD row j 0 ≡ 0)
-    (y : (j : ℕ) → getD texts j 0 ≡ 0) (long : length row ≡ 689) (wide : length texts ≡ 2048) where
+    (y : (j : ℕ) → getD texts j 0 ≡ 0) (long : length row ≡ rowBytes) (wide : length texts ≡ textsBytes) where
   blank-marks : (s : Bool) → Marked t s [] 0 row
   blank-marks s =
       record {
-        absent = λ k n l e. z (424 + 64 * sideOf s + 16 * rank k + n);
+        absent = λ k n l e. z (indexOn s + 16 * rank k + n);
         present = λ k n l e. absurd (false≢true e);
         met = λ q k n l v. absurd (omega arith);
-        within = λ k l. omega (arith, z (552 + 4 * sideOf s + k));
+        within = λ k l. omega (arith, z (topOn s + k));
         above = λ k n e. absurd (false≢true e);
       }
 
   blank-spot : (f : ℕ) → spotAt row f ≡ fieldSpot (16 * f) []
-  blank-spot f = spot-is row f 0 0 false 0 (z (392 + 4 * f)) (z (392 + 4 * f + 1)) (ap isSet (z (392 + 4 * f + 3))) (z (392 + 4 * f + 2))
+  blank-spot f = spot-is row f 0 0 false 0 (z (shapeAt f)) (z (shapeAt f + 1)) (ap isSet (z (shapeAt f + 3))) (z (shapeAt f + 2))
 
   blank-noted : Noted t G false 0 [] [] [] 0 row texts
   blank-noted =
@@ -87,8 +88,8 @@ module _ (t : List (Option OurAtom)) (G : ℕ → List OurTerm) (row texts : Lis
             };
         members =
             record {
-              few = omega (arith, z 560);
-              each = λ i l. absurd (omega (arith, z 560));
+              few = omega (arith, z countAt);
+              each = λ i l. absurd (omega (arith, z countAt));
               all = λ q d l k. absurd (omega arith);
             };
         cells = λ q d l k. absurd (omega arith);
@@ -179,60 +180,10 @@ module _ (r₁ r₂ : List (List OurTerm)) (ok₁ : IsLeft r₁) (ok₂ : IsLeft
       let x = sideNoted false u blankRows in
       let n = rule-noted t (fieldIn r₁ r₂) false u [] r₁ 0 [] blankRows a refl (left-stand 16 4 r₁ r₂ (ok₁ .0 .2) (ok₂ .0 .2) few₁) gaps₁ gap₁
       (λ j l. ap (fieldIn r₁ r₂) (let e : 0 + j ≡ j = omega arith in e) ∙ field-left r₁ r₂ j l)
-      (blank-noted t (fieldIn r₁ r₂) (blankRows .0) (blankRows .1) (zero-at 689) (zero-at 2048)
-      (length-replicate {A = ℕ} 689 0) (length-replicate {A = ℕ} 2048 0)) in
+      (blank-noted t (fieldIn r₁ r₂) (blankRows .0) (blankRows .1) (zero-at rowBytes) (zero-at textsBytes)
+      (length-replicate {A = ℕ} rowBytes 0) (length-replicate {A = ℕ} textsBytes 0)) in
       rule-noted t (fieldIn r₁ r₂) true v (flat r₁) r₂ 4 [] x b refl (right-stand 16 4 r₁ r₂ (ok₁ .0 .2) (ok₂ .0 .2) few₁) gaps₂ gap₂
       (λ j l. field-right r₁ r₂ j) (turn t (fieldIn r₁ r₂) (flat r₁) [] 4 64 [] (x .0) (x .1) n)
-
--- ---- the list variables of an entry's fields
-
-module _ (row : List ℕ) (long : length row ≡ 689) where
-  abbrev l₁ : List ℕ
-  l₁ = classed 128 3 1 row
-
-  abbrev l₂ : List ℕ
-  l₂ = classed 129 3 1 l₁
-
-  abbrev l₃ : List ℕ
-  l₃ = classed 130 3 1 l₂
-
-  lists-other : (j : ℕ) → (256 ≤ j → j < 260 → ⊥) → (388 ≤ j → j < 392 → ⊥) → Same row (listsNoted row) j
-  lists-other j a b =
-      classed-other 131 3 1 l₃ j (λ e. a (omega arith) (omega arith)) (λ e. b (omega arith) (omega arith))
-      ∙ classed-other 130 3 1 l₂ j (λ e. a (omega arith) (omega arith)) (λ e. b (omega arith) (omega arith))
-      ∙ classed-other 129 3 1 l₁ j (λ e. a (omega arith) (omega arith)) (λ e. b (omega arith) (omega arith))
-      ∙ classed-other 128 3 1 row j (λ e. a (omega arith) (omega arith)) (λ e. b (omega arith) (omega arith))
-
-  long₂ : length l₁ ≡ 689
-  long₂ = classed-long 128 3 1 row ∙ long
-
-  long₃ : length l₂ ≡ 689
-  long₃ = classed-long 129 3 1 l₁ ∙ long₂
-
-  long₄ : length l₃ ≡ 689
-  long₄ = classed-long 130 3 1 l₂ ∙ long₃
-
-  lists-kind : (g : ℕ) → g < 4 → getD (listsNoted row) (128 + (128 + g)) 0 ≡ 3
-  lists-kind zero h =
-      classed-other 131 3 1 l₃ 256 (λ e. omega arith) (λ e. omega arith) ∙ classed-other 130 3 1 l₂ 256 (λ e. omega arith) (λ e. omega arith)
-      ∙ classed-other 129 3 1 l₁ 256 (λ e. omega arith) (λ e. omega arith) ∙ classed-kind 128 3 1 row (omega (arith, long))
-  lists-kind (suc zero) h =
-      classed-other 131 3 1 l₃ 257 (λ e. omega arith) (λ e. omega arith) ∙ classed-other 130 3 1 l₂ 257 (λ e. omega arith) (λ e. omega arith)
-      ∙ classed-kind 129 3 1 l₁ (omega (arith, long₂))
-  lists-kind (suc (suc zero)) h = classed-other 131 3 1 l₃ 258 (λ e. omega arith) (λ e. omega arith) ∙ classed-kind 130 3 1 l₂ (omega (arith, long₃))
-  lists-kind (suc (suc (suc zero))) h = classed-kind 131 3 1 l₃ (omega (arith, long₄))
-  lists-kind (suc (suc (suc (suc g)))) h = absurd (omega arith)
-
-  lists-variable : (g : ℕ) → g < 4 → getD (listsNoted row) (260 + (128 + g)) 0 ≡ 1
-  lists-variable zero h =
-      classed-other 131 3 1 l₃ 388 (λ e. omega arith) (λ e. omega arith) ∙ classed-other 130 3 1 l₂ 388 (λ e. omega arith) (λ e. omega arith)
-      ∙ classed-other 129 3 1 l₁ 388 (λ e. omega arith) (λ e. omega arith) ∙ classed-variable 128 3 1 row (omega (arith, long))
-  lists-variable (suc zero) h =
-      classed-other 131 3 1 l₃ 389 (λ e. omega arith) (λ e. omega arith) ∙ classed-other 130 3 1 l₂ 389 (λ e. omega arith) (λ e. omega arith)
-      ∙ classed-variable 129 3 1 l₁ (omega (arith, long₂))
-  lists-variable (suc (suc zero)) h = classed-other 131 3 1 l₃ 390 (λ e. omega arith) (λ e. omega arith) ∙ classed-variable 130 3 1 l₂ (omega (arith, long₃))
-  lists-variable (suc (suc (suc zero))) h = classed-variable 131 3 1 l₃ (omega (arith, long₄))
-  lists-variable (suc (suc (suc (suc g)))) h = absurd (omega arith)
 
 -- ---- a field's numbers in their order
 
@@ -254,9 +205,6 @@ occurs-flat k n (f ∷ r) = in-append k n f (flat r) ∙ ap (λ (b : Bool). inFi
 
 module _ (r₁ r₂ : List (List OurTerm)) (ok₁ : IsLeft r₁) (ok₂ : IsLeft r₂) (row texts : List ℕ)
     (c : Noted (ourRow r₁ r₂) (fieldIn r₁ r₂) true 8 [] (flat r₂) (flat r₁) 128 row texts) where
-  abbrev whole : List ℕ
-  whole = listsNoted row
-
   abbrev atoms : List (Option OurAtom)
   atoms = ourRow r₁ r₂
 
@@ -266,24 +214,19 @@ module _ (r₁ r₂ : List (List OurTerm)) (ok₁ : IsLeft r₁) (ok₂ : IsLeft
   below : (p : ℕ) (a : OurAtom) → Holds atoms p a → p < 128
   below p a h = omega (arith, many, holds-below atoms p a h)
 
-  kind-at : (p : ℕ) (a : OurAtom) → Holds atoms p a → getD whole (128 + p) 0 ≡ rank (basic (kindA basics consts ourVars a))
-  kind-at p a h =
-      let l = below p a h in
-      lists-other row (c .long) (128 + p) (λ x y. omega arith) (λ x y. omega arith) ∙ c .codes .kinds p a l h
+  kind-at : (p : ℕ) (a : OurAtom) → Holds atoms p a → tableIn row .kind p ≡ rank (basic (kindA basics consts ourVars a))
+  kind-at p a h = let l = below p a h in rw (lt-leb pairPlaces p l) (c .codes .kinds p a l h)
 
-  variable-at : (p : ℕ) (a : OurAtom) → Holds atoms p a → isSet (getD whole (260 + p) 0) ≡ isFree basics consts ourVars a
-  variable-at p a h =
-      let l = below p a h in
-      ap isSet (lists-other row (c .long) (260 + p) (λ x y. omega arith) (λ x y. omega arith)) ∙ c .codes .variables p a l h
+  variable-at : (p : ℕ) (a : OurAtom) → Holds atoms p a → tableIn row .variable p ≡ isFree basics consts ourVars a
+  variable-at p a h = let l = below p a h in rw (lt-leb pairPlaces p l) (c .codes .variables p a l h)
 
-  made-atoms : Made basics consts ourVars ourRanks (tableIn whole) atoms
+  made-atoms : Made basics consts ourVars ourRanks (tableIn row) atoms
   made-atoms =
       record {
-        long = tabulate-long 128 (λ p. getD whole p 0) ∙ sym many;
+        long = tabulate-long 128 (λ p. getD row p 0) ∙ sym many;
         firsts = λ p a h.
             let l = below p a h in
-            tabulate-at 128 (λ p. getD whole p 0) p 0 l
-            ∙ lists-other row (c .long) p (λ x y. omega arith) (λ x y. omega arith) ∙ c .codes .firsts p a l h;
+            tabulate-at 128 (λ p. getD row p 0) p 0 l ∙ c .codes .firsts p a l h;
         kinds = kind-at;
         variables = variable-at;
       }
@@ -325,28 +268,26 @@ module _ (r₁ r₂ : List (List OurTerm)) (ok₁ : IsLeft r₁) (ok₂ : IsLeft
               )
           behind (no m) e = absurd (Option·none-ne-some u (sym (List·getD-eq-default (map listTerm (range 0 4)) none {n = p - 128} (omega arith)) ∙ at e))
 
-  made-terms : MadeTerms rank (tableIn whole) (ourTerms r₁ r₂)
+  made-terms : MadeTerms rank (tableIn row) (ourTerms r₁ r₂)
   made-terms =
       record {
         kinds = λ p k b h. kinds-by p k b (item-is p (var k b) h);
         variables = λ p u h. variables-by p u (item-is p u h);
       }
     where
-      kinds-by : (p : ℕ) (k : Kind) (b : Mark ℕ) → Item p (var k b) → getD whole (128 + p) 0 ≡ rank k
+      kinds-by : (p : ℕ) (k : Kind) (b : Mark ℕ) → Item p (var k b) → tableIn row .kind p ≡ rank k
       kinds-by p k b (inl (fixed d, h, e)) = absurd (con≢var e)
       kinds-by p k b (inl (free (of s j n), h, e)) = kind-at p (free (of s j n)) h ∙ ap rank (kind-once e)
-      kinds-by p k b (inr (g, l, e, q)) =
-          ap (λ (j : ℕ). getD whole (128 + j) 0) e ∙ lists-kind row (c .long) g l ∙ ap rank (kind-once q)
+      kinds-by p k b (inr (g, l, e, q)) = rw (le-leb pairPlaces p (omega arith)) (ap rank (kind-once q))
 
-      variables-by : (p : ℕ) (u : OurMarked) → Item p u → isSet (getD whole (260 + p) 0) ≡ isVar u
+      variables-by : (p : ℕ) (u : OurMarked) → Item p u → tableIn row .variable p ≡ isVar u
       variables-by p u (inl (fixed d, h, e)) = variable-at p (fixed d) h ∙ ap isVar e
       variables-by p u (inl (free (of s j n), h, e)) = variable-at p (free (of s j n)) h ∙ ap isVar e
-      variables-by p u (inr (g, l, e, q)) =
-          ap (λ (j : ℕ). isSet (getD whole (260 + j) 0)) e ∙ ap isSet (lists-variable row (c .long) g l) ∙ ap isVar q
+      variables-by p u (inr (g, l, e, q)) = rw (le-leb pairPlaces p (omega arith)) (ap isVar q)
 
   -- plain texts
-  plain-by : (p : ℕ) (d : Con) → Holds atoms p (fixed d) → textIn whole texts p ≡ termText (con d)
-  plain-by p d h = go d (kind-at p (fixed d) h) (cell-bytes texts p (bytesOf d) (c .wide) l (o .1) (o .0))
+  plain-by : (p : ℕ) (d : Con) → Holds atoms p (fixed d) → textIn row texts p ≡ termText (con d)
+  plain-by p d h = go d (c .codes .kinds p (fixed d) l h) (cell-bytes texts p (bytesOf d) (c .wide) l (o .1) (o .0))
     where
       l : p < 128
       l = below p (fixed d) h
@@ -354,48 +295,42 @@ module _ (r₁ r₂ : List (List OurTerm)) (ok₁ : IsLeft r₁) (ok₂ : IsLeft
       o : Cell texts p (bytesOf d) × (length (bytesOf d) ≤ 15)
       o = c .cells p d l h
 
-      go : (b : Con) → getD whole (128 + p) 0 ≡ rank (basic (kind-of b)) → bytesIn texts p ≡ bytesOf b → textIn whole texts p ≡ termText (con b)
+      go : (b : Con) → getD row (kindsAt + p) 0 ≡ rank (basic (kind-of b)) → bytesIn texts p ≡ bytesOf b → textIn row texts p ≡ termText (con b)
       go (int n) k e = ap (λ (j : ℕ). cond (eqb j 1) (34 ∷ (bytesIn texts p ++ 34 ∷ [])) (bytesIn texts p)) k ∙ e
       go (str b) k e =
           ap (λ (j : ℕ). cond (eqb j 1) (34 ∷ (bytesIn texts p ++ 34 ∷ [])) (bytesIn texts p)) k ∙ ap (λ (z : List ℕ). 34 ∷ (z ++ 34 ∷ [])) e
 
-  plain-at : (p : ℕ) (d : Con) → Holds (ourTerms r₁ r₂) p (con d) → textIn whole texts p ≡ termText (con d)
+  plain-at : (p : ℕ) (d : Con) → Holds (ourTerms r₁ r₂) p (con d) → textIn row texts p ≡ termText (con d)
   plain-at p d h = go (item-is p (con d) h)
     where
-      go : Item p (con d) → textIn whole texts p ≡ termText (con d)
+      go : Item p (con d) → textIn row texts p ≡ termText (con d)
       go (inl (fixed b, k, e)) = plain-by p b k ∙ ap (λ (z : Con). termText (con z)) (con-once e)
       go (inl (free (of s j n), k, e)) = absurd (con≢var (sym e))
       go (inr (g, l, e, q)) = absurd (con≢var (sym q))
 
   -- ---- shapes
 
-  spot-at : (g : ℕ) → g < 8 → spotAt whole g ≡ fieldSpot (16 * g) (fieldIn r₁ r₂ g)
-  spot-at g l = spot-same row whole g (λ j a b. lists-other row (c .long) j (λ x y. omega arith) (λ x y. omega arith)) ∙ c .shaped .before g l l
+  spot-at : (g : ℕ) → g < 8 → spotAt row g ≡ fieldSpot (16 * g) (fieldIn r₁ r₂ g)
+  spot-at g l = c .shaped .before g l l
 
-  shapes₁ : tabulate (length r₁) (spotIn whole false) ≡ spotsOf 16 0 r₁
+  shapes₁ : tabulate (length r₁) (spotIn row false) ≡ spotsOf 16 0 r₁
   shapes₁ =
-      spots-are r₁ 0 (spotIn whole false) (λ j l.
+      spots-are r₁ 0 (spotIn row false) (λ j l.
       spot-at j (omega (arith, l, ok₁ .0 .1)) ∙ ap₂ fieldSpot (let e : 16 * j ≡ 0 + 16 * j = omega arith in e)
       (field-left r₁ r₂ j (omega (arith, l, ok₁ .0 .1))))
 
-  shapes₂ : tabulate (length r₂) (spotIn whole true) ≡ spotsOf 16 64 r₂
+  shapes₂ : tabulate (length r₂) (spotIn row true) ≡ spotsOf 16 64 r₂
   shapes₂ =
-      spots-are r₂ 64 (spotIn whole true) (λ j l.
+      spots-are r₂ 64 (spotIn row true) (λ j l.
       spot-at (4 + j) (omega (arith, l, ok₂ .0 .1)) ∙ ap₂ fieldSpot (let e : 16 * (4 + j) ≡ 64 + 16 * j = omega arith in e) (field-right r₁ r₂ j))
 
   -- ---- variables
 
-  marked-whole : (s : Bool) (d : List OurTerm) → Marked atoms s d 128 row → Marked atoms s d 128 whole
-  marked-whole s d m =
-      marked-keep atoms s d 128 128 row whole
-      (untouched atoms s row whole (λ j a b. lists-other row (c .long) j (λ x y. omega arith) (λ x y. omega arith)))
-      (λ q k n a b v. absurd (omega arith)) m
+  index-read : (s : Bool) (k : Kind) (n : ℕ) → indexIn row s (16 * rank k + n) ≡ getD row (indexOn s + 16 * rank k + n) 0
+  index-read true k n = ap (λ (j : ℕ). getD row j 0) (let e : indexesAt + 64 + (16 * rank k + n) ≡ indexesAt + 64 + 16 * rank k + n = omega arith in e)
+  index-read false k n = ap (λ (j : ℕ). getD row j 0) (let e : indexesAt + (16 * rank k + n) ≡ indexesAt + 16 * rank k + n = omega arith in e)
 
-  index-read : (s : Bool) (k : Kind) (n : ℕ) → indexIn whole s (16 * rank k + n) ≡ getD whole (424 + 64 * sideOf s + 16 * rank k + n) 0
-  index-read true k n = ap (λ (j : ℕ). getD whole j 0) (let e : 488 + (16 * rank k + n) ≡ 488 + 16 * rank k + n = omega arith in e)
-  index-read false k n = ap (λ (j : ℕ). getD whole j 0) (let e : 424 + (16 * rank k + n) ≡ 424 + 16 * rank k + n = omega arith in e)
-
-  top-read : (s : Bool) (k : ℕ) → topIn whole s k ≡ getD whole (552 + 4 * sideOf s + k) 0
+  top-read : (s : Bool) (k : ℕ) → topIn row s k ≡ getD row (topOn s + k) 0
   top-read true k = refl
   top-read false k = refl
 
@@ -403,24 +338,22 @@ module _ (r₁ r₂ : List (List OurTerm)) (ok₁ : IsLeft r₁) (ok₂ : IsLeft
   right-read s (basic k) n v h = h
   right-read s list n v h = h
 
-  indexes : (s : Bool) (r : List (List OurTerm)) → Marked atoms s (flat r) 128 row → Indexes r₁ r₂ (sideIn s) r (indexIn whole s)
+  indexes : (s : Bool) (r : List (List OurTerm)) → Marked atoms s (flat r) 128 row → Indexes r₁ r₂ (sideIn s) r (indexIn row s)
   indexes s r m =
-      let w = marked-whole s (flat r) m in
       record {
-        absent = λ k n l e. index-read s k n ∙ w .absent k n l (occurs-flat k n r ∙ e);
-        present = λ k n l e. right-read s k n (indexIn whole s (16 * rank k + n))
-            (subst (RightIn atoms s k n) (sym (index-read s k n)) (w .present k n l (occurs-flat k n r ∙ e)));
+        absent = λ k n l e. index-read s k n ∙ m .absent k n l (occurs-flat k n r ∙ e);
+        present = λ k n l e. right-read s k n (indexIn row s (16 * rank k + n))
+            (subst (RightIn atoms s k n) (sym (index-read s k n)) (m .present k n l (occurs-flat k n r ∙ e)));
       }
 
-  tops : (s : Bool) (r : List (List OurTerm)) → Marked atoms s (flat r) 128 row → Tops r (topIn whole s)
+  tops : (s : Bool) (r : List (List OurTerm)) → Marked atoms s (flat r) 128 row → Tops r (topIn row s)
   tops s r m =
-      let w = marked-whole s (flat r) m in
       record {
-        within = λ k l. omega (arith, top-read s k, w .within k l);
-        above = λ k n e. omega (arith, top-read s (rank k), w .above k n (occurs-flat k n r ∙ e));
+        within = λ k l. omega (arith, top-read s k, m .within k l);
+        above = λ k n e. omega (arith, top-read s (rank k), m .above k n (occurs-flat k n r ∙ e));
       }
 
-  pub pair-in : PairIn r₁ r₂ whole texts
+  pub pair-in : PairIn r₁ r₂ row texts
   pair-in =
       record {
         tables = record { atoms = made-atoms; terms = made-terms; plain = plain-at };

@@ -17,7 +17,7 @@ use Rattle.text.specs.Numbers.{value, digitsOf}
 use Rattle.text.specs.Terms.{Con, int, str}
 use Rattle.text.proofs.Numbers.{digits-value}
 use Rattle.instance.specs.Constants.{kind-of}
-use Rattle.pair_row.specs.Row.{bytesIn}
+use Rattle.pair_row.specs.Row.{kindsAt, membersAt, textsBytes, bytesIn}
 use Rattle.pair_table.specs.Notes.{celled, sameFrom, sameConstant, memberFrom}
 
 -- ---- a run of stores
@@ -47,7 +47,7 @@ module _ (p : ℕ) (bs texts : List ℕ) where
   celled-long = length-sets (set texts (16 * p) (length bs)) (16 * p + 1) bs ∙ length-set texts (16 * p) (length bs)
 
   module _ (few : length bs ≤ 15) where
-    pub celled-cell : p < 128 → length texts ≡ 2048 → Cell (celled p bs texts) p bs
+    pub celled-cell : p < 128 → length texts ≡ textsBytes → Cell (celled p bs texts) p bs
     celled-cell h l zero b =
         sets-other bs (set texts (16 * p) (length bs)) (16 * p + 1) (16 * p + 0) (λ x y. omega arith)
         ∙ ap (λ (j : ℕ). getD (set texts (16 * p) (length bs)) j 0) (let e : 16 * p + 0 ≡ 16 * p = omega arith in e)
@@ -63,7 +63,7 @@ module _ (p : ℕ) (bs texts : List ℕ) where
         ∙ c i h
 
     -- every cell says a number of bytes for which it has room
-    pub celled-few : p < 128 → length texts ≡ 2048 → ((q : ℕ) → getD texts (16 * q) 0 ≤ 15) → (q : ℕ) → getD (celled p bs texts) (16 * q) 0 ≤ 15
+    pub celled-few : p < 128 → length texts ≡ textsBytes → ((q : ℕ) → getD texts (16 * q) 0 ≤ 15) → (q : ℕ) → getD (celled p bs texts) (16 * q) 0 ≤ 15
     celled-few h l c q = go (ℕ-discrete q p)
       where
         here : getD (celled p bs texts) (16 * q) 0 ≡ getD (set texts (16 * p) (length bs)) (16 * q) 0
@@ -85,7 +85,7 @@ cell-size : (texts : List ℕ) (q : ℕ) (b : List ℕ) → Cell texts q b → g
 cell-size texts q b c = ap (λ (j : ℕ). getD texts j 0) (let e : 16 * q ≡ 16 * q + 0 = omega arith in e) ∙ c 0 (omega arith)
 
 -- and its bytes
-pub cell-bytes : (texts : List ℕ) (q : ℕ) (b : List ℕ) → length texts ≡ 2048 → q < 128 → length b ≤ 15 → Cell texts q b → bytesIn texts q ≡ b
+pub cell-bytes : (texts : List ℕ) (q : ℕ) (b : List ℕ) → length texts ≡ textsBytes → q < 128 → length b ≤ 15 → Cell texts q b → bytesIn texts q ≡ b
 cell-bytes texts q b l h m c =
     ap (λ (n : ℕ). take n (drop (16 * q + 1) texts)) (cell-size texts q b c) ∙ ext-getD 0 (take (length b) rest) b same-long each
   where
@@ -138,12 +138,12 @@ bytes-once (str s) (int n) k e = absurd (omega (arith, k))
 bytes-once (str s) (str t) k e = ap str e
 
 module _ (row texts : List ℕ) (p q : ℕ) (c d : Con) (a : Cell texts p (bytesOf c)) (b : Cell texts q (bytesOf d))
-    (m : getD row (128 + p) 0 ≡ rank (basic (kind-of c))) (n : getD row (128 + q) 0 ≡ rank (basic (kind-of d))) where
+    (m : getD row (kindsAt + p) 0 ≡ rank (basic (kind-of c))) (n : getD row (kindsAt + q) 0 ≡ rank (basic (kind-of d))) where
   -- THE COMPARISON of two cells is that of the constants
   pub same-constant : sameConstant row texts p q ≡ true → c ≡ d
   same-constant e =
-      let h = both-is (eqb (getD row (128 + p) 0) (getD row (128 + q) 0)) (sameFrom texts (16 * p) (16 * q) (suc (getD texts (16 * p) 0))) .0 e in
-      let k = eqb-true (getD row (128 + p) 0) (getD row (128 + q) 0) (h .0) in
+      let h = both-is (eqb (getD row (kindsAt + p) 0) (getD row (kindsAt + q) 0)) (sameFrom texts (16 * p) (16 * q) (suc (getD texts (16 * p) 0))) .0 e in
+      let k = eqb-true (getD row (kindsAt + p) 0) (getD row (kindsAt + q) 0) (h .0) in
       let z = cell-size texts p (bytesOf c) a in
       let s = same-to texts (suc (getD texts (16 * p) 0)) (16 * p) (16 * q) (h .1) in
       let l : length (bytesOf c) ≡ length (bytesOf d) = sym (a 0 (omega arith)) ∙ s 0 (omega arith) ∙ b 0 (omega arith) in
@@ -154,8 +154,8 @@ module _ (row texts : List ℕ) (p q : ℕ) (c d : Con) (a : Cell texts p (bytes
   pub constant-same : c ≡ d → sameConstant row texts p q ≡ true
   constant-same e =
       let z = cell-size texts p (bytesOf c) a in
-      both-is (eqb (getD row (128 + p) 0) (getD row (128 + q) 0)) (sameFrom texts (16 * p) (16 * q) (suc (getD texts (16 * p) 0))) .1 (
-        eq-eqb (getD row (128 + p) 0) (getD row (128 + q) 0) (m ∙ ap (λ (x : Con). rank (basic (kind-of x))) e ∙ sym n),
+      both-is (eqb (getD row (kindsAt + p) 0) (getD row (kindsAt + q) 0)) (sameFrom texts (16 * p) (16 * q) (suc (getD texts (16 * p) 0))) .1 (
+        eq-eqb (getD row (kindsAt + p) 0) (getD row (kindsAt + q) 0) (m ∙ ap (λ (x : Con). rank (basic (kind-of x))) e ∙ sym n),
         same-from texts (suc (getD texts (16 * p) 0)) (16 * p) (16 * q)
             (λ i h. a i (omega (arith, z)) ∙ ap (λ (x : Con). getD (length (bytesOf x) ∷ bytesOf x) i 0) e
             ∙ sym (b i (omega (arith, z, ap (λ (x : Con). length (bytesOf x)) e)))),
@@ -166,19 +166,19 @@ module _ (row texts : List ℕ) (p q : ℕ) (c d : Con) (a : Cell texts p (bytes
 -- a member that is the constant at p, or none of those from m on is
 abbrev pub FoundIn : List ℕ → List ℕ → ℕ → ℕ → ℕ → ℕ → Type 0
 FoundIn row texts p m k c =
-    ((i : ℕ) × (m ≤ i) × (i < m + k) × (c ≡ getD row (561 + i) 0) × (sameConstant row texts p (getD row (561 + i) 0) ≡ true))
-    ⊎ ((c ≡ p) × ((i : ℕ) → m ≤ i → i < m + k → sameConstant row texts p (getD row (561 + i) 0) ≡ false))
+    ((i : ℕ) × (m ≤ i) × (i < m + k) × (c ≡ getD row (membersAt + i) 0) × (sameConstant row texts p (getD row (membersAt + i) 0) ≡ true))
+    ⊎ ((c ≡ p) × ((i : ℕ) → m ≤ i → i < m + k → sameConstant row texts p (getD row (membersAt + i) 0) ≡ false))
 
 pub member-found : (row texts : List ℕ) (p k m : ℕ) → FoundIn row texts p m k (memberFrom row texts p m k)
 member-found row texts p zero m = inr (refl, λ i a b. absurd (omega arith))
-member-found row texts p (suc k) m = go (sameConstant row texts p (getD row (561 + m) 0)) refl (member-found row texts p k (suc m))
+member-found row texts p (suc k) m = go (sameConstant row texts p (getD row (membersAt + m) 0)) refl (member-found row texts p k (suc m))
   where
-    go : (b : Bool) → sameConstant row texts p (getD row (561 + m) 0) ≡ b → FoundIn row texts p (suc m) k (memberFrom row texts p (suc m) k)
-        → FoundIn row texts p m (suc k) (cond b (getD row (561 + m) 0) (memberFrom row texts p (suc m) k))
+    go : (b : Bool) → sameConstant row texts p (getD row (membersAt + m) 0) ≡ b → FoundIn row texts p (suc m) k (memberFrom row texts p (suc m) k)
+        → FoundIn row texts p m (suc k) (cond b (getD row (membersAt + m) 0) (memberFrom row texts p (suc m) k))
     go true e rec = inl (m, omega arith, omega arith, refl, e)
     go false e (inl x) = inl (x .0, omega (arith, x .1), omega (arith, x .2), x .3, x .4)
     go false e (inr x) = inr (x .0, λ i a b. at i a b (ℕ-discrete i m))
       where
-        at : (i : ℕ) → m ≤ i → i < m + suc k → Dec (i ≡ m) → sameConstant row texts p (getD row (561 + i) 0) ≡ false
-        at i a b (yes q) = ap (λ (j : ℕ). sameConstant row texts p (getD row (561 + j) 0)) q ∙ e
+        at : (i : ℕ) → m ≤ i → i < m + suc k → Dec (i ≡ m) → sameConstant row texts p (getD row (membersAt + i) 0) ≡ false
+        at i a b (yes q) = ap (λ (j : ℕ). sameConstant row texts p (getD row (membersAt + j) 0)) q ∙ e
         at i a b (no d) = x .1 i (omega (arith, d)) (omega arith)

@@ -19,15 +19,15 @@ use Rattle.math_codes.specs.Tables.{Holds, fixed-once}
 use Rattle.math_codes.specs.Tables.{same as alike}
 use Rattle.math_codes.specs.Lines.{ourVars, OurAtom}
 use Rattle.math_codes.proofs.Tables.{holds-once, code-holds, code-found}
-use Rattle.pair_row.specs.Row.{isSet}
+use Rattle.pair_row.specs.Row.{kindsAt, variablesAt, shapesAt, countAt, membersAt, rowBytes, textsBytes, isSet}
 use Rattle.pair_table.specs.Notes.{classed, celled, codeIn, constantNoted, joinedMember}
 use Rattle.pair_table.proofs.PairsRow.{classed-long, classed-other, classed-kind, classed-variable, joined-long, joined-other}
 use Rattle.pair_table.proofs.PairsCells.{Cell, bytesOf, celled-cell, celled-other, same-constant, constant-same, FoundIn, member-found}
 use Rattle.pair_table.proofs.PairsNotes.{pick, Same, code, Codes, here-from, codes-keep, codes-same, codes-next}
 use Rattle.pair_table.proofs.PairsNotes.{Among, Members, members-keep, members-joined, Cells}
 
-module _ (t : List (Option OurAtom)) (p : ℕ) (d : Con) (row texts : List ℕ) (h : p < 128) (few : length (bytesOf d) ≤ 15) (long : length row ≡ 689)
-    (wide : length texts ≡ 2048) (k : Holds t p (fixed d)) (cs : Codes t p row) (ms : Members t p row) (cl : Cells t p texts) where
+module _ (t : List (Option OurAtom)) (p : ℕ) (d : Con) (row texts : List ℕ) (h : p < 128) (few : length (bytesOf d) ≤ 15) (long : length row ≡ rowBytes)
+    (wide : length texts ≡ textsBytes) (k : Holds t p (fixed d)) (cs : Codes t p row) (ms : Members t p row) (cl : Cells t p texts) where
   -- the bytes, the row with the type, the code
   abbrev z : List ℕ
   z = celled p (bytesOf d) texts
@@ -38,19 +38,19 @@ module _ (t : List (Option OurAtom)) (p : ℕ) (d : Con) (row texts : List ℕ) 
   abbrev c : ℕ
   c = codeIn r z p
 
-  long-r : length r ≡ 689
+  long-r : length r ≡ rowBytes
   long-r = classed-long p (rank (basic (kind-of d))) 0 row ∙ long
 
   codes-r : Codes t p r
   codes-r = codes-keep t p row r h (λ j l a b e. classed-other p (rank (basic (kind-of d))) 0 row j b e) cs
 
-  high : (j : ℕ) → 392 ≤ j → Same row r j
+  high : (j : ℕ) → shapesAt ≤ j → Same row r j
   high j l = classed-other p (rank (basic (kind-of d))) 0 row j (λ e. omega arith) (λ e. omega arith)
 
   members-r : Members t p r
   members-r = members-keep t p p row r (omega arith) (λ j l. high j (omega arith)) (λ q b l m v. absurd (omega arith)) ms
 
-  kind-r : getD r (128 + p) 0 ≡ rank (basic (kind-of d))
+  kind-r : getD r (kindsAt + p) 0 ≡ rank (basic (kind-of d))
   kind-r = classed-kind p (rank (basic (kind-of d))) 0 row (omega (arith, long, h))
 
   own-cell : Cell z p (bytesOf d)
@@ -70,9 +70,9 @@ module _ (t : List (Option OurAtom)) (p : ℕ) (d : Con) (row texts : List ℕ) 
   abbrev Found : Type 0
   Found = (code t (fixed d) ≡ c) × (((c < p) × Among t r d) ⊎ (c ≡ p))
 
-  found : FoundIn r z p 0 (getD r 560 0) c → Found
+  found : FoundIn r z p 0 (getD r countAt 0) c → Found
   found (inl f) =
-      let x = getD r (561 + f .0) 0 in
+      let x = getD r (membersAt + f .0) 0 in
       let m = members-r .each (f .0) (omega (arith, f .2)) in
       let q = same-constant r z p x d (m .0) own-cell (old-cell x (m .0) (m .3) (m .1)) kind-r (codes-r .kinds x (fixed (m .0)) (m .3) (m .1)) (f .4) in
       let e : code t (fixed d) ≡ c = ap (λ (y : Con). code t (fixed y)) q ∙ m .2 ∙ sym (f .3) in
@@ -82,7 +82,7 @@ module _ (t : List (Option OurAtom)) (p : ℕ) (d : Con) (row texts : List ℕ) 
       new : (q : ℕ) → q < p → Holds t q (fixed d) → ⊥
       new q l v =
           let a = members-r .all q d l v in
-          let x = getD r (561 + a .0) 0 in
+          let x = getD r (membersAt + a .0) 0 in
           let m = members-r .each (a .0) (a .1) in
           let w : Holds t x (fixed d) = subst (λ (y : ℕ). Holds t y (fixed d)) (sym (a .2)) (code-holds (alike basics consts ourVars) t q (fixed d) v) in
           true≢false (sym (constant-same r z p x d d own-cell (old-cell x d (m .3) w) kind-r (codes-r .kinds x (fixed d) (m .3) w) refl)
@@ -91,23 +91,23 @@ module _ (t : List (Option OurAtom)) (p : ℕ) (d : Con) (row texts : List ℕ) 
   -- ---- the row
 
   abbrev pub Out : List ℕ → Type 0
-  Out row′ = Codes t (suc p) row′ × Members t (suc p) row′ × (length row′ ≡ 689) × ((j : ℕ) → 392 ≤ j → j < 560 → Same row row′ j)
+  Out row′ = Codes t (suc p) row′ × Members t (suc p) row′ × (length row′ ≡ rowBytes) × ((j : ℕ) → shapesAt ≤ j → j < countAt → Same row row′ j)
 
   abbrev s : List ℕ
   s = set r p c
 
-  long-s : length s ≡ 689
+  long-s : length s ≡ rowBytes
   long-s = length-set r p c ∙ long-r
 
   codes-s : code t (fixed d) ≡ c → Codes t (suc p) s
   codes-s e =
       codes-next t p s (codes-keep t p r s h (λ j l a b u. getD-set-other r p j c 0 a) codes-r)
       (here-from t p s (fixed d) k (getD-set-same r p c 0 (omega (arith, long-r, h)) ∙ sym e)
-      (getD-set-other r p (128 + p) c 0 (λ u. omega arith) ∙ kind-r)
-      (ap isSet (getD-set-other r p (260 + p) c 0 (λ u. omega arith)
+      (getD-set-other r p (kindsAt + p) c 0 (λ u. omega arith) ∙ kind-r)
+      (ap isSet (getD-set-other r p (variablesAt + p) c 0 (λ u. omega arith)
       ∙ classed-variable p (rank (basic (kind-of d))) 0 row (omega (arith, long, h)))))
 
-  high-s : (j : ℕ) → 392 ≤ j → Same row s j
+  high-s : (j : ℕ) → shapesAt ≤ j → Same row s j
   high-s j l = getD-set-other r p j c 0 (λ u. omega arith) ∙ high j l
 
   out-old : code t (fixed d) ≡ c → Among t r d → Out s
@@ -135,7 +135,7 @@ module _ (t : List (Option OurAtom)) (p : ℕ) (d : Con) (row texts : List ℕ) 
 
   -- THE ROW
   pub constant-out : Out (constantNoted p (rank (basic (kind-of d))) z row)
-  constant-out = go (found (member-found r z p (getD r 560 0) 0))
+  constant-out = go (found (member-found r z p (getD r countAt 0) 0))
     where
       go : Found → Out (cond (eqb c p) (joinedMember p s) s)
       go (e, inl f) = subst (λ (b : Bool). Out (cond b (joinedMember p s) s)) (sym (ne-eqb c p (λ u. omega (arith, f .0)))) (out-old e (f .1))

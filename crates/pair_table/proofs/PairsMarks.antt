@@ -19,6 +19,7 @@ use Rattle.unifiers.specs.Shapes.{free, Side, left, right, Variable, of, kindIn
 use Rattle.listing.specs.Variables.{isVariable, inField}
 use Rattle.math_codes.specs.Tables.{Holds}
 use Rattle.math_codes.specs.Lines.{OurAtom}
+use Rattle.pair_row.specs.Row.{indexesAt, topsAt, countAt}
 use Rattle.pair_table.specs.Notes.{sideOf}
 use Rattle.pair_table.proofs.PairsNotes.{Same, code, Gap, no-gap}
 
@@ -27,6 +28,13 @@ use Rattle.pair_table.proofs.PairsNotes.{Same, code, Gap, no-gap}
 abbrev pub sideIn : Bool → Side
 sideIn true = right
 sideIn false = left
+
+-- where a side's index and its tops begin
+abbrev pub indexOn : Bool → ℕ
+indexOn s = indexesAt + 64 * sideOf s
+
+abbrev pub topOn : Bool → ℕ
+topOn s = topsAt + 4 * sideOf s
 
 pub side-few : (s : Bool) → sideOf s ≤ 1
 side-few true = omega arith
@@ -122,19 +130,19 @@ module _ (t : List (Option OurAtom)) (s : Bool) where
   RightIn list n v = 0 < v
 
   pub record Marked (d : List OurTerm) (p : ℕ) (row : List ℕ) : Type 0 where
-    pub absent : (k : Kind) (n : ℕ) → n ≤ 15 → inField k n d ≡ false → getD row (424 + 64 * sideOf s + 16 * rank k + n) 0 ≡ 0
-    pub present : (k : Kind) (n : ℕ) → n ≤ 15 → inField k n d ≡ true → RightIn k n (getD row (424 + 64 * sideOf s + 16 * rank k + n) 0)
+    pub absent : (k : Kind) (n : ℕ) → n ≤ 15 → inField k n d ≡ false → getD row (indexOn s + 16 * rank k + n) 0 ≡ 0
+    pub present : (k : Kind) (n : ℕ) → n ≤ 15 → inField k n d ≡ true → RightIn k n (getD row (indexOn s + 16 * rank k + n) 0)
     pub met : (q : ℕ) (k : Basic) (n : ℕ) → q < p → Holds t q (free (of (sideIn s) k n)) → inField (basic k) n d ≡ true
-    pub within : (k : ℕ) → k < 4 → getD row (552 + 4 * sideOf s + k) 0 ≤ 16
-    pub above : (k : Kind) (n : ℕ) → inField k n d ≡ true → n < getD row (552 + 4 * sideOf s + rank k) 0
+    pub within : (k : ℕ) → k < 4 → getD row (topOn s + k) 0 ≤ 16
+    pub above : (k : Kind) (n : ℕ) → inField k n d ≡ true → n < getD row (topOn s + rank k) 0
 
   -- the rule's part of the row is as it was
   abbrev pub Untouched : List ℕ → List ℕ → Type 0
   Untouched row row′ =
-      ((j : ℕ) → 424 + 64 * sideOf s ≤ j → j < 424 + 64 * sideOf s + 64 → Same row row′ j)
-      × ((j : ℕ) → 552 + 4 * sideOf s ≤ j → j < 552 + 4 * sideOf s + 4 → Same row row′ j)
+      ((j : ℕ) → indexOn s ≤ j → j < indexOn s + 64 → Same row row′ j)
+      × ((j : ℕ) → topOn s ≤ j → j < topOn s + 4 → Same row row′ j)
 
-  pub untouched : (row row′ : List ℕ) → ((j : ℕ) → 424 ≤ j → j < 560 → Same row row′ j) → Untouched row row′
+  pub untouched : (row row′ : List ℕ) → ((j : ℕ) → indexesAt ≤ j → j < countAt → Same row row′ j) → Untouched row row′
   untouched row row′ h =
       (λ j a b. h j (omega arith) (omega (arith, side-few s)), λ j a b. h j (omega arith) (omega (arith, side-few s)))
 
@@ -143,12 +151,12 @@ module _ (t : List (Option OurAtom)) (s : Bool) where
       → Marked d p row → Marked d r row′
   marked-keep d p r row row′ u new m =
       record {
-        absent = λ k n l e. u .0 (424 + 64 * sideOf s + 16 * rank k + n) (omega arith) (omega (arith, rank-below k)) ∙ m .absent k n l e;
+        absent = λ k n l e. u .0 (indexOn s + 16 * rank k + n) (omega arith) (omega (arith, rank-below k)) ∙ m .absent k n l e;
         present = λ k n l e. subst (RightIn k n)
-            (sym (u .0 (424 + 64 * sideOf s + 16 * rank k + n) (omega arith) (omega (arith, rank-below k)))) (m .present k n l e);
+            (sym (u .0 (indexOn s + 16 * rank k + n) (omega arith) (omega (arith, rank-below k)))) (m .present k n l e);
         met = λ q k n l v. go q k n l v (decLt q p);
-        within = λ k l. omega (arith, u .1 (552 + 4 * sideOf s + k) (omega arith) (omega arith), m .within k l);
-        above = λ k n e. omega (arith, u .1 (552 + 4 * sideOf s + rank k) (omega arith) (omega (arith, rank-below k)), m .above k n e);
+        within = λ k l. omega (arith, u .1 (topOn s + k) (omega arith) (omega arith), m .within k l);
+        above = λ k n e. omega (arith, u .1 (topOn s + rank k) (omega arith) (omega (arith, rank-below k)), m .above k n e);
       }
     where
       go : (q : ℕ) (k : Basic) (n : ℕ) → q < r → Holds t q (free (of (sideIn s) k n)) → Dec (q < p) → inField (basic k) n d ≡ true

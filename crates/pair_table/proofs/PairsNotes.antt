@@ -17,7 +17,7 @@ use Rattle.math_codes.specs.Tables.{Holds, codeOf, kindA, isFree}
 use Rattle.math_codes.specs.Tables.{same as alike}
 use Rattle.math_codes.specs.Lines.{ourVars, OurAtom}
 use Rattle.math_codes.proofs.Tables.{holds-once}
-use Rattle.pair_row.specs.Row.{isSet}
+use Rattle.pair_row.specs.Row.{kindsAt, variablesAt, shapesAt, countAt, membersAt, rowBytes, isSet}
 use Rattle.pair_table.specs.Notes.{joinedMember}
 use Rattle.pair_table.proofs.PairsRow.{joined-other, joined-count, joined-new}
 use Rattle.pair_table.proofs.PairsCells.{Cell, bytesOf}
@@ -49,50 +49,51 @@ module _ (t : List (Option OurAtom)) where
 
   pub record Codes (p : ℕ) (row : List ℕ) : Type 0 where
     pub firsts : (q : ℕ) (a : OurAtom) → q < p → Holds t q a → getD row q 0 ≡ code a
-    pub kinds : (q : ℕ) (a : OurAtom) → q < p → Holds t q a → getD row (128 + q) 0 ≡ rank (basic (kindA basics consts ourVars a))
-    pub variables : (q : ℕ) (a : OurAtom) → q < p → Holds t q a → isSet (getD row (260 + q) 0) ≡ isFree basics consts ourVars a
+    pub kinds : (q : ℕ) (a : OurAtom) → q < p → Holds t q a → getD row (kindsAt + q) 0 ≡ rank (basic (kindA basics consts ourVars a))
+    pub variables : (q : ℕ) (a : OurAtom) → q < p → Holds t q a → isSet (getD row (variablesAt + q) 0) ≡ isFree basics consts ourVars a
 
   -- the same of one place
   abbrev pub Here : ℕ → List ℕ → Type 0
   Here p row =
       (a : OurAtom) → Holds t p a
-      → (getD row p 0 ≡ code a) × (getD row (128 + p) 0 ≡ rank (basic (kindA basics consts ourVars a)))
-      × (isSet (getD row (260 + p) 0) ≡ isFree basics consts ourVars a)
+      → (getD row p 0 ≡ code a) × (getD row (kindsAt + p) 0 ≡ rank (basic (kindA basics consts ourVars a)))
+      × (isSet (getD row (variablesAt + p) 0) ≡ isFree basics consts ourVars a)
 
   pub here-from : (p : ℕ) (row : List ℕ) (a : OurAtom) → Holds t p a → getD row p 0 ≡ code a
-      → getD row (128 + p) 0 ≡ rank (basic (kindA basics consts ourVars a)) → isSet (getD row (260 + p) 0) ≡ isFree basics consts ourVars a → Here p row
+      → getD row (kindsAt + p) 0 ≡ rank (basic (kindA basics consts ourVars a))
+      → isSet (getD row (variablesAt + p) 0) ≡ isFree basics consts ourVars a → Here p row
   here-from p row a h x y z b k =
-      subst (λ (e : OurAtom). (getD row p 0 ≡ code e) × (getD row (128 + p) 0 ≡ rank (basic (kindA basics consts ourVars e)))
-      × (isSet (getD row (260 + p) 0) ≡ isFree basics consts ourVars e)) (holds-once t p a b h k) (x, y, z)
+      subst (λ (e : OurAtom). (getD row p 0 ≡ code e) × (getD row (kindsAt + p) 0 ≡ rank (basic (kindA basics consts ourVars e)))
+      × (isSet (getD row (variablesAt + p) 0) ≡ isFree basics consts ourVars e)) (holds-once t p a b h k) (x, y, z)
 
   -- nothing else is written by place
   abbrev pub ByPlace : ℕ → List ℕ → List ℕ → Type 0
-  ByPlace p row row′ = (j : ℕ) → j < 392 → j ≢ p → j ≢ 128 + p → j ≢ 260 + p → Same row row′ j
+  ByPlace p row row′ = (j : ℕ) → j < shapesAt → j ≢ p → j ≢ kindsAt + p → j ≢ variablesAt + p → Same row row′ j
 
   pub codes-keep : (p : ℕ) (row row′ : List ℕ) → p < 128 → ByPlace p row row′ → Codes p row → Codes p row′
   codes-keep p row row′ h s c =
       record {
         firsts = λ q a l k. s q (omega arith) (λ e. omega arith) (λ e. omega arith) (λ e. omega arith) ∙ c .firsts q a l k;
-        kinds = λ q a l k. s (128 + q) (omega arith) (λ e. omega arith) (λ e. omega arith) (λ e. omega arith) ∙ c .kinds q a l k;
-        variables = λ q a l k. ap isSet (s (260 + q) (omega arith) (λ e. omega arith) (λ e. omega arith) (λ e. omega arith)) ∙ c .variables q a l k;
+        kinds = λ q a l k. s (kindsAt + q) (omega arith) (λ e. omega arith) (λ e. omega arith) (λ e. omega arith) ∙ c .kinds q a l k;
+        variables = λ q a l k. ap isSet (s (variablesAt + q) (omega arith) (λ e. omega arith) (λ e. omega arith) (λ e. omega arith)) ∙ c .variables q a l k;
       }
 
   -- nothing is written by place at all
-  pub codes-same : (p : ℕ) (row row′ : List ℕ) → p ≤ 128 → ((j : ℕ) → j < 392 → Same row row′ j) → Codes p row → Codes p row′
+  pub codes-same : (p : ℕ) (row row′ : List ℕ) → p ≤ 128 → ((j : ℕ) → j < shapesAt → Same row row′ j) → Codes p row → Codes p row′
   codes-same p row row′ h s c =
       record {
         firsts = λ q a l k. s q (omega arith) ∙ c .firsts q a l k;
-        kinds = λ q a l k. s (128 + q) (omega arith) ∙ c .kinds q a l k;
-        variables = λ q a l k. ap isSet (s (260 + q) (omega arith)) ∙ c .variables q a l k;
+        kinds = λ q a l k. s (kindsAt + q) (omega arith) ∙ c .kinds q a l k;
+        variables = λ q a l k. ap isSet (s (variablesAt + q) (omega arith)) ∙ c .variables q a l k;
       }
 
   pub codes-next : (p : ℕ) (row : List ℕ) → Codes p row → Here p row → Codes (suc p) row
   codes-next p row c n =
       record {
         firsts = λ q a l k. pick (λ x. Holds t x a → getD row x 0 ≡ code a) q p l (λ b h. c .firsts q a b h) (λ h. n a h .0) k;
-        kinds = λ q a l k. pick (λ x. Holds t x a → getD row (128 + x) 0 ≡ rank (basic (kindA basics consts ourVars a))) q p l
+        kinds = λ q a l k. pick (λ x. Holds t x a → getD row (kindsAt + x) 0 ≡ rank (basic (kindA basics consts ourVars a))) q p l
             (λ b h. c .kinds q a b h) (λ h. n a h .1) k;
-        variables = λ q a l k. pick (λ x. Holds t x a → isSet (getD row (260 + x) 0) ≡ isFree basics consts ourVars a) q p l
+        variables = λ q a l k. pick (λ x. Holds t x a → isSet (getD row (variablesAt + x) 0) ≡ isFree basics consts ourVars a) q p l
             (λ b h. c .variables q a b h) (λ h. n a h .2) k;
       }
 
@@ -109,39 +110,39 @@ module _ (t : List (Option OurAtom)) where
   codes-gap p r row g c =
       record {
         firsts = over-gap {P = λ q a. getD row q 0 ≡ code a} p r g (c .firsts);
-        kinds = over-gap {P = λ q a. getD row (128 + q) 0 ≡ rank (basic (kindA basics consts ourVars a))} p r g (c .kinds);
-        variables = over-gap {P = λ q a. isSet (getD row (260 + q) 0) ≡ isFree basics consts ourVars a} p r g (c .variables);
+        kinds = over-gap {P = λ q a. getD row (kindsAt + q) 0 ≡ rank (basic (kindA basics consts ourVars a))} p r g (c .kinds);
+        variables = over-gap {P = λ q a. isSet (getD row (variablesAt + q) 0) ≡ isFree basics consts ourVars a} p r g (c .variables);
       }
 
   -- ---- members
 
   -- some member is the code of d
   abbrev pub Among : List ℕ → Con → Type 0
-  Among row d = (i : ℕ) × (i < getD row 560 0) × (getD row (561 + i) 0 ≡ code (fixed d))
+  Among row d = (i : ℕ) × (i < getD row countAt 0) × (getD row (membersAt + i) 0 ≡ code (fixed d))
 
   -- x is the code of a constant before p
   abbrev pub Member : ℕ → ℕ → Type 0
   Member p x = (d : Con) × Holds t x (fixed d) × (code (fixed d) ≡ x) × (x < p)
 
   pub record Members (p : ℕ) (row : List ℕ) : Type 0 where
-    pub few : getD row 560 0 ≤ p
-    pub each : (i : ℕ) → i < getD row 560 0 → Member p (getD row (561 + i) 0)
+    pub few : getD row countAt 0 ≤ p
+    pub each : (i : ℕ) → i < getD row countAt 0 → Member p (getD row (membersAt + i) 0)
     pub all : (q : ℕ) (d : Con) → q < p → Holds t q (fixed d) → Among row d
 
-  pub among-keep : (row row′ : List ℕ) (d : Con) → ((j : ℕ) → 560 ≤ j → Same row row′ j) → Among row d → Among row′ d
-  among-keep row row′ d s m = (m .0, omega (arith, m .1, s 560 (omega arith)), s (561 + m .0) (omega arith) ∙ m .2)
+  pub among-keep : (row row′ : List ℕ) (d : Con) → ((j : ℕ) → countAt ≤ j → Same row row′ j) → Among row d → Among row′ d
+  among-keep row row′ d s m = (m .0, omega (arith, m .1, s countAt (omega arith)), s (membersAt + m .0) (omega arith) ∙ m .2)
 
   member-later : (p r x : ℕ) → p ≤ r → Member p x → Member r x
   member-later p r x h m = (m .0, m .1, m .2, omega (arith, m .3, h))
 
   -- no member more
-  pub members-keep : (p r : ℕ) (row row′ : List ℕ) → p ≤ r → ((j : ℕ) → 560 ≤ j → Same row row′ j)
+  pub members-keep : (p r : ℕ) (row row′ : List ℕ) → p ≤ r → ((j : ℕ) → countAt ≤ j → Same row row′ j)
       → ((q : ℕ) (d : Con) → p ≤ q → q < r → Holds t q (fixed d) → Among row d) → Members p row → Members r row′
   members-keep p r row row′ h s new c =
       record {
-        few = omega (arith, s 560 (omega arith), c .few, h);
-        each = λ i l. subst (Member r) (sym (s (561 + i) (omega arith)))
-            (member-later p r (getD row (561 + i) 0) h (c .each i (omega (arith, l, s 560 (omega arith)))));
+        few = omega (arith, s countAt (omega arith), c .few, h);
+        each = λ i l. subst (Member r) (sym (s (membersAt + i) (omega arith)))
+            (member-later p r (getD row (membersAt + i) 0) h (c .each i (omega (arith, l, s countAt (omega arith)))));
         all = λ q d l k. among-keep row row′ d s (go q d l k (decLt q p));
       }
     where
@@ -150,22 +151,23 @@ module _ (t : List (Option OurAtom)) where
       go q d l k (no n) = new q d (omega arith) l k
 
   -- one member more, the constant d at p
-  module _ (p : ℕ) (row : List ℕ) (d : Con) (h : p < 128) (long : length row ≡ 689) (k : Holds t p (fixed d)) (e : code (fixed d) ≡ p) (c : Members p row) where
+  module _ (p : ℕ) (row : List ℕ) (d : Con) (h : p < 128) (long : length row ≡ rowBytes)
+      (k : Holds t p (fixed d)) (e : code (fixed d) ≡ p) (c : Members p row) where
     abbrev n : ℕ
-    n = getD row 560 0
+    n = getD row countAt 0
 
     room : n < 128
     room = omega (arith, c .few, h)
 
-    kept : (i : ℕ) → i < n → getD (joinedMember p row) (561 + i) 0 ≡ getD row (561 + i) 0
-    kept i l = joined-other p row (561 + i) (λ q. omega arith) (λ q. omega (arith, l))
+    kept : (i : ℕ) → i < n → getD (joinedMember p row) (membersAt + i) 0 ≡ getD row (membersAt + i) 0
+    kept i l = joined-other p row (membersAt + i) (λ q. omega arith) (λ q. omega (arith, l))
 
     pub members-joined : Members (suc p) (joinedMember p row)
     members-joined =
         record {
           few = omega (arith, joined-count p row room long, c .few);
-          each = λ i l. pick (λ x. Member (suc p) (getD (joinedMember p row) (561 + x) 0)) i n (omega (arith, l, joined-count p row room long))
-              (λ b. subst (Member (suc p)) (sym (kept i b)) (member-later p (suc p) (getD row (561 + i) 0) (omega arith) (c .each i b)))
+          each = λ i l. pick (λ x. Member (suc p) (getD (joinedMember p row) (membersAt + x) 0)) i n (omega (arith, l, joined-count p row room long))
+              (λ b. subst (Member (suc p)) (sym (kept i b)) (member-later p (suc p) (getD row (membersAt + i) 0) (omega arith) (c .each i b)))
               (subst (Member (suc p)) (sym (joined-new p row room long)) (d, k, e, omega arith));
           all = λ q b l m. pick (λ x. Holds t x (fixed b) → Among (joinedMember p row) b) q p l (λ u v. old b (c .all q b u v)) (λ v. new b v) m;
         }

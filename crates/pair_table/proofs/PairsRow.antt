@@ -15,59 +15,59 @@ use Rattle.order.specs.Types.{integer, string, atom, Kind, same}
 use Rattle.theory.specs.Terms.{con, var}
 use Rattle.text.specs.Terms.{OurTerm}
 use Rattle.math_codes.specs.Spots.{Spot, scanAt, scanTerm, spotOf}
-use Rattle.pair_row.specs.Row.{isSet}
+use Rattle.pair_row.specs.Row.{kindsAt, variablesAt, shapesAt, countAt, membersAt, rowBytes, isSet}
 use Rattle.pair_table.specs.Notes.{classed, joinedMember, indexed, topped, more, shapeNoted, termsIn}
 
 -- ---- a place's type
 
 module _ (p k v : ℕ) (row : List ℕ) where
   pub classed-long : length (classed p k v row) ≡ length row
-  classed-long = length-set (set row (128 + p) k) (260 + p) v ∙ length-set row (128 + p) k
+  classed-long = length-set (set row (kindsAt + p) k) (variablesAt + p) v ∙ length-set row (kindsAt + p) k
 
-  pub classed-other : (j : ℕ) → j ≢ 128 + p → j ≢ 260 + p → getD (classed p k v row) j 0 ≡ getD row j 0
-  classed-other j a b = getD-set-other (set row (128 + p) k) (260 + p) j v 0 b ∙ getD-set-other row (128 + p) j k 0 a
+  pub classed-other : (j : ℕ) → j ≢ kindsAt + p → j ≢ variablesAt + p → getD (classed p k v row) j 0 ≡ getD row j 0
+  classed-other j a b = getD-set-other (set row (kindsAt + p) k) (variablesAt + p) j v 0 b ∙ getD-set-other row (kindsAt + p) j k 0 a
 
-  pub classed-kind : 128 + p < length row → getD (classed p k v row) (128 + p) 0 ≡ k
-  classed-kind h = getD-set-other (set row (128 + p) k) (260 + p) (128 + p) v 0 (λ e. omega arith) ∙ getD-set-same row (128 + p) k 0 h
+  pub classed-kind : kindsAt + p < length row → getD (classed p k v row) (kindsAt + p) 0 ≡ k
+  classed-kind h = getD-set-other (set row (kindsAt + p) k) (variablesAt + p) (kindsAt + p) v 0 (λ e. omega arith) ∙ getD-set-same row (kindsAt + p) k 0 h
 
-  pub classed-variable : 260 + p < length row → getD (classed p k v row) (260 + p) 0 ≡ v
-  classed-variable h = getD-set-same (set row (128 + p) k) (260 + p) v 0 (omega (arith, length-set row (128 + p) k))
+  pub classed-variable : variablesAt + p < length row → getD (classed p k v row) (variablesAt + p) 0 ≡ v
+  classed-variable h = getD-set-same (set row (kindsAt + p) k) (variablesAt + p) v 0 (omega (arith, length-set row (kindsAt + p) k))
 
 -- ---- members
 
 module _ (p : ℕ) (row : List ℕ) where
   abbrev count : ℕ
-  count = getD row 560 0
+  count = getD row countAt 0
 
   pub joined-long : length (joinedMember p row) ≡ length row
   joined-long = go (ltb count 128)
     where
-      go : (b : Bool) → length (cond b (set (set row (561 + count) p) 560 (count + 1)) row) ≡ length row
-      go true = length-set (set row (561 + count) p) 560 (count + 1) ∙ length-set row (561 + count) p
+      go : (b : Bool) → length (cond b (set (set row (membersAt + count) p) countAt (count + 1)) row) ≡ length row
+      go true = length-set (set row (membersAt + count) p) countAt (count + 1) ∙ length-set row (membersAt + count) p
       go false = refl
 
-  pub joined-other : (j : ℕ) → j ≢ 560 → j ≢ 561 + count → getD (joinedMember p row) j 0 ≡ getD row j 0
+  pub joined-other : (j : ℕ) → j ≢ countAt → j ≢ membersAt + count → getD (joinedMember p row) j 0 ≡ getD row j 0
   joined-other j a b = go (ltb count 128)
     where
-      go : (c : Bool) → getD (cond c (set (set row (561 + count) p) 560 (count + 1)) row) j 0 ≡ getD row j 0
-      go true = getD-set-other (set row (561 + count) p) 560 j (count + 1) 0 a ∙ getD-set-other row (561 + count) j p 0 b
+      go : (c : Bool) → getD (cond c (set (set row (membersAt + count) p) countAt (count + 1)) row) j 0 ≡ getD row j 0
+      go true = getD-set-other (set row (membersAt + count) p) countAt j (count + 1) 0 a ∙ getD-set-other row (membersAt + count) j p 0 b
       go false = refl
 
-  module _ (few : count < 128) (long : length row ≡ 689) where
-    joined-is : joinedMember p row ≡ set (set row (561 + count) p) 560 (count + 1)
-    joined-is = ap (λ (b : Bool). cond b (set (set row (561 + count) p) 560 (count + 1)) row) (lt-ltb count 128 few)
+  module _ (few : count < 128) (long : length row ≡ rowBytes) where
+    joined-is : joinedMember p row ≡ set (set row (membersAt + count) p) countAt (count + 1)
+    joined-is = ap (λ (b : Bool). cond b (set (set row (membersAt + count) p) countAt (count + 1)) row) (lt-ltb count 128 few)
 
-    pub joined-count : getD (joinedMember p row) 560 0 ≡ suc count
+    pub joined-count : getD (joinedMember p row) countAt 0 ≡ suc count
     joined-count =
-        ap (λ (l : List ℕ). getD l 560 0) joined-is
-        ∙ getD-set-same (set row (561 + count) p) 560 (count + 1) 0 (omega (arith, long, length-set row (561 + count) p))
+        ap (λ (l : List ℕ). getD l countAt 0) joined-is
+        ∙ getD-set-same (set row (membersAt + count) p) countAt (count + 1) 0 (omega (arith, long, length-set row (membersAt + count) p))
         ∙ (let e : count + 1 ≡ suc count = omega arith in e)
 
-    pub joined-new : getD (joinedMember p row) (561 + count) 0 ≡ p
+    pub joined-new : getD (joinedMember p row) (membersAt + count) 0 ≡ p
     joined-new =
-        ap (λ (l : List ℕ). getD l (561 + count) 0) joined-is
-        ∙ getD-set-other (set row (561 + count) p) 560 (561 + count) (count + 1) 0 (λ e. omega arith)
-        ∙ getD-set-same row (561 + count) p 0 (omega (arith, long, few))
+        ap (λ (l : List ℕ). getD l (membersAt + count) 0) joined-is
+        ∙ getD-set-other (set row (membersAt + count) p) countAt (membersAt + count) (count + 1) 0 (λ e. omega arith)
+        ∙ getD-set-same row (membersAt + count) p 0 (omega (arith, long, few))
 
 -- ---- variables
 
@@ -149,13 +149,17 @@ module _ (t n : ℕ) (row : List ℕ) where
 
 -- ---- shapes
 
+-- where a field's numbers begin
+abbrev pub shapeAt : ℕ → ℕ
+shapeAt f = shapesAt + 4 * f
+
 -- a field's numbers as they stand in the row
 abbrev pub spotFrom : ℕ → ℕ → ℕ → Bool → ℕ → Spot ℕ
 spotFrom b h t g l = record { base = b; head = h; tail = t; name = cond g (some l) none }
 
 abbrev pub spotAt : List ℕ → ℕ → Spot ℕ
 spotAt row f =
-    spotFrom (16 * f) (getD row (392 + 4 * f) 0) (getD row (392 + 4 * f + 1) 0) (isSet (getD row (392 + 4 * f + 3) 0)) (getD row (392 + 4 * f + 2) 0)
+    spotFrom (16 * f) (getD row (shapeAt f) 0) (getD row (shapeAt f + 1) 0) (isSet (getD row (shapeAt f + 3) 0)) (getD row (shapeAt f + 2) 0)
 
 -- how a term is noted in a shape
 abbrev pub isList : OurTerm → Bool
@@ -173,20 +177,20 @@ list-is (basic string) n = refl
 list-is (basic atom) n = refl
 list-is list n = refl
 
-pub spot-is : (row : List ℕ) (f h t : ℕ) (g : Bool) (l : ℕ) → getD row (392 + 4 * f) 0 ≡ h → getD row (392 + 4 * f + 1) 0 ≡ t
-    → isSet (getD row (392 + 4 * f + 3) 0) ≡ g → getD row (392 + 4 * f + 2) 0 ≡ l → spotAt row f ≡ spotFrom (16 * f) h t g l
+pub spot-is : (row : List ℕ) (f h t : ℕ) (g : Bool) (l : ℕ) → getD row (shapeAt f) 0 ≡ h → getD row (shapeAt f + 1) 0 ≡ t
+    → isSet (getD row (shapeAt f + 3) 0) ≡ g → getD row (shapeAt f + 2) 0 ≡ l → spotAt row f ≡ spotFrom (16 * f) h t g l
 spot-is row f h t g l a b c d =
-    ap (λ (x : ℕ). spotFrom (16 * f) x (getD row (392 + 4 * f + 1) 0) (isSet (getD row (392 + 4 * f + 3) 0)) (getD row (392 + 4 * f + 2) 0)) a
-    ∙ ap (λ (x : ℕ). spotFrom (16 * f) h x (isSet (getD row (392 + 4 * f + 3) 0)) (getD row (392 + 4 * f + 2) 0)) b
-    ∙ ap (λ (x : Bool). spotFrom (16 * f) h t x (getD row (392 + 4 * f + 2) 0)) c
+    ap (λ (x : ℕ). spotFrom (16 * f) x (getD row (shapeAt f + 1) 0) (isSet (getD row (shapeAt f + 3) 0)) (getD row (shapeAt f + 2) 0)) a
+    ∙ ap (λ (x : ℕ). spotFrom (16 * f) h x (isSet (getD row (shapeAt f + 3) 0)) (getD row (shapeAt f + 2) 0)) b
+    ∙ ap (λ (x : Bool). spotFrom (16 * f) h t x (getD row (shapeAt f + 2) 0)) c
     ∙ ap (λ (x : ℕ). spotFrom (16 * f) h t g x) d
 
 -- shapes that read the same
-pub spot-same : (row row′ : List ℕ) (f : ℕ) → ((j : ℕ) → 392 + 4 * f ≤ j → j < 392 + 4 * f + 4 → getD row′ j 0 ≡ getD row j 0) → spotAt row′ f ≡ spotAt row f
+pub spot-same : (row row′ : List ℕ) (f : ℕ) → ((j : ℕ) → shapeAt f ≤ j → j < shapeAt f + 4 → getD row′ j 0 ≡ getD row j 0) → spotAt row′ f ≡ spotAt row f
 spot-same row row′ f h =
-    spot-is row′ f (getD row (392 + 4 * f) 0) (getD row (392 + 4 * f + 1) 0) (isSet (getD row (392 + 4 * f + 3) 0)) (getD row (392 + 4 * f + 2) 0)
-    (h (392 + 4 * f) (omega arith) (omega arith)) (h (392 + 4 * f + 1) (omega arith) (omega arith))
-    (ap isSet (h (392 + 4 * f + 3) (omega arith) (omega arith))) (h (392 + 4 * f + 2) (omega arith) (omega arith))
+    spot-is row′ f (getD row (shapeAt f) 0) (getD row (shapeAt f + 1) 0) (isSet (getD row (shapeAt f + 3) 0)) (getD row (shapeAt f + 2) 0)
+    (h (shapeAt f) (omega arith) (omega arith)) (h (shapeAt f + 1) (omega arith) (omega arith))
+    (ap isSet (h (shapeAt f + 3) (omega arith) (omega arith))) (h (shapeAt f + 2) (omega arith) (omega arith))
 
 -- how many terms they count
 abbrev nameCount : Option ℕ → ℕ
@@ -197,10 +201,10 @@ abbrev pub spotCount : Spot ℕ → ℕ
 spotCount s = s .head + s .tail + nameCount (s .name)
 
 pub terms-count : (row : List ℕ) (f : ℕ) → termsIn row f ≡ spotCount (spotAt row f)
-terms-count row f = go (isSet (getD row (392 + 4 * f + 3) 0))
+terms-count row f = go (isSet (getD row (shapeAt f + 3) 0))
   where
-    go : (b : Bool) → getD row (392 + 4 * f) 0 + getD row (392 + 4 * f + 1) 0 + cond b 1 0
-        ≡ getD row (392 + 4 * f) 0 + getD row (392 + 4 * f + 1) 0 + nameCount (cond b (some (getD row (392 + 4 * f + 2) 0)) none)
+    go : (b : Bool) → getD row (shapeAt f) 0 + getD row (shapeAt f + 1) 0 + cond b 1 0
+        ≡ getD row (shapeAt f) 0 + getD row (shapeAt f + 1) 0 + nameCount (cond b (some (getD row (shapeAt f + 2) 0)) none)
     go true = refl
     go false = refl
 
@@ -225,41 +229,41 @@ more-is n h = ap (λ (b : Bool). cond b 16 (n + 1)) (lt-leb 16 n h) ∙ (let e :
 
 module _ (f : ℕ) (isL : Bool) (n : ℕ) (row : List ℕ) where
   abbrev h₀ : ℕ
-  h₀ = getD row (392 + 4 * f) 0
+  h₀ = getD row (shapeAt f) 0
 
   abbrev t₀ : ℕ
-  t₀ = getD row (392 + 4 * f + 1) 0
+  t₀ = getD row (shapeAt f + 1) 0
 
   abbrev tailed : List ℕ
-  tailed = set row (392 + 4 * f + 1) (more t₀)
+  tailed = set row (shapeAt f + 1) (more t₀)
 
   abbrev listed : List ℕ
-  listed = set (set row (392 + 4 * f + 2) n) (392 + 4 * f + 3) 1
+  listed = set (set row (shapeAt f + 2) n) (shapeAt f + 3) 1
 
   abbrev headed : List ℕ
-  headed = set row (392 + 4 * f) (more h₀)
+  headed = set row (shapeAt f) (more h₀)
 
   pub shape-long : length (shapeNoted f isL n row) ≡ length row
-  shape-long = go (isSet (getD row (392 + 4 * f + 3) 0)) isL
+  shape-long = go (isSet (getD row (shapeAt f + 3) 0)) isL
     where
       go : (b c : Bool) → length (cond b tailed (cond c listed headed)) ≡ length row
-      go true c = length-set row (392 + 4 * f + 1) (more t₀)
-      go false true = length-set (set row (392 + 4 * f + 2) n) (392 + 4 * f + 3) 1 ∙ length-set row (392 + 4 * f + 2) n
-      go false false = length-set row (392 + 4 * f) (more h₀)
+      go true c = length-set row (shapeAt f + 1) (more t₀)
+      go false true = length-set (set row (shapeAt f + 2) n) (shapeAt f + 3) 1 ∙ length-set row (shapeAt f + 2) n
+      go false false = length-set row (shapeAt f) (more h₀)
 
-  pub shape-other : (j : ℕ) → (392 + 4 * f ≤ j → j < 392 + 4 * f + 4 → ⊥) → getD (shapeNoted f isL n row) j 0 ≡ getD row j 0
-  shape-other j o = go (isSet (getD row (392 + 4 * f + 3) 0)) isL
+  pub shape-other : (j : ℕ) → (shapeAt f ≤ j → j < shapeAt f + 4 → ⊥) → getD (shapeNoted f isL n row) j 0 ≡ getD row j 0
+  shape-other j o = go (isSet (getD row (shapeAt f + 3) 0)) isL
     where
       go : (b c : Bool) → getD (cond b tailed (cond c listed headed)) j 0 ≡ getD row j 0
-      go true c = getD-set-other row (392 + 4 * f + 1) j (more t₀) 0 (λ e. o (omega arith) (omega arith))
-      go false true = getD-set-other (set row (392 + 4 * f + 2) n) (392 + 4 * f + 3) j 1 0 (λ e. o (omega arith) (omega arith))
-          ∙ getD-set-other row (392 + 4 * f + 2) j n 0 (λ e. o (omega arith) (omega arith))
-      go false false = getD-set-other row (392 + 4 * f) j (more h₀) 0 (λ e. o (omega arith) (omega arith))
+      go true c = getD-set-other row (shapeAt f + 1) j (more t₀) 0 (λ e. o (omega arith) (omega arith))
+      go false true = getD-set-other (set row (shapeAt f + 2) n) (shapeAt f + 3) j 1 0 (λ e. o (omega arith) (omega arith))
+          ∙ getD-set-other row (shapeAt f + 2) j n 0 (λ e. o (omega arith) (omega arith))
+      go false false = getD-set-other row (shapeAt f) j (more h₀) 0 (λ e. o (omega arith) (omega arith))
 
 -- ONE TERM MORE in a field's shape
-module _ (f : ℕ) (row : List ℕ) (long : length row ≡ 689) (few : f < 8) (room : termsIn row f < 16) where
+module _ (f : ℕ) (row : List ℕ) (long : length row ≡ rowBytes) (few : f < 8) (room : termsIn row f < 16) where
   abbrev l₀ : ℕ
-  l₀ = getD row (392 + 4 * f + 2) 0
+  l₀ = getD row (shapeAt f + 2) 0
 
   heads : h₀ f false 0 row < 16
   heads = omega (arith, room)
@@ -268,54 +272,54 @@ module _ (f : ℕ) (row : List ℕ) (long : length row ≡ 689) (few : f < 8) (r
   tails = omega (arith, room)
 
   pub spot-step : (u : OurTerm) → spotAt (shapeNoted f (isList u) (numberOf u) row) f ≡ scanTerm (spotAt row f) u
-  spot-step u = go (isSet (getD row (392 + 4 * f + 3) 0)) refl
+  spot-step u = go (isSet (getD row (shapeAt f + 3) 0)) refl
     where
       h : ℕ
-      h = getD row (392 + 4 * f) 0
+      h = getD row (shapeAt f) 0
 
       t : ℕ
-      t = getD row (392 + 4 * f + 1) 0
+      t = getD row (shapeAt f + 1) 0
 
       other : (i j a : ℕ) → j ≢ i → getD (set row i a) j 0 ≡ getD row j 0
       other i j a d = getD-set-other row i j a 0 d
 
-      behind : isSet (getD row (392 + 4 * f + 3) 0) ≡ true
-          → spotAt (set row (392 + 4 * f + 1) (more t)) f ≡ spotFrom (16 * f) h (suc t) true l₀
+      behind : isSet (getD row (shapeAt f + 3) 0) ≡ true
+          → spotAt (set row (shapeAt f + 1) (more t)) f ≡ spotFrom (16 * f) h (suc t) true l₀
       behind e =
-          spot-is (set row (392 + 4 * f + 1) (more t)) f h (suc t) true l₀ (other (392 + 4 * f + 1) (392 + 4 * f) (more t) (λ q. omega arith))
-          (getD-set-same row (392 + 4 * f + 1) (more t) 0 (omega (arith, long, few)) ∙ more-is t tails)
-          (ap isSet (other (392 + 4 * f + 1) (392 + 4 * f + 3) (more t) (λ q. omega arith)) ∙ e)
-          (other (392 + 4 * f + 1) (392 + 4 * f + 2) (more t) (λ q. omega arith))
+          spot-is (set row (shapeAt f + 1) (more t)) f h (suc t) true l₀ (other (shapeAt f + 1) (shapeAt f) (more t) (λ q. omega arith))
+          (getD-set-same row (shapeAt f + 1) (more t) 0 (omega (arith, long, few)) ∙ more-is t tails)
+          (ap isSet (other (shapeAt f + 1) (shapeAt f + 3) (more t) (λ q. omega arith)) ∙ e)
+          (other (shapeAt f + 1) (shapeAt f + 2) (more t) (λ q. omega arith))
 
-      before : isSet (getD row (392 + 4 * f + 3) 0) ≡ false
-          → spotAt (set row (392 + 4 * f) (more h)) f ≡ spotFrom (16 * f) (suc h) t false l₀
+      before : isSet (getD row (shapeAt f + 3) 0) ≡ false
+          → spotAt (set row (shapeAt f) (more h)) f ≡ spotFrom (16 * f) (suc h) t false l₀
       before e =
-          spot-is (set row (392 + 4 * f) (more h)) f (suc h) t false l₀
-          (getD-set-same row (392 + 4 * f) (more h) 0 (omega (arith, long, few)) ∙ more-is h heads)
-          (other (392 + 4 * f) (392 + 4 * f + 1) (more h) (λ q. omega arith))
-          (ap isSet (other (392 + 4 * f) (392 + 4 * f + 3) (more h) (λ q. omega arith)) ∙ e)
-          (other (392 + 4 * f) (392 + 4 * f + 2) (more h) (λ q. omega arith))
+          spot-is (set row (shapeAt f) (more h)) f (suc h) t false l₀
+          (getD-set-same row (shapeAt f) (more h) 0 (omega (arith, long, few)) ∙ more-is h heads)
+          (other (shapeAt f) (shapeAt f + 1) (more h) (λ q. omega arith))
+          (ap isSet (other (shapeAt f) (shapeAt f + 3) (more h) (λ q. omega arith)) ∙ e)
+          (other (shapeAt f) (shapeAt f + 2) (more h) (λ q. omega arith))
 
-      at-list : (n : ℕ) → spotAt (set (set row (392 + 4 * f + 2) n) (392 + 4 * f + 3) 1) f ≡ spotFrom (16 * f) h t true n
+      at-list : (n : ℕ) → spotAt (set (set row (shapeAt f + 2) n) (shapeAt f + 3) 1) f ≡ spotFrom (16 * f) h t true n
       at-list n =
-          let r = set row (392 + 4 * f + 2) n in
-          spot-is (set (set row (392 + 4 * f + 2) n) (392 + 4 * f + 3) 1) f h t true n
-          (getD-set-other r (392 + 4 * f + 3) (392 + 4 * f) 1 0 (λ q. omega arith) ∙ other (392 + 4 * f + 2) (392 + 4 * f) n (λ q. omega arith))
-          (getD-set-other r (392 + 4 * f + 3) (392 + 4 * f + 1) 1 0 (λ q. omega arith) ∙ other (392 + 4 * f + 2) (392 + 4 * f + 1) n (λ q. omega arith))
-          (ap isSet (getD-set-same r (392 + 4 * f + 3) 1 0 (omega (arith, long, few, length-set row (392 + 4 * f + 2) n))))
-          (getD-set-other r (392 + 4 * f + 3) (392 + 4 * f + 2) 1 0 (λ q. omega arith)
-          ∙ getD-set-same row (392 + 4 * f + 2) n 0 (omega (arith, long, few)))
+          let r = set row (shapeAt f + 2) n in
+          spot-is (set (set row (shapeAt f + 2) n) (shapeAt f + 3) 1) f h t true n
+          (getD-set-other r (shapeAt f + 3) (shapeAt f) 1 0 (λ q. omega arith) ∙ other (shapeAt f + 2) (shapeAt f) n (λ q. omega arith))
+          (getD-set-other r (shapeAt f + 3) (shapeAt f + 1) 1 0 (λ q. omega arith) ∙ other (shapeAt f + 2) (shapeAt f + 1) n (λ q. omega arith))
+          (ap isSet (getD-set-same r (shapeAt f + 3) 1 0 (omega (arith, long, few, length-set row (shapeAt f + 2) n))))
+          (getD-set-other r (shapeAt f + 3) (shapeAt f + 2) 1 0 (λ q. omega arith)
+          ∙ getD-set-same row (shapeAt f + 2) n 0 (omega (arith, long, few)))
 
       new : (b : Bool) (u : OurTerm) → List ℕ
-      new b u = cond b (set row (392 + 4 * f + 1) (more t)) (cond (isList u) (set (set row (392 + 4 * f + 2) (numberOf u)) (392 + 4 * f + 3) 1)
-          (set row (392 + 4 * f) (more h)))
+      new b u = cond b (set row (shapeAt f + 1) (more t)) (cond (isList u) (set (set row (shapeAt f + 2) (numberOf u)) (shapeAt f + 3) 1)
+          (set row (shapeAt f) (more h)))
 
-      first : isSet (getD row (392 + 4 * f + 3) 0) ≡ false → (u : OurTerm) → spotAt (new false u) f ≡ scanTerm (spotFrom (16 * f) h t false l₀) u
+      first : isSet (getD row (shapeAt f + 3) 0) ≡ false → (u : OurTerm) → spotAt (new false u) f ≡ scanTerm (spotFrom (16 * f) h t false l₀) u
       first e (con c) = before e
       first e (var (basic k) a) = before e
       first e (var list a) = at-list a
 
-      go : (b : Bool) → isSet (getD row (392 + 4 * f + 3) 0) ≡ b → spotAt (shapeNoted f (isList u) (numberOf u) row) f ≡ scanTerm (spotAt row f) u
+      go : (b : Bool) → isSet (getD row (shapeAt f + 3) 0) ≡ b → spotAt (shapeNoted f (isList u) (numberOf u) row) f ≡ scanTerm (spotAt row f) u
       go true e =
           ap (λ (b : Bool). spotAt (new b u) f) e ∙ behind e ∙ sym (ap (λ (b : Bool). scanTerm (spotFrom (16 * f) h t b l₀) u) e)
       go false e =

@@ -19,6 +19,7 @@ use Rattle.math_codes.specs.Entries.{atomOf}
 use Rattle.math_codes.specs.Spots.{Spot, scanTerm, spotOf}
 use Rattle.math_codes.specs.Lines.{OurAtom}
 use Rattle.math_codes.proofs.Tables.{holds-once}
+use Rattle.pair_row.specs.Row.{shapesAt, indexesAt, rowBytes, textsBytes}
 use Rattle.pair_table.specs.Notes.{celled, constantNoted, variableNoted, shapeNoted, termsIn}
 use Rattle.pair_table.proofs.PairsRow.{spotAt, isList, numberOf, spot-same, spotCount, terms-count, spot-count, shape-long, shape-other, spot-step}
 use Rattle.pair_table.proofs.PairsCells.{Cell, bytesOf, celled-long, celled-few}
@@ -42,8 +43,8 @@ module _ (t : List (Option OurAtom)) (G : ℕ → List OurTerm) where
   room-is : (f : ℕ) (fs : List OurTerm) (row : List ℕ) → f < 8 → Shaped f fs row → termsIn row f ≡ length fs
   room-is f fs row l c = terms-count row f ∙ ap spotCount (c .here l) ∙ spot-count (16 * f) fs
 
-  shaped-next : (f : ℕ) (fs : List OurTerm) (u : OurTerm) (row row′ : List ℕ) → f < 8 → length fs < 16 → length row ≡ 689
-      → ((j : ℕ) → 392 ≤ j → j < 424 → Same (shapeNoted f (isList u) (numberOf u) row) row′ j) → Shaped f fs row → Shaped f (fs ++ u ∷ []) row′
+  shaped-next : (f : ℕ) (fs : List OurTerm) (u : OurTerm) (row row′ : List ℕ) → f < 8 → length fs < 16 → length row ≡ rowBytes
+      → ((j : ℕ) → shapesAt ≤ j → j < indexesAt → Same (shapeNoted f (isList u) (numberOf u) row) row′ j) → Shaped f fs row → Shaped f (fs ++ u ∷ []) row′
   shaped-next f fs u row row′ l m long s c =
       record {
         before = λ g a b. stays g (λ e. omega arith) b ∙ c .before g a b;
@@ -77,8 +78,8 @@ module _ (t : List (Option OurAtom)) (G : ℕ → List OurTerm) where
   -- of the rule on the side s the terms d, of the other one the terms e; the next place is p, behind the terms fs of the field f
   pub record Noted (s : Bool) (f : ℕ) (fs d e : List OurTerm) (p : ℕ) (row texts : List ℕ) : Type 0 where
     pub place : p ≡ 16 * f + length fs
-    pub long : length row ≡ 689
-    pub wide : length texts ≡ 2048
+    pub long : length row ≡ rowBytes
+    pub wide : length texts ≡ textsBytes
     pub codes : Codes t p row
     pub members : Members t p row
     pub cells : Cells t p texts
@@ -103,10 +104,10 @@ module _ (t : List (Option OurAtom)) (G : ℕ → List OurTerm) where
       abbrev w : List ℕ
       w = shapeNoted f (isList u) (numberOf u) row
 
-      long-w : length w ≡ 689
+      long-w : length w ≡ rowBytes
       long-w = shape-long f (isList u) (numberOf u) row ∙ c .long
 
-      apart : (j : ℕ) → (392 ≤ j → j < 424 → ⊥) → Same row w j
+      apart : (j : ℕ) → (shapesAt ≤ j → j < indexesAt → ⊥) → Same row w j
       apart j o = shape-other f (isList u) (numberOf u) row j (λ x y. o (omega arith) (omega arith))
 
       codes-w : Codes t p w

@@ -20,21 +20,21 @@ use Rattle.math_codes.specs.Tables.{same as alike}
 use Rattle.math_codes.specs.Entries.{atomOf}
 use Rattle.math_codes.specs.Lines.{ourVars, OurAtom}
 use Rattle.math_codes.proofs.Tables.{code-found}
-use Rattle.pair_row.specs.Row.{isSet}
+use Rattle.pair_row.specs.Row.{kindsAt, variablesAt, shapesAt, indexesAt, topsAt, rowBytes, isSet}
 use Rattle.pair_table.specs.Notes.{sideOf, classed, indexed, topped}
 use Rattle.pair_table.proofs.PairsRow.{classed-long, classed-other, classed-kind, classed-variable, indexed-long, indexed-other}
 use Rattle.pair_table.proofs.PairsRow.{first-index, first-code, again-index, again-code, topped-long, topped-other, topped-at}
 use Rattle.pair_table.proofs.PairsNotes.{pick, Same, code, Codes, Here, here-from, codes-keep, codes-next, Among, Members, members-keep}
-use Rattle.pair_table.proofs.PairsMarks.{sideIn, side-few, side-apart, side-once, of-side, of-kind, of-number}
+use Rattle.pair_table.proofs.PairsMarks.{sideIn, indexOn, topOn, side-few, side-apart, side-once, of-side, of-kind, of-number}
 use Rattle.pair_table.proofs.PairsMarks.{neither, one-of, in-before, in-last, is-itself, is-that, slot-once, RightIn, Marked, marked-keep}
 
-module _ (t : List (Option OurAtom)) (s : Bool) (p : ℕ) (k : Kind) (n : ℕ) (row : List ℕ) (h : p < 128) (small : n ≤ 15) (long : length row ≡ 689)
+module _ (t : List (Option OurAtom)) (s : Bool) (p : ℕ) (k : Kind) (n : ℕ) (row : List ℕ) (h : p < 128) (small : n ≤ 15) (long : length row ≡ rowBytes)
     (hp : getD t p none ≡ atomOf (sideIn s) (var k n)) where
   abbrev i : ℕ
-  i = 424 + 64 * sideOf s + 16 * rank k + n
+  i = indexOn s + 16 * rank k + n
 
   abbrev top : ℕ
-  top = 552 + 4 * sideOf s + rank k
+  top = topOn s + rank k
 
   abbrev r : List ℕ
   r = classed p (rank k) 1 row
@@ -45,16 +45,16 @@ module _ (t : List (Option OurAtom)) (s : Bool) (p : ℕ) (k : Kind) (n : ℕ) (
   abbrev y : List ℕ
   y = topped top n x
 
-  index-in : (424 ≤ i) × (i < 552)
+  index-in : (indexesAt ≤ i) × (i < topsAt)
   index-in = (omega arith, omega (arith, side-few s, rank-below k, small))
 
-  long-r : length r ≡ 689
+  long-r : length r ≡ rowBytes
   long-r = classed-long p (rank k) 1 row ∙ long
 
-  long-x : length x ≡ 689
+  long-x : length x ≡ rowBytes
   long-x = indexed-long i p r ∙ long-r
 
-  pub long-y : length y ≡ 689
+  pub long-y : length y ≡ rowBytes
   long-y = topped-long top n x ∙ long-x
 
   -- an atom at p is the variable
@@ -67,22 +67,22 @@ module _ (t : List (Option OurAtom)) (s : Bool) (p : ℕ) (k : Kind) (n : ℕ) (
 
   -- ---- what is read of the row behind it
 
-  other : (j : ℕ) → j ≢ p → j ≢ 128 + p → j ≢ 260 + p → j ≢ i → j ≢ top → Same row y j
+  other : (j : ℕ) → j ≢ p → j ≢ kindsAt + p → j ≢ variablesAt + p → j ≢ i → j ≢ top → Same row y j
   other j a b c d e = topped-other top n x j e ∙ indexed-other i p r j d a ∙ classed-other p (rank k) 1 row j b c
 
   old-index : getD r i 0 ≡ getD row i 0
   old-index = classed-other p (rank k) 1 row i (λ e. omega (arith, index-in .0, h)) (λ e. omega (arith, index-in .0, h))
 
-  kind-y : getD y (128 + p) 0 ≡ rank k
+  kind-y : getD y (kindsAt + p) 0 ≡ rank k
   kind-y =
-      topped-other top n x (128 + p) (λ e. omega arith)
-      ∙ indexed-other i p r (128 + p) (λ e. omega (arith, index-in .0, h)) (λ e. omega arith)
+      topped-other top n x (kindsAt + p) (λ e. omega arith)
+      ∙ indexed-other i p r (kindsAt + p) (λ e. omega (arith, index-in .0, h)) (λ e. omega arith)
       ∙ classed-kind p (rank k) 1 row (omega (arith, long, h))
 
-  variable-y : isSet (getD y (260 + p) 0) ≡ true
+  variable-y : isSet (getD y (variablesAt + p) 0) ≡ true
   variable-y =
-      ap isSet (topped-other top n x (260 + p) (λ e. omega arith)
-      ∙ indexed-other i p r (260 + p) (λ e. omega (arith, index-in .0, h)) (λ e. omega arith)
+      ap isSet (topped-other top n x (variablesAt + p) (λ e. omega arith)
+      ∙ indexed-other i p r (variablesAt + p) (λ e. omega (arith, index-in .0, h)) (λ e. omega arith)
       ∙ classed-variable p (rank k) 1 row (omega (arith, long, h)))
 
   module _ (d : List OurTerm) (m : Marked t s d p row) where
@@ -136,8 +136,8 @@ module _ (t : List (Option OurAtom)) (s : Bool) (p : ℕ) (k : Kind) (n : ℕ) (
     here a v = go (own-atom a v)
       where
         go : (b : Basic) × (k ≡ basic b) × (a ≡ free (of (sideIn s) b n))
-            → (getD y p 0 ≡ code t a) × (getD y (128 + p) 0 ≡ rank (basic (kindA basics consts ourVars a)))
-            × (isSet (getD y (260 + p) 0) ≡ isFree basics consts ourVars a)
+            → (getD y p 0 ≡ code t a) × (getD y (kindsAt + p) 0 ≡ rank (basic (kindA basics consts ourVars a)))
+            × (isSet (getD y (variablesAt + p) 0) ≡ isFree basics consts ourVars a)
         go (b, e, q) =
             here-from t p y (free (of (sideIn s) b n)) (subst (λ (z : OurAtom). Holds t p z) q v) (subst (λ (j : Kind). CodeIs j (getD y p 0)) e code-y)
             (kind-y ∙ ap rank e) variable-y a v
@@ -161,9 +161,9 @@ module _ (t : List (Option OurAtom)) (s : Bool) (p : ℕ) (k : Kind) (n : ℕ) (
 
     -- ---- the rule's variables
 
-    other-slot : (j : Kind) (a : ℕ) → a ≤ 15 → isVariable j a (var k n) ≡ false → Same row y (424 + 64 * sideOf s + 16 * rank j + a)
+    other-slot : (j : Kind) (a : ℕ) → a ≤ 15 → isVariable j a (var k n) ≡ false → Same row y (indexOn s + 16 * rank j + a)
     other-slot j a l e =
-        other (424 + 64 * sideOf s + 16 * rank j + a) (λ q. omega arith) (λ q. omega arith) (λ q. omega arith)
+        other (indexOn s + 16 * rank j + a) (λ q. omega arith) (λ q. omega arith) (λ q. omega arith)
         (λ q. slot-once j k a n l small e (omega arith)) (λ q. omega (arith, side-few s, rank-below j))
 
     top-in : top < length x
@@ -174,17 +174,17 @@ module _ (t : List (Option OurAtom)) (s : Bool) (p : ℕ) (k : Kind) (n : ℕ) (
         indexed-other i p r top (λ e. omega (arith, index-in .1)) (λ e. omega arith)
         ∙ classed-other p (rank k) 1 row top (λ e. omega arith) (λ e. omega arith)
 
-    tops-up : (j : ℕ) → j < 4 → (getD row (552 + 4 * sideOf s + j) 0 ≤ getD y (552 + 4 * sideOf s + j) 0) × (getD y (552 + 4 * sideOf s + j) 0 ≤ 16)
+    tops-up : (j : ℕ) → j < 4 → (getD row (topOn s + j) 0 ≤ getD y (topOn s + j) 0) × (getD y (topOn s + j) 0 ≤ 16)
     tops-up j l = go (ℕ-discrete j (rank k))
       where
-        go : Dec (j ≡ rank k) → (getD row (552 + 4 * sideOf s + j) 0 ≤ getD y (552 + 4 * sideOf s + j) 0) × (getD y (552 + 4 * sideOf s + j) 0 ≤ 16)
+        go : Dec (j ≡ rank k) → (getD row (topOn s + j) 0 ≤ getD y (topOn s + j) 0) × (getD y (topOn s + j) 0 ≤ 16)
         go (yes e) =
-            subst (λ (z : ℕ). (getD row (552 + 4 * sideOf s + z) 0 ≤ getD y (552 + 4 * sideOf s + z) 0) × (getD y (552 + 4 * sideOf s + z) 0 ≤ 16)) (sym e) (
+            subst (λ (z : ℕ). (getD row (topOn s + z) 0 ≤ getD y (topOn s + z) 0) × (getD y (topOn s + z) 0 ≤ 16)) (sym e) (
               omega (arith, topped-at top n x top-in .1, top-before),
               topped-at top n x top-in .2 small (omega (arith, top-before, m .within (rank k) (rank-below k))),
             )
         go (no u) =
-            let e = other (552 + 4 * sideOf s + j) (λ q. omega arith) (λ q. omega arith) (λ q. omega arith) (λ q. omega (arith, index-in .1))
+            let e = other (topOn s + j) (λ q. omega arith) (λ q. omega arith) (λ q. omega arith) (λ q. omega (arith, index-in .1))
             (λ q. u (omega arith)) in
             (omega (arith, e), omega (arith, e, m .within j l))
 
@@ -200,11 +200,11 @@ module _ (t : List (Option OurAtom)) (s : Bool) (p : ℕ) (k : Kind) (n : ℕ) (
         }
       where
         present-by : (j : Kind) (a : ℕ) → a ≤ 15 → inField j a (d ++ var k n ∷ []) ≡ true → (b : Bool) → isVariable j a (var k n) ≡ b
-            → RightIn t s j a (getD y (424 + 64 * sideOf s + 16 * rank j + a) 0)
+            → RightIn t s j a (getD y (indexOn s + 16 * rank j + a) 0)
         present-by j a l e true o =
             let q = is-that j k a n o in
-            subst (λ (z : Kind). RightIn t s z a (getD y (424 + 64 * sideOf s + 16 * rank z + a) 0)) (sym (q .0))
-            (subst (λ (z : ℕ). RightIn t s k z (getD y (424 + 64 * sideOf s + 16 * rank k + z) 0)) (sym (q .1)) index-y)
+            subst (λ (z : Kind). RightIn t s z a (getD y (indexOn s + 16 * rank z + a) 0)) (sym (q .0))
+            (subst (λ (z : ℕ). RightIn t s k z (getD y (indexOn s + 16 * rank k + z) 0)) (sym (q .1)) index-y)
         present-by j a l e false o = subst (RightIn t s j a) (sym (other-slot j a l o)) (m .present j a l (one-of j a d (var k n) e o))
 
         met-here : (b : Basic) (a : ℕ) → Holds t p (free (of (sideIn s) b a)) → inField (basic b) a (d ++ var k n ∷ []) ≡ true
@@ -215,10 +215,10 @@ module _ (t : List (Option OurAtom)) (s : Bool) (p : ℕ) (k : Kind) (n : ℕ) (
             (ap₂ (λ (z : Kind) (c : ℕ). isVariable z c (var k n)) (ap basic (of-kind q) ∙ sym (o .1)) (of-number q) ∙ is-itself k n)
 
         above-by : (j : Kind) (a : ℕ) → inField j a (d ++ var k n ∷ []) ≡ true → (b : Bool) → isVariable j a (var k n) ≡ b
-            → a < getD y (552 + 4 * sideOf s + rank j) 0
+            → a < getD y (topOn s + rank j) 0
         above-by j a e true o =
             let q = is-that j k a n o in
-            subst (λ (z : Kind). a < getD y (552 + 4 * sideOf s + rank z) 0) (sym (q .0)) (omega (arith, q .1, topped-at top n x top-in .0))
+            subst (λ (z : Kind). a < getD y (topOn s + rank z) 0) (sym (q .0)) (omega (arith, q .1, topped-at top n x top-in .0))
         above-by j a e false o = omega (arith, m .above j a (one-of j a d (var k n) e o), tops-up (rank j) (rank-below j) .0)
 
   -- the other rule's variables stay
@@ -238,5 +238,5 @@ module _ (t : List (Option OurAtom)) (s : Bool) (p : ℕ) (k : Kind) (n : ℕ) (
           absurd (side-once s (of-side (free-once (o .2))))
 
   -- the shapes stay
-  pub shapes-stay : (j : ℕ) → 392 ≤ j → j < 424 → Same row y j
+  pub shapes-stay : (j : ℕ) → shapesAt ≤ j → j < indexesAt → Same row y j
   shapes-stay j a b = other j (λ q. omega arith) (λ q. omega arith) (λ q. omega arith) (λ q. omega (arith, index-in .0)) (λ q. omega arith)

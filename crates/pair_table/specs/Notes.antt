@@ -126,9 +126,6 @@ notePiece right text at field t row texts =
     cond (isField field && (ltb (termsIn row f) 16 && (ltb at (length text) && leb (t .size) 15)))
     (noteBy right text at f (16 * f + termsIn row f) (t .what) (t .size) (t .value) row texts) (row, texts)
 
-abbrev pub listsNoted : List ℕ → List ℕ
-listsNoted row = classed 131 3 1 (classed 130 3 1 (classed 129 3 1 (classed 128 3 1 row)))
-
 -- ---- texts
 
 -- all terms of a rule's side
@@ -144,4 +141,4 @@ blankRows = (replicate rowBytes 0, replicate textsBytes 0)
 
 -- THE TABLES of two texts, the left rule's side and the right one's
 abbrev pub rowsOf : List ℕ → List ℕ → List ℕ × List ℕ
-rowsOf t u = let x = sideNoted true u (sideNoted false t blankRows) in (listsNoted (x .0), x .1)
+rowsOf t u = sideNoted true u (sideNoted false t blankRows)

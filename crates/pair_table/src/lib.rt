@@ -11,7 +11,7 @@ ghost use Rattle.math_codes.specs.Texts.{zeros};
 ghost use Rattle.pair_row.specs.Row.{fieldOf};
 ghost use Rattle.pair_table.specs.Notes.{partOf, isField, termsIn, classed, celled, sameConstant, codeIn, joinedMember};
 ghost use Rattle.pair_table.specs.Notes.{constantNoted, sideOf, indexed, topped, variableNoted, more, shapeNoted, noteBy};
-ghost use Rattle.pair_table.specs.Notes.{notePiece, listsNoted};
+ghost use Rattle.pair_table.specs.Notes.{notePiece};
 use order::Kind;
 use pair_row::byte_at;
 use scanning::Piece;
@@ -47,7 +47,7 @@ fn put_bytes(texts: &mut [u8], p: u8, text: &[u8], from: usize, n: usize)
 fn same_constant(row: &[u8], texts: &[u8], p: u8, q: u8) -> bool
     ensures { λ r. ⌜ r ≡ sameConstant (now (row .entry)) (now (texts .entry)) p q ⌝ }
 {
-    if pair_row::kind_at(row, p) != pair_row::kind_at(row, q) {
+    if byte_at(row, pair_row::KINDS + p as usize) != byte_at(row, pair_row::KINDS + q as usize) {
         return false;
     }
     let a = pair_row::CELL * p as usize;
@@ -339,14 +339,4 @@ pub fn note(
     }
     let p = (pair_row::FIELD_PLACES * f + k) as u8;
     note_term(row, texts, right, text, at, f, p, t);
-}
-
-// The list variables of an entry's four fields are items behind the places.
-pub fn note_lists(row: &mut [u8])
-    ensures { λ _. ⌜ now (row .exit) ≡ listsNoted (now (row .entry)) ⌝ }
-{
-    put_class(row, 128, 3, 1);
-    put_class(row, 129, 3, 1);
-    put_class(row, 130, 3, 1);
-    put_class(row, 131, 3, 1);
 }
