@@ -22,10 +22,10 @@ use Rattle.listing.proofs.Variables.{every-mem, occurs-is, in-variables}
 use Rattle.listing.proofs.Rising.{keep-mem}
 use Rattle.math_codes.specs.Tables.{codeOf, Table, same}
 use Rattle.math_codes.specs.Names.{noNames, nameFields}
-use Rattle.math_codes.specs.Lines.{fieldsText, valueText, valuesText, ourVars, ourRow, OurTables, ourTable, ourTexts}
+use Rattle.math_codes.specs.Lines.{fieldsText, valueText, valuesText, pairItems, ourVars, ourRow, OurTables, ourTable, ourTexts}
 use Rattle.math_codes.specs.Spots.{Spot}
 use Rattle.math_codes.specs.Walks.{walkOn}
-use Rattle.math_codes.specs.Whole.{spotsOf, itemsFrom, valueOn, lineItems, lineSpots}
+use Rattle.math_codes.specs.Whole.{spotsOf, itemsFrom, runOn, valueOn, lineItems, lineSpots}
 use Rattle.math_codes.specs.Index.{slot, Right, Indexes, Tops, isThere, indexedValue, shownValue, everyValue, rankedValue, rankValues, indexedValues}
 use Rattle.math_codes.specs.Index.{indexedItems, indexedLine, indexedList, kindOfRank, codeIn, indexAt, ourIndex, ourTops}
 use Rattle.math_codes.proofs.Walks.{concat-mapped}
@@ -62,7 +62,7 @@ module _ {B : Type 0} (f : ℕ → List B) where
 -- ---- the values over all variables
 
 module _ (r₁ r₂ : List (List OurTerm)) (d : Side) (r : List (List OurTerm)) (x : ℕ → ℕ) (ix : Indexes r₁ r₂ d r x)
-    (T : Table) (texts : ℕ → List ℕ) (Ps : List (Spot ℕ)) (atoms : List ℕ) (is : List (List ℕ)) (ns : List ℕ) (mark : ℕ) where
+    (T : Table) (texts : ℕ → List ℕ) (atoms : List ℕ) (runs : ℕ → List ℕ) (ns : List ℕ) (mark : ℕ) where
   there : (v : ℕ) → 0 < v → isThere v ≡ true
   there zero h = absurd (omega arith)
   there (suc c) h = refl
@@ -71,71 +71,73 @@ module _ (r₁ r₂ : List (List OurTerm)) (d : Side) (r : List (List OurTerm)) 
   right-there (basic k) n v e = ap isThere e
   right-there list n v h = there v h
 
-  value-there : (k : Kind) (n : ℕ) → Right r₁ r₂ d k n (x (slot k n)) → valueOn r₁ r₂ d Ps atoms is k n ≡ indexedValue x Ps atoms is k n
+  value-there : (k : Kind) (n : ℕ) → Right r₁ r₂ d k n (x (slot k n)) → valueOn r₁ r₂ d atoms runs k n ≡ indexedValue x atoms runs k n
   value-there (basic k) n e =
       ap (λ (c : ℕ). getD atoms c 0 ∷ [])
       (let z : codeOf (same basics consts ourVars) (ourRow r₁ r₂) (free (of d k n)) ≡ x (slot (basic k) n) - 1 = omega (arith, e) in z)
   value-there list n e = refl
 
   value-shown : (v : Variable) → v .1 ≤ 15 → occurs (v .0) (v .1) r ≡ true
-      → valueText T texts ns mark v (valueOn r₁ r₂ d Ps atoms is (v .0) (v .1)) ≡ shownValue T texts ns mark x Ps atoms is v
+      → valueText T texts ns mark v (valueOn r₁ r₂ d atoms runs (v .0) (v .1)) ≡ shownValue T texts ns mark x atoms runs v
   value-shown v l o =
       let e = ix .present (v .0) (v .1) l o in
       rw (right-there (v .0) (v .1) (x (slot (v .0) (v .1))) e) (ap (valueText T texts ns mark v) (value-there (v .0) (v .1) e))
 
-  value-hidden : (v : Variable) → v .1 ≤ 15 → occurs (v .0) (v .1) r ≡ false → [] ≡ shownValue T texts ns mark x Ps atoms is v
+  value-hidden : (v : Variable) → v .1 ≤ 15 → occurs (v .0) (v .1) r ≡ false → [] ≡ shownValue T texts ns mark x atoms runs v
   value-hidden v l o = rw (ix .absent (v .0) (v .1) l o)
 
   -- THE VALUES of a rule's variables in their order
-  pub values-indexed : valuesText T texts ns mark (λ v. valueOn r₁ r₂ d Ps atoms is (v .0) (v .1)) (variables r) ≡ everyValue T texts ns mark x Ps atoms is
+  pub values-indexed : valuesText T texts ns mark (λ v. valueOn r₁ r₂ d atoms runs (v .0) (v .1)) (variables r) ≡ everyValue T texts ns mark x atoms runs
   values-indexed =
-      kept (λ v. occurs (v .0) (v .1) r) (λ v. valueText T texts ns mark v (valueOn r₁ r₂ d Ps atoms is (v .0) (v .1)))
-      (shownValue T texts ns mark x Ps atoms is) every
+      kept (λ v. occurs (v .0) (v .1) r) (λ v. valueText T texts ns mark v (valueOn r₁ r₂ d atoms runs (v .0) (v .1)))
+      (shownValue T texts ns mark x atoms runs) every
       (λ v i. (value-shown v (every-mem (v .0) (v .1) .0 i), value-hidden v (every-mem (v .0) (v .1) .0 i)))
 
   -- ---- by rank and number
 
   module _ (tops : ℕ → ℕ) (tp : Tops r tops) where
     -- the same for a variable
-    at-rank : (k : Kind) (n : ℕ) → shownValue T texts ns mark x Ps atoms is (k, n) ≡ rankedValue T texts ns mark x Ps atoms is (rank k) n
+    at-rank : (k : Kind) (n : ℕ) → shownValue T texts ns mark x atoms runs (k, n) ≡ rankedValue T texts ns mark x atoms runs (rank k) n
     at-rank (basic integer) n = refl
     at-rank (basic string) n = refl
     at-rank (basic atom) n = refl
     at-rank list n = refl
 
     -- nothing from the top on
-    past-top : (k : Kind) (n : ℕ) → n ≤ 15 → tops (rank k) ≤ n → rankedValue T texts ns mark x Ps atoms is (rank k) n ≡ []
+    past-top : (k : Kind) (n : ℕ) → n ≤ 15 → tops (rank k) ≤ n → rankedValue T texts ns mark x atoms runs (rank k) n ≡ []
     past-top k n l h = go (occurs k n r) refl
       where
-        go : (b : Bool) → occurs k n r ≡ b → rankedValue T texts ns mark x Ps atoms is (rank k) n ≡ []
+        go : (b : Bool) → occurs k n r ≡ b → rankedValue T texts ns mark x atoms runs (rank k) n ≡ []
         go true e = absurd (let m = tp .above k n e in omega arith)
         go false e = rw (ix .absent k n l e)
 
-    kind-values : (k : Kind) → concat-map (shownValue T texts ns mark x Ps atoms is) (ofKind k) ≡ rankValues T texts ns mark x tops Ps atoms is (rank k)
+    kind-values : (k : Kind) → concat-map (shownValue T texts ns mark x atoms runs) (ofKind k) ≡ rankValues T texts ns mark x tops atoms runs (rank k)
     kind-values k =
-        concat-mapped (shownValue T texts ns mark x Ps atoms is) (λ (n : ℕ). (k, n)) numbers
-        ∙ concat-same (λ n. shownValue T texts ns mark x Ps atoms is (k, n)) (rankedValue T texts ns mark x Ps atoms is (rank k)) numbers (λ n i. at-rank k n)
-        ∙ below-top (rankedValue T texts ns mark x Ps atoms is (rank k)) 16 (tops (rank k)) 0 (tp .within (rank k) (rank-below k))
+        concat-mapped (shownValue T texts ns mark x atoms runs) (λ (n : ℕ). (k, n)) numbers
+        ∙ concat-same (λ n. shownValue T texts ns mark x atoms runs (k, n)) (rankedValue T texts ns mark x atoms runs (rank k)) numbers (λ n i. at-rank k n)
+        ∙ below-top (rankedValue T texts ns mark x atoms runs (rank k)) 16 (tops (rank k)) 0 (tp .within (rank k) (rank-below k))
         (λ n l m. past-top k n (omega arith) (omega arith))
 
     -- THE LOOPS write the same
-    pub values-ranked : everyValue T texts ns mark x Ps atoms is ≡ indexedValues T texts ns mark x tops Ps atoms is
+    pub values-ranked : everyValue T texts ns mark x atoms runs ≡ indexedValues T texts ns mark x tops atoms runs
     values-ranked =
-        concat-twice (shownValue T texts ns mark x Ps atoms is) ofKind kinds
-        ∙ concat-same (λ k. concat-map (shownValue T texts ns mark x Ps atoms is) (ofKind k))
-        (λ k. rankValues T texts ns mark x tops Ps atoms is (rank k)) kinds (λ k i. kind-values k)
+        concat-twice (shownValue T texts ns mark x atoms runs) ofKind kinds
+        ∙ concat-same (λ k. concat-map (shownValue T texts ns mark x atoms runs) (ofKind k))
+        (λ k. rankValues T texts ns mark x tops atoms runs (rank k)) kinds (λ k i. kind-values k)
 
 -- ---- the list
 
 module _ (r₁ r₂ : List (List OurTerm)) (T : Table) (texts : ℕ → List ℕ) (ot : OurTables r₁ r₂ T texts) (ok₁ : IsLeft r₁) (ok₂ : IsLeft r₂)
     (x₁ t₁ x₂ t₂ : ℕ → ℕ) (ix₁ : Indexes r₁ r₂ left r₁ x₁) (ix₂ : Indexes r₁ r₂ right r₂ x₂) (tp₁ : Tops r₁ t₁) (tp₂ : Tops r₂ t₂) where
   line-indexed : (Ps Qs : List (Spot ℕ)) (is : List (List ℕ)) (last : List ℕ)
-      → indexedItems T texts x₁ t₁ x₂ t₂ Ps Qs last is (nameFields T (noNames 132 4) is .numbers) ≡ lineItems r₁ r₂ T texts Ps Qs last is
+      → indexedItems T texts x₁ t₁ x₂ t₂ Ps Qs last is (nameFields T (noNames pairItems 4) is .numbers) ≡ lineItems r₁ r₂ T texts Ps Qs last is
   line-indexed Ps Qs is last =
-      let ns = nameFields T (noNames 132 4) is .numbers in
+      let ns = nameFields T (noNames pairItems 4) is .numbers in
       sym (ap₂ (λ (a b : List ℕ). fieldsText T texts ns is ++ (a ++ (b ++ 10 ∷ [])))
-      (values-indexed r₁ r₂ left r₁ x₁ ix₁ T texts Ps last is ns leftMark ∙ values-ranked r₁ r₂ left r₁ x₁ ix₁ T texts Ps last is ns leftMark t₁ tp₁)
-      (values-indexed r₁ r₂ right r₂ x₂ ix₂ T texts Qs last is ns rightMark ∙ values-ranked r₁ r₂ right r₂ x₂ ix₂ T texts Qs last is ns rightMark t₂ tp₂))
+      (values-indexed r₁ r₂ left r₁ x₁ ix₁ T texts last (runOn Ps is) ns leftMark
+      ∙ values-ranked r₁ r₂ left r₁ x₁ ix₁ T texts last (runOn Ps is) ns leftMark t₁ tp₁)
+      (values-indexed r₁ r₂ right r₂ x₂ ix₂ T texts last (runOn Qs is) ns rightMark
+      ∙ values-ranked r₁ r₂ right r₂ x₂ ix₂ T texts last (runOn Qs is) ns rightMark t₂ tp₂))
 
   -- THE LIST as the code makes it
   pub lines-agree : walkOn entry T (spotsOf 16 0 r₁) (spotsOf 16 64 r₂) (T .first)

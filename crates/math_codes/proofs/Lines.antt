@@ -36,7 +36,7 @@ use Rattle.math_codes.specs.Tables.{IsCode, Table}
 use Rattle.math_codes.specs.Names.{noNames, nameFields}
 use Rattle.math_codes.specs.Items.{entryItems, valueItems}
 use Rattle.math_codes.specs.Lines.{letterAt, itemText, colonTexts, itemsText, barTexts, fieldsText, valuesText, ourVars, OurMarked}
-use Rattle.math_codes.specs.Lines.{ourRow, ourTerms, OurTables, valuesOn, lineOn}
+use Rattle.math_codes.specs.Lines.{listItems, ourRow, ourTerms, OurTables, valuesOn, lineOn}
 use Rattle.math_codes.proofs.Seqs.{Each, Perhaps, OnShape}
 use Rattle.math_codes.proofs.Joins.{Represents}
 use Rattle.math_codes.proofs.Entries.{At-place}
@@ -139,7 +139,7 @@ module _ (r₁ r₂ : List (List OurTerm)) (T : Table) (texts : ℕ → List ℕ
     (Ps Qs : List (Shape ℕ ℕ)) (Ss Ts : List (PairShape basics consts ℕ-discrete))
     (i : Each (OnShape (At-place basics consts ourVars (ourRow r₁ r₂))) Ps Ss) (j : Each (OnShape (At-place basics consts ourVars (ourRow r₁ r₂))) Qs Ts)
     (is₁ : shapesOf left r₁ ≡ some Ss) (is₂ : shapesOf right r₂ ≡ some Ts) (lin₁ : Distinct (gaps Ss)) (lin₂ : Distinct (gaps Ts)) where
-  few : length Ss ≤ 4
+  few : length Ss ≤ listItems
   few = omega (arith, shapes-count left r₁ Ss is₁, ok₁ .0 .1)
 
   module _ (cs : List Cand) (array : List ℕ) (s : PairState basics consts ℕ-discrete) (rep : Represents basics consts ourVars (ourRow r₁ r₂) array s)
@@ -150,20 +150,20 @@ module _ (r₁ r₂ : List (List OurTerm)) (T : Table) (texts : ℕ → List ℕ
     abbrev js : List (List ℕ)
     js = entryItems (length (ourRow r₁ r₂)) Ps Qs (cs, array)
 
-    here : Each (Each (Items basics consts ℕ-discrete marked-eq (ourRow r₁ r₂) 4)) js fs
-    here = entry-items basics consts ℕ-discrete marked-eq (ourRow r₁ r₂) 4 Ps Ss Qs Ts i j few cs array s rep
+    here : Each (Each (Items basics consts ℕ-discrete marked-eq (ourRow r₁ r₂) listItems)) js fs
+    here = entry-items basics consts ℕ-discrete marked-eq (ourRow r₁ r₂) listItems Ps Ss Qs Ts i j few cs array s rep
 
     -- a value of a variable of the rule on a side
     module _ (d : Side) (r : List (List OurTerm)) (b : ℕ) (st : StandAll (ourRow r₁ r₂) d 16 b r)
         (Ws : List (Shape ℕ ℕ)) (Us : List (PairShape basics consts ℕ-discrete)) (k : Each (OnShape (At-place basics consts ourVars (ourRow r₁ r₂))) Ws Us)
         (solves : map (substitute (markedValue basics consts ℕ-discrete d Us s fs)) r ≡ fs) where
       value-items : (q : Kind) (n : ℕ) → Any (Occurs q n) r
-          → Each (Items basics consts ℕ-discrete marked-eq (ourRow r₁ r₂) 4) (valueItems basics consts ℕ-discrete (ourRow r₁ r₂) d Ws array js q n)
+          → Each (Items basics consts ℕ-discrete marked-eq (ourRow r₁ r₂) listItems) (valueItems basics consts ℕ-discrete (ourRow r₁ r₂) d Ws array js q n)
           (markedValue basics consts ℕ-discrete d Us s fs q n)
       value-items (basic q) n o =
           let p = there (ourRow r₁ r₂) d q n 16 b r st o in
-          atom-value basics consts ℕ-discrete marked-eq (ourRow r₁ r₂) 4 Ps Ss Qs Ts i j few cs array s rep d Ws Us k q n (p .0) (p .1)
-      value-items list n o = list-value basics consts ℕ-discrete marked-eq (ourRow r₁ r₂) 4 Ps Ss Qs Ts i j few cs array s rep d Ws Us k n
+          atom-value basics consts ℕ-discrete marked-eq (ourRow r₁ r₂) listItems Ps Ss Qs Ts i j few cs array s rep d Ws Us k q n (p .0) (p .1)
+      value-items list n o = list-value basics consts ℕ-discrete marked-eq (ourRow r₁ r₂) listItems Ps Ss Qs Ts i j few cs array s rep d Ws Us k n
 
       value-met : (q : Kind) (n : ℕ) → Any (Occurs q n) r → All (Met fs) (markedValue basics consts ℕ-discrete d Us s fs q n)
       value-met q n o =

@@ -27,7 +27,7 @@ use Rattle.math_codes.specs.Tables.{Table, kindA, isFree}
 use Rattle.math_codes.specs.Entries.{placeShapes, entriesOn}
 use Rattle.math_codes.specs.Items.{shownAt}
 use Rattle.math_codes.specs.Lines.{ourVars, OurAtom, ourRanks, ourRow, ourTerms, OurTables, rankTerm, varTerm, textTerm, ourTable, ourTexts}
-use Rattle.math_codes.specs.Lines.{lineOn, listedOn, listOn}
+use Rattle.math_codes.specs.Lines.{pairPlaces, listItems, pairItems, lineOn, listedOn, listOn}
 use Rattle.math_codes.proofs.Tables.{made}
 use Rattle.math_codes.proofs.Seqs.{Each, OnShape}
 use Rattle.math_codes.proofs.Entries.{OnEntry, At-place, entries-are}
@@ -52,19 +52,19 @@ module _ (r₁ r₂ : List (List OurTerm)) (T : Table) (texts : ℕ → List ℕ
   pub row-long : length (ourRow r₁ r₂) ≡ 128
   row-long = pair-long 16 4 r₁ r₂ (ok₁ .0 .2) (ok₂ .0 .2) few₁ few₂
 
-  pub terms-long : length (ourTerms r₁ r₂) ≡ 132
+  pub terms-long : length (ourTerms r₁ r₂) ≡ pairItems
   terms-long =
-      length-append (map shownAt (ourRow r₁ r₂)) (map (λ g. some (var list (place g))) (range 0 4))
-      ∙ ap (λ (n : ℕ). n + 4) (length-map (ourRow r₁ r₂) shownAt ∙ row-long)
+      length-append (map shownAt (ourRow r₁ r₂)) (map (λ g. some (var list (place g))) (range 0 listItems))
+      ∙ ap (λ (n : ℕ). n + listItems) (length-map (ourRow r₁ r₂) shownAt ∙ row-long)
 
   module _ (Ps Qs : List (Shape ℕ ℕ)) (Ss Ts : List (PairShape basics consts ℕ-discrete))
       (i : Each (OnShape (At-place basics consts ourVars (ourRow r₁ r₂))) Ps Ss) (j : Each (OnShape (At-place basics consts ourVars (ourRow r₁ r₂))) Qs Ts)
       (is₁ : shapesOf left r₁ ≡ some Ss) (is₂ : shapesOf right r₂ ≡ some Ts) (lin₁ : Distinct (gaps Ss)) (lin₂ : Distinct (gaps Ts)) where
-    lines-same : map (lineOn r₁ r₂ T texts 128 132 Ps Qs) (entriesOn entry T ℕ ℕ Ps Qs (T .first))
+    lines-same : map (lineOn r₁ r₂ T texts pairPlaces pairItems Ps Qs) (entriesOn entry T ℕ ℕ Ps Qs (T .first))
         ≡ map (λ f. lineText (lineOf r₁ r₂ (shown basics consts ℕ-discrete Ss Ts f)))
         (entries basics consts ourVars ℕ ℕ Ss Ts (start basics consts ourVars))
     lines-same =
-        each-text (OnEntry basics consts ourVars (ourRow r₁ r₂)) (lineOn r₁ r₂ T texts 128 132 Ps Qs)
+        each-text (OnEntry basics consts ourVars (ourRow r₁ r₂)) (lineOn r₁ r₂ T texts pairPlaces pairItems Ps Qs)
         (λ f. lineText (lineOf r₁ r₂ (shown basics consts ℕ-discrete Ss Ts f)))
         (entriesOn entry T ℕ ℕ Ps Qs (T .first)) (entries basics consts ourVars ℕ ℕ Ss Ts (start basics consts ourVars))
         (entries-are basics consts ourVars (ourRow r₁ r₂) ourRanks T (ot .atoms) ℕ ℕ Ps Ss Qs Ts i j)
@@ -142,8 +142,8 @@ module _ (r₁ r₂ : List (List OurTerm)) where
             record {
               long = m .long;
               firsts = m .firsts;
-              kinds = λ p a h. ap rankTerm (atom-there (ourRow r₁ r₂) 4 p a h) ∙ rank-term a;
-              variables = λ p a h. ap varTerm (atom-there (ourRow r₁ r₂) 4 p a h) ∙ var-term a;
+              kinds = λ p a h. ap rankTerm (atom-there (ourRow r₁ r₂) listItems p a h) ∙ rank-term a;
+              variables = λ p a h. ap varTerm (atom-there (ourRow r₁ r₂) listItems p a h) ∙ var-term a;
             };
         terms =
             record {

@@ -27,6 +27,7 @@ use Rattle.math_codes.specs.Lines.{letterAt, itemText, colonTexts, items
 use Rattle.math_codes.specs.Lines.{barsSize, fieldsSize}
 use Rattle.math_codes.specs.Spots.{Spot, spotShape}
 use Rattle.math_codes.specs.Walks.{joinsOn}
+use Rattle.math_codes.specs.Whole.{runOn}
 use Rattle.math_codes.specs.Index.{nameAt, hasAt, valueAt, boundText, rankedValue, rankValues, indexedValues, indexedItems}
 use Rattle.math_codes.specs.Makers.{orClash, anyOf, someOn, digitsSize, itemSize, sumOf, boundSize, rankedSize, rankSizes, valuesSize, sizeItems}
 use Rattle.math_codes.proofs.Joins.{Represents}
@@ -201,32 +202,32 @@ module _ (T : Table) (texts : ℕ → List ℕ) (numbers : List ℕ) (size : ℕ
   loop-size f g e [] = refl
   loop-size f g e (n ∷ ns) = length-append (f n) (concat-map f ns) ∙ ap₂ (λ (a b : ℕ). a + b) (e n) (loop-size f g e ns)
 
-  module _ (mark : ℕ) (ix tops : ℕ → ℕ) (Ps : List (Spot ℕ)) (atoms : List ℕ) (is : List (List ℕ)) where
-    ranked-size : (k n : ℕ) → length (rankedValue T texts numbers mark ix Ps atoms is k n) ≡ rankedSize size ix Ps atoms is k n
+  module _ (mark : ℕ) (ix tops : ℕ → ℕ) (atoms : List ℕ) (runs : ℕ → List ℕ) where
+    ranked-size : (k n : ℕ) → length (rankedValue T texts numbers mark ix atoms runs k n) ≡ rankedSize size ix atoms runs k n
     ranked-size k n = go (hasAt ix k n)
       where
-        go : (b : Bool) → length (cond b (boundText T texts numbers mark k n (valueAt ix Ps atoms is k n)) [])
-            ≡ cond b (boundSize size n (valueAt ix Ps atoms is k n)) 0
-        go true = bound-size mark k n (valueAt ix Ps atoms is k n)
+        go : (b : Bool) → length (cond b (boundText T texts numbers mark k n (valueAt ix atoms runs k n)) [])
+            ≡ cond b (boundSize size n (valueAt ix atoms runs k n)) 0
+        go true = bound-size mark k n (valueAt ix atoms runs k n)
         go false = refl
 
-    rank-size : (k : ℕ) → length (rankValues T texts numbers mark ix tops Ps atoms is k) ≡ rankSizes size ix tops Ps atoms is k
-    rank-size k = loop-size (rankedValue T texts numbers mark ix Ps atoms is k) (rankedSize size ix Ps atoms is k) (ranked-size k) (range 0 (tops k))
+    rank-size : (k : ℕ) → length (rankValues T texts numbers mark ix tops atoms runs k) ≡ rankSizes size ix tops atoms runs k
+    rank-size k = loop-size (rankedValue T texts numbers mark ix atoms runs k) (rankedSize size ix atoms runs k) (ranked-size k) (range 0 (tops k))
 
-    values-size : length (indexedValues T texts numbers mark ix tops Ps atoms is) ≡ valuesSize size ix tops Ps atoms is
-    values-size = loop-size (rankValues T texts numbers mark ix tops Ps atoms is) (rankSizes size ix tops Ps atoms is) rank-size (range 0 4)
+    values-size : length (indexedValues T texts numbers mark ix tops atoms runs) ≡ valuesSize size ix tops atoms runs
+    values-size = loop-size (rankValues T texts numbers mark ix tops atoms runs) (rankSizes size ix tops atoms runs) rank-size (range 0 4)
 
   -- THE SIZE of a line is a sum
   pub line-size : (x₁ t₁ x₂ t₂ : ℕ → ℕ) (Ps Qs : List (Spot ℕ)) (atoms : List ℕ) (is : List (List ℕ))
       → length (indexedItems T texts x₁ t₁ x₂ t₂ Ps Qs atoms is numbers) ≡ sizeItems size x₁ t₁ x₂ t₂ Ps Qs atoms is
   line-size x₁ t₁ x₂ t₂ Ps Qs atoms is =
       let a = fieldsText T texts numbers is in
-      let b = indexedValues T texts numbers leftMark x₁ t₁ Ps atoms is in
-      let c = indexedValues T texts numbers rightMark x₂ t₂ Qs atoms is in
+      let b = indexedValues T texts numbers leftMark x₁ t₁ atoms (runOn Ps is) in
+      let c = indexedValues T texts numbers rightMark x₂ t₂ atoms (runOn Qs is) in
       length-append a (b ++ (c ++ 10 ∷ []))
       ∙ ap₂ (λ (m n : ℕ). m + n) (fields-size is)
-      (length-append b (c ++ 10 ∷ []) ∙ ap₂ (λ (m n : ℕ). m + n) (values-size leftMark x₁ t₁ Ps atoms is)
-      (length-append c (10 ∷ []) ∙ ap (λ (m : ℕ). m + 1) (values-size rightMark x₂ t₂ Qs atoms is)))
+      (length-append b (c ++ 10 ∷ []) ∙ ap₂ (λ (m n : ℕ). m + n) (values-size leftMark x₁ t₁ atoms (runOn Ps is))
+      (length-append c (10 ∷ []) ∙ ap (λ (m : ℕ). m + 1) (values-size rightMark x₂ t₂ atoms (runOn Qs is))))
 
 -- ---- do two rules overlap
 

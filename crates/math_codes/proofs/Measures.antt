@@ -22,7 +22,7 @@ use Rattle.unifiers.specs.Entries.{span}
 use Rattle.unifiers.proofs.Pairs.{room-of, reach-of, no-long₁, no-long₂}
 use Rattle.math_codes.specs.Tables.{Table}
 use Rattle.math_codes.specs.Names.{noNames, nameFields}
-use Rattle.math_codes.specs.Lines.{letterAt, itemText, colonsSize, itemsSize, barsSize, fieldsSize}
+use Rattle.math_codes.specs.Lines.{pairItems, letterAt, itemText, colonsSize, itemsSize, barsSize, fieldsSize}
 use Rattle.math_codes.specs.Spots.{Spot, shapeFrom, spotShape, scanAt, scanTerm}
 use Rattle.math_codes.specs.Walks.{spanOn, itemAt, fieldItems}
 use Rattle.math_codes.specs.Whole.{spotsOf, itemsFrom, runIn, runOn}
@@ -128,11 +128,11 @@ rules-few r₁ r₂ ok₁ ok₂ cs atoms h =
 
 module _ (T : Table) (texts : ℕ → List ℕ) (sizes : ℕ → ℕ) (sz : (c : ℕ) → sizes c ≡ length (texts c)) (x₁ t₁ x₂ t₂ : ℕ → ℕ) where
   items-line : (Ps Qs : List (Spot ℕ)) (atoms : List ℕ) (is : List (List ℕ)) → itemCount is ≤ 1000
-      → length (indexedItems T texts x₁ t₁ x₂ t₂ Ps Qs atoms is (nameFields T (noNames 132 4) is .numbers))
-      ≡ sizeItems (itemSize T sizes (nameFields T (noNames 132 4) is .numbers)) x₁ t₁ x₂ t₂ Ps Qs atoms is
+      → length (indexedItems T texts x₁ t₁ x₂ t₂ Ps Qs atoms is (nameFields T (noNames pairItems 4) is .numbers))
+      ≡ sizeItems (itemSize T sizes (nameFields T (noNames pairItems 4) is .numbers)) x₁ t₁ x₂ t₂ Ps Qs atoms is
   items-line Ps Qs atoms is k =
-      let ns = nameFields T (noNames 132 4) is .numbers in
-      let few = names-few T is 0 (noNames 132 4) (zeros 0 4, zeros 0 132) .1 in
+      let ns = nameFields T (noNames pairItems 4) is .numbers in
+      let few = names-few T is 0 (noNames pairItems 4) (zeros 0 4, zeros 0 pairItems) .1 in
       line-size T texts ns (itemSize T sizes ns)
       (λ c. item-size T texts sizes ns c (sz c) (let z = at-most (0 + itemCount is) ns few c in omega arith))
       x₁ t₁ x₂ t₂ Ps Qs atoms is
@@ -197,30 +197,30 @@ module _ (size : ℕ → ℕ) (w : ℕ) (few : (c : ℕ) → size c ≤ w + 4) w
   fields-short [] = omega arith
   fields-short (f ∷ is) = omega (arith, items-short f, bars-short is)
 
-  module _ (m : ℕ) (one : 1 ≤ m) (is : List (List ℕ)) (most : itemCount is ≤ m) (x tops : ℕ → ℕ) (low : (k : ℕ) → k < 4 → tops k ≤ 255)
-      (Ps : List (Spot ℕ)) (atoms : List ℕ) where
-    value-short : (k n : ℕ) → length (valueAt x Ps atoms is k n) ≤ m
+  module _ (m : ℕ) (one : 1 ≤ m) (x tops : ℕ → ℕ) (low : (k : ℕ) → k < 4 → tops k ≤ 255) (atoms : List ℕ)
+      (runs : ℕ → List ℕ) (most : (n : ℕ) → length (runs n) ≤ m) where
+    value-short : (k n : ℕ) → length (valueAt x atoms runs k n) ≤ m
     value-short k n = go (ltb k 3)
       where
-        go : (b : Bool) → length (cond b (getD atoms (x (slotAt k n) - 1) 0 ∷ []) (runOn Ps is n)) ≤ m
+        go : (b : Bool) → length (cond b (getD atoms (x (slotAt k n) - 1) 0 ∷ []) (runs n)) ≤ m
         go true = one
-        go false = omega (arith, run-short Ps is n)
+        go false = most n
 
-    ranked-short : (k n : ℕ) → n ≤ 255 → rankedSize size x Ps atoms is k n ≤ m * (w + 5) + 12
+    ranked-short : (k n : ℕ) → n ≤ 255 → rankedSize size x atoms runs k n ≤ m * (w + 5) + 12
     ranked-short k n h = go (hasAt x k n)
       where
-        go : (b : Bool) → cond b (boundSize size n (valueAt x Ps atoms is k n)) 0 ≤ m * (w + 5) + 12
+        go : (b : Bool) → cond b (boundSize size n (valueAt x atoms runs k n)) 0 ≤ m * (w + 5) + 12
         go true =
-            let cs = valueAt x Ps atoms is k n in
+            let cs = valueAt x atoms runs k n in
             omega (arith, digits-short n h, items-short cs, mul-le-mul-right (w + 5) (value-short k n))
         go false = omega arith
 
-    rank-short : (k : ℕ) → k < 4 → rankSizes size x tops Ps atoms is k ≤ 255 * (m * (w + 5) + 12)
+    rank-short : (k : ℕ) → k < 4 → rankSizes size x tops atoms runs k ≤ 255 * (m * (w + 5) + 12)
     rank-short k l =
-        let s = sum-short (rankedSize size x Ps atoms is k) (m * (w + 5) + 12) 0 (tops k) (λ n h. ranked-short k n (omega (arith, low k l))) in
+        let s = sum-short (rankedSize size x atoms runs k) (m * (w + 5) + 12) 0 (tops k) (λ n h. ranked-short k n (omega (arith, low k l))) in
         omega (arith, s, mul-le-mul-right (m * (w + 5) + 12) (low k l))
 
-    values-short : valuesSize size x tops Ps atoms is ≤ 1020 * (m * (w + 5) + 12)
+    values-short : valuesSize size x tops atoms runs ≤ 1020 * (m * (w + 5) + 12)
     values-short = omega (arith, rank-short 0 (omega arith), rank-short 1 (omega arith), rank-short 2 (omega arith), rank-short 3 (omega arith))
 
 -- a text of at most w bytes, or a letter and three digits
@@ -245,8 +245,8 @@ line-bounded T texts w short numbers low x₁ t₁ x₂ t₂ low₁ low₂ Ps Qs
       line-size T texts numbers size (λ c. refl) x₁ t₁ x₂ t₂ Ps Qs atoms is,
       fields-short size w few is,
       mul-le-mul-right (w + 5) most,
-      values-short size w few m one is most x₁ t₁ low₁ Ps atoms,
-      values-short size w few m one is most x₂ t₂ low₂ Qs atoms,
+      values-short size w few m one x₁ t₁ low₁ atoms (runOn Ps is) (λ n. omega (arith, run-short Ps is n)),
+      values-short size w few m one x₂ t₂ low₂ atoms (runOn Qs is) (λ n. omega (arith, run-short Qs is n)),
     )
 
 -- ---- a sharp bound, where the tables have what those of two rules have
@@ -287,31 +287,31 @@ module _ (size : ℕ → ℕ) (few : (c : ℕ) → size c ≤ 17) where
   all-fields [] a = omega arith
   all-fields (f ∷ is) a = omega (arith, field-size f (a .0), all-bars is (a .1))
 
-  module _ (is : List (List ℕ)) (a : All (λ f. length f ≤ 31) is) (x tops : ℕ → ℕ) (low : (k : ℕ) → k < 4 → tops k ≤ 16) (Ps : List (Spot ℕ))
-      (atoms : List ℕ) where
+  module _ (x tops : ℕ → ℕ) (low : (k : ℕ) → k < 4 → tops k ≤ 16) (atoms : List ℕ) (runs : ℕ → List ℕ)
+      (most : (n : ℕ) → length (runs n) ≤ 31) where
     -- a variable's part: a blank, a mark, a letter, two digits and `=`, and a value
-    ranked-within : (k n b : ℕ) → n < 16 → itemsSize size (valueAt x Ps atoms is k n) ≤ b → rankedSize size x Ps atoms is k n ≤ 6 + b
+    ranked-within : (k n b : ℕ) → n < 16 → itemsSize size (valueAt x atoms runs k n) ≤ b → rankedSize size x atoms runs k n ≤ 6 + b
     ranked-within k n b l h = go (hasAt x k n)
       where
-        go : (c : Bool) → cond c (boundSize size n (valueAt x Ps atoms is k n)) 0 ≤ 6 + b
+        go : (c : Bool) → cond c (boundSize size n (valueAt x atoms runs k n)) 0 ≤ 6 + b
         go true = omega (arith, two-short n (omega arith))
         go false = omega arith
 
     -- an atom variable's value is one item
-    atom-value : (k n : ℕ) → k < 3 → itemsSize size (valueAt x Ps atoms is k n) ≤ 17
+    atom-value : (k n : ℕ) → k < 3 → itemsSize size (valueAt x atoms runs k n) ≤ 17
     atom-value k n l =
         rw (lt-ltb k 3 l) (let f = few (getD atoms (x (slotAt k n) - 1) 0) in omega arith)
 
-    -- a list variable's is a run of a field
-    list-value : (n : ℕ) → itemsSize size (valueAt x Ps atoms is 3 n) ≤ 557
-    list-value n = field-size (runOn Ps is n) (run-field 31 Ps is n a)
+    -- a list variable's has at most 31
+    list-value : (n : ℕ) → itemsSize size (valueAt x atoms runs 3 n) ≤ 557
+    list-value n = field-size (runs n) (most n)
 
-    rank-within : (k b : ℕ) → k < 4 → ((n : ℕ) → itemsSize size (valueAt x Ps atoms is k n) ≤ b) → rankSizes size x tops Ps atoms is k ≤ 16 * (6 + b)
+    rank-within : (k b : ℕ) → k < 4 → ((n : ℕ) → itemsSize size (valueAt x atoms runs k n) ≤ b) → rankSizes size x tops atoms runs k ≤ 16 * (6 + b)
     rank-within k b l h =
-        let s = sum-short (rankedSize size x Ps atoms is k) (6 + b) 0 (tops k) (λ n p. ranked-within k n b (omega (arith, low k l)) (h n)) in
+        let s = sum-short (rankedSize size x atoms runs k) (6 + b) 0 (tops k) (λ n p. ranked-within k n b (omega (arith, low k l)) (h n)) in
         omega (arith, s, mul-le-mul-right (6 + b) (low k l))
 
-    values-within : valuesSize size x tops Ps atoms is ≤ 10112
+    values-within : valuesSize size x tops atoms runs ≤ 10112
     values-within =
         omega (
           arith,
@@ -331,8 +331,8 @@ line-short T texts short numbers low x₁ t₁ x₂ t₂ low₁ low₂ Ps Qs ato
       arith,
       line-size T texts numbers size (λ c. refl) x₁ t₁ x₂ t₂ Ps Qs atoms is,
       all-fields size few is a,
-      values-within size few is a x₁ t₁ low₁ Ps atoms,
-      values-within size few is a x₂ t₂ low₂ Qs atoms,
+      values-within size few x₁ t₁ low₁ atoms (runOn Ps is) (λ n. run-field 31 Ps is n a),
+      values-within size few x₂ t₂ low₂ atoms (runOn Qs is) (λ n. run-field 31 Qs is n a),
     )
   where
     size : ℕ → ℕ

@@ -25,7 +25,7 @@ use Rattle.math_codes.specs.Tables.{Table}
 use Rattle.math_codes.specs.Entries.{placeShape, placeShapes, entriesOn}
 use Rattle.math_codes.specs.Names.{noNames, nameFields}
 use Rattle.math_codes.specs.Items.{itemsOf, entryItems, valueItems}
-use Rattle.math_codes.specs.Lines.{fieldsText, valueText, valuesText, ourRow, OurTables, lineOn, listedOn, ourTable, ourTexts}
+use Rattle.math_codes.specs.Lines.{fieldsText, valueText, valuesText, pairPlaces, pairItems, ourRow, OurTables, lineOn, listedOn, ourTable, ourTexts}
 use Rattle.math_codes.specs.Spots.{Spot, shapeFrom, spotShape, spotCands}
 use Rattle.math_codes.specs.Walks.{orNothing, joinsOn, walkOn}
 use Rattle.math_codes.specs.Whole.{spotsOf, itemsFrom, runIn, runOn, valueOn, lineBy, lineItems, lineSpots, listSpots}
@@ -115,7 +115,7 @@ run-agrees (P ∷ Ps) (w ∷ is) l =
 
 module _ (r₁ r₂ : List (List OurTerm)) (T : Table) (texts : ℕ → List ℕ) where
   value-agrees : (d : Side) (Ps : List (Spot ℕ)) (atoms : List ℕ) (is : List (List ℕ)) (k : Kind) (a : ℕ)
-      → valueItems basics consts ℕ-discrete (ourRow r₁ r₂) d (map spotShape Ps) atoms is k a ≡ valueOn r₁ r₂ d Ps atoms is k a
+      → valueItems basics consts ℕ-discrete (ourRow r₁ r₂) d (map spotShape Ps) atoms is k a ≡ valueOn r₁ r₂ d atoms (runOn Ps is) k a
   value-agrees d Ps atoms is (basic k) a = refl
   value-agrees d Ps atoms is list a = run-agrees Ps is a
 
@@ -125,22 +125,22 @@ module _ (r₁ r₂ : List (List OurTerm)) (T : Table) (texts : ℕ → List ℕ
       (λ v i. ap (valueText T texts ns mark v) (h (v .0) (v .1)))
 
   line-spots : (Ps Qs : List (Spot ℕ)) (cs : List Cand) (atoms : List ℕ) → Chosen Ps Qs cs
-      → lineSpots r₁ r₂ T texts Ps Qs cs atoms ≡ lineOn r₁ r₂ T texts 128 132 (map spotShape Ps) (map spotShape Qs) (cs, atoms)
+      → lineSpots r₁ r₂ T texts Ps Qs cs atoms ≡ lineOn r₁ r₂ T texts pairPlaces pairItems (map spotShape Ps) (map spotShape Qs) (cs, atoms)
   line-spots Ps Qs cs atoms h =
       ap (lineItems r₁ r₂ T texts Ps Qs atoms) (sym (items-from atoms 128 0 Ps Qs cs h))
       ∙ same (entryItems 128 (map spotShape Ps) (map spotShape Qs) (cs, atoms))
     where
       same : (is : List (List ℕ)) → lineItems r₁ r₂ T texts Ps Qs atoms is
-          ≡ lineBy r₁ r₂ T texts (nameFields T (noNames 132 4) is .numbers) is
+          ≡ lineBy r₁ r₂ T texts (nameFields T (noNames pairItems 4) is .numbers) is
           (λ v. valueItems basics consts ℕ-discrete (ourRow r₁ r₂) left (map spotShape Ps) atoms is (v .0) (v .1))
           (λ v. valueItems basics consts ℕ-discrete (ourRow r₁ r₂) right (map spotShape Qs) atoms is (v .0) (v .1))
       same is =
-          let ns = nameFields T (noNames 132 4) is .numbers in
+          let ns = nameFields T (noNames pairItems 4) is .numbers in
           ap₂ (λ (a b : List ℕ). fieldsText T texts ns is ++ (a ++ (b ++ 10 ∷ [])))
-          (values-same ns leftMark (λ v. valueOn r₁ r₂ left Ps atoms is (v .0) (v .1))
+          (values-same ns leftMark (λ v. valueOn r₁ r₂ left atoms (runOn Ps is) (v .0) (v .1))
           (λ v. valueItems basics consts ℕ-discrete (ourRow r₁ r₂) left (map spotShape Ps) atoms is (v .0) (v .1))
           (λ k a. sym (value-agrees left Ps atoms is k a)) (variables r₁))
-          (values-same ns rightMark (λ v. valueOn r₁ r₂ right Qs atoms is (v .0) (v .1))
+          (values-same ns rightMark (λ v. valueOn r₁ r₂ right atoms (runOn Qs is) (v .0) (v .1))
           (λ v. valueItems basics consts ℕ-discrete (ourRow r₁ r₂) right (map spotShape Qs) atoms is (v .0) (v .1))
           (λ k a. sym (value-agrees right Qs atoms is k a)) (variables r₂))
 
@@ -152,7 +152,7 @@ module _ (r₁ r₂ : List (List OurTerm)) (T : Table) (texts : ℕ → List ℕ
         let Qs = spotsOf 16 64 r₂ in
         let P = has-places r₁ r₂ T texts ot ok₁ ok₂ .0 in
         let Q = has-places r₁ r₂ T texts ot ok₁ ok₂ .1 in
-        let line : List Cand × List ℕ → List ℕ = lineOn r₁ r₂ T texts 128 132 (map spotShape Ps) (map spotShape Qs) in
+        let line : List Cand × List ℕ → List ℕ = lineOn r₁ r₂ T texts pairPlaces pairItems (map spotShape Ps) (map spotShape Qs) in
         walk-same entry T Ps Qs (T .first) (λ cs last. lineSpots r₁ r₂ T texts Ps Qs cs last ∷ []) (λ cs last. line (cs, last) ∷ [])
         (λ cs last h. ap (λ (l : List ℕ). l ∷ []) (line-spots Ps Qs cs last h))
         ∙ sym (walk-agrees entry T Ps Qs (T .first) (λ cs last. line (cs, last) ∷ []))

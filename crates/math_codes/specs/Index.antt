@@ -4,7 +4,7 @@ use mathlib.Core.Bool.{Bool, true, false, cond}
 use mathlib.Core.List.{List, [], _∷_, _++_}
 use Prim.Native.Nat.{ℕ, zero, suc, _+_, _-_, _*_, _/_, _%_, _≤_, _<_}
 use lib.Dec.{ltb}
-use lib.ListN.{getD}
+use lib.ListN.{getD, drop}
 use Rattle.order.specs.Order.{basic, list}
 use Rattle.order.specs.Types.{Kind, basics, rank, entry}
 use Rattle.theory.specs.Seqs.{concat-map}
@@ -85,19 +85,19 @@ isThere (suc c) = true
 abbrev pub has : (ℕ → ℕ) → Variable → Bool
 has x v = isThere (x (slot (v .0) (v .1)))
 
--- a variable's value: by the array, or a run of an entry's field
-abbrev pub indexedValue : (ℕ → ℕ) → List (Spot ℕ) → List ℕ → List (List ℕ) → Kind → ℕ → List ℕ
-indexedValue x Ps atoms is (basic k) n = getD atoms (x (slot (basic k) n) - 1) 0 ∷ []
-indexedValue x Ps atoms is list n = runOn Ps is n
+-- a variable's value: of an atom variable by the array, of a list variable by its number
+abbrev pub indexedValue : (ℕ → ℕ) → List ℕ → (ℕ → List ℕ) → Kind → ℕ → List ℕ
+indexedValue x atoms runs (basic k) n = getD atoms (x (slot (basic k) n) - 1) 0 ∷ []
+indexedValue x atoms runs list n = runs n
 
 module _ (T : Table) (texts : ℕ → List ℕ) where
   -- a variable's part of a line; nothing of one that the rule lacks
-  abbrev pub shownValue : List ℕ → ℕ → (ℕ → ℕ) → List (Spot ℕ) → List ℕ → List (List ℕ) → Variable → List ℕ
-  shownValue numbers mark x Ps atoms is v = cond (has x v) (valueText T texts numbers mark v (indexedValue x Ps atoms is (v .0) (v .1))) []
+  abbrev pub shownValue : List ℕ → ℕ → (ℕ → ℕ) → List ℕ → (ℕ → List ℕ) → Variable → List ℕ
+  shownValue numbers mark x atoms runs v = cond (has x v) (valueText T texts numbers mark v (indexedValue x atoms runs (v .0) (v .1))) []
 
   -- the variables of a rule in their order; `values-ranked` of proofs/ says that the loops below write the same
-  abbrev pub everyValue : List ℕ → ℕ → (ℕ → ℕ) → List (Spot ℕ) → List ℕ → List (List ℕ) → List ℕ
-  everyValue numbers mark x Ps atoms is = concat-map (shownValue numbers mark x Ps atoms is) every
+  abbrev pub everyValue : List ℕ → ℕ → (ℕ → ℕ) → List ℕ → (ℕ → List ℕ) → List ℕ
+  everyValue numbers mark x atoms runs = concat-map (shownValue numbers mark x atoms runs) every
 
 -- ---- values by rank and number
 
@@ -110,8 +110,8 @@ abbrev pub hasAt : (ℕ → ℕ) → ℕ → ℕ → Bool
 hasAt x k n = isThere (x (slotAt k n))
 
 -- list variables have the rank 3
-abbrev pub valueAt : (ℕ → ℕ) → List (Spot ℕ) → List ℕ → List (List ℕ) → ℕ → ℕ → List ℕ
-valueAt x Ps atoms is k n = cond (ltb k 3) (getD atoms (x (slotAt k n) - 1) 0 ∷ []) (runOn Ps is n)
+abbrev pub valueAt : (ℕ → ℕ) → List ℕ → (ℕ → List ℕ) → ℕ → ℕ → List ℕ
+valueAt x atoms runs k n = cond (ltb k 3) (getD atoms (x (slotAt k n) - 1) 0 ∷ []) (runs n)
 
 module _ (T : Table) (texts : ℕ → List ℕ) where
   -- a name and a value
@@ -119,23 +119,23 @@ module _ (T : Table) (texts : ℕ → List ℕ) where
   boundText numbers mark k n cs = 32 ∷ (mark ∷ (nameAt k n ++ 61 ∷ itemsText T texts numbers cs))
 
   -- a variable's part of a line
-  abbrev pub rankedValue : List ℕ → ℕ → (ℕ → ℕ) → List (Spot ℕ) → List ℕ → List (List ℕ) → ℕ → ℕ → List ℕ
-  rankedValue numbers mark x Ps atoms is k n = cond (hasAt x k n) (boundText numbers mark k n (valueAt x Ps atoms is k n)) []
+  abbrev pub rankedValue : List ℕ → ℕ → (ℕ → ℕ) → List ℕ → (ℕ → List ℕ) → ℕ → ℕ → List ℕ
+  rankedValue numbers mark x atoms runs k n = cond (hasAt x k n) (boundText numbers mark k n (valueAt x atoms runs k n)) []
 
   -- the variables of a rank: a loop over the numbers below its top
-  abbrev pub rankValues : List ℕ → ℕ → (ℕ → ℕ) → (ℕ → ℕ) → List (Spot ℕ) → List ℕ → List (List ℕ) → ℕ → List ℕ
-  rankValues numbers mark x tops Ps atoms is k = concat-map (rankedValue numbers mark x Ps atoms is k) (range 0 (tops k))
+  abbrev pub rankValues : List ℕ → ℕ → (ℕ → ℕ) → (ℕ → ℕ) → List ℕ → (ℕ → List ℕ) → ℕ → List ℕ
+  rankValues numbers mark x tops atoms runs k = concat-map (rankedValue numbers mark x atoms runs k) (range 0 (tops k))
 
   -- those of a rule: a loop over the ranks
-  abbrev pub indexedValues : List ℕ → ℕ → (ℕ → ℕ) → (ℕ → ℕ) → List (Spot ℕ) → List ℕ → List (List ℕ) → List ℕ
-  indexedValues numbers mark x tops Ps atoms is = concat-map (rankValues numbers mark x tops Ps atoms is) (range 0 4)
+  abbrev pub indexedValues : List ℕ → ℕ → (ℕ → ℕ) → (ℕ → ℕ) → List ℕ → (ℕ → List ℕ) → List ℕ
+  indexedValues numbers mark x tops atoms runs = concat-map (rankValues numbers mark x tops atoms runs) (range 0 4)
 
   -- the line of an entry's items, by the indexes and tops of the two rules
   module _ (x₁ t₁ x₂ t₂ : ℕ → ℕ) (Ps Qs : List (Spot ℕ)) where
     abbrev pub indexedItems : List ℕ → List (List ℕ) → List ℕ → List ℕ
     indexedItems atoms is numbers =
         fieldsText T texts numbers is
-        ++ (indexedValues numbers leftMark x₁ t₁ Ps atoms is ++ (indexedValues numbers rightMark x₂ t₂ Qs atoms is ++ 10 ∷ []))
+        ++ (indexedValues numbers leftMark x₁ t₁ atoms (runOn Ps is) ++ (indexedValues numbers rightMark x₂ t₂ atoms (runOn Qs is) ++ 10 ∷ []))
 
     -- of a choice and its last array
     abbrev pub indexedLine : List Cand → List ℕ → List ℕ
@@ -148,3 +148,20 @@ module _ (T : Table) (texts : ℕ → List ℕ) where
   indexedList r₁ r₂ x₁ t₁ x₂ t₂ =
       walkOn entry T (spotsOf fieldPlaces 0 r₁) (spotsOf fieldPlaces rulePlaces r₂) (T .first)
       (λ cs last. indexedLine x₁ t₁ x₂ t₂ (spotsOf fieldPlaces 0 r₁) (spotsOf fieldPlaces rulePlaces r₂) cs last ∷ [])
+
+-- ---- the line of an answer of a search
+
+-- the values of a rule's variables in the line's order, by rank and number those that the index has
+abbrev pub listedValues : (ℕ → ℕ) → (ℕ → ℕ) → List ℕ → (ℕ → List ℕ) → List (List ℕ)
+listedValues x tops atoms runs =
+    concat-map (λ k. concat-map (λ n. cond (hasAt x k n) (valueAt x atoms runs k n ∷ []) []) (range 0 (tops k))) (range 0 4)
+
+module _ (T : Table) (texts : ℕ → List ℕ) where
+  -- the bindings part of an overlap line, without the blank in front; the variables are numbered by the values
+  abbrev pub indexedAnswer : (ℕ → ℕ) → (ℕ → ℕ) → (ℕ → List ℕ) → (ℕ → ℕ) → (ℕ → ℕ) → (ℕ → List ℕ) → List ℕ → List ℕ
+  indexedAnswer x₁ t₁ runs₁ x₂ t₂ runs₂ atoms =
+      let vs = listedValues x₁ t₁ atoms runs₁ ++ listedValues x₂ t₂ atoms runs₂ in
+      let numbers = nameFields T (noNames pairItems 4) vs .numbers in
+      drop 1
+      (indexedValues T texts numbers leftMark x₁ t₁ atoms runs₁ ++ indexedValues T texts numbers rightMark x₂ t₂ atoms runs₂)
+      ++ 10 ∷ []

@@ -107,7 +107,7 @@ OurMarked = Term Con Kind (Mark ℕ)
 abbrev pub ourRanks : Ranks basics
 ourRanks = record { rank = λ k. rank (basic k); below = entry; below-is = λ j k. refl }
 
--- 16 places a field, four fields a rule, two rules, and an item more for the list variable of each of an entry's fields
+-- 16 places a field, four fields a rule, two rules
 abbrev pub fieldPlaces : ℕ
 fieldPlaces = rule .width
 
@@ -119,9 +119,13 @@ rulePlaces = mostFields * fieldPlaces
 abbrev pub pairPlaces : ℕ
 pairPlaces = rulePlaces + rulePlaces
 
--- with an entry's list variables
+-- list variables behind the places: those of an entry by field, those of a search by number, a right-side one 16 above
+abbrev pub listItems : ℕ
+listItems = 32
+
+-- a pair's items
 abbrev pub pairItems : ℕ
-pairItems = pairPlaces + mostFields
+pairItems = pairPlaces + listItems
 
 -- the pair's atoms by place
 abbrev pub ourRow : List (List OurTerm) → List (List OurTerm) → List (Option OurAtom)
@@ -129,7 +133,7 @@ ourRow r₁ r₂ = pairRow fieldPlaces mostFields r₁ r₂
 
 -- the terms by item
 abbrev pub ourTerms : List (List OurTerm) → List (List OurTerm) → List (Option OurMarked)
-ourTerms r₁ r₂ = termsRow (ourRow r₁ r₂) mostFields
+ourTerms r₁ r₂ = termsRow (ourRow r₁ r₂) listItems
 
 -- the tables, and the plain texts of constants, are those of the two rules
 pub record OurTables (r₁ r₂ : List (List OurTerm)) (T : Table) (texts : ℕ → List ℕ) : Type 0 where

@@ -12,7 +12,7 @@ use Rattle.math_codes.specs.Names.{noNames, nameFields}
 use Rattle.math_codes.specs.Spots.{Spot, spotCands}
 use Rattle.math_codes.specs.Walks.{joinsOn}
 use Rattle.math_codes.specs.Lines.{itemsSize, fieldsSize, pairPlaces, pairItems}
-use Rattle.math_codes.specs.Whole.{itemsFrom}
+use Rattle.math_codes.specs.Whole.{itemsFrom, runOn}
 use Rattle.math_codes.specs.Index.{hasAt, valueAt}
 
 -- ---- do two rules overlap: the recursion without lines
@@ -57,20 +57,20 @@ module _ (size : ℕ → ℕ) where
   boundSize n cs = 4 + (length (digitsOf n) + itemsSize size cs)
 
   -- a variable's part of a line; 0 of one that the rule lacks
-  abbrev pub rankedSize : (ℕ → ℕ) → List (Spot ℕ) → List ℕ → List (List ℕ) → ℕ → ℕ → ℕ
-  rankedSize x Ps atoms is k n = cond (hasAt x k n) (boundSize n (valueAt x Ps atoms is k n)) 0
+  abbrev pub rankedSize : (ℕ → ℕ) → List ℕ → (ℕ → List ℕ) → ℕ → ℕ → ℕ
+  rankedSize x atoms runs k n = cond (hasAt x k n) (boundSize n (valueAt x atoms runs k n)) 0
 
   -- the variables of a rank: a loop over the numbers below its top
-  abbrev pub rankSizes : (ℕ → ℕ) → (ℕ → ℕ) → List (Spot ℕ) → List ℕ → List (List ℕ) → ℕ → ℕ
-  rankSizes x tops Ps atoms is k = sumOf (rankedSize x Ps atoms is k) (range 0 (tops k))
+  abbrev pub rankSizes : (ℕ → ℕ) → (ℕ → ℕ) → List ℕ → (ℕ → List ℕ) → ℕ → ℕ
+  rankSizes x tops atoms runs k = sumOf (rankedSize x atoms runs k) (range 0 (tops k))
 
   -- those of a rule: a loop over the ranks
-  abbrev pub valuesSize : (ℕ → ℕ) → (ℕ → ℕ) → List (Spot ℕ) → List ℕ → List (List ℕ) → ℕ
-  valuesSize x tops Ps atoms is = sumOf (rankSizes x tops Ps atoms is) (range 0 4)
+  abbrev pub valuesSize : (ℕ → ℕ) → (ℕ → ℕ) → List ℕ → (ℕ → List ℕ) → ℕ
+  valuesSize x tops atoms runs = sumOf (rankSizes x tops atoms runs) (range 0 4)
 
   -- the line of an entry's items, by the indexes and tops of the two rules
   abbrev pub sizeItems : (ℕ → ℕ) → (ℕ → ℕ) → (ℕ → ℕ) → (ℕ → ℕ) → List (Spot ℕ) → List (Spot ℕ) → List ℕ → List (List ℕ) → ℕ
-  sizeItems x₁ t₁ x₂ t₂ Ps Qs atoms is = fieldsSize size is + (valuesSize x₁ t₁ Ps atoms is + (valuesSize x₂ t₂ Qs atoms is + 1))
+  sizeItems x₁ t₁ x₂ t₂ Ps Qs atoms is = fieldsSize size is + (valuesSize x₁ t₁ atoms (runOn Ps is) + (valuesSize x₂ t₂ atoms (runOn Qs is) + 1))
 
 -- THE SIZE of the line of a choice and its last array
 module _ (T : Table) (sizes : ℕ → ℕ) (x₁ t₁ x₂ t₂ : ℕ → ℕ) (Ps Qs : List (Spot ℕ)) where

@@ -45,10 +45,10 @@ runOn (P ∷ Ps) [] l = []
 runOn (P ∷ Ps) (w ∷ is) l = runIn (P .name) (P .head) (P .tail) w l (runOn Ps is l)
 
 module _ (r₁ r₂ : List (List OurTerm)) where
-  -- a variable's value: by the array at a place that holds it, or a run
-  abbrev pub valueOn : Side → List (Spot ℕ) → List ℕ → List (List ℕ) → Kind → ℕ → List ℕ
-  valueOn d Ps atoms is (basic k) a = getD atoms (codeOf (same basics consts ourVars) (ourRow r₁ r₂) (free (of d k a))) 0 ∷ []
-  valueOn d Ps atoms is list a = runOn Ps is a
+  -- a variable's value: of an atom variable by the array at a place that holds it, of a list variable by its number
+  abbrev pub valueOn : Side → List ℕ → (ℕ → List ℕ) → Kind → ℕ → List ℕ
+  valueOn d atoms runs (basic k) a = getD atoms (codeOf (same basics consts ourVars) (ourRow r₁ r₂) (free (of d k a))) 0 ∷ []
+  valueOn d atoms runs list a = runs a
 
   module _ (T : Table) (texts : ℕ → List ℕ) where
     -- the line of items, their numbers, and the values on the two sides
@@ -59,8 +59,8 @@ module _ (r₁ r₂ : List (List OurTerm)) where
     -- the line of an entry's items
     abbrev pub lineItems : List (Spot ℕ) → List (Spot ℕ) → List ℕ → List (List ℕ) → List ℕ
     lineItems Ps Qs atoms is =
-        lineBy (nameFields T (noNames pairItems 4) is .numbers) is (λ v. valueOn left Ps atoms is (v .0) (v .1))
-        (λ v. valueOn right Qs atoms is (v .0) (v .1))
+        lineBy (nameFields T (noNames pairItems 4) is .numbers) is (λ v. valueOn left atoms (runOn Ps is) (v .0) (v .1))
+        (λ v. valueOn right atoms (runOn Qs is) (v .0) (v .1))
 
     -- what is written of a choice and its last array
     abbrev pub lineSpots : List (Spot ℕ) → List (Spot ℕ) → List Cand → List ℕ → List ℕ
