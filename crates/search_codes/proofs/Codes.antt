@@ -16,10 +16,10 @@ use Rattle.instance.specs.Constants.{consts}
 use Rattle.unifiers.specs.Shapes.{fixed, free}
 use Rattle.searching.specs.Problems.{atomic, listvar, At, Tm, tm-eq, termType}
 use Rattle.math_codes.specs.Tables.{Holds, codeOf, same, Table, Made}
-use Rattle.math_codes.specs.Lines.{OurAtom, ourVars, ourRanks, pairPlaces}
+use Rattle.math_codes.specs.Lines.{OurAtom, ourVars, ourRanks, pairPlaces, listItems}
 use Rattle.math_codes.proofs.Tables.{holds-below, code-holds, code-first, code-once}
 use Rattle.solving.specs.Answers.{setting}
-use Rattle.search_codes.specs.Codes.{listItems, codeTm, On}
+use Rattle.search_codes.specs.Codes.{codeTm, On}
 
 -- ---- decisions as Bools
 

@@ -6,11 +6,8 @@ use Rattle.order.specs.Types.{basics}
 use Rattle.instance.specs.Constants.{consts}
 use Rattle.searching.specs.Problems.{atomic, listvar, Tm, Field}
 use Rattle.math_codes.specs.Tables.{Holds, codeOf, same}
-use Rattle.math_codes.specs.Lines.{OurAtom, ourVars, pairPlaces}
+use Rattle.math_codes.specs.Lines.{OurAtom, ourVars, pairPlaces, listItems}
 use Rattle.solving.specs.Answers.{setting}
-
-abbrev pub listItems : ℕ
-listItems = 32
 
 module _ (t : List (Option OurAtom)) where
   abbrev pub codeTm : Tm setting → ℕ

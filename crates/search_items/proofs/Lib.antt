@@ -1,0 +1,4 @@
+pub mod Loops
+pub mod Comparing
+pub mod Collected
+pub mod Agree

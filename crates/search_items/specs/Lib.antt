@@ -1,0 +1,3 @@
+pub mod Items
+pub mod Substitution
+pub mod Values
