@@ -30,7 +30,7 @@ use Rattle.math_codes.specs.Entries.{ruleRow}
 use Rattle.math_codes.specs.Items.{shownAt}
 use Rattle.math_codes.specs.Names.{isVar, MadeTerms}
 use Rattle.math_codes.specs.Spots.{Spot}
-use Rattle.math_codes.specs.Lines.{ourVars, OurAtom, OurMarked, ourRanks, ourRow, ourTerms, pairPlaces}
+use Rattle.math_codes.specs.Lines.{ourVars, OurAtom, OurMarked, ourRanks, ourRow, ourTerms, pairPlaces, listItems}
 use Rattle.math_codes.specs.Whole.{spotsOf}
 use Rattle.math_codes.specs.Index.{Right, Indexes, Tops}
 use Rattle.math_codes.proofs.Tables.{holds-below}
@@ -233,7 +233,7 @@ module _ (r₁ r₂ : List (List OurTerm)) (ok₁ : IsLeft r₁) (ok₂ : IsLeft
 
   -- an item's term is that of an atom, or an entry's list variable
   abbrev Item : ℕ → OurMarked → Type 0
-  Item p u = ((a : OurAtom) × Holds atoms p a × (termOf a ≡ u)) ⊎ ((g : ℕ) × (g < 4) × (p ≡ 128 + g) × (var list (place g) ≡ u))
+  Item p u = ((a : OurAtom) × Holds atoms p a × (termOf a ≡ u)) ⊎ ((g : ℕ) × (g < listItems) × (p ≡ 128 + g) × (var list (place g) ≡ u))
 
   shown : (o : Option OurAtom) (u : OurMarked) → shownAt o ≡ some u → (a : OurAtom) × (o ≡ some a) × (termOf a ≡ u)
   shown none u e = absurd (Option·none-ne-some u e)
@@ -243,30 +243,30 @@ module _ (r₁ r₂ : List (List OurTerm)) (ok₁ : IsLeft r₁) (ok₂ : IsLeft
   listTerm g = some (var list (place g))
 
   item-is : (p : ℕ) (u : OurMarked) → Holds (ourTerms r₁ r₂) p u → Item p u
-  item-is p u h = go (decLt p 128) (decLt (p - 128) 4)
+  item-is p u h = go (decLt p 128) (decLt (p - 128) listItems)
     where
-      go : Dec (p < 128) → Dec (p - 128 < 4) → Item p u
+      go : Dec (p < 128) → Dec (p - 128 < listItems) → Item p u
       go (yes l) d =
           inl (shown (getD atoms p none) u
-          (sym (List·getD-append (map shownAt atoms) (map listTerm (range 0 4)) none p (omega (arith, l, many, length-map atoms shownAt))
+          (sym (List·getD-append (map shownAt atoms) (map listTerm (range 0 listItems)) none p (omega (arith, l, many, length-map atoms shownAt))
           ∙ List·getD-map shownAt atoms p none) ∙ h))
       go (no n) d = behind d (let e : p ≡ length (map shownAt atoms) + (p - 128) = omega (arith, many, length-map atoms shownAt) in e)
         where
-          at : p ≡ length (map shownAt atoms) + (p - 128) → getD (map listTerm (range 0 4)) (p - 128) none ≡ some u
+          at : p ≡ length (map shownAt atoms) + (p - 128) → getD (map listTerm (range 0 listItems)) (p - 128) none ≡ some u
           at e =
-              sym (getD-append-add (map shownAt atoms) (map listTerm (range 0 4)) (p - 128) none)
+              sym (getD-append-add (map shownAt atoms) (map listTerm (range 0 listItems)) (p - 128) none)
               ∙ ap (λ (j : ℕ). getD (ourTerms r₁ r₂) j none) (sym e) ∙ h
 
-          behind : Dec (p - 128 < 4) → p ≡ length (map shownAt atoms) + (p - 128) → Item p u
+          behind : Dec (p - 128 < listItems) → p ≡ length (map shownAt atoms) + (p - 128) → Item p u
           behind (yes l) e =
               inr (
                 p - 128,
                 l,
                 omega arith,
                 ap (λ (j : ℕ). var list (place j)) (let z : p - 128 ≡ 0 + (p - 128) = omega arith in z)
-                    ∙ Option·some-injective (var list (place (0 + (p - 128)))) u (sym (range-at listTerm 0 4 (p - 128) none l) ∙ at e),
+                    ∙ Option·some-injective (var list (place (0 + (p - 128)))) u (sym (range-at listTerm 0 listItems (p - 128) none l) ∙ at e),
               )
-          behind (no m) e = absurd (Option·none-ne-some u (sym (List·getD-eq-default (map listTerm (range 0 4)) none {n = p - 128} (omega arith)) ∙ at e))
+          behind (no m) e = absurd (Option·none-ne-some u (sym (List·getD-eq-default (map listTerm (range 0 listItems)) none {n = p - 128} (omega arith)) ∙ at e))
 
   made-terms : MadeTerms rank (tableIn row) (ourTerms r₁ r₂)
   made-terms =
