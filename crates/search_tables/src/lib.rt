@@ -1,6 +1,7 @@
 // The tables of two fields, each as a rule that has no other: their plain texts are noted as the texts of two rules are for the list.
 ghost use mathlib.Core.Path.{_≡_};
-ghost use Rattle.search_tables.specs.Tables.{tablesOf};
+ghost use Rattle.text_passes.specs.Notes.{notedIn};
+ghost use Rattle.search_tables.specs.Tables.{textOf, tablesOf};
 use terms::Field;
 
 // The row of the tables, and the constants' bytes.
@@ -9,17 +10,23 @@ pub struct Tables {
     pub texts: [u8; 2048],
 }
 
-// A field's plain text has at most 287 bytes. What no reading returns has no text.
+// A field is noted by its plain text, as a rule. What no reading returns has no text.
+fn note_field(f: Field, right: bool, row: &mut [u8], texts: &mut [u8])
+    ensures { λ _. ⌜ now (row .exit) ≡ (notedIn right (textOf f) (now (row .entry)) (now (texts .entry))) .0 ⌝ }
+    ensures { λ _. ⌜ now (texts .exit) ≡ (notedIn right (textOf f) (now (row .entry)) (now (texts .entry))) .1 ⌝ }
+{
+    let mut text = [0u8; 1151];
+    let n = pieces::size_of(plain_text::write_side(terms::one_field(f), &mut text));
+    text_passes::note_side(&text[..n], right, row, texts);
+}
+
+// The tables of two fields.
 pub fn tables_of(left: Field, right: Field) -> Tables
     ensures { λ r. ⌜ r ≡ tablesOf left right ⌝ }
 {
-    let mut a = [0u8; 1151];
-    let mut b = [0u8; 1151];
-    let n = pieces::size_of(plain_text::write_side(terms::one_field(left), &mut a));
-    let m = pieces::size_of(plain_text::write_side(terms::one_field(right), &mut b));
     let mut row = [0u8; 681];
     let mut texts = [0u8; 2048];
-    text_passes::note_side(&a[..n], false, &mut row, &mut texts);
-    text_passes::note_side(&b[..m], true, &mut row, &mut texts);
+    note_field(left, false, &mut row, &mut texts);
+    note_field(right, true, &mut row, &mut texts);
     Tables { row, texts }
 }
