@@ -92,7 +92,7 @@ turn-on (suc n) d e p z h =
 pub turn-off : (n : ℕ) (d e : Config) → after n d ≡ e → d .state .busy ≡ false → d ≡ e
 turn-off n d e p h = sym (after-idle n d h) ∙ p
 
--- ---- the search from the problem that the state holds: it stands in the first place, and no other place is read before it is written
+-- ---- the search from the problem that the state holds: it stands in the first place; what the others hold makes no difference
 
 abbrev pub fromRoot : Config → Config
 fromRoot c = conf (c .state) (set (c .row) 0 (c .state .held)) (c .out)
