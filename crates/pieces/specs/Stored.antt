@@ -1,17 +1,17 @@
--- Lines stored one behind the other in lent bytes, each where it has room there.
-use mathlib.Core.List.{List, [], _∷_, _++_}
-use Prim.Native.Nat.{ℕ, _+_, min}
-use lib.ListN.{length, take, drop}
+-- Lines stored one behind the other in lent bytes, as far as there is room.
+use mathlib.Core.List.{List, [], _∷_}
+use Prim.Native.Nat.{ℕ, _+_}
+use lib.ListN.{length}
+use lib.Seq.{sets}
 use Rattle.theory.specs.Seqs.{concat-map}
-use Rattle.writing.specs.Answers.{after}
 
 -- all lines as one text
 abbrev pub bytesOf : List (List ℕ) → List ℕ
 bytesOf ls = concat-map (λ l. l) ls
 
--- a line in the part of the bytes from its place on
+-- a line at its place, as far as there is room
 abbrev pub storeLine : List ℕ → ℕ → List ℕ → List ℕ
-storeLine l at old = take (min at (length old)) old ++ after l (drop (min at (length old)) old)
+storeLine l at old = sets old at l
 
 abbrev pub storeAll : List (List ℕ) → ℕ → List ℕ → List ℕ
 storeAll [] at old = old

@@ -9,8 +9,8 @@ use Prim.Native.Nat.{ℕ, _-_, _≤_, min}
 use native.Mathlib.Omega.{arith}
 use lib.Dec.{eqb}
 use lib.ListN.{length, take, drop}
-use Rattle.problems.specs.declared.Problem.{Problem}
-use Rattle.problems.specs.Values.{blankProblem}
+use Rattle.search_problems.specs.declared.Problem.{Problem}
+use Rattle.search_problems.specs.Values.{blankProblem}
 use Rattle.writing.specs.Answers.{after}
 use Rattle.pieces.specs.Stored.{storeLine}
 use Rattle.pieces.proofs.Stored.{store-part, store-end}
@@ -72,8 +72,8 @@ module _ (s : State) (p : Problem) (n : ℕ) where
       busy = true;
       writing = s .writing;
       refused = s .refused;
-      rule = firstRule p;
-      at = aim (firstRule p) (nextPlace (s .head) (s .cap)) (s .tail);
+      rule = firstRule (tableIn (s .row)) p;
+      at = aim (firstRule (tableIn (s .row)) p) (nextPlace (s .head) (s .cap)) (s .tail);
       head = nextPlace (s .head) (s .cap);
       tail = s .tail;
       count = s .count - 1;
@@ -81,8 +81,8 @@ module _ (s : State) (p : Problem) (n : ℕ) where
       lines = cond (p .«open») (s .lines) (plus (s .lines) 1);
       bytes = b;
       held = p;
-      left = s .left;
-      right = s .right;
+      row = s .row;
+      texts = s .texts;
     };
   }
 

@@ -12,9 +12,10 @@ use Prim.Native.Nat.{ℕ, zero, suc, _-_, _<_, min}
 use native.Mathlib.Omega.{arith}
 use lib.Dec.{T, eqb}
 use lib.ListN.{length, getD, set}
-use Rattle.problems.specs.declared.Problem.{Problem}
-use Rattle.problems.specs.Values.{blankProblem}
-use Rattle.answer_lines.specs.Answers.{answerValue}
+use Rattle.search_problems.specs.declared.Problem.{Problem}
+use Rattle.search_problems.specs.Values.{blankProblem}
+use Rattle.search_items.specs.Items.{itemsOf, blankItems}
+use Rattle.pair_lines.specs.Lines.{answerIn}
 use Rattle.pieces.specs.Stored.{storeLine}
 use Rattle.turns.specs.declared.State.{State}
 use Rattle.turns.specs.declared.Turn.{Turn}
@@ -26,8 +27,13 @@ use Rattle.turns.specs.Turns.{trying, decided}
 abbrev pub answers : State → Problem → Bool
 answers s p = cond (trying (s .rule)) false (cond (eqb (s .count) 0) false (not (p .«open»)))
 
+-- the line of a solved problem's record, by the tables of the two fields
+abbrev pub lineIn : List ℕ → List ℕ → Problem → List ℕ
+lineIn row texts p =
+    answerIn row texts (p .atoms .atoms) (itemsOf (getD (p .lists) 0 blankItems)) (itemsOf (getD (p .lists) 1 blankItems))
+
 abbrev pub lineOf : State → Problem → List ℕ
-lineOf s p = answerValue (s .left) (s .right) p
+lineOf s p = lineIn (s .row) (s .texts) p
 
 -- where an answer's line goes: behind the lines before it, as far as the output goes; behind the end where lines are only counted
 abbrev pub linePlace : State → ℕ → ℕ

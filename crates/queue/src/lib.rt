@@ -4,7 +4,7 @@ ghost use mathlib.Core.Bool.{cond};
 ghost use lib.ListN.{length};
 ghost use Rattle.pieces.specs.Stored.{storeLine};
 ghost use Rattle.queue.specs.Machine.{answers, lineOf, linePlace, moved, wrote};
-use problems::Problem;
+use search_problems::Problem;
 use turns::State;
 use turns::Turn;
 
@@ -35,12 +35,20 @@ fn line_place(s: State, room: usize) -> usize
 
 // Puts an answer's line into the output, and returns its size.
 fn put_line(s: State, p: Problem, out: &mut [u8]) -> usize
-    ensures { λ n. ⌜ (n ≡ length (lineOf s p)) × (now (out .exit) ≡ cond (s .writing) (storeLine (lineOf s p) (s .bytes) (now (out .entry))) (now (out .entry))) ⌝ }
+    ensures { λ n. ⌜ n ≡ length (lineOf s p) ⌝ }
+    ensures { λ _. ⌜ now (out .exit) ≡ cond (s .writing) (storeLine (lineOf s p) (s .bytes) (now (out .entry))) (now (out .entry)) ⌝ }
 {
     let at = line_place(s, out.len());
-    let left = s.left;
-    let right = s.right;
-    answer_lines::put_answer(left, right, p, &mut out[at..])
+    let row = s.row;
+    let texts = s.texts;
+    let atoms = p.atoms.atoms;
+    let l = p.lists[0];
+    let r = p.lists[1];
+    let n = search_items::used(l);
+    let m = search_items::used(r);
+    let left = l.codes;
+    let right = r.codes;
+    pair_lines::put_answer(&row, &texts, &atoms, &left[..n], &right[..m], &mut out[at..])
 }
 
 // The same, where there is an answer; no bytes where there is none.

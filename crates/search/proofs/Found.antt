@@ -10,9 +10,8 @@ use native.Mathlib.Omega.{arith}
 use native.Mathlib.Nat.{mul-le-mul-left}
 use lib.ListN.{length, length-map, length-set, set}
 use lib.Seq.{getD-set-same}
-use Rattle.terms.specs.declared.Field.{Field}
-use Rattle.problems.specs.declared.Problem.{Problem}
-use Rattle.problems.specs.Values.{blankProblem}
+use Rattle.search_problems.specs.declared.Problem.{Problem}
+use Rattle.search_problems.specs.Values.{blankProblem}
 use Rattle.pieces.specs.Stored.{bytesOf, storeLine, storeAll}
 use Rattle.turns.specs.declared.State.{State}
 use Rattle.queue.specs.Machine.{Config, conf, next, after, after-none, after-next, after-idle, Ends, Reaches, fromRoot}
@@ -55,8 +54,8 @@ reaches-ends c d r = (r .0, ap (λ (x : Config). x .state .busy) (r .1) ∙ r .2
 -- ---- a run
 
 -- the state that a run starts in, with the problem p in the first place
-abbrev pub starts : Field → Field → Bool → ℕ → Problem → State
-starts f g writing cap p = record {
+abbrev pub starts : List ℕ → List ℕ → Bool → ℕ → Problem → State
+starts tables texts writing cap p = record {
   busy = true;
   writing = writing;
   refused = false;
@@ -69,14 +68,14 @@ starts f g writing cap p = record {
   lines = 0;
   bytes = 0;
   held = p;
-  left = f;
-  right = g;
+  row = tables;
+  texts = texts;
 }
 
 -- lines stored by the list machine's fold
-stored-same : (f g : Field) (writing : Bool) (cap : ℕ) (ls : List (List ℕ)) (at : ℕ) (old : List ℕ) → list.storeAll (records f g) writing cap ls at old ≡ storeAll ls at old
-stored-same f g writing cap [] at old = refl
-stored-same f g writing cap (l ∷ ls) at old = stored-same f g writing cap ls (at + length l) (storeLine l at old)
+stored-same : (tables texts : List ℕ) (writing : Bool) (cap : ℕ) (ls : List (List ℕ)) (at : ℕ) (old : List ℕ) → list.storeAll (records tables texts) writing cap ls at old ≡ storeAll ls at old
+stored-same tables texts writing cap [] at old = refl
+stored-same tables texts writing cap (l ∷ ls) at old = stored-same tables texts writing cap ls (at + length l) (storeLine l at old)
 
 module _ (E : Setting) (text : Bindings E → List ℕ) where
   -- what the machine has come to at d, by the search's result
@@ -86,28 +85,28 @@ module _ (E : Setting) (text : Bindings E → List ℕ) where
   Final writing out d refused = (d .state .refused ≡ true) × (d .state .lines ≡ 0) × (d .state .bytes ≡ 0) × (writing ≡ false → d .out ≡ out)
   Final writing out d unfinished = ⊥
 
-module _ (E : Setting) (f g : Field) (Holds : Problem → theory.Problem E → Type 0) (number : Rule → ℕ) (text : Bindings E → List ℕ) (agrees : Agrees E (records f g) Holds number text)
+module _ (E : Setting) (tables texts : List ℕ) (Holds : Problem → theory.Problem E → Type 0) (number : Rule → ℕ) (text : Bindings E → List ℕ) (agrees : Agrees E (records tables texts) Holds number text)
     (bound : ℕ) (short : (p : Problem) (σ : Bindings E) (u : List (E .names .Name)) → Holds p (theory.problem theory.solved σ u) → length (text σ) ≤ bound) (low : bound * 2 ^ 34 < 2 ^ 64) where
   module _ (A B : theory.Field E) (linear : Linear E A B) (a : length A ≤ 16) (b : length B ≤ 16) (writing : Bool) (cap : ℕ) (some-room : 1 ≤ cap) (p : Problem) (is-root : Holds p (root E A B))
       (row : List Problem) (size : length row ≡ cap) (out : List ℕ) where
     abbrev begins : Config
-    begins = fromRoot (conf (starts f g writing cap p) row out)
+    begins = fromRoot (conf (starts tables texts writing cap p) row out)
 
     abbrev work : Work Problem
     work = on 14 p (p ∷ []) 0 0 out
 
-    begins-shows : Shows f g writing cap begins work
+    begins-shows : Shows tables texts writing cap begins work
     begins-shows = (
       0,
       set row 0 p,
-      ap (λ (tail : ℕ). conf (record { busy = true; writing = writing; refused = false; rule = 14; at = 0; head = 0; tail = tail; count = 1; cap = cap; lines = 0; bytes = 0; held = p; left = f; right = g }) (set row 0 p) out) behind,
+      ap (λ (tail : ℕ). conf (record { busy = true; writing = writing; refused = false; rule = 14; at = 0; head = 0; tail = tail; count = 1; cap = cap; lines = 0; bytes = 0; held = p; row = tables; texts = texts }) (set row 0 p) out) behind,
       ring-one blankProblem (set row 0 p) cap 0 p (length-set row 0 p ∙ size) (omega arith) (getD-set-same row 0 p blankProblem (omega (arith, size))),
     )
       where
         behind : nextPlace 0 cap ≡ place 0 1 cap
         behind = ap (λ (i : ℕ). nextPlace i cap) (sym (place-first 0 cap (omega arith))) ∙ place-next 0 0 cap (omega arith) (omega arith)
 
-    by-result : (r : Result E) → searching E cap A B ≡ r → Outcome E (records f g) Holds number text agrees bound short writing cap work r → (d : Config) × Reaches begins d × Final E text writing out d r
+    by-result : (r : Result E) → searching E cap A B ≡ r → Outcome E (records tables texts) Holds number text agrees bound short writing cap work r → (d : Config) × Reaches begins d × Final E text writing out d r
     by-result unfinished e h = absurd (searching-ends E cap A B e)
     by-result refused e h = (
       after (m .0) begins,
@@ -120,10 +119,10 @@ module _ (E : Setting) (f g : Field) (Holds : Problem → theory.Problem E → T
       ),
     )
       where
-        m : (n : ℕ) × Shows f g writing cap (after n begins) (h .end)
-        m = leads-is f g writing cap (h .leads) begins begins-shows
+        m : (n : ℕ) × Shows tables texts writing cap (after n begins) (h .end)
+        m = leads-is tables texts writing cap (h .leads) begins begins-shows
 
-        shown : after (m .0) begins ≡ conf (inRow f g writing cap (h .end) (m .1 .0)) (m .1 .1) (h .end .out)
+        shown : after (m .0) begins ≡ conf (inRow tables texts writing cap (h .end) (m .1 .0)) (m .1 .1) (h .end .out)
         shown = m .1 .2
     by-result (answers xs) e h = (
       after (m .0) begins,
@@ -133,21 +132,21 @@ module _ (E : Setting) (f g : Field) (Holds : Problem → theory.Problem E → T
         ap (λ (d : Config). d .state .lines) shown ∙ omega (arith, s .counted, length-map xs text),
         ap (λ (d : Config). d .state .bytes) shown ∙ omega (arith, s .sized),
         λ n. ap (λ (d : Config). d .out) shown ∙ s .untouched n,
-        λ y. ap (λ (d : Config). d .out) shown ∙ s .written y ∙ stored-same f g writing cap (map text xs) 0 out,
+        λ y. ap (λ (d : Config). d .out) shown ∙ s .written y ∙ stored-same tables texts writing cap (map text xs) 0 out,
       ),
     )
       where
         few : length xs ≤ 2 ^ 34
         few = answers-34 E cap A B xs linear a b e
 
-        s : StopsWith (records f g) writing cap work (map text xs)
+        s : StopsWith (records tables texts) writing cap work (map text xs)
         s = h (omega (arith, few)) (omega (arith, mul-le-mul-left {m = length xs} {n = 2 ^ 34} bound few))
 
-        m : (n : ℕ) × Shows f g writing cap (after n begins) (s .end)
-        m = leads-is f g writing cap (s .leads) begins begins-shows
+        m : (n : ℕ) × Shows tables texts writing cap (after n begins) (s .end)
+        m = leads-is tables texts writing cap (s .leads) begins begins-shows
 
-        shown : after (m .0) begins ≡ conf (inRow f g writing cap (s .end) (m .1 .0)) (m .1 .1) (s .end .out)
+        shown : after (m .0) begins ≡ conf (inRow tables texts writing cap (s .end) (m .1 .0)) (m .1 .1) (s .end .out)
         shown = m .1 .2
 
     pub machine-finds : (d : Config) × Reaches begins d × Final E text writing out d (searching E cap A B)
-    machine-finds = by-result (searching E cap A B) refl (search-outcome E (records f g) Holds number text agrees bound short writing cap A B p p out is-root some-room)
+    machine-finds = by-result (searching E cap A B) refl (search-outcome E (records tables texts) Holds number text agrees bound short writing cap A B p p out is-root some-room)

@@ -15,8 +15,9 @@ use Rattle.terms.specs.declared.Field.{Field}
 use Rattle.accepted.specs.Accepted.{acceptedField}
 use Rattle.instance.specs.Constants.{consts}
 use Rattle.unifiers.specs.Shapes.{left, right}
-use Rattle.problems.specs.declared.Problem.{Problem}
-use Rattle.roots.specs.Roots.{rootValue}
+use Rattle.search_problems.specs.declared.Problem.{Problem}
+use Rattle.search_tables.specs.Tables.{rowsIn}
+use Rattle.search_problems.specs.Roots.{rootValue}
 use Rattle.queue.specs.Machine.{Config, Ends, Reaches}
 use Rattle.searching.specs.Problems as theory
 use Rattle.searching.specs.Problems.{root}
@@ -52,9 +53,9 @@ module _ (f g : List OurTerm) where
   lines-are unfinished = refl
 
   module _ (F G : Field) (row : List Problem) (out : List ℕ) (is-f : IsLeft (f ∷ [])) (is-g : IsLeft (g ∷ [])) (both : (acceptedField F && acceptedField G) ≡ true)
-      (Holds : Problem → theory.Problem setting → Type 0) (number : Rule → ℕ) (agrees : Agrees setting (records F G) Holds number (answerText f g))
+      (Holds : Problem → theory.Problem setting → Type 0) (number : Rule → ℕ) (agrees : Agrees setting (records (rowsIn F G .0) (rowsIn F G .1)) Holds number (answerText f g))
       (bound : ℕ) (short : (p : Problem) (σ : theory.Bindings setting) (u : List ℕ) → Holds p (theory.problem theory.solved σ u) → length (answerText f g σ) ≤ bound) (low : bound * 2 ^ 34 < 2 ^ 64)
-      (is-root : Holds (rootValue F G) (root setting (fieldOn left f) (fieldOn right g))) where
+      (is-root : Holds (rootValue (rowsIn F G .0)) (root setting (fieldOn left f) (fieldOn right g))) where
     short-f : length (fieldOn left f) ≤ 16
     short-f = omega (arith, is-f .0 .2 .0, length-map f (sideTerm basics consts ℕ-discrete numbers sixteenAbove left))
 

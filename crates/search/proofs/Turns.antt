@@ -10,16 +10,15 @@ use lib.Dec.{eqb, ltb}
 use lib.ListN.{length, length-append, getD, set}
 use lib.Seq.{set-getD}
 use borrow.Author.Tests.{ltb-true, ne-eqb}
-use Rattle.terms.specs.declared.Field.{Field}
-use Rattle.problems.specs.declared.Problem.{Problem}
-use Rattle.problems.specs.Values.{blankProblem}
-use Rattle.steps.specs.Steps.{failsOf, childOf, gives, nextRule}
-use Rattle.answer_lines.specs.Answers.{answerValue}
+use Rattle.search_problems.specs.declared.Problem.{Problem}
+use Rattle.search_problems.specs.Values.{blankProblem}
+use Rattle.search_problems.specs.Steps.{failsOf, childOf, gives, nextRule}
 use Rattle.pieces.specs.Stored.{storeLine}
 use Rattle.turns.specs.declared.State.{State}
 use Rattle.turns.specs.declared.Turn.{Turn}
 use Rattle.turns.specs.Turns.{trying, aim, firstRule, stopped, taken, joined, full, ruleTurn}
-use Rattle.queue.specs.Machine.{lineOf, moved, wrote, Config, conf, next, after, after-next, after-none}
+use Rattle.pair_row.specs.Row.{tableIn}
+use Rattle.queue.specs.Machine.{lineIn, lineOf, moved, wrote, Config, conf, next, after, after-next, after-none}
 use Rattle.worklist.specs.Machine as list
 use Rattle.worklist.specs.Machine.{Records, Work, Leads, here, onward}
 use Rattle.worklist.proofs.Ring.{nextPlace, place, place-next, place-after, Ring, ring-put, ring-head, ring-take}
@@ -37,8 +36,8 @@ module _ (s : State) (row : List Problem) (out : List ℕ) where
   back : (t : State) → _≡_ {A = Config} (conf t (set row (s .at) there) out) (conf t row out)
   back t = ap (λ (r : List Problem). conf t r out) (set-getD row (s .at) blankProblem)
 
-  next-joined : trying (s .rule) ≡ true → ltb (s .count) (s .cap) ≡ true → next (conf s row out) ≡ conf (joined s) (set row (s .at) (childOf (s .held) (s .rule) .problem)) out
-  next-joined t l = by-turn (record { problem = childOf (s .held) (s .rule) .problem; state = joined s }) out (rw (t, l) refl) (rw t refl)
+  next-joined : trying (s .rule) ≡ true → ltb (s .count) (s .cap) ≡ true → next (conf s row out) ≡ conf (joined s) (set row (s .at) (childOf (tableIn (s .row)) (s .held) (s .rule) .problem)) out
+  next-joined t l = by-turn (record { problem = childOf (tableIn (s .row)) (s .held) (s .rule) .problem; state = joined s }) out (rw (t, l) refl) (rw t refl)
 
   next-full : trying (s .rule) ≡ true → ltb (s .count) (s .cap) ≡ false → next (conf s row out) ≡ conf (full s) row out
   next-full t l = by-turn (record { problem = there; state = full s }) out (rw (t, l) refl) (rw t refl) ∙ back (full s)
@@ -68,10 +67,10 @@ module _ (s : State) (row : List Problem) (out : List ℕ) where
 
 -- ---- the machine whose queue is a list, over the same records
 
-abbrev pub records : Field → Field → Records
-records f g = record { Rec = Problem; isOpen = λ p. p .«open»; fails = failsOf; ok = gives; child = λ p r. childOf p r .problem; line = answerValue f g; store = storeLine }
+abbrev pub records : List ℕ → List ℕ → Records
+records tables texts = record { Rec = Problem; isOpen = λ p. p .«open»; fails = failsOf (tableIn tables); ok = gives (tableIn tables); child = λ p r. childOf (tableIn tables) p r .problem; line = lineIn tables texts; store = storeLine }
 
-module _ (f g : Field) (writing : Bool) (cap : ℕ) where
+module _ (tables texts : List ℕ) (writing : Bool) (cap : ℕ) where
   -- the state in the row, with the queue from `head` on
   abbrev pub inRow : Work Problem → ℕ → State
   inRow w head = record {
@@ -87,8 +86,8 @@ module _ (f g : Field) (writing : Bool) (cap : ℕ) where
     lines = w .lines;
     bytes = w .bytes;
     held = w .held;
-    left = f;
-    right = g;
+    row = tables;
+    texts = texts;
   }
 
   abbrev pub config : Work Problem → ℕ → List Problem → Config
@@ -102,11 +101,11 @@ module _ (f g : Field) (writing : Bool) (cap : ℕ) where
     abbrev s : State
     s = inRow w head
 
-    shows-full : ltb (w .rule) 14 ≡ true → ltb (length (w .waiting)) cap ≡ false → Shows (next (config w head row)) (list.full (records f g) writing cap w)
+    shows-full : ltb (w .rule) 14 ≡ true → ltb (length (w .waiting)) cap ≡ false → Shows (next (config w head row)) (list.full (records tables texts) writing cap w)
     shows-full t l = (head, row, next-full s row (w .out) t l, r)
 
     shows-joined : ltb (w .rule) 14 ≡ true → ltb (length (w .waiting)) cap ≡ true
-        → Shows (next (config w head row)) (list.joined (records f g) writing cap w (childOf (w .held) (w .rule) .problem))
+        → Shows (next (config w head row)) (list.joined (records tables texts) writing cap w (childOf (tableIn tables) (w .held) (w .rule) .problem))
     shows-joined t l = (
       head,
       set row (place head (length (w .waiting)) cap) q,
@@ -115,15 +114,15 @@ module _ (f g : Field) (writing : Bool) (cap : ℕ) where
     )
       where
         q : Problem
-        q = childOf (w .held) (w .rule) .problem
+        q = childOf (tableIn tables) (w .held) (w .rule) .problem
 
         few : length (w .waiting) < cap
         few = ltb-true (length (w .waiting)) cap l
 
-        one-more : length (w .waiting) + 1 ≡ length (w .waiting ++ childOf (w .held) (w .rule) .problem ∷ [])
+        one-more : length (w .waiting) + 1 ≡ length (w .waiting ++ childOf (tableIn tables) (w .held) (w .rule) .problem ∷ [])
         one-more = sym (length-append (w .waiting) (q ∷ []))
 
-        behind : nextPlace (place head (length (w .waiting)) cap) cap ≡ place head (length (w .waiting ++ childOf (w .held) (w .rule) .problem ∷ [])) cap
+        behind : nextPlace (place head (length (w .waiting)) cap) cap ≡ place head (length (w .waiting ++ childOf (tableIn tables) (w .held) (w .rule) .problem ∷ [])) cap
         behind = place-next head (length (w .waiting)) cap (r .inside) few ∙ ap (λ (n : ℕ). place head n cap) one-more
 
         aimed : aim (w .rule) head (place head (length (w .waiting)) cap) ≡ place head (length (w .waiting)) cap
@@ -132,14 +131,14 @@ module _ (f g : Field) (writing : Bool) (cap : ℕ) where
         -- by the tail, the count, and the place that was read
         shape : ℕ → ℕ → ℕ → Config
         shape tail n at =
-            conf (record { busy = true; writing = writing; refused = w .refused; rule = nextRule (w .held) (w .rule + 1); at = aim (nextRule (w .held) (w .rule + 1)) head tail; head = head; tail = tail; count = n; cap = cap; lines = w .lines; bytes = w .bytes; held = w .held; left = f; right = g })
-            (set row at (childOf (w .held) (w .rule) .problem)) (w .out)
+            conf (record { busy = true; writing = writing; refused = w .refused; rule = nextRule (tableIn tables) (w .held) (w .rule + 1); at = aim (nextRule (tableIn tables) (w .held) (w .rule + 1)) head tail; head = head; tail = tail; count = n; cap = cap; lines = w .lines; bytes = w .bytes; held = w .held; row = tables; texts = texts })
+            (set row at (childOf (tableIn tables) (w .held) (w .rule) .problem)) (w .out)
 
     module _ (t : ltb (w .rule) 14 ≡ false) where
-      shows-stopped : w .waiting ≡ [] → Shows (next (config w head row)) (list.stopped (records f g) writing cap w)
+      shows-stopped : w .waiting ≡ [] → Shows (next (config w head row)) (list.stopped (records tables texts) writing cap w)
       shows-stopped e = (head, row, next-stopped s row (w .out) t (ap (λ (q : List Problem). eqb (length q) 0) e), r)
 
-      shows-taken : (p : Problem) (q : List Problem) → w .waiting ≡ p ∷ q → Shows (next (config w head row)) (list.taken (records f g) writing cap w p q)
+      shows-taken : (p : Problem) (q : List Problem) → w .waiting ≡ p ∷ q → Shows (next (config w head row)) (list.taken (records tables texts) writing cap w p q)
       shows-taken p q e = (
         nextPlace head cap,
         set row head blankProblem,
@@ -172,15 +171,15 @@ module _ (f g : Field) (writing : Bool) (cap : ℕ) where
               last = omega (arith, more)
 
           stored : List ℕ
-          stored = cond writing (storeLine (answerValue f g p) (w .bytes) (w .out)) (w .out)
+          stored = cond writing (storeLine (lineIn tables texts p) (w .bytes) (w .out)) (w .out)
 
-          turned : (b : Bool) → cond (not b) stored (w .out) ≡ cond b (w .out) (cond writing (storeLine (answerValue f g p) (w .bytes) (w .out)) (w .out))
+          turned : (b : Bool) → cond (not b) stored (w .out) ≡ cond b (w .out) (cond writing (storeLine (lineIn tables texts p) (w .bytes) (w .out)) (w .out))
           turned true = refl
           turned false = refl
 
           -- by the record that was read, and its place
           read-as : Problem → ℕ → Config
-          read-as p at = conf (taken s p (length (lineOf s p))) (set row at blankProblem) (cond (not (p .«open»)) (cond writing (storeLine (answerValue f g p) (w .bytes) (w .out)) (w .out)) (w .out))
+          read-as p at = conf (taken s p (length (lineOf s p))) (set row at blankProblem) (cond (not (p .«open»)) (cond writing (storeLine (lineIn tables texts p) (w .bytes) (w .out)) (w .out)) (w .out))
 
           -- by the tail, the count, and the bytes
           shape : ℕ → ℕ → List ℕ → Config
@@ -189,43 +188,43 @@ module _ (f g : Field) (writing : Bool) (cap : ℕ) where
                 busy = true;
                 writing = writing;
                 refused = w .refused;
-                rule = firstRule p;
-                at = aim (firstRule p) (nextPlace head cap) tail;
+                rule = firstRule (tableIn tables) p;
+                at = aim (firstRule (tableIn tables) p) (nextPlace head cap) tail;
                 head = nextPlace head cap;
                 tail = tail;
                 count = n;
                 cap = cap;
                 lines = cond (p .«open») (w .lines) (list.plus (w .lines) 1);
-                bytes = cond (p .«open») (w .bytes) (list.plus (w .bytes) (length (answerValue f g p)));
+                bytes = cond (p .«open») (w .bytes) (list.plus (w .bytes) (length (lineIn tables texts p)));
                 held = p;
-                left = f;
-                right = g;
+                row = tables;
+                texts = texts;
               }) (set row head blankProblem) out
 
-      shows-head : (q : List Problem) → w .waiting ≡ q → Shows (next (config w head row)) (list.headTurn (records f g) writing cap w q)
+      shows-head : (q : List Problem) → w .waiting ≡ q → Shows (next (config w head row)) (list.headTurn (records tables texts) writing cap w q)
       shows-head [] e = shows-stopped e
       shows-head (p ∷ q) e = shows-taken p q e
 
-    shows-rule : ltb (w .rule) 14 ≡ true → Shows (next (config w head row)) (list.ruleTurn (records f g) writing cap w)
+    shows-rule : ltb (w .rule) 14 ≡ true → Shows (next (config w head row)) (list.ruleTurn (records tables texts) writing cap w)
     shows-rule t = by (ltb (length (w .waiting)) cap) refl
       where
         by : (c : Bool) → ltb (length (w .waiting)) cap ≡ c
-            → Shows (next (config w head row)) (cond c (list.joined (records f g) writing cap w (childOf (w .held) (w .rule) .problem)) (list.full (records f g) writing cap w))
+            → Shows (next (config w head row)) (cond c (list.joined (records tables texts) writing cap w (childOf (tableIn tables) (w .held) (w .rule) .problem)) (list.full (records tables texts) writing cap w))
         by true l = shows-joined t l
         by false l = shows-full t l
 
     -- A TURN
-    turn-is : Shows (next (config w head row)) (list.turn (records f g) writing cap w)
+    turn-is : Shows (next (config w head row)) (list.turn (records tables texts) writing cap w)
     turn-is = by (ltb (w .rule) 14) refl
       where
-        by : (b : Bool) → ltb (w .rule) 14 ≡ b → Shows (next (config w head row)) (cond b (list.ruleTurn (records f g) writing cap w) (list.headTurn (records f g) writing cap w (w .waiting)))
+        by : (b : Bool) → ltb (w .rule) 14 ≡ b → Shows (next (config w head row)) (cond b (list.ruleTurn (records tables texts) writing cap w) (list.headTurn (records tables texts) writing cap w (w .waiting)))
         by true t = shows-rule t
         by false t = shows-head t (w .waiting) refl
 
   -- turns
-  pub leads-is : {w v : Work Problem} → Leads (records f g) writing cap w v → (c : Config) → Shows c w → (n : ℕ) × Shows (after n c) v
+  pub leads-is : {w v : Work Problem} → Leads (records tables texts) writing cap w v → (c : Config) → Shows c w → (n : ℕ) × Shows (after n c) v
   leads-is {w = w} here c h = (0, subst (λ (d : Config). Shows d w) (sym (after-none c)) h)
   leads-is {w = w} {v = v} (onward b l) c h =
-      let k : Shows (next c) (list.turn (records f g) writing cap w) = subst (λ (d : Config). Shows (next d) (list.turn (records f g) writing cap w)) (sym (h .2)) (turn-is w (h .0) (h .1) (h .3)) in
+      let k : Shows (next c) (list.turn (records tables texts) writing cap w) = subst (λ (d : Config). Shows (next d) (list.turn (records tables texts) writing cap w)) (sym (h .2)) (turn-is w (h .0) (h .1) (h .3)) in
       let m = leads-is l (next c) k in
       (suc (m .0), subst (λ (d : Config). Shows d v) (sym (after-next (m .0) c (ap (λ (d : Config). d .state .busy) (h .2) ∙ b))) (m .1))

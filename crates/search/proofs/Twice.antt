@@ -15,8 +15,9 @@ use borrow.Author.Tests.{leb-true, leb-false, le-leb, lt-leb, lt-ltb, ne-eqb}
 use Rattle.terms.specs.declared.Field.{Field}
 use Rattle.accepted.specs.Accepted.{acceptedField}
 use Rattle.writing.specs.Answers as lent
-use Rattle.problems.specs.declared.Problem.{Problem}
-use Rattle.roots.specs.Roots.{rootValue}
+use Rattle.search_problems.specs.declared.Problem.{Problem}
+use Rattle.search_tables.specs.Tables.{rowsIn}
+use Rattle.search_problems.specs.Roots.{rootValue}
 use Rattle.pieces.specs.Stored.{bytesOf, storeAll}
 use Rattle.pieces.proofs.Stored.{stored}
 use Rattle.turns.specs.declared.State.{State}
@@ -60,6 +61,13 @@ none-stored : (out : List ℕ) → out ≡ lent.after [] out
 none-stored out = sym (ap (λ (b : Bool). cond b (drop 0 out) out) (le-leb 0 (length out) (omega arith)))
 
 module _ (f g : Field) (row : List Problem) (out : List ℕ) where
+  -- the tables of the two fields
+  abbrev tables : List ℕ
+  tables = rowsIn f g .0
+
+  abbrev texts : List ℕ
+  texts = rowsIn f g .1
+
   -- where the run that counts starts, and, behind its end t, the run that writes
   abbrev pub counting : Config
   counting = fromRoot (conf (begun f g (length row)) row out)
@@ -107,9 +115,9 @@ module _ (f g : Field) (row : List Problem) (out : List ℕ) where
 
   -- ---- two accepted fields
 
-  module _ (E : Setting) (Holds : Problem → theory.Problem E → Type 0) (number : Rule → ℕ) (text : Bindings E → List ℕ) (agrees : Agrees E (records f g) Holds number text)
+  module _ (E : Setting) (Holds : Problem → theory.Problem E → Type 0) (number : Rule → ℕ) (text : Bindings E → List ℕ) (agrees : Agrees E (records tables texts) Holds number text)
       (bound : ℕ) (short : (p : Problem) (σ : Bindings E) (u : List (E .names .Name)) → Holds p (theory.problem theory.solved σ u) → length (text σ) ≤ bound) (low : bound * 2 ^ 34 < 2 ^ 64)
-      (A B : theory.Field E) (linear : Linear E A B) (a : length A ≤ 16) (b : length B ≤ 16) (is-root : Holds (rootValue f g) (root E A B))
+      (A B : theory.Field E) (linear : Linear E A B) (a : length A ≤ 16) (b : length B ≤ 16) (is-root : Holds (rootValue tables) (root E A B))
       (both : (acceptedField f && acceptedField g) ≡ true) where
     -- ---- a row with no record: refused at once
 
@@ -146,27 +154,27 @@ module _ (f g : Field) (row : List Problem) (out : List ℕ) where
 
     -- ---- a row with a record
     module _ (some-there : 1 ≤ length row) where
-      begun-is : begun f g (length row) ≡ starts f g false (length row) (rootValue f g)
+      begun-is : begun f g (length row) ≡ starts tables texts false (length row) (rootValue tables)
       begun-is = rw (both, lt-ltb 0 (length row) some-there, ne-eqb (length row) 0 (λ z. omega arith)) refl
 
       counted : (d : Config) × Reaches counting d × Final E text false out d (searching E (length row) A B)
       counted = subst (λ (s : State). (d : Config) × Reaches (fromRoot (conf s row out)) d × Final E text false out d (searching E (length row) A B)) (sym begun-is)
-          (machine-finds E f g Holds number text agrees bound short low A B linear a b false (length row) some-there (rootValue f g) is-root row refl out)
+          (machine-finds E tables texts Holds number text agrees bound short low A B linear a b false (length row) some-there (rootValue tables) is-root row refl out)
 
       final : (t : Config) → Reaches counting t → Final E text false out t (searching E (length row) A B)
       final t r = subst (λ (d : Config). Final E text false out d (searching E (length row) A B)) (reaches-once counting (counted .0) t (counted .1) r) (counted .2)
 
-      again-is : (t : State) → t .refused ≡ false → leb (t .bytes) (length out) ≡ true → again (begun f g (length row)) t (length out) ≡ starts f g true (length row) (rootValue f g)
+      again-is : (t : State) → t .refused ≡ false → leb (t .bytes) (length out) ≡ true → again (begun f g (length row)) t (length out) ≡ starts tables texts true (length row) (rootValue tables)
       again-is t e h = rw (e, h, both, lt-ltb 0 (length row) some-there, ne-eqb (length row) 0 (λ z. omega arith)) refl
 
       -- the run that writes
       module _ (t : Config) (r : Reaches counting t) where
         size : length (t .row) ≡ length row
-        size = reaches-row counting t r ∙ length-set row 0 (rootValue f g)
+        size = reaches-row counting t r ∙ length-set row 0 (rootValue tables)
 
         wrote : t .state .refused ≡ false → leb (t .state .bytes) (length out) ≡ true → (v : Config) × Reaches (writing t) v × Final E text true (t .out) v (searching E (length row) A B)
         wrote e h = subst (λ (s : State). (v : Config) × Reaches (fromRoot (conf s (t .row) (t .out))) v × Final E text true (t .out) v (searching E (length row) A B)) (sym (again-is (t .state) e h))
-            (machine-finds E f g Holds number text agrees bound short low A B linear a b true (length row) some-there (rootValue f g) is-root (t .row) size (t .out))
+            (machine-finds E tables texts Holds number text agrees bound short low A B linear a b true (length row) some-there (rootValue tables) is-root (t .row) size (t .out))
 
         idle-full : t .state .refused ≡ true → writing t .state .busy ≡ false
         idle-full e = ap (λ (c : Bool). cond c false (cond (leb (t .state .bytes) (length out)) (begun f g (length row) .busy) false)) e

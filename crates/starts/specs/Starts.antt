@@ -5,7 +5,8 @@ use mathlib.Core.Bool.{true, false, _&&_, cond}
 use Prim.Native.Nat.{ℕ}
 use lib.Dec.{eqb, ltb, leb}
 use Rattle.terms.specs.declared.Field.{Field}
-use Rattle.roots.specs.Roots.{rootValue}
+use Rattle.search_tables.specs.Tables.{rowsIn}
+use Rattle.search_problems.specs.Roots.{rootValue}
 use Rattle.accepted.specs.Accepted.{acceptedField}
 use Rattle.turns.specs.declared.State.{State}
 use Rattle.turns.specs.Turns.{rules, nextPlace}
@@ -24,9 +25,9 @@ begun f g cap = record {
   cap = cap;
   lines = 0;
   bytes = 0;
-  held = rootValue f g;
-  left = f;
-  right = g;
+  held = rootValue (rowsIn f g .0);
+  row = rowsIn f g .0;
+  texts = rowsIn f g .1;
 }
 
 -- the state s once more, after the count ended in t: the search writes its lines, and does nothing where it was refused or `room` bytes are too few
@@ -44,6 +45,6 @@ again s t room = record {
   lines = s .lines;
   bytes = s .bytes;
   held = s .held;
-  left = s .left;
-  right = s .right;
+  row = s .row;
+  texts = s .texts;
 }

@@ -37,7 +37,10 @@ pub fn begin(left: Field, right: Field, cap: usize) -> State
 {
     let on = are_fields(left, right);
     let tail = second_place(cap);
-    let root = roots::root(left, right);
+    let tables = search_tables::tables_of(left, right);
+    let row = tables.row;
+    let texts = tables.texts;
+    let root = search_problems::root(&row);
     State {
         busy: choose_bool(on, 0 < cap),
         writing: false,
@@ -51,8 +54,8 @@ pub fn begin(left: Field, right: Field, cap: usize) -> State
         lines: 0,
         bytes: 0,
         held: root,
-        left: left,
-        right: right,
+        row: row,
+        texts: texts,
     }
 }
 

@@ -7,9 +7,11 @@
 use mathlib.Core.Bool.{Bool, true, false, not, cond}
 use Prim.Native.Nat.{ℕ, _+_, _-_, _%_, _^_}
 use lib.Dec.{eqb, ltb}
-use Rattle.problems.specs.declared.Problem.{Problem}
-use Rattle.problems.specs.Values.{blankProblem}
-use Rattle.steps.specs.Steps.{failsOf, childOf, nextRule}
+use Rattle.math_codes.specs.Tables.{Table}
+use Rattle.pair_row.specs.Row.{tableIn}
+use Rattle.search_problems.specs.declared.Problem.{Problem}
+use Rattle.search_problems.specs.Values.{blankProblem}
+use Rattle.search_problems.specs.Steps.{failsOf, childOf, nextRule}
 use Rattle.turns.specs.declared.State.{State}
 use Rattle.turns.specs.declared.Turn.{Turn}
 
@@ -36,12 +38,12 @@ abbrev pub plus : ℕ → ℕ → ℕ
 plus a b = (a + b) % 2 ^ 64
 
 -- document 01: "Failure rules come first: a problem that meets one gives no child."
-abbrev pub worked : Problem → Bool
-worked p = cond (p .«open») (not (failsOf p)) false
+abbrev pub worked : Table → Problem → Bool
+worked T p = cond (p .«open») (not (failsOf T p)) false
 
 -- the first rule that gives a problem a child
-abbrev pub firstRule : Problem → ℕ
-firstRule p = cond (worked p) (nextRule p 0) rules
+abbrev pub firstRule : Table → Problem → ℕ
+firstRule T p = cond (worked T p) (nextRule T p 0) rules
 
 -- ---- turns where no problem is held
 
@@ -60,8 +62,8 @@ stopped s = record {
   lines = s .lines;
   bytes = s .bytes;
   held = s .held;
-  left = s .left;
-  right = s .right;
+  row = s .row;
+  texts = s .texts;
 }
 
 -- the problem p leaves the row: a solved one is an answer, whose line has n bytes; one that does not fail is held, and its children are put in
@@ -70,8 +72,8 @@ taken s p n = record {
   busy = true;
   writing = s .writing;
   refused = s .refused;
-  rule = firstRule p;
-  at = aim (firstRule p) (nextPlace (s .head) (s .cap)) (s .tail);
+  rule = firstRule (tableIn (s .row)) p;
+  at = aim (firstRule (tableIn (s .row)) p) (nextPlace (s .head) (s .cap)) (s .tail);
   head = nextPlace (s .head) (s .cap);
   tail = s .tail;
   count = s .count - 1;
@@ -79,8 +81,8 @@ taken s p n = record {
   lines = cond (p .«open») (s .lines) (plus (s .lines) 1);
   bytes = cond (p .«open») (s .bytes) (plus (s .bytes) n);
   held = p;
-  left = s .left;
-  right = s .right;
+  row = s .row;
+  texts = s .texts;
 }
 
 abbrev pub headTurn : State → Problem → ℕ → Turn
@@ -94,8 +96,8 @@ joined s = record {
   busy = true;
   writing = s .writing;
   refused = s .refused;
-  rule = nextRule (s .held) (s .rule + 1);
-  at = aim (nextRule (s .held) (s .rule + 1)) (s .head) (nextPlace (s .tail) (s .cap));
+  rule = nextRule (tableIn (s .row)) (s .held) (s .rule + 1);
+  at = aim (nextRule (tableIn (s .row)) (s .held) (s .rule + 1)) (s .head) (nextPlace (s .tail) (s .cap));
   head = s .head;
   tail = nextPlace (s .tail) (s .cap);
   count = s .count + 1;
@@ -103,8 +105,8 @@ joined s = record {
   lines = s .lines;
   bytes = s .bytes;
   held = s .held;
-  left = s .left;
-  right = s .right;
+  row = s .row;
+  texts = s .texts;
 }
 
 -- document 01: "9: a problem is to be put in while as many wait as the row has records; .. both counts are 0"
@@ -122,8 +124,8 @@ full s = record {
   lines = 0;
   bytes = 0;
   held = s .held;
-  left = s .left;
-  right = s .right;
+  row = s .row;
+  texts = s .texts;
 }
 
 -- a child q is to be put in
@@ -131,7 +133,7 @@ abbrev pub childTurn : State → Problem → Problem → Turn
 childTurn s p q = cond (ltb (s .count) (s .cap)) (record { problem = q; state = joined s }) (record { problem = p; state = full s })
 
 abbrev pub ruleTurn : State → Problem → Turn
-ruleTurn s p = childTurn s p (childOf (s .held) (s .rule) .problem)
+ruleTurn s p = childTurn s p (childOf (tableIn (s .row)) (s .held) (s .rule) .problem)
 
 -- ---- a turn
 

@@ -2,11 +2,11 @@
 ghost use mathlib.Core.Path.{_≡_};
 ghost use mathlib.Core.Bool.{cond};
 ghost use Prim.Native.Nat.{_<_, _-_};
+ghost use Rattle.pair_row.specs.Row.{tableIn};
 ghost use Rattle.turns.specs.Turns.{nextPlace, aim, worked, firstRule, stopped, taken, headTurn, joined, full, childTurn, ruleTurn, decided};
-use problems::Problem;
-use terms::Field;
+use search_problems::Problem;
 
-// Where the search is.
+// Where the search is. `row`, `texts`: the tables of the two fields.
 pub struct State {
     pub busy: bool,
     pub writing: bool,
@@ -20,8 +20,8 @@ pub struct State {
     pub lines: usize,
     pub bytes: usize,
     pub held: Problem,
-    pub left: Field,
-    pub right: Field,
+    pub row: [u8; 681],
+    pub texts: [u8; 2048],
 }
 
 // What a turn makes of the record that it reads, and the state after it.
@@ -62,21 +62,21 @@ fn aim(rule: usize, head: usize, tail: usize) -> usize
 // ---- turns where no problem is held
 
 // Whether a problem's children are to be put in.
-fn is_worked(p: Problem) -> bool
-    ensures { λ r. ⌜ r ≡ worked p ⌝ }
+fn is_worked(p: Problem, row: &[u8]) -> bool
+    ensures { λ r. ⌜ r ≡ worked (tableIn (now (row .entry))) p ⌝ }
 {
     if !p.open {
         return false;
     }
-    !steps::fails(p)
+    !search_problems::fails(p, row)
 }
 
 // The first rule that gives a problem a child.
-fn first_rule(p: Problem) -> usize
-    ensures { λ r. ⌜ r ≡ firstRule p ⌝ }
+fn first_rule(p: Problem, row: &[u8]) -> usize
+    ensures { λ r. ⌜ r ≡ firstRule (tableIn (now (row .entry))) p ⌝ }
 {
-    if is_worked(p) {
-        return steps::next_rule(p, 0);
+    if is_worked(p, row) {
+        return search_problems::next_rule(p, 0, row);
     }
     14
 }
@@ -93,7 +93,7 @@ fn stop(s: State) -> State
 fn leave(s: State, p: Problem, n: usize) -> State
     ensures { λ r. ⌜ r ≡ taken s p n ⌝ }
 {
-    let rule = first_rule(p);
+    let rule = first_rule(p, &s.row);
     let open = p.open;
     let head = next_place(s.head, s.cap);
     let mut t = s;
@@ -118,7 +118,7 @@ fn take_head(s: State, p: Problem, n: usize) -> Turn
         };
     }
     Turn {
-        problem: problems::blank_problem(),
+        problem: search_problems::blank_problem(),
         state: leave(s, p, n),
     }
 }
@@ -131,7 +131,7 @@ fn join(s: State) -> State
     ensures { λ r. ⌜ r ≡ joined s ⌝ }
 {
     let h = s.held;
-    let rule = steps::next_rule(h, s.rule + 1);
+    let rule = search_problems::next_rule(h, s.rule + 1, &s.row);
     let tail = next_place(s.tail, s.cap);
     let mut t = s;
     t.busy = true;
@@ -176,7 +176,7 @@ fn try_rule(s: State, p: Problem) -> Turn
     ensures { λ r. ⌜ r ≡ ruleTurn s p ⌝ }
 {
     let h = s.held;
-    let c = steps::child_of(h, s.rule);
+    let c = search_problems::child_of(h, s.rule, &s.row);
     let q = c.problem;
     put_child(s, p, q)
 }

@@ -2,7 +2,7 @@
 use mathlib.Core.Path.{sym, _∙_, ap}
 use mathlib.Core.Bool.{Bool, cond}
 use borrow.Author.Needs.{needs}
-use Rattle.steps.specs.Steps.{nextRule}
+use Rattle.search_problems.specs.Steps.{nextRule}
 use Rattle.turns.specs.Turns.{rules}
 use Rattle.turns.proofs.first_rule.Statement.{statement}
 use Rattle.turns.proofs.first_rule.Tie as tie

@@ -3,7 +3,7 @@ use mathlib.Core.Path.{refl, sym, _∙_, ap}
 use mathlib.Core.Bool.{Bool, false, not, cond}
 use borrow.Author.Tests.{not-true, not-false}
 use borrow.Author.Needs.{needs}
-use Rattle.steps.specs.Steps.{failsOf}
+use Rattle.search_problems.specs.Steps.{failsOf}
 use Rattle.turns.proofs.is_worked.Statement.{statement}
 use Rattle.turns.proofs.is_worked.Tie as tie
 

@@ -1,7 +1,7 @@
 -- `turns::try_rule` meets its contract. Assumes nothing.
 use mathlib.Core.Path.{_∙_, ap}
 use borrow.Author.Needs.{needs}
-use Rattle.steps.specs.declared.Child.{Child}
+use Rattle.search_problems.specs.declared.Child.{Child}
 use Rattle.turns.specs.Turns.{childTurn}
 use Rattle.turns.proofs.try_rule.Statement.{statement}
 use Rattle.turns.proofs.try_rule.Tie as tie
