@@ -1,2 +1,4 @@
 pub mod Sides
 pub mod Numbers
+pub mod Heads
+pub mod Failing
