@@ -16,7 +16,7 @@ use Rattle.pieces.specs.Stored.{storeLine}
 use Rattle.pieces.proofs.Stored.{store-part, store-end}
 use Rattle.turns.specs.declared.State.{State}
 use Rattle.turns.specs.declared.Turn.{Turn}
-use Rattle.turns.specs.Turns.{rules, trying, nextPlace, plus, worked, stopped, ruleTurn, decided}
+use Rattle.turns.specs.Turns.{trying, nextPlace, aim, plus, firstRule, stopped, ruleTurn, decided}
 use Rattle.queue.specs.Machine.{answers, linePlace, lineOf, wrote}
 
 -- ---- where an answer's line goes
@@ -55,7 +55,7 @@ module _ (s : State) (p : Problem) (old : List ℕ) where
 
 -- ---- what is not an answer has no line to count
 
--- t, z, o: a rule is tried, nothing waits, the record is open
+-- t, z, o: a child is put in, nothing waits, the record is open
 turn-by : (r e : Turn) (f : ℕ → Turn) (a n : ℕ) (t z o : Bool)
     → cond t r (cond z e (f (cond o a (plus a (cond (cond t false (cond z false (not o))) n 0))))) ≡ cond t r (cond z e (f (cond o a (plus a n))))
 turn-by r e f a n true z o = refl
@@ -72,8 +72,8 @@ module _ (s : State) (p : Problem) (n : ℕ) where
       busy = true;
       writing = s .writing;
       refused = s .refused;
-      rule = cond (worked p) 0 rules;
-      at = cond (worked p) (s .tail) (nextPlace (s .head) (s .cap));
+      rule = firstRule p;
+      at = aim (firstRule p) (nextPlace (s .head) (s .cap)) (s .tail);
       head = nextPlace (s .head) (s .cap);
       tail = s .tail;
       count = s .count - 1;

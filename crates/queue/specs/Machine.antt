@@ -3,7 +3,7 @@
 --     Config, next     a state, the row and the output, and one turn of them
 --     after            at most n turns, none once the machine is not busy
 --     Ends, Reaches    the machine stops; it stops there
---     fromRoot         the row that a search starts with
+--     fromRoot         where a search starts
 -- Assumes nothing.
 use mathlib.Core.Path.{_≡_, refl, sym, _∙_, ap, subst}
 use mathlib.Core.Bool.{Bool, true, false, not, cond}
@@ -11,7 +11,7 @@ use mathlib.Core.List.{List}
 use Prim.Native.Nat.{ℕ, zero, suc, _-_, _<_, min}
 use native.Mathlib.Omega.{arith}
 use lib.Dec.{T, eqb}
-use lib.ListN.{length, getD, set, replicate}
+use lib.ListN.{length, getD, set}
 use Rattle.problems.specs.declared.Problem.{Problem}
 use Rattle.problems.specs.Values.{blankProblem}
 use Rattle.answer_lines.specs.Answers.{answerValue}
@@ -92,7 +92,7 @@ turn-on (suc n) d e p z h =
 pub turn-off : (n : ℕ) (d e : Config) → after n d ≡ e → d .state .busy ≡ false → d ≡ e
 turn-off n d e p h = sym (after-idle n d h) ∙ p
 
--- ---- the search from the problem that the state holds: it stands alone in a row of blanks
+-- ---- the search from the problem that the state holds: it stands in the first place; what the others hold makes no difference
 
 abbrev pub fromRoot : Config → Config
-fromRoot c = conf (c .state) (set (replicate (length (c .row)) blankProblem) 0 (c .state .held)) (c .out)
+fromRoot c = conf (c .state) (set (c .row) 0 (c .state .held)) (c .out)

@@ -1,5 +1,5 @@
 -- THE RECORDS ARE THE SEARCH'S PROBLEMS, for two fields that stand on the left sides of accepted rules: what the machine asks of them holds.
-use mathlib.Core.Path.{_≡_, refl, _∙_, ap}
+use mathlib.Core.Path.{_≡_, refl, sym, _∙_, ap}
 use mathlib.Core.Logic.{inl, inr}
 use mathlib.Core.Option.{Option, none, some}
 use mathlib.Core.List.{List, [], _∷_}
@@ -57,8 +57,8 @@ module _ (f g : List OurTerm) (is-f : IsLeft (f ∷ [])) (is-g : IsLeft (g ∷ [
   module _ (p : Problem) (σ : Bindings setting) (u : List ℕ) where
     child-same : (r : Rule) (o : Option (Move setting)) → steps.ChildIs A B σ u (childOf p (number r)) o
         → worklist.ChildIs setting all (Holds A B) p (number r) σ u o
-    child-same r none h = ap (λ (c : Child). c .ok) h
-    child-same r (some m) h = h
+    child-same r none h = sym (steps.gives-is p (number r)) ∙ ap (λ (c : Child). c .ok) h
+    child-same r (some m) h = (sym (steps.gives-is p (number r)) ∙ h .0, h .1)
 
   pub agreed : Agrees setting all (Holds A B) number (answerText f g)
   agreed = record {

@@ -1,4 +1,4 @@
--- WHAT THE MACHINE FINDS: from the root alone in a row of blanks it stops, refused exactly where the search is refused, else with the number of the answers
+-- WHAT THE MACHINE FINDS: from the root alone it stops, refused exactly where the search is refused, else with the number of the answers
 -- and of their lines' bytes, and, where it writes, with the lines in the lent bytes.
 --     machine-finds      one run
 --     reaches-once       a machine stops at one place only
@@ -8,7 +8,7 @@ use mathlib.Core.List.{List, [], _∷_, map}
 use Prim.Native.Nat.{ℕ, zero, suc, _+_, _*_, _^_, _≤_, _<_}
 use native.Mathlib.Omega.{arith}
 use native.Mathlib.Nat.{mul-le-mul-left}
-use lib.ListN.{length, length-map, length-set, length-replicate, set, replicate}
+use lib.ListN.{length, length-map, length-set, set}
 use lib.Seq.{getD-set-same}
 use Rattle.terms.specs.declared.Field.{Field}
 use Rattle.problems.specs.declared.Problem.{Problem}
@@ -99,10 +99,9 @@ module _ (E : Setting) (f g : Field) (Holds : Problem → theory.Problem E → T
     begins-shows : Shows f g writing cap begins work
     begins-shows = (
       0,
-      set (replicate (length row) blankProblem) 0 p,
-      ap (λ (tail : ℕ). conf (record { busy = true; writing = writing; refused = false; rule = 14; at = 0; head = 0; tail = tail; count = 1; cap = cap; lines = 0; bytes = 0; held = p; left = f; right = g }) (set (replicate (length row) blankProblem) 0 p) out) behind,
-      ring-one blankProblem (set (replicate (length row) blankProblem) 0 p) cap 0 p (length-set (replicate (length row) blankProblem) 0 p ∙ length-replicate (length row) blankProblem ∙ size) (omega arith)
-          (getD-set-same (replicate (length row) blankProblem) 0 p blankProblem (omega (arith, length-replicate (length row) blankProblem))),
+      set row 0 p,
+      ap (λ (tail : ℕ). conf (record { busy = true; writing = writing; refused = false; rule = 14; at = 0; head = 0; tail = tail; count = 1; cap = cap; lines = 0; bytes = 0; held = p; left = f; right = g }) (set row 0 p) out) behind,
+      ring-one blankProblem (set row 0 p) cap 0 p (length-set row 0 p ∙ size) (omega arith) (getD-set-same row 0 p blankProblem (omega (arith, size))),
     )
       where
         behind : nextPlace 0 cap ≡ place 0 1 cap

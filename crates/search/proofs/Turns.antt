@@ -13,12 +13,12 @@ use borrow.Author.Tests.{ltb-true, ne-eqb}
 use Rattle.terms.specs.declared.Field.{Field}
 use Rattle.problems.specs.declared.Problem.{Problem}
 use Rattle.problems.specs.Values.{blankProblem}
-use Rattle.steps.specs.Steps.{failsOf, childOf}
+use Rattle.steps.specs.Steps.{failsOf, childOf, gives, nextRule}
 use Rattle.answer_lines.specs.Answers.{answerValue}
 use Rattle.pieces.specs.Stored.{storeLine}
 use Rattle.turns.specs.declared.State.{State}
 use Rattle.turns.specs.declared.Turn.{Turn}
-use Rattle.turns.specs.Turns.{trying, aim, worked, stopped, taken, headTurn, passed, joined, full, ruleTurn}
+use Rattle.turns.specs.Turns.{trying, aim, firstRule, stopped, taken, joined, full, ruleTurn}
 use Rattle.queue.specs.Machine.{lineOf, moved, wrote, Config, conf, next, after, after-next, after-none}
 use Rattle.worklist.specs.Machine as list
 use Rattle.worklist.specs.Machine.{Records, Work, Leads, here, onward}
@@ -37,14 +37,11 @@ module _ (s : State) (row : List Problem) (out : List ℕ) where
   back : (t : State) → _≡_ {A = Config} (conf t (set row (s .at) there) out) (conf t row out)
   back t = ap (λ (r : List Problem). conf t r out) (set-getD row (s .at) blankProblem)
 
-  next-passed : trying (s .rule) ≡ true → childOf (s .held) (s .rule) .ok ≡ false → next (conf s row out) ≡ conf (passed s) row out
-  next-passed t e = by-turn (record { problem = there; state = passed s }) out (rw (t, e) refl) (rw t refl) ∙ back (passed s)
+  next-joined : trying (s .rule) ≡ true → ltb (s .count) (s .cap) ≡ true → next (conf s row out) ≡ conf (joined s) (set row (s .at) (childOf (s .held) (s .rule) .problem)) out
+  next-joined t l = by-turn (record { problem = childOf (s .held) (s .rule) .problem; state = joined s }) out (rw (t, l) refl) (rw t refl)
 
-  next-joined : trying (s .rule) ≡ true → childOf (s .held) (s .rule) .ok ≡ true → ltb (s .count) (s .cap) ≡ true → next (conf s row out) ≡ conf (joined s) (set row (s .at) (childOf (s .held) (s .rule) .problem)) out
-  next-joined t e l = by-turn (record { problem = childOf (s .held) (s .rule) .problem; state = joined s }) out (rw (t, e, l) refl) (rw t refl)
-
-  next-full : trying (s .rule) ≡ true → childOf (s .held) (s .rule) .ok ≡ true → ltb (s .count) (s .cap) ≡ false → next (conf s row out) ≡ conf (full s) row out
-  next-full t e l = by-turn (record { problem = there; state = full s }) out (rw (t, e, l) refl) (rw t refl) ∙ back (full s)
+  next-full : trying (s .rule) ≡ true → ltb (s .count) (s .cap) ≡ false → next (conf s row out) ≡ conf (full s) row out
+  next-full t l = by-turn (record { problem = there; state = full s }) out (rw (t, l) refl) (rw t refl) ∙ back (full s)
 
   -- the line that is stored where an answer is read, and a turn where no rule is tried, by its tests
   abbrev stored : List ℕ
@@ -72,7 +69,7 @@ module _ (s : State) (row : List Problem) (out : List ℕ) where
 -- ---- the machine whose queue is a list, over the same records
 
 abbrev pub records : Field → Field → Records
-records f g = record { Rec = Problem; isOpen = λ p. p .«open»; fails = failsOf; ok = λ p r. childOf p r .ok; child = λ p r. childOf p r .problem; line = answerValue f g; store = storeLine }
+records f g = record { Rec = Problem; isOpen = λ p. p .«open»; fails = failsOf; ok = gives; child = λ p r. childOf p r .problem; line = answerValue f g; store = storeLine }
 
 module _ (f g : Field) (writing : Bool) (cap : ℕ) where
   -- the state in the row, with the queue from `head` on
@@ -105,18 +102,15 @@ module _ (f g : Field) (writing : Bool) (cap : ℕ) where
     abbrev s : State
     s = inRow w head
 
-    shows-passed : ltb (w .rule) 14 ≡ true → childOf (w .held) (w .rule) .ok ≡ false → Shows (next (config w head row)) (list.passed (records f g) writing cap w)
-    shows-passed t e = (head, row, next-passed s row (w .out) t e, r)
+    shows-full : ltb (w .rule) 14 ≡ true → ltb (length (w .waiting)) cap ≡ false → Shows (next (config w head row)) (list.full (records f g) writing cap w)
+    shows-full t l = (head, row, next-full s row (w .out) t l, r)
 
-    shows-full : ltb (w .rule) 14 ≡ true → childOf (w .held) (w .rule) .ok ≡ true → ltb (length (w .waiting)) cap ≡ false → Shows (next (config w head row)) (list.full (records f g) writing cap w)
-    shows-full t e l = (head, row, next-full s row (w .out) t e l, r)
-
-    shows-joined : ltb (w .rule) 14 ≡ true → childOf (w .held) (w .rule) .ok ≡ true → ltb (length (w .waiting)) cap ≡ true
+    shows-joined : ltb (w .rule) 14 ≡ true → ltb (length (w .waiting)) cap ≡ true
         → Shows (next (config w head row)) (list.joined (records f g) writing cap w (childOf (w .held) (w .rule) .problem))
-    shows-joined t e l = (
+    shows-joined t l = (
       head,
       set row (place head (length (w .waiting)) cap) q,
-      next-joined s row (w .out) t e l ∙ ap₂ (λ (tail : ℕ) (n : ℕ). shape tail n (aim (w .rule) head (place head (length (w .waiting)) cap))) behind one-more ∙ ap (λ (at : ℕ). shape (place head (length (w .waiting ++ q ∷ [])) cap) (length (w .waiting ++ q ∷ [])) at) aimed,
+      next-joined s row (w .out) t l ∙ ap₂ (λ (tail : ℕ) (n : ℕ). shape tail n (aim (w .rule) head (place head (length (w .waiting)) cap))) behind one-more ∙ ap (λ (at : ℕ). shape (place head (length (w .waiting ++ q ∷ [])) cap) (length (w .waiting ++ q ∷ [])) at) aimed,
       ring-put blankProblem row cap head (w .waiting) q r few,
     )
       where
@@ -138,7 +132,7 @@ module _ (f g : Field) (writing : Bool) (cap : ℕ) where
         -- by the tail, the count, and the place that was read
         shape : ℕ → ℕ → ℕ → Config
         shape tail n at =
-            conf (record { busy = true; writing = writing; refused = w .refused; rule = w .rule + 1; at = aim (w .rule + 1) head tail; head = head; tail = tail; count = n; cap = cap; lines = w .lines; bytes = w .bytes; held = w .held; left = f; right = g })
+            conf (record { busy = true; writing = writing; refused = w .refused; rule = nextRule (w .held) (w .rule + 1); at = aim (nextRule (w .held) (w .rule + 1)) head tail; head = head; tail = tail; count = n; cap = cap; lines = w .lines; bytes = w .bytes; held = w .held; left = f; right = g })
             (set row at (childOf (w .held) (w .rule) .problem)) (w .out)
 
     module _ (t : ltb (w .rule) 14 ≡ false) where
@@ -151,8 +145,8 @@ module _ (f g : Field) (writing : Bool) (cap : ℕ) where
         set row head blankProblem,
         next-taken s row (w .out) t (ne-eqb (length (w .waiting)) 0 (λ z. omega (arith, more)))
             ∙ ap₂ read-as is-p aimed
-            ∙ ap₂ (λ (tail : ℕ) (n : ℕ). shape tail n (cond (worked p) tail (nextPlace head cap)) (cond (not (p .«open»)) stored (w .out))) behind one-less
-            ∙ ap₂ (shape (place (nextPlace head cap) (length q) cap) (length q)) (aims (worked p)) (turned (p .«open»)),
+            ∙ ap₂ (λ (tail : ℕ) (n : ℕ). shape tail n (cond (not (p .«open»)) stored (w .out))) behind one-less
+            ∙ ap (shape (place (nextPlace head cap) (length q) cap) (length q)) (turned (p .«open»)),
         ring-take blankProblem row cap head p q blankProblem ring,
       )
         where
@@ -177,10 +171,6 @@ module _ (f g : Field) (writing : Bool) (cap : ℕ) where
               last : length (w .waiting) ≡ length q + 1
               last = omega (arith, more)
 
-          aims : (b : Bool) → cond b (place (nextPlace head cap) (length q) cap) (nextPlace head cap) ≡ aim (cond b 0 14) (nextPlace head cap) (place (nextPlace head cap) (length q) cap)
-          aims true = refl
-          aims false = refl
-
           stored : List ℕ
           stored = cond writing (storeLine (answerValue f g p) (w .bytes) (w .out)) (w .out)
 
@@ -192,15 +182,15 @@ module _ (f g : Field) (writing : Bool) (cap : ℕ) where
           read-as : Problem → ℕ → Config
           read-as p at = conf (taken s p (length (lineOf s p))) (set row at blankProblem) (cond (not (p .«open»)) (cond writing (storeLine (answerValue f g p) (w .bytes) (w .out)) (w .out)) (w .out))
 
-          -- by the tail, the count, the next place, and the bytes
-          shape : ℕ → ℕ → ℕ → List ℕ → Config
-          shape tail n at out =
+          -- by the tail, the count, and the bytes
+          shape : ℕ → ℕ → List ℕ → Config
+          shape tail n out =
               conf (record {
                 busy = true;
                 writing = writing;
                 refused = w .refused;
-                rule = cond (worked p) 0 14;
-                at = at;
+                rule = firstRule p;
+                at = aim (firstRule p) (nextPlace head cap) tail;
                 head = nextPlace head cap;
                 tail = tail;
                 count = n;
@@ -217,13 +207,12 @@ module _ (f g : Field) (writing : Bool) (cap : ℕ) where
       shows-head (p ∷ q) e = shows-taken p q e
 
     shows-rule : ltb (w .rule) 14 ≡ true → Shows (next (config w head row)) (list.ruleTurn (records f g) writing cap w)
-    shows-rule t = by (childOf (w .held) (w .rule) .ok) (ltb (length (w .waiting)) cap) refl refl
+    shows-rule t = by (ltb (length (w .waiting)) cap) refl
       where
-        by : (b c : Bool) → childOf (w .held) (w .rule) .ok ≡ b → ltb (length (w .waiting)) cap ≡ c
-            → Shows (next (config w head row)) (cond b (cond c (list.joined (records f g) writing cap w (childOf (w .held) (w .rule) .problem)) (list.full (records f g) writing cap w)) (list.passed (records f g) writing cap w))
-        by true true e l = shows-joined t e l
-        by true false e l = shows-full t e l
-        by false c e l = shows-passed t e
+        by : (c : Bool) → ltb (length (w .waiting)) cap ≡ c
+            → Shows (next (config w head row)) (cond c (list.joined (records f g) writing cap w (childOf (w .held) (w .rule) .problem)) (list.full (records f g) writing cap w))
+        by true l = shows-joined t l
+        by false l = shows-full t l
 
     -- A TURN
     turn-is : Shows (next (config w head row)) (list.turn (records f g) writing cap w)

@@ -10,13 +10,12 @@ use mathlib.Core.List.{List, [], _++_, map}
 use Prim.Native.Nat.{ℕ, zero, suc, _+_, _*_, _^_, _≤_, _<_}
 use native.Mathlib.Omega.{arith}
 use lib.Dec.{leb, ltb, eqb}
-use lib.ListN.{length, length-map, length-set, length-replicate, replicate, drop}
+use lib.ListN.{length, length-map, length-set, drop}
 use borrow.Author.Tests.{leb-true, leb-false, le-leb, lt-leb, lt-ltb, ne-eqb}
 use Rattle.terms.specs.declared.Field.{Field}
 use Rattle.accepted.specs.Accepted.{acceptedField}
 use Rattle.writing.specs.Answers as lent
 use Rattle.problems.specs.declared.Problem.{Problem}
-use Rattle.problems.specs.Values.{blankProblem}
 use Rattle.roots.specs.Roots.{rootValue}
 use Rattle.pieces.specs.Stored.{bytesOf, storeAll}
 use Rattle.pieces.proofs.Stored.{stored}
@@ -163,7 +162,7 @@ module _ (f g : Field) (row : List Problem) (out : List ℕ) where
       -- the run that writes
       module _ (t : Config) (r : Reaches counting t) where
         size : length (t .row) ≡ length row
-        size = reaches-row counting t r ∙ length-set (replicate (length row) blankProblem) 0 (rootValue f g) ∙ length-replicate (length row) blankProblem
+        size = reaches-row counting t r ∙ length-set row 0 (rootValue f g)
 
         wrote : t .state .refused ≡ false → leb (t .state .bytes) (length out) ≡ true → (v : Config) × Reaches (writing t) v × Final E text true (t .out) v (searching E (length row) A B)
         wrote e h = subst (λ (s : State). (v : Config) × Reaches (fromRoot (conf s (t .row) (t .out))) v × Final E text true (t .out) v (searching E (length row) A B)) (sym (again-is (t .state) e h))

@@ -45,9 +45,9 @@ fn take(row: &mut [Problem], i: usize) -> Problem
 fn blank(row: &mut [Problem])
     ensures { λ _. ⌜ now (row .exit) ≡ blanks (length (now (row .entry))) ⌝ }
 {
+    let b = problems::blank_problem();
     let mut i = 0;
     while i < row.len() {
-        let b = problems::blank_problem();
         put(row, i, b);
         i += 1;
     }
@@ -78,12 +78,11 @@ fn run(row: &mut [Problem], out: &mut [u8], s: State) -> State
     t
 }
 
-// The search from the problem that the state holds, which stands alone in a row of blanks.
+// The search from the problem that the state holds, which is put into the first place.
 fn from_root(row: &mut [Problem], out: &mut [u8], s: State) -> State
     requires { ⌜ Ends (fromRoot (conf s (now row) (now out))) ⌝ }
     ensures { λ r. ⌜ Reaches (fromRoot (conf s (now (row .entry)) (now (out .entry)))) (conf r (now (row .exit)) (now (out .exit))) ⌝ }
 {
-    blank(row);
     let p = s.held;
     put(row, 0, p);
     let t = run(row, out, s);

@@ -1,6 +1,6 @@
 -- THE STEP ON RECORDS is the search's: the failure rules, and the child that each rule gives.
 use mathlib.Core.Path.{_≡_, refl, sym, _∙_, ap, ap₂, subst}
-use mathlib.Core.Bool.{Bool, true, false, cond, _&&_}
+use mathlib.Core.Bool.{Bool, true, false, not, cond, _&&_}
 use mathlib.Core.Option.{Option, none, some}
 use mathlib.Core.List.{List}
 use Prim.Native.Nat.{ℕ, _≤_}
@@ -26,7 +26,7 @@ use Rattle.effects.specs.Applied.{appliedValue}
 use Rattle.problems.proofs.Holds.{within-all, Equation, Holds}
 use Rattle.effects.proofs.Moved.{fresh-holds, fresh-left, applied-holds}
 use Rattle.steps.specs.declared.Child.{Child}
-use Rattle.steps.specs.Steps.{failsOf, noChild, noneLeft, childBy, childOf}
+use Rattle.steps.specs.Steps.{failsOf, noChild, noneLeft, childBy, childOf, gives}
 
 -- the child of the move that a rule makes, if it applies: c is the record of ⟨.., σ ∘ {x ↦ s}⟩, or none
 abbrev pub ChildIs : (A B : Field setting) (σ : Bindings setting) (u : List ℕ) → Child → Option (rules.Move setting) → Type 0
@@ -42,16 +42,22 @@ applies (bind x s v (equation L M)) = refl
 
 made : (p : Problem) (f : ℕ) (m : rules.Move setting) → noneLeft p ≡ false
     → childBy p (encodeMove (some m)) f ≡ record { ok = true; problem = appliedValue p (encodeMove (some m)) f }
-made p f m e =
-    ap₂ (λ (a b : Bool). cond a (cond (encodeMove (some m) .fresh && b) noChild child) noChild) (applies m) e
-    ∙ ap (λ (b : Bool). cond b noChild child) (none (encodeMove (some m) .fresh))
+made p f m e = ap (λ (b : Bool). cond b child noChild) (ap₂ _&&_ (applies m) (ap (λ (b : Bool). not (encodeMove (some m) .fresh && b)) e ∙ none (encodeMove (some m) .fresh)))
   where
     child : Child
     child = record { ok = true; problem = appliedValue p (encodeMove (some m)) f }
 
-    none : (b : Bool) → b && false ≡ false
+    none : (b : Bool) → not (b && false) ≡ true
     none true = refl
     none false = refl
+
+-- the test is that of the child
+pub gives-is : (p : Problem) (r : ℕ) → childOf p r .ok ≡ gives p r
+gives-is p r = go (gives p r) (appliedValue p (moveValue r (p .left) (p .right) (freshValue (p .used))) (freshValue (p .used)))
+  where
+    go : (b : Bool) (q : Problem) → cond b (record { ok = true; problem = q }) noChild .ok ≡ b
+    go true q = refl
+    go false q = refl
 
 module _ (A B : Field setting) (q : Equation A B) (p : Problem) (L M : Field setting) (σ : Bindings setting) (u : List ℕ)
     (h : Holds A B p (problem (equation L M) σ u)) where

@@ -1,41 +1,58 @@
--- The ways that `child_of` ends.
-use mathlib.Core.Path.{_≡_, refl, sym, _∙_, ap, ap₂}
+-- The ways that the functions of a step end.
+use mathlib.Core.Path.{_≡_, refl, sym, _∙_, ap}
 use mathlib.Core.Bool.{Bool, true, false, cond, not, _&&_}
-use Prim.Native.Nat.{ℕ, _≤_, _<_}
-use lib.Dec.{leb}
-use borrow.Author.Tests.{not-true, not-false, le-leb, lt-leb}
+use Prim.Native.Nat.{ℕ, _<_, _≤_}
+use lib.Dec.{leb, ltb}
+use borrow.Author.Tests.{not-true, not-false, ltb-true, ltb-false, le-leb, lt-leb}
 use Rattle.names.specs.Sets.{digits, freshValue, listVariables}
 use Rattle.moves.specs.declared.Move.{Move}
 use Rattle.moves.specs.Moves.{moveValue}
 use Rattle.problems.specs.declared.Problem.{Problem}
 use Rattle.effects.specs.Applied.{appliedValue}
 use Rattle.steps.specs.declared.Child.{Child}
-use Rattle.steps.specs.Steps.{noChild, noneLeft, childBy, childWith, childOf}
+use Rattle.steps.specs.Steps.{noChild, noneLeft, makes, childBy, childWith, childOf, gives}
 
-module _ (p : Problem) (r f : ℕ) (m : Move) (is-f : f ≡ freshValue (p .used)) (is-m : m ≡ moveValue r (p .left) (p .right) f) where
-  child-is : childBy p m f ≡ childOf p r
-  child-is = ap (λ (n : Move). childBy p n f) is-m ∙ ap (childWith p r) is-f
+-- ---- whether a move gives a child
 
-  -- by the two tests
-  by-tests : (b d : Bool) → m .applies ≡ b → m .fresh && noneLeft p ≡ d
-      → cond b (cond d noChild (record { ok = true; problem = appliedValue p m f })) noChild ≡ childOf p r
-  by-tests b d e g =
-      ap₂ (λ (x y : Bool). cond x (cond y noChild (record { ok = true; problem = appliedValue p m f })) noChild) (sym e) (sym g) ∙ child-is
+-- a number is left
+some-left : (n : ℕ) → ltb n digits ≡ not (leb digits n)
+some-left n = go (ltb n digits) refl
+  where
+    go : (b : Bool) → ltb n digits ≡ b → b ≡ not (leb digits n)
+    go true e = sym (ap not (lt-leb digits n (ltb-true n digits e)))
+    go false e = sym (ap not (le-leb digits n (ltb-false n digits e)))
 
-  pub no-child : {c : Child} → c ≡ noChild → not (m .applies) ≡ true → c ≡ childOf p r
-  no-child e t = e ∙ by-tests false (m .fresh && noneLeft p) (not-true (m .applies) t) refl
+module _ (p : Problem) (m : Move) where
+  made-by : (a b : Bool) → m .applies ≡ a → m .fresh ≡ b → a && not (b && noneLeft p) ≡ makes p m
+  made-by a b e f = sym (ap (λ (c : Bool). c && not (m .fresh && noneLeft p)) e ∙ ap (λ (c : Bool). a && not (c && noneLeft p)) f)
+
+  pub not-made : not (m .applies) ≡ true → false ≡ makes p m
+  not-made e = made-by false (m .fresh) (not-true (m .applies) e) refl
 
   module _ (applies : not (m .applies) ≡ false) where
-    pub none-left : {c : Child} {n : ℕ} → c ≡ noChild → m .fresh ≡ true → n ≡ listVariables (p .used) → digits ≤ n → c ≡ childOf p r
-    none-left e g q h =
-        e ∙ by-tests true true (not-false (m .applies) applies) (ap₂ _&&_ g (ap (leb digits) (sym q) ∙ le-leb digits _ h))
+    pub made-fresh : {n : ℕ} → m .fresh ≡ true → n ≡ listVariables (p .used) → ltb n digits ≡ makes p m
+    made-fresh {n = n} f e = some-left n ∙ ap (λ (k : ℕ). not (leb digits k)) e ∙ made-by true true (not-false (m .applies) applies) f
 
-    pub one-child : (q : Problem) → q ≡ appliedValue p m f → m .fresh && noneLeft p ≡ false → record { ok = true; problem = q } ≡ childOf p r
-    one-child q e g = ap (λ (q : Problem). record { ok = true; problem = q }) e ∙ by-tests true false (not-false (m .applies) applies) g
+    pub made-plain : m .fresh ≡ false → true ≡ makes p m
+    made-plain f = made-by true false (not-false (m .applies) applies) f
 
--- a number is left, or none is asked for
-pub some-asked : (p : Problem) (b : Bool) {n : ℕ} → b ≡ true → n ≡ listVariables (p .used) → n < digits → b && noneLeft p ≡ false
-some-asked p b e q h = ap₂ _&&_ e (ap (leb digits) (sym q) ∙ lt-leb digits _ h)
+-- ---- the child, and whether there is one
 
-pub none-asked : (p : Problem) (b : Bool) → b ≡ false → b && noneLeft p ≡ false
-none-asked p b e = ap (λ (c : Bool). c && noneLeft p) e
+module _ (p : Problem) (r f : ℕ) (m : Move) (is-f : f ≡ freshValue (p .used)) (is-m : m ≡ moveValue r (p .left) (p .right) f) where
+  move-is : m ≡ moveValue r (p .left) (p .right) (freshValue (p .used))
+  move-is = is-m ∙ ap (moveValue r (p .left) (p .right)) is-f
+
+  pub given : {b : Bool} → b ≡ makes p m → b ≡ gives p r
+  given e = e ∙ ap (makes p) move-is
+
+  child-is : (b : Bool) → makes p m ≡ b → cond b (record { ok = true; problem = appliedValue p m f }) noChild ≡ childOf p r
+  child-is b e =
+      ap (λ (c : Bool). cond c (record { ok = true; problem = appliedValue p m f }) noChild) (sym e)
+      ∙ ap (λ (n : Move). childBy p n f) is-m
+      ∙ ap (childWith p r) is-f
+
+  pub no-child : {c : Child} {b : Bool} → c ≡ noChild → b ≡ makes p m → b ≡ false → c ≡ childOf p r
+  no-child e is b = e ∙ child-is false (sym is ∙ b)
+
+  pub one-child : (q : Problem) {b : Bool} → q ≡ appliedValue p m f → b ≡ makes p m → b ≡ true → record { ok = true; problem = q } ≡ childOf p r
+  one-child q e is b = ap (λ (q : Problem). record { ok = true; problem = q }) e ∙ child-is true (sym is ∙ b)

@@ -1,10 +1,11 @@
 -- A step of the search on records, as code makes it. `fails-holds` and `child-holds` of proofs/Agree say that it is the search's.
-use mathlib.Core.Bool.{Bool, true, false, cond, _&&_}
+use mathlib.Core.Bool.{Bool, true, false, not, cond, _&&_}
 use Prim.Native.Nat.{ℕ}
 use lib.Dec.{leb}
 use Rattle.names.specs.Sets.{digits, freshValue, listVariables}
 use Rattle.moves.specs.declared.Move.{Move}
 use Rattle.moves.specs.Moves.{moveValue}
+use Rattle.worklist.specs.Next.{nextOk}
 use Rattle.failures.specs.Fails.{failsValue}
 use Rattle.problems.specs.declared.Problem.{Problem}
 use Rattle.problems.specs.Values.{blankProblem}
@@ -22,9 +23,13 @@ noChild = record { ok = false; problem = blankProblem }
 abbrev pub noneLeft : Problem → Bool
 noneLeft p = leb digits (listVariables (p .used))
 
--- a rule that needs a fresh list variable where none is left gives no child; one always is (`fresh-left` of effects/proofs/Moved)
+-- a move gives a child: its rule applies, and where it needs a fresh list variable one is left. One always is (`fresh-left` of
+-- effects/proofs/Moved)
+abbrev pub makes : Problem → Move → Bool
+makes p m = m .applies && not (m .fresh && noneLeft p)
+
 abbrev pub childBy : Problem → Move → ℕ → Child
-childBy p m f = cond (m .applies) (cond (m .fresh && noneLeft p) noChild (record { ok = true; problem = appliedValue p m f })) noChild
+childBy p m f = cond (makes p m) (record { ok = true; problem = appliedValue p m f }) noChild
 
 -- "each rule that applies gives one child": by the rule of a number, with the fresh list variable f
 abbrev pub childWith : Problem → ℕ → ℕ → Child
@@ -32,3 +37,11 @@ childWith p r f = childBy p (moveValue r (p .left) (p .right) f) f
 
 abbrev pub childOf : Problem → ℕ → Child
 childOf p r = childWith p r (freshValue (p .used))
+
+-- the rule of a number gives a child; `gives-is` of proofs/Agree: it is `childOf p r .ok`
+abbrev pub gives : Problem → ℕ → Bool
+gives p r = makes p (moveValue r (p .left) (p .right) (freshValue (p .used)))
+
+-- the first rule from k on that gives a child
+abbrev pub nextRule : Problem → ℕ → ℕ
+nextRule p k = nextOk (gives p) k

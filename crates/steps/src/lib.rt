@@ -1,6 +1,7 @@
-// A step of the search on records: whether a problem fails, and the child that a rule gives it.
+// A step of the search on records: whether a problem fails, the child that a rule gives it, and the next rule that gives it one.
 ghost use mathlib.Core.Path.{_≡_};
-ghost use Rattle.steps.specs.Steps.{failsOf, noChild, childOf};
+ghost use Rattle.steps.specs.Steps.{failsOf, noChild, makes, childOf, gives, nextRule};
+use moves::Move;
 use problems::Problem;
 
 // The child that a rule gives, or that it gives none, with the blank record.
@@ -27,6 +28,20 @@ fn no_child() -> Child
     }
 }
 
+// Whether a move gives a child.
+fn is_made(p: Problem, m: Move) -> bool
+    ensures { λ r. ⌜ r ≡ makes p m ⌝ }
+{
+    if !m.applies {
+        return false;
+    }
+    // Document 01: "ones count variables of a problem". Where all 64 are used there is no fresh one, which no problem that is met comes to.
+    if m.fresh {
+        return problems::list_variables(p) < 64;
+    }
+    true
+}
+
 // The child by the rule of this number.
 pub fn child_of(p: Problem, rule: usize) -> Child
     ensures { λ r. ⌜ r ≡ childOf p rule ⌝ }
@@ -35,17 +50,36 @@ pub fn child_of(p: Problem, rule: usize) -> Child
     let right = p.right;
     let fresh = names::fresh(p.used);
     let m = moves::move_of(rule, left, right, fresh);
-    if !m.applies {
-        return no_child();
+    if is_made(p, m) {
+        return Child {
+            ok: true,
+            problem: effects::applied(p, m, fresh),
+        };
     }
-    // Document 01: "ones count variables of a problem". Where all 64 are used there is no fresh one, which no problem that is met comes to.
-    if m.fresh {
-        if 64 <= problems::list_variables(p) {
-            return no_child();
+    no_child()
+}
+
+// Whether the rule of this number gives a child.
+pub fn gives(p: Problem, rule: usize) -> bool
+    ensures { λ r. ⌜ r ≡ gives p rule ⌝ }
+{
+    let left = p.left;
+    let right = p.right;
+    let fresh = names::fresh(p.used);
+    let m = moves::move_of(rule, left, right, fresh);
+    is_made(p, m)
+}
+
+// The first rule from k on that gives a child, by its number; 14 where none does.
+pub fn next_rule(p: Problem, k: usize) -> usize
+    ensures { λ r. ⌜ r ≡ nextRule p k ⌝ }
+{
+    let mut i = k;
+    while i < 14 {
+        if gives(p, i) {
+            return i;
         }
+        i += 1;
     }
-    Child {
-        ok: true,
-        problem: effects::applied(p, m, fresh),
-    }
+    14
 }

@@ -1,7 +1,7 @@
 -- A turn of the search: what it makes of the state and of the one record that it reads.
 -- The row is a ring of `cap` records: `count` problems wait from `head` on, and `tail` is the place behind them. A turn reads the record at `at` and writes that record.
 --     headTurn     where no problem is held: the record at the head leaves the row
---     ruleTurn     where one is held: its next rule is tried, and a child stands at the tail
+--     ruleTurn     where one is held: its next child is put in at the tail
 --     decided      a turn
 -- Assumes nothing.
 use mathlib.Core.Bool.{Bool, true, false, not, cond}
@@ -9,13 +9,14 @@ use Prim.Native.Nat.{ℕ, _+_, _-_, _%_, _^_}
 use lib.Dec.{eqb, ltb}
 use Rattle.problems.specs.declared.Problem.{Problem}
 use Rattle.problems.specs.Values.{blankProblem}
-use Rattle.steps.specs.Steps.{failsOf, childOf}
+use Rattle.steps.specs.Steps.{failsOf, childOf, nextRule}
 use Rattle.turns.specs.declared.State.{State}
 use Rattle.turns.specs.declared.Turn.{Turn}
 
 -- ---- what a turn reads off the state
 
--- how many rules there are: `rule` is the number of the next rule to try on the held problem, and this where none is held
+-- how many rules there are: `rule` is the number of the next rule that gives the held problem a child, and this where none is left or no
+-- problem is held
 abbrev pub rules : ℕ
 rules = 14
 
@@ -26,7 +27,7 @@ trying rule = ltb rule rules
 abbrev pub nextPlace : ℕ → ℕ → ℕ
 nextPlace i cap = cond (ltb i (cap - 1)) (i + 1) 0
 
--- the place that the next turn reads: the tail while rules are tried, else the head
+-- the place that the next turn reads: the tail while children are put in, else the head
 abbrev pub aim : ℕ → ℕ → ℕ → ℕ
 aim rule head tail = cond (trying rule) tail head
 
@@ -37,6 +38,10 @@ plus a b = (a + b) % 2 ^ 64
 -- document 01: "Failure rules come first: a problem that meets one gives no child."
 abbrev pub worked : Problem → Bool
 worked p = cond (p .«open») (not (failsOf p)) false
+
+-- the first rule that gives a problem a child
+abbrev pub firstRule : Problem → ℕ
+firstRule p = cond (worked p) (nextRule p 0) rules
 
 -- ---- turns where no problem is held
 
@@ -59,14 +64,14 @@ stopped s = record {
   right = s .right;
 }
 
--- the problem p leaves the row: a solved one is an answer, whose line has n bytes; one that does not fail is held, and its rules are tried
+-- the problem p leaves the row: a solved one is an answer, whose line has n bytes; one that does not fail is held, and its children are put in
 abbrev pub taken : State → Problem → ℕ → State
 taken s p n = record {
   busy = true;
   writing = s .writing;
   refused = s .refused;
-  rule = cond (worked p) 0 rules;
-  at = cond (worked p) (s .tail) (nextPlace (s .head) (s .cap));
+  rule = firstRule p;
+  at = aim (firstRule p) (nextPlace (s .head) (s .cap)) (s .tail);
   head = nextPlace (s .head) (s .cap);
   tail = s .tail;
   count = s .count - 1;
@@ -83,33 +88,14 @@ headTurn s p n = cond (eqb (s .count) 0) (record { problem = p; state = stopped 
 
 -- ---- turns where a problem is held
 
--- the next rule
-abbrev pub passed : State → State
-passed s = record {
-  busy = true;
-  writing = s .writing;
-  refused = s .refused;
-  rule = s .rule + 1;
-  at = aim (s .rule + 1) (s .head) (s .tail);
-  head = s .head;
-  tail = s .tail;
-  count = s .count;
-  cap = s .cap;
-  lines = s .lines;
-  bytes = s .bytes;
-  held = s .held;
-  left = s .left;
-  right = s .right;
-}
-
 -- a child stands at the tail
 abbrev pub joined : State → State
 joined s = record {
   busy = true;
   writing = s .writing;
   refused = s .refused;
-  rule = s .rule + 1;
-  at = aim (s .rule + 1) (s .head) (nextPlace (s .tail) (s .cap));
+  rule = nextRule (s .held) (s .rule + 1);
+  at = aim (nextRule (s .held) (s .rule + 1)) (s .head) (nextPlace (s .tail) (s .cap));
   head = s .head;
   tail = nextPlace (s .tail) (s .cap);
   count = s .count + 1;
@@ -145,7 +131,7 @@ abbrev pub childTurn : State → Problem → Problem → Turn
 childTurn s p q = cond (ltb (s .count) (s .cap)) (record { problem = q; state = joined s }) (record { problem = p; state = full s })
 
 abbrev pub ruleTurn : State → Problem → Turn
-ruleTurn s p = cond (childOf (s .held) (s .rule) .ok) (childTurn s p (childOf (s .held) (s .rule) .problem)) (record { problem = p; state = passed s })
+ruleTurn s p = childTurn s p (childOf (s .held) (s .rule) .problem)
 
 -- ---- a turn
 

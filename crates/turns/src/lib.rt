@@ -2,7 +2,7 @@
 ghost use mathlib.Core.Path.{_≡_};
 ghost use mathlib.Core.Bool.{cond};
 ghost use Prim.Native.Nat.{_<_, _-_};
-ghost use Rattle.turns.specs.Turns.{nextPlace, aim, worked, stopped, taken, headTurn, passed, joined, full, childTurn, ruleTurn, decided};
+ghost use Rattle.turns.specs.Turns.{nextPlace, aim, worked, firstRule, stopped, taken, headTurn, joined, full, childTurn, ruleTurn, decided};
 use problems::Problem;
 use terms::Field;
 
@@ -61,7 +61,7 @@ fn aim(rule: usize, head: usize, tail: usize) -> usize
 
 // ---- turns where no problem is held
 
-// Whether a problem's rules are to be tried.
+// Whether a problem's children are to be put in.
 fn is_worked(p: Problem) -> bool
     ensures { λ r. ⌜ r ≡ worked p ⌝ }
 {
@@ -69,6 +69,16 @@ fn is_worked(p: Problem) -> bool
         return false;
     }
     !steps::fails(p)
+}
+
+// The first rule that gives a problem a child.
+fn first_rule(p: Problem) -> usize
+    ensures { λ r. ⌜ r ≡ firstRule p ⌝ }
+{
+    if is_worked(p) {
+        return steps::next_rule(p, 0);
+    }
+    14
 }
 
 fn stop(s: State) -> State
@@ -83,13 +93,13 @@ fn stop(s: State) -> State
 fn leave(s: State, p: Problem, n: usize) -> State
     ensures { λ r. ⌜ r ≡ taken s p n ⌝ }
 {
-    let on = is_worked(p);
+    let rule = first_rule(p);
     let open = p.open;
     let head = next_place(s.head, s.cap);
     let mut t = s;
     t.busy = true;
-    t.rule = choose(on, 0, 14);
-    t.at = choose(on, s.tail, head);
+    t.rule = rule;
+    t.at = aim(rule, head, s.tail);
     t.head = head;
     t.count = down(s.count);
     t.lines = choose(open, s.lines, std::num::wrapping_add_usize(s.lines, 1));
@@ -115,24 +125,13 @@ fn take_head(s: State, p: Problem, n: usize) -> Turn
 
 // ---- turns where a problem is held
 
-fn pass(s: State) -> State
-    requires { ⌜ s .rule < 14 ⌝ }
-    ensures { λ r. ⌜ r ≡ passed s ⌝ }
-{
-    let rule = s.rule + 1;
-    let mut t = s;
-    t.busy = true;
-    t.rule = rule;
-    t.at = aim(rule, s.head, s.tail);
-    t
-}
-
 // A child was put at the tail.
 fn join(s: State) -> State
     requires { ⌜ (s .rule < 14) × (s .count < s .cap) ⌝ }
     ensures { λ r. ⌜ r ≡ joined s ⌝ }
 {
-    let rule = s.rule + 1;
+    let h = s.held;
+    let rule = steps::next_rule(h, s.rule + 1);
     let tail = next_place(s.tail, s.cap);
     let mut t = s;
     t.busy = true;
@@ -171,20 +170,15 @@ fn put_child(s: State, p: Problem, q: Problem) -> Turn
     }
 }
 
+// The child by the next rule is put in.
 fn try_rule(s: State, p: Problem) -> Turn
     requires { ⌜ s .rule < 14 ⌝ }
     ensures { λ r. ⌜ r ≡ ruleTurn s p ⌝ }
 {
     let h = s.held;
     let c = steps::child_of(h, s.rule);
-    if c.ok {
-        let q = c.problem;
-        return put_child(s, p, q);
-    }
-    Turn {
-        problem: p,
-        state: pass(s),
-    }
+    let q = c.problem;
+    put_child(s, p, q)
 }
 
 // ---- a turn

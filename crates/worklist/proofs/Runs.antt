@@ -17,6 +17,7 @@ use Rattle.searching.specs.Problems.{Names, Setting, Field, Bindings, solved, e
 use Rattle.searching.specs.Rules.{Rule, ruleOrder, Move, fails, rule, add, collect, apply}
 use Rattle.searching.specs.Queue.{total, Result, answers, refused, unfinished, enqueue, onward, answer, offspring, run, searching}
 use Rattle.searching.proofs.Queue.{begins}
+use Rattle.worklist.specs.Next.{nextOk, next-end, next-here, next-on}
 use Rattle.worklist.specs.Machine as machine
 use Rattle.worklist.specs.Machine.{Records, Work, plus, Leads, here, turn}
 use Rattle.worklist.specs.Agreement.{Numbered, ChildIs, Agrees}
@@ -101,27 +102,51 @@ module _ (E : Setting) (D : Records) (Holds : D .Rec → Problem E → Type 0) (
   numbered-length k (r ∷ rs) h = omega (arith, numbered-length (k + 1) rs (h .1))
 
   module _ (p : Rec) (a b : ℕ) (o : List ℕ) where
-    turn-pass : (k : ℕ) (q : List Rec) → k < 14 → ok p k ≡ false → onTurn (on k p q a b o) ≡ on (k + 1) p q a b o
-    turn-pass k q h e = rw (lt-ltb k 14 h, e) refl
+    -- the problem is held, and the rules before k are done
+    abbrev from : ℕ → List Rec → Work Rec
+    from k q = on (nextOk (ok p) k) p q a b o
 
-    turn-put : (k : ℕ) (q : List Rec) → k < 14 → ok p k ≡ true → length q < cap → onTurn (on k p q a b o) ≡ on (k + 1) p (q ++ child p k ∷ []) a b o
-    turn-put k q h e l = rw (lt-ltb k 14 h, e, lt-ltb (length q) cap l) refl
+    at-rule : (k : ℕ) (q : List Rec) → k < 14 → ok p k ≡ true → from k q ≡ on k p q a b o
+    at-rule k q h e = ap (λ (j : ℕ). on j p q a b o) (next-here (ok p) k h e)
 
-    turn-full : (k : ℕ) (q : List Rec) → k < 14 → ok p k ≡ true → cap ≤ length q → onTurn (on k p q a b o) ≡ machine.full D writing cap (on k p q a b o)
-    turn-full k q h e l = rw (lt-ltb k 14 h, e, le-ltb (length q) cap l) refl
+    turn-put : (k : ℕ) (q : List Rec) → k < 14 → ok p k ≡ true → length q < cap → onTurn (from k q) ≡ from (k + 1) (q ++ child p k ∷ [])
+    turn-put k q h e l = ap onTurn (at-rule k q h e) ∙ rw (lt-ltb k 14 h, lt-ltb (length q) cap l) refl
+
+    turn-full : (k : ℕ) (q : List Rec) → k < 14 → ok p k ≡ true → cap ≤ length q → onTurn (from k q) ≡ machine.full D writing cap (on k p q a b o)
+    turn-full k q h e l = ap onTurn (at-rule k q h e) ∙ rw (lt-ltb k 14 h, le-ltb (length q) cap l) refl
 
     abbrev Tried : ℕ → List Rec → Option (List (Problem E)) → Type 0
-    Tried k q none = StopsRefused D writing cap (on k p q a b o)
-    Tried k q (some Q) = (q′ : List Rec) × Goes (on k p q a b o) (on 14 p q′ a b o) × Both q′ Q
+    Tried k q none = StopsRefused D writing cap (from k q)
+    Tried k q (some Q) = (q′ : List Rec) × Goes (from k q) (on 14 p q′ a b o) × Both q′ Q
 
     -- one turn before
-    tried-on : (k k′ : ℕ) (q q′ : List Rec) → onTurn (on k p q a b o) ≡ on k′ p q′ a b o → (r : Option (List (Problem E))) → Tried k′ q′ r → Tried k q r
-    tried-on k k′ q q′ e none h = record { end = h .end; leads = turns (on k′ p q′ a b o) refl e (h .leads); idle = h .idle; is-refused = h .is-refused; no-lines = h .no-lines; no-bytes = h .no-bytes; untouched = h .untouched }
-    tried-on k k′ q q′ e (some Q) h = (h .0, turns (on k′ p q′ a b o) refl e (h .1), h .2)
+    tried-on : (k : ℕ) (q q′ : List Rec) → onTurn (from k q) ≡ from (k + 1) q′ → (r : Option (List (Problem E))) → Tried (k + 1) q′ r → Tried k q r
+    tried-on k q q′ e none h = record {
+      end = h .end;
+      leads = turns (from (k + 1) q′) refl e (h .leads);
+      idle = h .idle;
+      is-refused = h .is-refused;
+      no-lines = h .no-lines;
+      no-bytes = h .no-bytes;
+      untouched = h .untouched;
+    }
+    tried-on k q q′ e (some Q) h = (h .0, turns (from (k + 1) q′) refl e (h .1), h .2)
+
+    -- a rule that gives no child takes no turn
+    tried-pass : (k : ℕ) (q : List Rec) → k < 14 → ok p k ≡ false → (r : Option (List (Problem E))) → Tried (k + 1) q r → Tried k q r
+    tried-pass k q l e r h = go r (sym (next-on (ok p) k l e)) h
+      where
+        Then : Option (List (Problem E)) → ℕ → Type 0
+        Then none j = StopsRefused D writing cap (on j p q a b o)
+        Then (some Q) j = (q′ : List Rec) × Goes (on j p q a b o) (on 14 p q′ a b o) × Both q′ Q
+
+        go : (r : Option (List (Problem E))) → nextOk (ok p) (k + 1) ≡ nextOk (ok p) k → Tried (k + 1) q r → Tried k q r
+        go none e h = subst (Then none) e h
+        go (some Q) e h = subst (Then (some Q)) e h
 
     module _ (L M : Field E) (σ : Bindings E) (u : List Name) (hp : Holds p (problem (equation L M) σ u)) (nf : fails E L M ≡ false) where
       tries : (rs : List Rule) (k : ℕ) → Numbered number k rs → (q : List Rec) (Q : List (Problem E)) → Both q Q → Tried k q (enqueue E cap Q (made σ u (collect E L M (pick u) rs)))
-      tries [] k h q Q both = (q, subst (λ (j : ℕ). Goes (on k p q a b o) (on j p q a b o)) h here, both)
+      tries [] k h q Q both = (q, subst (λ (j : ℕ). Goes (from k q) (on j p q a b o)) (next-end (ok p) k (omega (arith, h))) here, both)
       tries (r ∷ rs) k h q Q both = go (rule E r L M (pick u)) (subst (λ (j : ℕ). ChildIs E D Holds p j σ u (rule E r L M (pick u))) (h .0) (g .child-is p L M σ u hp nf r)) (λ q′ Q′ both′. tries rs (k + 1) (h .1) q′ Q′ both′)
         where
           low : k < 14
@@ -138,12 +163,14 @@ module _ (E : Setting) (D : Records) (Holds : D .Rec → Problem E → Type 0) (
             no-bytes = refl;
             untouched = λ _. refl;
           }
-          put-in m e c rec false t = tried-on k (k + 1) q (q ++ child p k ∷ []) (turn-put k q low e (omega (arith, leb-false cap (length Q) t, both-length q Q both))) (enqueue E cap (Q ++ apply E σ u m ∷ []) (made σ u (collect E L M (pick u) rs)))
+          put-in m e c rec false t =
+              tried-on k q (q ++ child p k ∷ []) (turn-put k q low e (omega (arith, leb-false cap (length Q) t, both-length q Q both)))
+              (enqueue E cap (Q ++ apply E σ u m ∷ []) (made σ u (collect E L M (pick u) rs)))
               (rec (q ++ child p k ∷ []) (Q ++ apply E σ u m ∷ []) (both-put q Q (child p k) (apply E σ u m) both c))
 
           go : (x : Option (Move E)) → ChildIs E D Holds p k σ u x → ((q′ : List Rec) (Q′ : List (Problem E)) → Both q′ Q′ → Tried (k + 1) q′ (enqueue E cap Q′ (made σ u (collect E L M (pick u) rs))))
               → Tried k q (enqueue E cap Q (made σ u (add E r x (collect E L M (pick u) rs))))
-          go none e rec = tried-on k (k + 1) q q (turn-pass k q low e) (enqueue E cap Q (made σ u (collect E L M (pick u) rs))) (rec q Q both)
+          go none e rec = tried-pass k q low e (enqueue E cap Q (made σ u (collect E L M (pick u) rs))) (rec q Q both)
           go (some m) e rec = put-in m (e .0) (e .1) rec (leb cap (length Q)) refl
 
   -- ---- the queue
@@ -231,7 +258,7 @@ module _ (E : Setting) (D : Records) (Holds : D .Rec → Problem E → Type 0) (
     turn-fail : fails E L M ≡ true → onTurn (on 14 p₀ (p ∷ q) a b o) ≡ on 14 p q a b o
     turn-fail e = rw (g .open-is p (equation L M) σ u h, g .fails-is p L M σ u h ∙ e) refl
 
-    turn-hold : fails E L M ≡ false → onTurn (on 14 p₀ (p ∷ q) a b o) ≡ on 0 p q a b o
+    turn-hold : fails E L M ≡ false → onTurn (on 14 p₀ (p ∷ q) a b o) ≡ from p a b o 0 q
     turn-hold e = rw (g .open-is p (equation L M) σ u h, g .fails-is p L M σ u h ∙ e) refl
 
     outcome-open : (Q : List (Problem E)) → Both q Q → (k : ℕ) → ((q′ : List Rec) (Q′ : List (Problem E)) → Both q′ Q′ → Outcome (on 14 p q′ a b o) (run E k cap Q′))
@@ -239,8 +266,8 @@ module _ (E : Setting) (D : Records) (Holds : D .Rec → Problem E → Type 0) (
     outcome-open Q both k rec = by (fails E L M) refl
       where
         held : fails E L M ≡ false → (x : Option (List (Problem E))) → Tried p a b o 0 q x → Outcome (on 14 p₀ (p ∷ q) a b o) (onward E x (λ Q′. run E k cap Q′))
-        held nf none t = record { end = t .end; leads = turns (on 0 p q a b o) refl (turn-hold nf) (t .leads); idle = t .idle; is-refused = t .is-refused; no-lines = t .no-lines; no-bytes = t .no-bytes; untouched = t .untouched }
-        held nf (some Q′) t = outcome-on 14 14 p₀ p (p ∷ q) (t .0) a b o (turns (on 0 p q a b o) refl (turn-hold nf) (t .1)) (run E k cap Q′) (rec (t .0) Q′ (t .2))
+        held nf none t = record { end = t .end; leads = turns (from p a b o 0 q) refl (turn-hold nf) (t .leads); idle = t .idle; is-refused = t .is-refused; no-lines = t .no-lines; no-bytes = t .no-bytes; untouched = t .untouched }
+        held nf (some Q′) t = outcome-on 14 14 p₀ p (p ∷ q) (t .0) a b o (turns (from p a b o 0 q) refl (turn-hold nf) (t .1)) (run E k cap Q′) (rec (t .0) Q′ (t .2))
 
         by : (f : Bool) → fails E L M ≡ f
             → Outcome (on 14 p₀ (p ∷ q) a b o) (onward E (enqueue E cap Q (made σ u (cond f [] (collect E L M (pick u) ruleOrder)))) (λ Q′. run E k cap Q′))

@@ -1,4 +1,4 @@
--- The search as a machine that keeps the problems that wait, as records, in a list. A turn takes the first of them, or tries one rule on the problem that is held.
+-- The search as a machine that keeps the problems that wait, as records, in a list. A turn takes the first of them, or puts in one child of the problem that is held.
 -- It is the machine whose queue is a ring in a row, with the ring taken for the list of its records.
 use mathlib.Core.Path.{_≡_}
 use mathlib.Core.Bool.{Bool, true, false, not, cond}
@@ -6,6 +6,7 @@ use mathlib.Core.List.{List, [], _∷_, _++_}
 use Prim.Native.Nat.{ℕ, _+_, _%_, _^_}
 use lib.Dec.{ltb}
 use lib.ListN.{length}
+use Rattle.worklist.specs.Next.{nextOk}
 
 -- what the machine does with the records of problems
 pub record Records : Type 1 where
@@ -20,7 +21,7 @@ pub record Records : Type 1 where
   pub line : Rec → List ℕ
   pub store : List ℕ → ℕ → List ℕ → List ℕ
 
--- `rule`: the next rule to try on the held problem; 14 where none is held
+-- `rule`: the next rule that gives the held problem a child; 14 where none is left, or no problem is held
 pub record Work (R : Type 0) : Type 0 where
   pub busy : Bool
   pub refused : Bool
@@ -51,7 +52,7 @@ module _ (D : Records) (writing : Bool) (cap : ℕ) where
   taken w p q = record {
     busy = true;
     refused = w .refused;
-    rule = cond (worked p) 0 14;
+    rule = cond (worked p) (nextOk (ok p) 0) 14;
     held = p;
     waiting = q;
     lines = cond (isOpen p) (w .lines) (plus (w .lines) 1);
@@ -63,13 +64,18 @@ module _ (D : Records) (writing : Bool) (cap : ℕ) where
   headTurn w [] = stopped w
   headTurn w (p ∷ q) = taken w p q
 
-  -- the rule does not apply
-  abbrev pub passed : Work Rec → Work Rec
-  passed w = record { busy = true; refused = w .refused; rule = w .rule + 1; held = w .held; waiting = w .waiting; lines = w .lines; bytes = w .bytes; out = w .out }
-
   -- the child is put in
   abbrev pub joined : Work Rec → Rec → Work Rec
-  joined w p = record { busy = true; refused = w .refused; rule = w .rule + 1; held = w .held; waiting = w .waiting ++ p ∷ []; lines = w .lines; bytes = w .bytes; out = w .out }
+  joined w p = record {
+    busy = true;
+    refused = w .refused;
+    rule = nextOk (ok (w .held)) (w .rule + 1);
+    held = w .held;
+    waiting = w .waiting ++ p ∷ [];
+    lines = w .lines;
+    bytes = w .bytes;
+    out = w .out;
+  }
 
   -- it has no room
   abbrev pub full : Work Rec → Work Rec
@@ -79,7 +85,7 @@ module _ (D : Records) (writing : Bool) (cap : ℕ) where
   childTurn w p = cond (ltb (length (w .waiting)) cap) (joined w p) (full w)
 
   abbrev pub ruleTurn : Work Rec → Work Rec
-  ruleTurn w = cond (ok (w .held) (w .rule)) (childTurn w (child (w .held) (w .rule))) (passed w)
+  ruleTurn w = childTurn w (child (w .held) (w .rule))
 
   abbrev pub turn : Work Rec → Work Rec
   turn w = cond (ltb (w .rule) 14) (ruleTurn w) (headTurn w (w .waiting))

@@ -4,8 +4,11 @@ use borrow.Author.Needs.{needs}
 use Rattle.turns.proofs.join.Statement.{statement}
 use Rattle.turns.proofs.join.Tie as tie
 
-add-rule : tie.Need-add-rule
-add-rule c = search needs
+add-next-rule : tie.Need-add-next-rule
+add-next-rule c = search needs
+
+next-rule-requires : tie.Need-next-rule-requires
+next-rule-requires c κs = search needs
 
 next-place-requires : tie.Need-next-place-requires
 next-place-requires c κs = search needs
@@ -17,7 +20,10 @@ add-t : tie.Need-add-t
 add-t c = search needs
 
 returns : tie.Need-returns
-returns c = rw (c .before .aim .ensures) (rw (c .before .before .next-place .ensures) refl)
+returns c =
+    rw (c .before .aim .ensures) (rw (c .before .before .next-place .ensures) (rw (c .before .before .before .next-rule .ensures) refl))
 
 pub join-spec : {M : Type 1} → statement M
-join-spec = tie.close (tie.spec add-rule next-place-requires aim-requires add-t returns)
+join-spec =
+    tie.close
+    (tie.spec add-next-rule next-rule-requires next-place-requires aim-requires add-t returns)

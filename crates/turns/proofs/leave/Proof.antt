@@ -4,17 +4,14 @@ use borrow.Author.Needs.{needs}
 use Rattle.turns.proofs.leave.Statement.{statement}
 use Rattle.turns.proofs.leave.Tie as tie
 
-is-worked-requires : tie.Need-is-worked-requires
-is-worked-requires c κs = search needs
+first-rule-requires : tie.Need-first-rule-requires
+first-rule-requires c κs = search needs
 
 next-place-requires : tie.Need-next-place-requires
 next-place-requires c κs = search needs
 
-choose-requires : tie.Need-choose-requires
-choose-requires c κs = search needs
-
-choose-requires-2 : tie.Need-choose-requires-2
-choose-requires-2 c κs = search needs
+aim-requires : tie.Need-aim-requires
+aim-requires c κs = search needs
 
 down-requires : tie.Need-down-requires
 down-requires c κs = search needs
@@ -22,29 +19,32 @@ down-requires c κs = search needs
 wrapping-add-usize-requires : tie.Need-wrapping-add-usize-requires
 wrapping-add-usize-requires c κs = search needs
 
-choose-requires-3 : tie.Need-choose-requires-3
-choose-requires-3 c κs = search needs
+choose-requires : tie.Need-choose-requires
+choose-requires c κs = search needs
 
 wrapping-add-usize-requires-2 : tie.Need-wrapping-add-usize-requires-2
 wrapping-add-usize-requires-2 c κs = search needs
 
-choose-requires-4 : tie.Need-choose-requires-4
-choose-requires-4 c κs = search needs
+choose-requires-2 : tie.Need-choose-requires-2
+choose-requires-2 c κs = search needs
 
 returns : tie.Need-returns
-returns c = rw (c .choose4 .ensures) (rw (c .before .wrapping-add-usize2 .ensures) (rw (c .before .before .choose3 .ensures) (rw (c .before .before .before .wrapping-add-usize .ensures) (rw (c .before .before .before .before .down .ensures) (rw (c .before .before .before .before .before .choose2 .ensures) (rw (c .before .before .before .before .before .before .choose .ensures) (rw (c .before .before .before .before .before .before .before .next-place .ensures) (rw (c .before .before .before .before .before .before .before .before .is-worked .ensures) refl))))))))
+returns c =
+    rw (c .choose2 .ensures) (rw (c .before .wrapping-add-usize2 .ensures) (rw (c .before .before .choose .ensures)
+    (rw (c .before .before .before .wrapping-add-usize .ensures) (rw (c .before .before .before .before .down .ensures)
+    (rw (c .before .before .before .before .before .aim .ensures) (rw (c .before .before .before .before .before .before .next-place .ensures)
+    (rw (c .before .before .before .before .before .before .before .first-rule .ensures) refl)))))))
 
 pub leave-spec : {M : Type 1} → statement M
 leave-spec =
     tie.close
     (tie.spec
-    is-worked-requires
+    first-rule-requires
     next-place-requires
-    choose-requires
-    choose-requires-2
+    aim-requires
     down-requires
     wrapping-add-usize-requires
-    choose-requires-3
+    choose-requires
     wrapping-add-usize-requires-2
-    choose-requires-4
+    choose-requires-2
     returns)
