@@ -1,0 +1,201 @@
+// The problems of the search as records on codes: what is left of the equation, the bindings so far, the list variables used so far; what
+// a move makes of a record; and a step of the search: whether a problem fails, the child that a rule gives it, the next rule that gives one.
+// A lent row has the tables of the pair (`pair_row`).
+ghost use mathlib.Core.Path.{_≡_};
+ghost use mathlib.Core.Bool.{cond};
+ghost use Rattle.names.specs.Sets.{withName, listVariables};
+ghost use Rattle.pair_row.specs.Row.{tableIn};
+ghost use Rattle.search_problems.specs.Values.{blankProblem};
+ghost use Rattle.search_problems.specs.Applied.{boundAtoms, boundTo, leftBy, appliedValue};
+ghost use Rattle.search_problems.specs.Steps.{failsOf, noChild, makes, childOf, gives, nextRule};
+use pair_state::State;
+use search_items::Items;
+use search_rules::Move;
+
+// A problem. `open`: an equation left = right is left to solve; else it is solved.
+// `atoms`: what each atom of the two fields stands for, by place. `lists`: what the left field's list variable stands for, and the right
+// field's; blank where the field has none. `used`: the list variables of the problem and its bindings, bound ones too.
+pub struct Problem {
+    pub open: bool,
+    pub left: Items,
+    pub right: Items,
+    pub atoms: State,
+    pub lists: [Items; 2],
+    pub used: u64,
+}
+
+// The blank record.
+pub fn blank_problem() -> Problem
+    ensures { λ r. ⌜ r ≡ blankProblem ⌝ }
+{
+    let w = search_items::blank_items();
+    Problem {
+        open: false,
+        left: w,
+        right: w,
+        atoms: State { atoms: [0; 128] },
+        lists: [w; 2],
+        used: 0,
+    }
+}
+
+// How many list variables the problem and its bindings have.
+pub fn list_variables(p: Problem) -> u32
+    ensures { λ r. ⌜ r ≡ listVariables (p .used) ⌝ }
+{
+    names::list_variables(p.used)
+}
+
+// ---- what a move makes of a record
+
+// An atom variable's value is one atom; a list variable changes no atom.
+fn bound_atoms(x: u8, s: Items, st: State) -> State
+    ensures { λ r. ⌜ r ≡ boundAtoms x s st ⌝ }
+{
+    if pair_row::LISTS <= x {
+        return st;
+    }
+    st.replace(x, search_items::first(s))
+}
+
+// The bindings with x bound to s.
+fn bound_to(x: u8, s: Items, p: Problem) -> Problem
+    ensures { λ r. ⌜ r ≡ boundTo x s p ⌝ }
+{
+    let left = p.left;
+    let right = p.right;
+    let st = p.atoms;
+    let l = p.lists[0];
+    let r = p.lists[1];
+    Problem {
+        open: p.open,
+        left: left,
+        right: right,
+        atoms: bound_atoms(x, s, st),
+        lists: [search_items::put_in(x, s, l), search_items::put_in(x, s, r)],
+        used: p.used,
+    }
+}
+
+// The list variables used, with the fresh one where it is brought in.
+fn used_by(brings: bool, used: u64, fresh: u8) -> u64
+    ensures { λ r. ⌜ r ≡ cond brings (withName used fresh) used ⌝ }
+{
+    if !brings {
+        return used;
+    }
+    names::with_name(used, fresh)
+}
+
+// What the move leaves of the equation, the bindings as they were.
+fn left_by(m: Move, fresh: u8, p: Problem) -> Problem
+    ensures { λ r. ⌜ r ≡ leftBy m fresh p ⌝ }
+{
+    let left = m.left;
+    let right = m.right;
+    let atoms = p.atoms;
+    let lists = p.lists;
+    Problem {
+        open: m.open,
+        left: left,
+        right: right,
+        atoms: atoms,
+        lists: lists,
+        used: used_by(m.fresh, p.used, fresh),
+    }
+}
+
+// The problem that a move makes of p.
+pub fn applied(p: Problem, m: Move, fresh: u8) -> Problem
+    ensures { λ r. ⌜ r ≡ appliedValue p m fresh ⌝ }
+{
+    let q = left_by(m, fresh, p);
+    if !m.binds {
+        return q;
+    }
+    let x = m.variable;
+    let s = m.value;
+    bound_to(x, s, q)
+}
+
+// ---- a step
+
+// The child that a rule gives, or that it gives none, with the blank record.
+pub struct Child {
+    pub ok: bool,
+    pub problem: Problem,
+}
+
+// Whether a failure rule applies to the equation that is left.
+pub fn fails(p: Problem, row: &[u8]) -> bool
+    ensures { λ r. ⌜ r ≡ failsOf (tableIn (now (row .entry))) p ⌝ }
+{
+    let left = p.left;
+    let right = p.right;
+    search_rules::fails(left, right, row)
+}
+
+fn no_child() -> Child
+    ensures { λ r. ⌜ r ≡ noChild ⌝ }
+{
+    Child {
+        ok: false,
+        problem: blank_problem(),
+    }
+}
+
+// Whether a move gives a child.
+fn is_made(p: Problem, m: Move) -> bool
+    ensures { λ r. ⌜ r ≡ makes p m ⌝ }
+{
+    if !m.applies {
+        return false;
+    }
+    // Document 01: "ones count variables of a problem". Where all 64 are used there is no fresh one, which no problem that is met comes to.
+    if m.fresh {
+        return list_variables(p) < 64;
+    }
+    true
+}
+
+// The child by the rule of this number.
+pub fn child_of(p: Problem, rule: usize, row: &[u8]) -> Child
+    ensures { λ r. ⌜ r ≡ childOf (tableIn (now (row .entry))) p rule ⌝ }
+{
+    let left = p.left;
+    let right = p.right;
+    let fresh = names::fresh(p.used);
+    let m = search_rules::move_of(rule, left, right, fresh, row);
+    if is_made(p, m) {
+        return Child {
+            ok: true,
+            problem: applied(p, m, fresh),
+        };
+    }
+    no_child()
+}
+
+// Whether the rule of this number gives a child.
+pub fn gives(p: Problem, rule: usize, row: &[u8]) -> bool
+    ensures { λ r. ⌜ r ≡ gives (tableIn (now (row .entry))) p rule ⌝ }
+{
+    let left = p.left;
+    let right = p.right;
+    let fresh = names::fresh(p.used);
+    let m = search_rules::move_of(rule, left, right, fresh, row);
+    is_made(p, m)
+}
+
+// The first rule from k on that gives a child, by its number; 14 where none does.
+pub fn next_rule(p: Problem, k: usize, row: &[u8]) -> usize
+    ensures { λ r. ⌜ r ≡ nextRule (tableIn (now (row .entry))) p k ⌝ }
+{
+    let mut i = k;
+    while i < 14 {
+        if gives(p, i, row) {
+            return i;
+        }
+        i += 1;
+    }
+    14
+}

@@ -1,0 +1,5 @@
+pub mod Sides
+pub mod Numbers
+pub mod Heads
+pub mod Failing
+pub mod Moving

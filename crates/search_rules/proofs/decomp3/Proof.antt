@@ -1,0 +1,29 @@
+-- `search_rules::decomp3` meets its contract. Assumes nothing.
+use borrow.Author.Needs.{needs}
+use Rattle.search_rules.proofs.decomp3.Statement.{statement}
+use Rattle.search_rules.proofs.decomp3.Tie as tie
+
+rest-requires : tie.Need-rest-requires
+rest-requires c κs = search needs
+
+rest-requires-2 : tie.Need-rest-requires-2
+rest-requires-2 c κs = search needs
+
+kept-requires : tie.Need-kept-requires
+kept-requires c κs = search needs
+
+returns : tie.Need-returns
+returns c =
+    let d = c .before .before .before in
+    rw (d .if1 .taken, c .kept .ensures, c .before .before .rest .ensures, c .before .rest2 .ensures)
+
+no-move-requires : tie.Need-no-move-requires
+no-move-requires c κs = search needs
+
+returns-2 : tie.Need-returns-2
+returns-2 c = rw (c .before .if1 .left, c .no-move .ensures)
+
+pub decomp3-spec : {M : Type 1} → statement M
+decomp3-spec =
+    tie.close
+    (tie.spec rest-requires rest-requires-2 kept-requires returns no-move-requires returns-2)

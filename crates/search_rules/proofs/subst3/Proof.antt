@@ -1,0 +1,39 @@
+-- `search_rules::subst3` meets its contract. Assumes nothing.
+use borrow.Author.Needs.{needs}
+use Rattle.search_rules.proofs.subst3.Statement.{statement}
+use Rattle.search_rules.proofs.subst3.Tie as tie
+
+two-requires : tie.Need-two-requires
+two-requires c κs = search needs
+
+before-rest-requires : tie.Need-before-rest-requires
+before-rest-requires c κs = search needs
+
+rest-requires : tie.Need-rest-requires
+rest-requires c κs = search needs
+
+bound-requires : tie.Need-bound-requires
+bound-requires c κs = search needs
+
+returns : tie.Need-returns
+returns c =
+    let d = c .before .before .before in
+    rw (d .before .if1 .taken, c .bound .ensures, d .two .ensures, c .before .before .before-rest .ensures, c .before .rest .ensures)
+
+no-move-requires : tie.Need-no-move-requires
+no-move-requires c κs = search needs
+
+returns-2 : tie.Need-returns-2
+returns-2 c = rw (c .before .if1 .left, c .no-move .ensures)
+
+pub subst3-spec : {M : Type 1} → statement M
+subst3-spec =
+    tie.close
+    (tie.spec
+    two-requires
+    before-rest-requires
+    rest-requires
+    bound-requires
+    returns
+    no-move-requires
+    returns-2)

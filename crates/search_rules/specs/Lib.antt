@@ -1,0 +1,5 @@
+pub mod Heads
+pub mod Fails
+pub mod Tests
+pub mod Moves
+pub mod Values

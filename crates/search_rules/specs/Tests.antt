@@ -1,0 +1,20 @@
+-- What the rules of the search ask of two heads, on codes, and the code of the fresh list variable.
+use mathlib.Core.Bool.{Bool, false, cond, _&&_, not}
+use Prim.Native.Nat.{ℕ, _+_, _%_}
+use lib.Dec.{eqb}
+use Rattle.order.specs.Types.{entry}
+use Rattle.math_codes.specs.Lines.{pairPlaces}
+use Rattle.search_rules.specs.declared.Head.{Head}
+
+-- the first term of the side of b is an atom that can replace the first of the side of a, a variable x of type atom or below.
+-- Document 01: "type(a) at or below type(x)", "need x and a to differ"
+abbrev pub replaces : Head → Head → Bool
+replaces a b = cond (b .some && not (b .list)) (not (eqb (b .first) (a .first)) && entry (b .kind) (a .kind)) false
+
+-- type < type, of ranks
+abbrev pub strictly : ℕ → ℕ → Bool
+strictly j k = entry j k && not (entry k j)
+
+-- the fresh list variable of a number; numbers of a byte have a code by their remainder
+abbrev pub freshCode : ℕ → ℕ
+freshCode f = pairPlaces + f % 128
