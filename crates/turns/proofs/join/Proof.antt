@@ -21,7 +21,7 @@ add-t c = search needs
 
 returns : tie.Need-returns
 returns c =
-    rw (c .before .aim .ensures) (rw (c .before .before .next-place .ensures) (rw (c .before .before .before .next-rule .ensures) refl))
+    rw (c .aim .ensures) (rw (c .before .next-place .ensures) (rw (c .before .before .next-rule .ensures) refl))
 
 pub join-spec : {M : Type 1} → statement M
 join-spec =

@@ -14,8 +14,8 @@ put-child-requires c κs = search needs
 
 returns : tie.Need-returns
 returns c =
-    let z = c .before .before .before .before .args in
-    c .put-child .ensures ∙ ap (λ (k : Child). childTurn (z .s) (z .p) (k .problem)) (c .before .before .child-of .ensures)
+    let z = c .before .before .before .before .before .before .before .args in
+    c .put-child .ensures ∙ ap (λ (k : Child). childTurn (z .t1) (z .p) (k .problem)) (c .before .before .child-of .ensures)
 
 pub try-rule-spec : {M : Type 1} → statement M
 try-rule-spec = tie.close (tie.spec child-of-requires put-child-requires returns)
