@@ -66,7 +66,7 @@ use Rattle.terms.specs.Values.{viewField, viewSide, oneField}
 use Rattle.accepted.specs.Accepted.{acceptedField, countedField}
 use Rattle.accepted.proofs.Accepted.{accepted-field}
 use Rattle.writing.specs.Answers.{after}
-use Rattle.problems.specs.declared.Problem.{Problem}
+use Rattle.search_problems.specs.declared.Problem.{Problem}
 use Rattle.queue.specs.Row.{blanks}
 use Rattle.search.specs.declared.Searched.{Searched}
 use Rattle.search.specs.Answers.{told, searchedOf, foundIn, Searches}

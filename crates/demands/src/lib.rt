@@ -14,7 +14,7 @@ use matching::Comparison;
 use matching::Match;
 use overlaps::Listed;
 use overlaps::TextsListed;
-use problems::Problem;
+use search_problems::Problem;
 use reading::RuleRead;
 use reading::SlipRead;
 use search::Searched;

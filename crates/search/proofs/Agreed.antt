@@ -23,8 +23,8 @@ use Rattle.worklist.specs.Agreement as worklist
 use Rattle.solving.specs.Answers.{setting, fieldOn, answerText}
 use Rattle.solving.proofs.Short.{Ours, answer-short}
 use Rattle.moves.specs.Encode.{number}
-use Rattle.problems.specs.declared.Problem.{Problem}
-use Rattle.problems.proofs.Holds.{Within, Equation, isOpen, Holds}
+use Rattle.search_problems.specs.declared.Problem.{Problem}
+use Rattle.search_problems.proofs.Holds.{Within, Equation, isOpen, Holds}
 use Rattle.roots.proofs.Rooted.{equation-of}
 use Rattle.steps.specs.declared.Child.{Child}
 use Rattle.steps.specs.Steps.{childOf}

@@ -30,7 +30,7 @@ use denote.Triple.Clauses.{ensured, lasts}
 use Rattle.terms.specs.declared.Field.{Field}
 use Rattle.terms.proofs.Field as F
 use Rattle.terms.proofs.Field.Laws as F′
-use Rattle.problems.proofs.Problem as T
+use Rattle.search_problems.proofs.Problem as T
 use Rattle.turns.specs.declared.State.{State}
 use Rattle.starts.specs.Starts.{begun, again}
 use Rattle.turns.proofs.State as S

@@ -35,21 +35,21 @@ use denote.Triple.Spec.{tripleOf}
 use denote.Triple.Statement.{Contract, Triple}
 use denote.Triple.Call.{calls-at}
 use denote.Triple.Clauses.{Clauses, ensured, closing, lasts}
-use Rattle.problems.specs.declared.Problem.{Problem}
+use Rattle.search_problems.specs.declared.Problem.{Problem}
 use Rattle.turns.specs.declared.State.{State}
 use Rattle.turns.specs.declared.Turn.{Turn}
-use Rattle.problems.specs.Values.{blankProblem}
+use Rattle.search_problems.specs.Values.{blankProblem}
 use Rattle.queue.specs.Row.{blanks}
 use Rattle.queue.specs.Machine.{Config, conf, moved, wrote, next, Ends, Reaches, fromRoot}
-use Rattle.problems.proofs.Problem as T
-use Rattle.problems.proofs.Problem.Laws as T′
+use Rattle.search_problems.proofs.Problem as T
+use Rattle.search_problems.proofs.Problem.Laws as T′
 use Rattle.turns.proofs.State as S
 use Rattle.turns.proofs.State.Laws as S′
 use Rattle.turns.proofs.Turn as U
 use Rattle.turns.proofs.Turn.Laws as U′
 use Rattle.search.proofs.Lending.{x, Own, LentAgain, lend, unlend}
-use Rattle.problems.proofs.blank_problem as blank-problem
-use Rattle.problems.proofs.blank_problem.Symbol.{name as #problems·blank-problem}
+use Rattle.search_problems.proofs.blank_problem as blank-problem
+use Rattle.search_problems.proofs.blank_problem.Symbol.{name as #search-problems·blank-problem}
 use Rattle.search.proofs.put as put
 use Rattle.search.proofs.put.Symbol.{name as #search·put}
 use Rattle.search.proofs.take as take
@@ -172,8 +172,8 @@ module _ {M : Type 1} {𝓤 : URA M} {H : Heap 𝓤} {A : Atoms 𝓤} {K : Type 
 
 module _ {M : Type 1} {𝓤 : URA M} {H : Heap 𝓤} {A : Atoms 𝓤} {K : Type 0} {W : Given 𝓤 H A} {Γ : List (Item 𝓤)} {E : Env 𝓤 H} {C : Calls 𝓤 H} {Λ : Loops 𝓤 H} {Q : Post 𝓤 H} {d : Place} {rest : Body} where
   module _ (t : K) (mem : Memory → SProp 𝓤) (run : Routine → Fun 𝓤) (fm : FmC 𝓤 H (W .laws) C) {xs : List Operand} where
-    pub calls-blank-problem : Triple 𝓤 (C #problems·blank-problem) (Blank 𝓤 H A mem run) → ((P : SProp 𝓤) → Opds K W (raw P ∷ Γ) E xs [])
-        → (Is T.the-row blankProblem (mach blankProblem ∷ []) → Seq K W Γ (lands C Λ E d (mach blankProblem) rest Q)) → Seq K W Γ (runs C Λ E (seq (call #problems·blank-problem xs d) rest) Q)
+    pub calls-blank-problem : Triple 𝓤 (C #search-problems·blank-problem) (Blank 𝓤 H A mem run) → ((P : SProp 𝓤) → Opds K W (raw P ∷ Γ) E xs [])
+        → (Is T.the-row blankProblem (mach blankProblem ∷ []) → Seq K W Γ (lands C Λ E d (mach blankProblem) rest Q)) → Seq K W Γ (runs C Λ E (seq (call #search-problems·blank-problem xs d) rest) Q)
     calls-blank-problem known ops k =
         use0 W (raw (Blank 𝓤 H A mem run .pre (to-blank 𝓤 H A W mem run))) (qed W [] ∵ nothing ! $ nothing ! $ join ! $ nothing ! $ move ! (1 ∷ 0 ∷ []) $ done !) $
         calls-at t fm (Blank 𝓤 H A mem run) known (to-blank 𝓤 H A W mem run) (ops _) (λ w.

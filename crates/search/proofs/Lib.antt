@@ -1,3 +1,4 @@
+pub mod Record
 pub mod Lending
 pub mod Drives
 pub mod Calls

@@ -15,8 +15,8 @@ use Rattle.accepted.specs.Accepted.{acceptedField, countedField}
 use Rattle.accepted.proofs.Accepted.{encode-accepted-field, accepted-field}
 use Rattle.writing.specs.Answers.{after}
 use Rattle.unifiers.specs.Shapes.{left, right}
-use Rattle.problems.specs.declared.Problem.{Problem}
-use Rattle.problems.proofs.Holds.{Holds}
+use Rattle.search_problems.specs.declared.Problem.{Problem}
+use Rattle.search_problems.proofs.Holds.{Holds}
 use Rattle.roots.proofs.Rooted.{root-holds}
 use Rattle.moves.specs.Encode.{number}
 use Rattle.pieces.specs.Stored as stored

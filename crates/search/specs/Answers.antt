@@ -11,7 +11,7 @@ use Rattle.terms.specs.declared.Field.{Field}
 use Rattle.accepted.specs.Accepted.{countedField}
 use Rattle.writing.specs.Answers.{after}
 use Rattle.solving.specs.Answers.{Lines as Found, lines, nine, linesFor, bytesOf}
-use Rattle.problems.specs.declared.Problem.{Problem}
+use Rattle.search_problems.specs.declared.Problem.{Problem}
 use Rattle.turns.specs.declared.State.{State}
 use Rattle.queue.specs.Row.{blanks}
 use Rattle.starts.specs.Starts.{begun, again}

@@ -1,11 +1,11 @@
 // The search for one field pair, over a row of problem records that the caller lends.
 ghost use mathlib.Core.Path.{_≡_};
 ghost use lib.ListN.{length, set, getD};
-ghost use Rattle.problems.specs.Values.{blankProblem};
+ghost use Rattle.search_problems.specs.Values.{blankProblem};
 ghost use Rattle.queue.specs.Row.{blanks};
 ghost use Rattle.queue.specs.Machine.{conf, next, Ends, Reaches, fromRoot};
 ghost use Rattle.search.specs.Answers.{Searches, reported};
-use problems::Problem;
+use search_problems::Problem;
 use terms::Field;
 use turns::State;
 
@@ -34,7 +34,7 @@ fn put(row: &mut [Problem], i: usize, p: Problem)
 fn take(row: &mut [Problem], i: usize) -> Problem
     ensures { λ r. ⌜ (r ≡ getD (now (row .entry)) i blankProblem) × (now (row .exit) ≡ now (row .entry)) ⌝ }
 {
-    let mut p = problems::blank_problem();
+    let mut p = search_problems::blank_problem();
     if i < row.len() {
         p = row[i];
     }
@@ -45,7 +45,7 @@ fn take(row: &mut [Problem], i: usize) -> Problem
 fn blank(row: &mut [Problem])
     ensures { λ _. ⌜ now (row .exit) ≡ blanks (length (now (row .entry))) ⌝ }
 {
-    let b = problems::blank_problem();
+    let b = search_problems::blank_problem();
     let mut i = 0;
     while i < row.len() {
         put(row, i, b);

@@ -14,7 +14,7 @@ use Rattle.text.specs.Numbers.{digitsOf}
 use Rattle.text.proofs.Told.{eight-iff, fits-iff}
 use Rattle.text.specs.Ascii.{ascii, newline}
 use Rattle.terms.specs.declared.Field.{Field}
-use Rattle.problems.specs.Values.{blankProblem}
+use Rattle.search_problems.specs.Values.{blankProblem}
 use Rattle.queue.specs.Row.{blanks}
 use Rattle.writing.specs.Answers.{after}
 use Rattle.writing.proofs.Digits.{digits-most, digits-64}

@@ -34,8 +34,8 @@ use denote.Triple.Clauses.{ensured, lasts}
 use Rattle.terms.specs.declared.Field.{Field}
 use Rattle.terms.proofs.Field as F
 use Rattle.terms.proofs.Field.Laws as F′
-use Rattle.problems.specs.declared.Problem.{Problem}
-use Rattle.problems.proofs.Problem as T
+use Rattle.search_problems.specs.declared.Problem.{Problem}
+use Rattle.search_problems.proofs.Problem as T
 use Rattle.search.proofs.Lending.{x, Own, LentAgain, lend, unlend}
 use Rattle.search.proofs.Drives.{receives-as}
 use Rattle.search.specs.declared.Searched.{Searched}

@@ -16,7 +16,7 @@ fn at_most(n: usize, most: usize) -> usize
 pub fn search_in(left: Field, right: Field, room: usize, out: &mut [u8]) -> Searched
     ensures { λ r. ⌜ Searches left right (blanks (min room 640)) (now (out .entry)) r (blanks (min room 640)) (now (out .exit)) ⌝ }
 {
-    let b = problems::blank_problem();
+    let b = search_problems::blank_problem();
     let mut row = [b; 640];
     let n = at_most(room, 640);
     search::search(left, right, &mut row[..n], out)

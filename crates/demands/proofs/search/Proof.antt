@@ -34,9 +34,9 @@ use denote.Exit.{yes}
 use Rattle.terms.specs.declared.Field.{Field}
 use Rattle.terms.proofs.Field as F
 use Rattle.terms.proofs.Field.Laws as F′
-use Rattle.problems.specs.declared.Problem.{Problem}
-use Rattle.problems.specs.Values.{blankProblem}
-use Rattle.problems.proofs.Problem as T
+use Rattle.search_problems.specs.declared.Problem.{Problem}
+use Rattle.search_problems.specs.Values.{blankProblem}
+use Rattle.search_problems.proofs.Problem as T
 use Rattle.walks.proofs.Walk.{holds, envOf, pos, allocs-all, frees-all, var, reborrows}
 use Rattle.search.proofs.Lending.{x, Own, lend, unlend}
 use Rattle.search.specs.declared.Searched.{Searched}

@@ -37,17 +37,18 @@ use denote.Triple.Spec.{tripleOf}
 use denote.Triple.Statement.{Triple}
 use denote.Triple.Table.{entered, cited}
 use denote.Triple.Walked.{says, Stays, stay-slice, walkOf, goes-slice, ends-at, walked, walk-meets}
-use Rattle.problems.specs.declared.Problem.{Problem}
-use Rattle.problems.specs.Values.{blankProblem}
+use Rattle.search_problems.specs.declared.Problem.{Problem}
+use Rattle.search_problems.specs.Values.{blankProblem}
 use Rattle.queue.specs.Row.{blanks, Upto, one-more, upto-all}
-use Rattle.problems.proofs.Problem as T
-use Rattle.problems.proofs.Problem.Laws as T′
+use Rattle.search_problems.proofs.Problem as T
+use Rattle.search_problems.proofs.Problem.Laws as T′
 use Rattle.walks.proofs.Walk.{Spots, room, holds, envOf, cells, pos, allocs-all, frees-all, var, sets, reborrows}
 use Rattle.search.proofs.Lending.{x, Own}
+use Rattle.search.proofs.Record.{recordBytes}
 use Rattle.search.proofs.Drives.{mach, Blank, Put, calls-blank-problem, calls-put}
-use Rattle.problems.proofs.blank_problem.Symbol as blank-problem-def
-use Rattle.problems.proofs.blank_problem.Symbol.{name as #problems·blank-problem}
-use Rattle.problems.proofs.blank_problem.Met as blank-problem-thm
+use Rattle.search_problems.proofs.blank_problem.Symbol as blank-problem-def
+use Rattle.search_problems.proofs.blank_problem.Symbol.{name as #search-problems·blank-problem}
+use Rattle.search_problems.proofs.blank_problem.Met as blank-problem-thm
 use Rattle.search.proofs.put.Symbol as put-def
 use Rattle.search.proofs.put.Symbol.{name as #search·put}
 use Rattle.search.proofs.put.Met as put-thm
@@ -93,7 +94,7 @@ module _ {M : Type 1} (𝓤 : URA M) (H : Heap 𝓤) (A : Atoms 𝓤) (W : Given
   Nearer-wf : WellFounded Nearer
   Nearer-wf = InvImage·wf (λ (j : Round). length ys - j .0) (Nat·lt-wfRel .wf)
 
-  module _ (fits : Room T.the-row (length ys)) (𝓣 : Tables 𝓤 H) (kb : Triple 𝓤 (𝓣 .C #problems·blank-problem) (Blank 𝓤 H A mem run)) (kp : Triple 𝓤 (𝓣 .C #search·put) (Put 𝓤 H A mem run)) where
+  module _ (fits : Room T.the-row (length ys)) (𝓣 : Tables 𝓤 H) (kb : Triple 𝓤 (𝓣 .C #search-problems·blank-problem) (Blank 𝓤 H A mem run)) (kp : Triple 𝓤 (𝓣 .C #search·put) (Put 𝓤 H A mem run)) where
     abbrev C : Calls 𝓤 H
     C = 𝓣 .C
 
@@ -131,7 +132,7 @@ module _ {M : Type 1} (𝓤 : URA M) (H : Heap 𝓤) (A : Atoms 𝓤) (W : Given
           i-fits = let r : length ys < 2 ^ 64 = fits .0 in omega (arith, less)
 
           more : j .0 + 1 < 2 ^ 64
-          more = let r : length ys * 3984 < 2 ^ 63 = fits .1 in omega (arith, less)
+          more = let r : length ys * recordBytes < 2 ^ 63 = fits .1 in omega (arith, less)
 
           nearer : length ys - (j .0 + 1) < length ys - j .0
           nearer = omega (arith, less)
@@ -165,5 +166,5 @@ blank-spec 𝓤 H 𝓜 𝓖 𝓡 =
     (walk-meets 𝓤 H A blank.ended stayed W (goes-slice 𝓤 H A W 1 0 tt (plain (λ _. T.the-row)), tt) clauses goes (WpFn-mono 𝓤 H (W .laws) 𝓣 code.function)
     (walked 𝓤 H A blank.ended stayed clauses goes (λ κs. (slice-vals, tt)) (λ κs. (mut-slice-tells (named 0) (κs .0) T.the-row, tt))
     (λ κs qs bounds a g are. via 𝓤 _ (fst∗ 𝓤 _ (emp 𝓤)) (walk 𝓤 H A W (𝓜 .mem) (𝓡 .run) (κs .0) (qs .0) (a .0 .ptr .0) (a .0 .ptr .1) (a .0 .name) (a .0 .now) (are .0 .0 .1) 𝓣
-    (cited 𝓤 H (Blank 𝓤 H A (𝓜 .mem) (𝓡 .run)) 𝓜 𝓡 code.env #problems·blank-problem blank-problem-def.routine code.calls-problems·blank-problem (blank-problem-thm.met 𝓤 H 𝓜 𝓖 𝓡))
+    (cited 𝓤 H (Blank 𝓤 H A (𝓜 .mem) (𝓡 .run)) 𝓜 𝓡 code.env #search-problems·blank-problem blank-problem-def.routine code.calls-problems·blank-problem (blank-problem-thm.met 𝓤 H 𝓜 𝓖 𝓡))
     (cited 𝓤 H (Put 𝓤 H A (𝓜 .mem) (𝓡 .run)) 𝓜 𝓡 code.env #search·put put-def.routine code.calls-search·put (put-thm.met 𝓤 H 𝓜 𝓖 𝓡))))))

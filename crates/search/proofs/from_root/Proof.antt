@@ -33,10 +33,10 @@ use denote.Triple.Statement.{Triple}
 use denote.Triple.Table.{entered, cited}
 use denote.Triple.Walked.{says, needs, Stays, stay-slice, stay-none, walkOf, goes-slice, goes-none, ends-at, walked, walk-meets}
 use denote.Exit.{yes}
-use Rattle.problems.specs.declared.Problem.{Problem}
+use Rattle.search_problems.specs.declared.Problem.{Problem}
 use Rattle.queue.specs.Machine.{Config, conf, Ends, Reaches, fromRoot}
-use Rattle.problems.proofs.Problem as T
-use Rattle.problems.proofs.Problem.Laws as T′
+use Rattle.search_problems.proofs.Problem as T
+use Rattle.search_problems.proofs.Problem.Laws as T′
 use Rattle.turns.proofs.State as S
 use Rattle.turns.proofs.State.Laws as S′
 use Rattle.walks.proofs.Walk.{holds, envOf, pos, allocs-all, frees-all, var, sets, reborrows}

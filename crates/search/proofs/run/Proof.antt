@@ -36,9 +36,9 @@ use denote.Triple.Statement.{Triple}
 use denote.Triple.Table.{entered, cited}
 use denote.Triple.Walked.{says, needs, Stays, stay-slice, stay-none, walkOf, goes-slice, goes-none, ends-at, walked, walk-meets}
 use denote.Exit.{yes}
-use Rattle.problems.specs.declared.Problem.{Problem}
+use Rattle.search_problems.specs.declared.Problem.{Problem}
 use Rattle.queue.specs.Machine.{Config, conf, next, after, Ends, turn-on, turn-off}
-use Rattle.problems.proofs.Problem as T
+use Rattle.search_problems.proofs.Problem as T
 use Rattle.turns.proofs.State as S
 use Rattle.turns.proofs.State.Laws as S′
 use Rattle.walks.proofs.Walk.{Spots, room, holds, envOf, cells, pos, allocs-all, frees-all, var, sets, reborrows}

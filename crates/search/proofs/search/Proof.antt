@@ -37,9 +37,9 @@ use denote.Exit.{yes}
 use Rattle.terms.specs.declared.Field.{Field}
 use Rattle.terms.proofs.Field as F
 use Rattle.terms.proofs.Field.Laws as F′
-use Rattle.problems.specs.declared.Problem.{Problem}
-use Rattle.problems.specs.Values.{blankProblem}
-use Rattle.problems.proofs.Problem as T
+use Rattle.search_problems.specs.declared.Problem.{Problem}
+use Rattle.search_problems.specs.Values.{blankProblem}
+use Rattle.search_problems.proofs.Problem as T
 use Rattle.turns.specs.declared.State.{State}
 use Rattle.queue.specs.Row.{blanks}
 use Rattle.starts.specs.Starts.{begun, again}

@@ -32,11 +32,11 @@ use denote.Triple.Statement.{Triple}
 use denote.Triple.Table.{entered, cited}
 use denote.Triple.Walked.{says, Stays, stay-slice, stay-none, walkOf, goes-slice, goes-none, ends-at, walked, walk-meets}
 use denote.Exit.{yes}
-use Rattle.problems.specs.declared.Problem.{Problem}
+use Rattle.search_problems.specs.declared.Problem.{Problem}
 use Rattle.turns.specs.declared.Turn.{Turn}
 use Rattle.queue.specs.Machine.{Config, conf, read, moved, next}
-use Rattle.problems.proofs.Problem as T
-use Rattle.problems.proofs.Problem.Laws as T′
+use Rattle.search_problems.proofs.Problem as T
+use Rattle.search_problems.proofs.Problem.Laws as T′
 use Rattle.turns.proofs.State as S
 use Rattle.turns.proofs.State.Laws as S′
 use Rattle.turns.proofs.Turn as U

@@ -41,13 +41,13 @@ use denote.Exit.{yes}
 use Rattle.terms.specs.declared.Field.{Field}
 use Rattle.terms.proofs.Field as F
 use Rattle.terms.proofs.Field.Laws as F′
-use Rattle.problems.specs.declared.Problem.{Problem}
-use Rattle.problems.specs.Values.{blankProblem}
-use Rattle.problems.proofs.Problem as T
-use Rattle.problems.proofs.Problem.Laws as T′
-use Rattle.problems.proofs.blank_problem.Symbol as blank-problem-def
-use Rattle.problems.proofs.blank_problem.Symbol.{name as #problems·blank-problem}
-use Rattle.problems.proofs.blank_problem.Met as blank-problem-thm
+use Rattle.search_problems.specs.declared.Problem.{Problem}
+use Rattle.search_problems.specs.Values.{blankProblem}
+use Rattle.search_problems.proofs.Problem as T
+use Rattle.search_problems.proofs.Problem.Laws as T′
+use Rattle.search_problems.proofs.blank_problem.Symbol as blank-problem-def
+use Rattle.search_problems.proofs.blank_problem.Symbol.{name as #search-problems·blank-problem}
+use Rattle.search_problems.proofs.blank_problem.Met as blank-problem-thm
 use Rattle.queue.specs.Row.{blanks}
 use Rattle.walks.proofs.Walk.{Spots, room, holds, envOf, pos, allocs-all, frees-all, var, sets, reborrows}
 use Rattle.search.proofs.Lending.{x, Own}
@@ -135,7 +135,7 @@ module _ {M : Type 1} (𝓤 : URA M) (H : Heap 𝓤) (A : Atoms 𝓤) (W : Given
     both : length (blanks k) + length (blanks (640 - k)) ≡ 640
     both = omega (arith, length-replicate k blankProblem, length-replicate (640 - k) blankProblem, k-most)
 
-    walk : Room u8 (length os) → (𝓣 : Tables 𝓤 H) → Triple 𝓤 (𝓣 .C #problems·blank-problem) (Blank 𝓤 H A mem run) → Triple 𝓤 (𝓣 .C #solver·at-most) (AtMost 𝓤 H A mem run) → Triple 𝓤 (𝓣 .C #search·search) (Search 𝓤 H A mem run)
+    walk : Room u8 (length os) → (𝓣 : Tables 𝓤 H) → Triple 𝓤 (𝓣 .C #search-problems·blank-problem) (Blank 𝓤 H A mem run) → Triple 𝓤 (𝓣 .C #solver·at-most) (AtMost 𝓤 H A mem run) → Triple 𝓤 (𝓣 .C #search·search) (Search 𝓤 H A mem run)
         → ent 𝓤 (onEntry 𝓤 H A search-in.signature (κ, tt) (q, tt) (bound .0 .3) (bound .0 .4)) (WpFn 𝓤 H (𝓣 .C) (𝓣 .Λ) code.function (mach-field f ∷ mach-field g ∷ vint w64 m ∷ o₀ ∷ []) Post)
     walk fits 𝓣 kb km ks =
         qed W ((‵ (flft κ q) ⊛ ‵ ftrue) ∷ ‵ (owns (F.the-row ∷ F.the-row ∷ usize ∷ MutSlice (named 0) κ u8 ∷ []) (bound .0 .3) (bound .0 .4)) ∷ []) ∵
@@ -186,6 +186,6 @@ search-in-spec 𝓤 H 𝓜 𝓖 𝓡 =
     (walked 𝓤 H A search-in.ended stayed clauses goes (λ κs. (LL.vals F.the-type F′.the-laws, (LL.vals F.the-type F′.the-laws, (uint-vals w64, (slice-vals, tt))))) (λ κs. (LL.tells F.the-type F′.the-laws, (LL.tells F.the-type F′.the-laws, (uint-tells w64, (mut-slice-tells (named 0) (κs .0) u8, tt)))))
     (λ κs qs bounds a g are. via 𝓤 _ (fst∗ 𝓤 _ (emp 𝓤))
     (walk 𝓤 H A W (𝓜 .mem) (𝓡 .run) (κs .0) (qs .0) (a .1 .1 .1 .0 .ptr .0) (a .1 .1 .1 .0 .ptr .1) (a .1 .1 .1 .0 .name) (a .0) (a .1 .0) (a .1 .1 .0) (a .1 .1 .1 .0 .now) (are .0) (are .1 .0) (are .1 .1 .0 .1) (are .1 .1 .1 .0 .0 .1) 𝓣
-    (cited 𝓤 H (Blank 𝓤 H A (𝓜 .mem) (𝓡 .run)) 𝓜 𝓡 code.env #problems·blank-problem blank-problem-def.routine code.calls-problems·blank-problem (blank-problem-thm.met 𝓤 H 𝓜 𝓖 𝓡))
+    (cited 𝓤 H (Blank 𝓤 H A (𝓜 .mem) (𝓡 .run)) 𝓜 𝓡 code.env #search-problems·blank-problem blank-problem-def.routine code.calls-problems·blank-problem (blank-problem-thm.met 𝓤 H 𝓜 𝓖 𝓡))
     (cited 𝓤 H (AtMost 𝓤 H A (𝓜 .mem) (𝓡 .run)) 𝓜 𝓡 code.env #solver·at-most at-most-def.routine code.calls-solver·at-most (at-most-thm.met 𝓤 H 𝓜 𝓖 𝓡))
     (cited 𝓤 H (Search 𝓤 H A (𝓜 .mem) (𝓡 .run)) 𝓜 𝓡 code.env #search·search search-def.routine code.calls-search·search (search-thm.met 𝓤 H 𝓜 𝓖 𝓡))))))
