@@ -1,2 +1,5 @@
 pub mod Two
 pub mod Cases
+pub mod Holds
+pub mod Own
+pub mod Known
