@@ -3,3 +3,4 @@ pub mod Cases
 pub mod Holds
 pub mod Own
 pub mod Known
+pub mod Bindings
