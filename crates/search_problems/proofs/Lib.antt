@@ -4,3 +4,5 @@ pub mod Holds
 pub mod Own
 pub mod Known
 pub mod Bindings
+pub mod Moved
+pub mod Agree
