@@ -2,6 +2,7 @@ pub mod Record
 pub mod Lending
 pub mod Drives
 pub mod Calls
+pub mod Solved
 pub mod Turns
 pub mod Found
 pub mod Twice
