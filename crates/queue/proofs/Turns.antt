@@ -9,11 +9,12 @@ use Prim.Native.Nat.{ℕ, _-_, _≤_, min}
 use native.Mathlib.Omega.{arith}
 use lib.Dec.{eqb}
 use lib.ListN.{length, take, drop}
+use lib.Seq.{sets}
 use Rattle.search_problems.specs.declared.Problem.{Problem}
 use Rattle.search_problems.specs.Values.{blankProblem}
-use Rattle.writing.specs.Answers.{after}
 use Rattle.pieces.specs.Stored.{storeLine}
 use Rattle.pieces.proofs.Stored.{store-part, store-end}
+use Rattle.pair_row.specs.Row.{tableIn}
 use Rattle.turns.specs.declared.State.{State}
 use Rattle.turns.specs.declared.Turn.{Turn}
 use Rattle.turns.specs.Turns.{trying, nextPlace, aim, plus, firstRule, stopped, ruleTurn, decided}
@@ -28,12 +29,12 @@ fits-by false k n = omega arith
 pub place-fits : (s : State) (n : ℕ) → linePlace s n ≤ n
 place-fits s n = fits-by (s .writing) (s .bytes) n
 
-module _ (l old : List ℕ) (k at : ℕ) {m : List ℕ} (e : m ≡ after l (take (length old - at) (drop at old))) where
+module _ (l old : List ℕ) (k at : ℕ) {m : List ℕ} (e : m ≡ sets (take (length old - at) (drop at old)) 0 l) where
   part-by : (w : Bool) → at ≡ cond w (min k (length old)) (length old) → take at old ++ (m ++ drop (length old - at) (drop at old)) ≡ cond w (storeLine l k old) old
   part-by true a = store-part l old k at a e
   part-by false a = store-part l old (length old) at (omega (arith, a)) e ∙ store-end l old
 
-pub line-part : (s : State) (l old : List ℕ) (at : ℕ) {m : List ℕ} → at ≡ linePlace s (length old) → m ≡ after l (take (length old - at) (drop at old))
+pub line-part : (s : State) (l old : List ℕ) (at : ℕ) {m : List ℕ} → at ≡ linePlace s (length old) → m ≡ sets (take (length old - at) (drop at old)) 0 l
     → take at old ++ (m ++ drop (length old - at) (drop at old)) ≡ cond (s .writing) (storeLine l (s .bytes) old) old
 line-part s l old at a e = part-by l old (s .bytes) at e (s .writing) a
 

@@ -16,9 +16,8 @@ use Rattle.accepted.proofs.Accepted.{encode-accepted-field, accepted-field}
 use Rattle.writing.specs.Answers.{after}
 use Rattle.unifiers.specs.Shapes.{left, right}
 use Rattle.search_problems.specs.declared.Problem.{Problem}
-use Rattle.search_problems.proofs.Holds.{Holds}
-use Rattle.roots.proofs.Rooted.{root-holds}
-use Rattle.moves.specs.Encode.{number}
+use Rattle.pair_lines.specs.Lines.{lineBound}
+use Rattle.search_rules.specs.Values.{number}
 use Rattle.pieces.specs.Stored as stored
 use Rattle.solving.specs.Answers.{fieldOn, Lines as Found, lines, nine, linesOf, linesFor, bytesOf}
 use Rattle.turns.specs.declared.State.{State}
@@ -27,7 +26,7 @@ use Rattle.search.specs.declared.Searched.the-variants.{Lines, TooSmall,
 use Rattle.search.specs.Answers.{told, searchedOf, Searches, reported, Halts, Done}
 use Rattle.search.proofs.Twice.{Answered, counting-ends-none, writing-ends-none, twice-none}
 use Rattle.search.proofs.Lines.{isNine, shownLines, counting-ends, writing-ends, twice-lines}
-use Rattle.search.proofs.Agreed.{agreed, line-short}
+use Rattle.search.proofs.Agreed.{Held, agreed, line-short, root-held}
 
 -- ---- a state that says what the lines are
 
@@ -73,13 +72,13 @@ module _ (f g : List OurTerm) (is-f : IsLeft (f ∷ [])) (is-g : IsLeft (g ∷ [
 
   halts-read : Halts (encodeField f) (encodeField g) row out
   halts-read = record {
-    count = counting-ends f g (encodeField f) (encodeField g) row out is-f is-g both (Holds (fieldOn left f) (fieldOn right g)) number (agreed f g is-f is-g) 40832 (line-short f g is-f is-g) (omega arith) (root-holds f g is-f is-g);
-    write = writing-ends f g (encodeField f) (encodeField g) row out is-f is-g both (Holds (fieldOn left f) (fieldOn right g)) number (agreed f g is-f is-g) 40832 (line-short f g is-f is-g) (omega arith) (root-holds f g is-f is-g);
+    count = counting-ends f g (encodeField f) (encodeField g) row out is-f is-g both (Held f g is-f is-g) number (agreed f g is-f is-g) lineBound (line-short f g is-f is-g) (omega arith) (root-held f g is-f is-g);
+    write = writing-ends f g (encodeField f) (encodeField g) row out is-f is-g both (Held f g is-f is-g) number (agreed f g is-f is-g) lineBound (line-short f g is-f is-g) (omega arith) (root-held f g is-f is-g);
   }
 
   leaves-read : (r : Searched) (row′ : List Problem) (out′ : List ℕ) → Done (encodeField f) (encodeField g) row out r row′ out′ → Leaves (linesOf (length row) f g) out r out′
   leaves-read r row′ out′ d = leaves (encodeField f) (encodeField g) row out r row′ out′ (linesOf (length row) f g) d
-      (twice-lines f g (encodeField f) (encodeField g) row out is-f is-g both (Holds (fieldOn left f) (fieldOn right g)) number (agreed f g is-f is-g) 40832 (line-short f g is-f is-g) (omega arith) (root-holds f g is-f is-g)
+      (twice-lines f g (encodeField f) (encodeField g) row out is-f is-g both (Held f g is-f is-g) number (agreed f g is-f is-g) lineBound (line-short f g is-f is-g) (omega arith) (root-held f g is-f is-g)
       (d .counted) (d .written) (d .counts) (d .writes))
 
 -- ---- any two fields

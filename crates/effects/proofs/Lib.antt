@@ -1,3 +1,0 @@
-pub mod Two
-pub mod Bindings
-pub mod Moved

@@ -1,4 +1,0 @@
-pub mod Rows
-pub mod Runs
-pub mod Bindings
-pub mod Agree

@@ -1,4 +1,0 @@
-pub mod Arrays
-pub mod Places
-pub mod Cases
-pub mod Agree

@@ -1,3 +1,0 @@
-pub mod Loops
-pub mod Collected
-pub mod Agree

@@ -1,3 +1,0 @@
-pub mod Holds
-pub mod Own
-pub mod Known

@@ -1,4 +1,0 @@
-pub mod Places
-pub mod Loops
-pub mod Puts
-pub mod Fields
