@@ -6,3 +6,4 @@ pub mod Known
 pub mod Bindings
 pub mod Moved
 pub mod Agree
+pub mod Runs
