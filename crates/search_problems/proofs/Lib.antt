@@ -7,3 +7,4 @@ pub mod Bindings
 pub mod Moved
 pub mod Agree
 pub mod Runs
+pub mod Rooted
