@@ -6,3 +6,5 @@ pub mod Known
 pub mod Bindings
 pub mod Moved
 pub mod Agree
+pub mod Runs
+pub mod Rooted

@@ -1,3 +1,4 @@
 pub mod Values
 pub mod Applied
 pub mod Steps
+pub mod Roots

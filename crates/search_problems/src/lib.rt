@@ -1,13 +1,19 @@
 // The problems of the search as records on codes: what is left of the equation, the bindings so far, the list variables used so far; what
-// a move makes of a record; and a step of the search: whether a problem fails, the child that a rule gives it, the next rule that gives one.
+// a move makes of a record; a step of the search: whether a problem fails, the child that a rule gives it, the next rule that gives one; and
+// the record where the search starts.
 // A lent row has the tables of the pair (`pair_row`).
 ghost use mathlib.Core.Path.{_≡_};
 ghost use mathlib.Core.Bool.{cond};
+ghost use mathlib.Core.List.{foldl};
+ghost use Prim.Native.Nat.{_-_};
 ghost use Rattle.names.specs.Sets.{withName, listVariables};
 ghost use Rattle.pair_row.specs.Row.{tableIn};
+ghost use Rattle.search_items.specs.Items.{pushed};
 ghost use Rattle.search_problems.specs.Values.{blankProblem};
 ghost use Rattle.search_problems.specs.Applied.{boundAtoms, boundTo, leftBy, appliedValue};
 ghost use Rattle.search_problems.specs.Steps.{failsOf, noChild, makes, childOf, gives, nextRule};
+ghost use Rattle.search_problems.specs.Roots.{codesAt, listNumber, sideItems, ownItems, withOwn, rootValue};
+use pair_row::Shape;
 use pair_state::State;
 use search_items::Items;
 use search_rules::Move;
@@ -198,4 +204,81 @@ pub fn next_rule(p: Problem, k: usize, row: &[u8]) -> usize
         i += 1;
     }
     14
+}
+
+// ---- the root
+
+// The codes at the places from b up to e, behind those of y.
+fn push_codes(y: Items, b: usize, e: usize, row: &[u8]) -> Items
+    ensures { λ r. ⌜ r ≡ foldl pushed y (codesAt (now (row .entry)) b (e - b)) ⌝ }
+{
+    let mut z = y;
+    let mut i = b;
+    while i < e {
+        z = search_items::push(z, pair_row::byte_at(row, i));
+        i += 1;
+    }
+    z
+}
+
+// A right-side list variable counts 16 above its number. (A number over 15, which no table has, counts by its remainder.)
+fn list_number(right: bool, n: u8) -> u8
+    ensures { λ r. ⌜ r ≡ listNumber right n ⌝ }
+{
+    if right { 16 + n % 16 } else { n % 16 }
+}
+
+// A field of this shape as it stands on the left side, or on the right.
+fn side_items(right: bool, s: Shape, row: &[u8]) -> Items
+    ensures { λ r. ⌜ r ≡ sideItems (now (row .entry)) right s ⌝ }
+{
+    let b = s.base as usize;
+    let e = b + s.head as usize;
+    let y = push_codes(search_items::blank_items(), b, e, row);
+    if !s.gapped {
+        return y;
+    }
+    let n = list_number(right, s.list);
+    let z = search_items::push(y, pair_row::LISTS + n);
+    push_codes(z, e + 1, e + 1 + s.tail as usize, row)
+}
+
+// A field's list variable, if it has one.
+fn own_items(right: bool, s: Shape) -> Items
+    ensures { λ r. ⌜ r ≡ ownItems right s ⌝ }
+{
+    if !s.gapped {
+        return search_items::blank_items();
+    }
+    let n = list_number(right, s.list);
+    search_items::one(pair_row::LISTS + n)
+}
+
+// The set with the number of a field's list variable.
+fn with_own(set: u64, right: bool, s: Shape) -> u64
+    ensures { λ r. ⌜ r ≡ withOwn set right s ⌝ }
+{
+    if !s.gapped {
+        return set;
+    }
+    names::with_name(set, list_number(right, s.list))
+}
+
+// The equation of the first field of the left rule and the first of the right one, where each variable stands for itself.
+pub fn root(row: &[u8]) -> Problem
+    ensures { λ r. ⌜ r ≡ rootValue (now (row .entry)) ⌝ }
+{
+    let a = pair_row::shape_at(row, false, 0);
+    let b = pair_row::shape_at(row, true, 0);
+    let left = side_items(false, a, row);
+    let right = side_items(true, b, row);
+    let st = pair_state::start(row);
+    Problem {
+        open: true,
+        left: left,
+        right: right,
+        atoms: st,
+        lists: [own_items(false, a), own_items(true, b)],
+        used: with_own(with_own(0, true, b), false, a),
+    }
 }
