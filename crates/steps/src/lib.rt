@@ -60,13 +60,12 @@ pub fn child_of(p: Problem, rule: usize) -> Child
 }
 
 // Whether the rule of this number gives a child.
-pub fn gives(p: Problem, rule: usize) -> bool
+fn gives(p: Problem, rule: usize) -> bool
     ensures { λ r. ⌜ r ≡ gives p rule ⌝ }
 {
     let left = p.left;
     let right = p.right;
-    let fresh = names::fresh(p.used);
-    let m = moves::move_of(rule, left, right, fresh);
+    let m = moves::move_of(rule, left, right, names::fresh(p.used));
     is_made(p, m)
 }
 
