@@ -42,7 +42,9 @@ applies (bind x s v (equation L M)) = refl
 
 made : (p : Problem) (f : ℕ) (m : rules.Move setting) → noneLeft p ≡ false
     → childBy p (encodeMove (some m)) f ≡ record { ok = true; problem = appliedValue p (encodeMove (some m)) f }
-made p f m e = ap (λ (b : Bool). cond b child noChild) (ap₂ _&&_ (applies m) (ap (λ (b : Bool). not (encodeMove (some m) .fresh && b)) e ∙ none (encodeMove (some m) .fresh)))
+made p f m e =
+    ap (λ (b : Bool). cond b child noChild)
+    (ap₂ _&&_ (applies m) (ap (λ (b : Bool). not (encodeMove (some m) .fresh && b)) e ∙ none (encodeMove (some m) .fresh)))
   where
     child : Child
     child = record { ok = true; problem = appliedValue p (encodeMove (some m)) f }

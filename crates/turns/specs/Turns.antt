@@ -64,7 +64,8 @@ stopped s = record {
   right = s .right;
 }
 
--- the problem p leaves the row: a solved one is an answer, whose line has n bytes; one that does not fail is held, and its children are put in
+-- the problem p leaves the row: a solved one is an answer, whose line has n bytes; one that does not fail is held, and its children are
+-- put in
 abbrev pub taken : State → Problem → ℕ → State
 taken s p n = record {
   busy = true;
