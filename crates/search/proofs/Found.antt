@@ -99,10 +99,28 @@ module _ (E : Setting) (tables texts : List ℕ) (Holds : Problem → theory.Pro
     begins-shows = (
       0,
       set row 0 p,
-      ap (λ (tail : ℕ). conf (record { busy = true; writing = writing; refused = false; rule = 14; at = 0; head = 0; tail = tail; count = 1; cap = cap; lines = 0; bytes = 0; held = p; row = tables; texts = texts }) (set row 0 p) out) behind,
+      ap (λ (tail : ℕ). conf (with-tail tail) (set row 0 p) out) behind,
       ring-one blankProblem (set row 0 p) cap 0 p (length-set row 0 p ∙ size) (omega arith) (getD-set-same row 0 p blankProblem (omega (arith, size))),
     )
       where
+        with-tail : ℕ → State
+        with-tail tail = record {
+          busy = true;
+          writing = writing;
+          refused = false;
+          rule = 14;
+          at = 0;
+          head = 0;
+          tail = tail;
+          count = 1;
+          cap = cap;
+          lines = 0;
+          bytes = 0;
+          held = p;
+          row = tables;
+          texts = texts;
+        }
+
         behind : nextPlace 0 cap ≡ place 0 1 cap
         behind = ap (λ (i : ℕ). nextPlace i cap) (sym (place-first 0 cap (omega arith))) ∙ place-next 0 0 cap (omega arith) (omega arith)
 

@@ -36,7 +36,8 @@ module _ (s : State) (row : List Problem) (out : List ℕ) where
   back : (t : State) → _≡_ {A = Config} (conf t (set row (s .at) there) out) (conf t row out)
   back t = ap (λ (r : List Problem). conf t r out) (set-getD row (s .at) blankProblem)
 
-  next-joined : trying (s .rule) ≡ true → ltb (s .count) (s .cap) ≡ true → next (conf s row out) ≡ conf (joined s) (set row (s .at) (childOf (tableIn (s .row)) (s .held) (s .rule) .problem)) out
+  next-joined : trying (s .rule) ≡ true → ltb (s .count) (s .cap) ≡ true
+      → next (conf s row out) ≡ conf (joined s) (set row (s .at) (childOf (tableIn (s .row)) (s .held) (s .rule) .problem)) out
   next-joined t l = by-turn (record { problem = childOf (tableIn (s .row)) (s .held) (s .rule) .problem; state = joined s }) out (rw (t, l) refl) (rw t refl)
 
   next-full : trying (s .rule) ≡ true → ltb (s .count) (s .cap) ≡ false → next (conf s row out) ≡ conf (full s) row out
@@ -68,7 +69,15 @@ module _ (s : State) (row : List Problem) (out : List ℕ) where
 -- ---- the machine whose queue is a list, over the same records
 
 abbrev pub records : List ℕ → List ℕ → Records
-records tables texts = record { Rec = Problem; isOpen = λ p. p .«open»; fails = failsOf (tableIn tables); ok = gives (tableIn tables); child = λ p r. childOf (tableIn tables) p r .problem; line = lineIn tables texts; store = storeLine }
+records tables texts = record {
+  Rec = Problem;
+  isOpen = λ p. p .«open»;
+  fails = failsOf (tableIn tables);
+  ok = gives (tableIn tables);
+  child = λ p r. childOf (tableIn tables) p r .problem;
+  line = lineIn tables texts;
+  store = storeLine;
+}
 
 module _ (tables texts : List ℕ) (writing : Bool) (cap : ℕ) where
   -- the state in the row, with the queue from `head` on
@@ -109,7 +118,9 @@ module _ (tables texts : List ℕ) (writing : Bool) (cap : ℕ) where
     shows-joined t l = (
       head,
       set row (place head (length (w .waiting)) cap) q,
-      next-joined s row (w .out) t l ∙ ap₂ (λ (tail : ℕ) (n : ℕ). shape tail n (aim (w .rule) head (place head (length (w .waiting)) cap))) behind one-more ∙ ap (λ (at : ℕ). shape (place head (length (w .waiting ++ q ∷ [])) cap) (length (w .waiting ++ q ∷ [])) at) aimed,
+      next-joined s row (w .out) t l
+          ∙ ap₂ (λ (tail : ℕ) (n : ℕ). shape tail n (aim (w .rule) head (place head (length (w .waiting)) cap))) behind one-more
+          ∙ ap (λ (at : ℕ). shape (place head (length (w .waiting ++ q ∷ [])) cap) (length (w .waiting ++ q ∷ [])) at) aimed,
       ring-put blankProblem row cap head (w .waiting) q r few,
     )
       where
@@ -131,7 +142,22 @@ module _ (tables texts : List ℕ) (writing : Bool) (cap : ℕ) where
         -- by the tail, the count, and the place that was read
         shape : ℕ → ℕ → ℕ → Config
         shape tail n at =
-            conf (record { busy = true; writing = writing; refused = w .refused; rule = nextRule (tableIn tables) (w .held) (w .rule + 1); at = aim (nextRule (tableIn tables) (w .held) (w .rule + 1)) head tail; head = head; tail = tail; count = n; cap = cap; lines = w .lines; bytes = w .bytes; held = w .held; row = tables; texts = texts })
+            conf (record {
+              busy = true;
+              writing = writing;
+              refused = w .refused;
+              rule = nextRule (tableIn tables) (w .held) (w .rule + 1);
+              at = aim (nextRule (tableIn tables) (w .held) (w .rule + 1)) head tail;
+              head = head;
+              tail = tail;
+              count = n;
+              cap = cap;
+              lines = w .lines;
+              bytes = w .bytes;
+              held = w .held;
+              row = tables;
+              texts = texts;
+            })
             (set row at (childOf (tableIn tables) (w .held) (w .rule) .problem)) (w .out)
 
     module _ (t : ltb (w .rule) 14 ≡ false) where
@@ -209,7 +235,8 @@ module _ (tables texts : List ℕ) (writing : Bool) (cap : ℕ) where
     shows-rule t = by (ltb (length (w .waiting)) cap) refl
       where
         by : (c : Bool) → ltb (length (w .waiting)) cap ≡ c
-            → Shows (next (config w head row)) (cond c (list.joined (records tables texts) writing cap w (childOf (tableIn tables) (w .held) (w .rule) .problem)) (list.full (records tables texts) writing cap w))
+            → Shows (next (config w head row))
+            (cond c (list.joined (records tables texts) writing cap w (childOf (tableIn tables) (w .held) (w .rule) .problem)) (list.full (records tables texts) writing cap w))
         by true l = shows-joined t l
         by false l = shows-full t l
 

@@ -66,7 +66,8 @@ stopped s = record {
   texts = s .texts;
 }
 
--- the problem p leaves the row: a solved one is an answer, whose line has n bytes; one that does not fail is held, and its children are put in
+-- the problem p leaves the row: a solved one is an answer, whose line has n bytes; one that does not fail is held, and its children are
+-- put in
 abbrev pub taken : State → Problem → ℕ → State
 taken s p n = record {
   busy = true;

@@ -3,7 +3,8 @@ ghost use mathlib.Core.Path.{_≡_};
 ghost use mathlib.Core.Bool.{cond};
 ghost use Prim.Native.Nat.{_<_, _-_};
 ghost use Rattle.pair_row.specs.Row.{tableIn};
-ghost use Rattle.turns.specs.Turns.{nextPlace, aim, worked, firstRule, stopped, taken, headTurn, joined, full, childTurn, ruleTurn, decided};
+ghost use Rattle.turns.specs.Turns.{nextPlace, aim, worked, firstRule, stopped, taken, headTurn};
+ghost use Rattle.turns.specs.Turns.{joined, full, childTurn, ruleTurn, decided};
 use search_problems::Problem;
 
 // Where the search is. `row`, `texts`: the tables of the two fields.

@@ -266,8 +266,18 @@ module _ (E : Setting) (D : Records) (Holds : D .Rec → Problem E → Type 0) (
     outcome-open Q both k rec = by (fails E L M) refl
       where
         held : fails E L M ≡ false → (x : Option (List (Problem E))) → Tried p a b o 0 q x → Outcome (on 14 p₀ (p ∷ q) a b o) (onward E x (λ Q′. run E k cap Q′))
-        held nf none t = record { end = t .end; leads = turns (from p a b o 0 q) refl (turn-hold nf) (t .leads); idle = t .idle; is-refused = t .is-refused; no-lines = t .no-lines; no-bytes = t .no-bytes; untouched = t .untouched }
-        held nf (some Q′) t = outcome-on 14 14 p₀ p (p ∷ q) (t .0) a b o (turns (from p a b o 0 q) refl (turn-hold nf) (t .1)) (run E k cap Q′) (rec (t .0) Q′ (t .2))
+        held nf none t = record {
+          end = t .end;
+          leads = turns (from p a b o 0 q) refl (turn-hold nf) (t .leads);
+          idle = t .idle;
+          is-refused = t .is-refused;
+          no-lines = t .no-lines;
+          no-bytes = t .no-bytes;
+          untouched = t .untouched;
+        }
+        held nf (some Q′) t =
+            outcome-on 14 14 p₀ p (p ∷ q) (t .0) a b o (turns (from p a b o 0 q) refl (turn-hold nf) (t .1)) (run E k cap Q′)
+            (rec (t .0) Q′ (t .2))
 
         by : (f : Bool) → fails E L M ≡ f
             → Outcome (on 14 p₀ (p ∷ q) a b o) (onward E (enqueue E cap Q (made σ u (cond f [] (collect E L M (pick u) ruleOrder)))) (λ Q′. run E k cap Q′))

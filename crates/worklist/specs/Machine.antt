@@ -1,4 +1,5 @@
--- The search as a machine that keeps the problems that wait, as records, in a list. A turn takes the first of them, or puts in one child of the problem that is held.
+-- The search as a machine that keeps the problems that wait, as records, in a list. A turn takes the first of them, or puts in one child of
+-- the problem that is held.
 -- It is the machine whose queue is a ring in a row, with the ring taken for the list of its records.
 use mathlib.Core.Path.{_≡_}
 use mathlib.Core.Bool.{Bool, true, false, not, cond}

@@ -1,4 +1,5 @@
--- `search::blank` meets its contract: a walk of its MIR, by hand, with a call, and a loop (`Types/Run.antt`'s `loops`) with one call in each turn (`Calls.antt`). The measure is the number of places that are left.
+-- `search::blank` meets its contract: a walk of its MIR, by hand, with a call, and a loop (`Types/Run.antt`'s `loops`) with one call in each turn
+-- (`Drives.antt`). The measure is the number of places that are left.
 -- Assumes nothing.
 use mathlib.Core.Path.{_≡_, refl, sym, _∙_, subst}
 use mathlib.Core.Bool.{Bool, true, false, not}
@@ -106,7 +107,9 @@ module _ {M : Type 1} (𝓤 : URA M) (H : Heap 𝓤) (A : Atoms 𝓤) (W : Given
       En = envOf 𝓤 H A (code.function .locals) l
 
       abbrev At : Round → List (Item 𝓤)
-      At j = Own 𝓤 T.the-row κ γ b o (length ys) (j .1) ∷ ‵ (flft κ q) ∷ cells 𝓤 H A En (room ∷ holds r₀ ∷ holds (mach blankProblem) ∷ holds (vint w64 (j .0)) ∷ [])
+      At j =
+          Own 𝓤 T.the-row κ γ b o (length ys) (j .1) ∷ ‵ (flft κ q)
+          ∷ cells 𝓤 H A En (room ∷ holds r₀ ∷ holds (mach blankProblem) ∷ holds (vint w64 (j .0)) ∷ [])
 
       abbrev Rounded : Round → Out → SProp 𝓤
       Rounded j = afterTurn 𝓤 H (Below 𝓤 H A Nearer At j) (afterBlock 𝓤 H (afterSeq 𝓤 H (Wp 𝓤 H C Λ En body.t-4 (atReturn 𝓤 H En Post)) (atReturn 𝓤 H En Post)))
@@ -120,10 +123,12 @@ module _ {M : Type 1} (𝓤 : URA M) (H : Heap 𝓤) (A : Atoms 𝓤) (W : Given
           rewrite ! (L 5) (λ (t : Bool). ‵ (fat fullShare tyBool (spotOf 𝓤 H En 5 .1) 0 (vbool t))) is refl $ stays ! (var ! (L 5) refl) $
           reborrows ! (L 1) (L 7) (L 8) (fits .0) refl refl refl refl refl refl refl refl $
           calls-put ! mem run (fmOf 𝓤 H (W .laws) 𝓣) kp (j .1) (j .0) blankProblem fits (j .3) i-fits gb
-          (λ P δ ν. and-then ! (var ! (L 8) refl) (and-then ! (var ! (L 3) refl) (and-then ! (var ! (L 2) refl) (no-more !)))) (land ! (from ! (stop !)) (init ! (L 6) refl (tt, tt)) $
+          (λ P δ ν. and-then ! (var ! (L 8) refl) (and-then ! (var ! (L 3) refl) (and-then ! (var ! (L 2) refl) (no-more !))))
+          (land ! (from ! (stop !)) (init ! (L 6) refl (tt, tt)) $
           assigns-last ! (bin ! (var ! (L 3) refl) (lit ! tt) (record { fits = more })) (from ! (stop !)) (store ! (L 3) refl (tt, record { fits = more })) $
           forget ! (L 4) refl $ forget ! (L 5) refl $ forget ! (L 6) refl $ forget ! (L 7) refl $ forget ! (L 8) refl $
-          again ! Nearer At j (j .0 + 1, set (j .1) (j .0) blankProblem, one-more (j .1) (j .0) (j .2) (subst (λ (n : ℕ). j .0 < n) (sym (j .3)) less), length-set (j .1) (j .0) blankProblem ∙ j .3) nearer)
+          again ! Nearer At j
+          (j .0 + 1, set (j .1) (j .0) blankProblem, one-more (j .1) (j .0) (j .2) (subst (λ (n : ℕ). j .0 < n) (sym (j .3)) less), length-set (j .1) (j .0) blankProblem ∙ j .3) nearer)
         where
           less : j .0 < length ys
           less = ltb→lt (j .0) (length ys) (subst T (sym is) tt)
@@ -139,9 +144,11 @@ module _ {M : Type 1} (𝓤 : URA M) (H : Heap 𝓤) (A : Atoms 𝓤) (W : Given
       turn-by j false is =
           sets ! (of-opd ! (load ! (from ! (fld ! refl (stop !))) (look-in ! (L 1) (sub ! 1 refl (whole !))))) (init ! (L 4) refl (tt, record { fits = fits .0 })) $
           sets ! (bin ! (var ! (L 3) refl) (var ! (L 4) refl) tt) (init ! (L 5) refl (tt, tt)) $
-          rewrite ! (L 5) (λ (t : Bool). ‵ (fat fullShare tyBool (spotOf 𝓤 H En 5 .1) 0 (vbool t))) is refl $ leaves-loop ! (var ! (L 5) refl) $ exec ! C Λ En body.t-4 (atRet En Post) $
+          rewrite ! (L 5) (λ (t : Bool). ‵ (fat fullShare tyBool (spotOf 𝓤 H En 5 .1) 0 (vbool t))) is refl $ leaves-loop ! (var ! (L 5) refl) $
+          exec ! C Λ En body.t-4 (atRet En Post) $
           sets ! (of-opd ! (unit-lit !)) (init ! (L 0) refl (tt, tt)) $
-          returns ! (look ! (L 0) refl) $ frees-all W ! (Row (j .1)) En (holds vunit ∷ holds r₀ ∷ holds (mach blankProblem) ∷ holds (vint w64 (j .0)) ∷ holds (vint w64 (length ys)) ∷ holds (vbool false) ∷ [])
+          returns ! (look ! (L 0) refl) $ frees-all W ! (Row (j .1)) En
+          (holds vunit ∷ holds r₀ ∷ holds (mach blankProblem) ∷ holds (vint w64 (j .0)) ∷ holds (vint w64 (length ys)) ∷ holds (vbool false) ∷ [])
           (exits (j .1) (j .3) (upto-all (j .1) (j .0) (length ys) (j .2) (subst (λ (n : ℕ). n ≤ j .0) (sym (j .3)) (nltb→le (j .0) (length ys) (subst (λ (t : Bool). T (not t)) (sym is) tt))) (j .3)))
 
     walk : ent 𝓤 (onEntry 𝓤 H A blank.signature (κ, tt) (q, tt) (bound .0 .3) (bound .0 .4)) (WpFn 𝓤 H (𝓣 .C) (𝓣 .Λ) code.function (r₀ ∷ []) Post)
@@ -150,9 +157,11 @@ module _ {M : Type 1} (𝓤 : URA M) (H : Heap 𝓤) (A : Atoms 𝓤) (W : Given
         split ! $ move ! (2 ∷ []) $ fsplit ! $ move ! (1 ∷ 3 ∷ []) $ drop ! $ drop ! $ enter ! (𝓣 .C) (𝓣 .Λ) code.function (r₀ ∷ []) _ $ allocs-all ! (code.function .locals) (λ l. params1 ! $ move ! (18 ∷ 19 ∷ []) $
         -- [row; the token; _8; …; _0; …]
         pass1 ! (init ! (L 1) refl (tt, (tt, (record { fits = fits .0 }, tt)))) $ pass0 ! $
-        calls-blank-problem ! mem run (fmOf 𝓤 H (W .laws) 𝓣) kb (λ P. no-more !) (λ gb. land ! (from ! (stop !)) (init ! (L 2) refl (LL.lawful T.the-type T′.the-laws 𝓤 H A W .typed blankProblem _ gb .0)) $
+        calls-blank-problem ! mem run (fmOf 𝓤 H (W .laws) 𝓣) kb (λ P. no-more !) (λ gb.
+        land ! (from ! (stop !)) (init ! (L 2) refl (LL.lawful T.the-type T′.the-laws 𝓤 H A W .typed blankProblem _ gb .0)) $
         sets ! (of-opd ! (lit ! tt)) (init ! (L 3) refl (tt, record { fits = lit< tt })) $
-        first ! $ blocks ! $ loops ! 𝓣 Nearer Nearer-wf (At l gb) (λ j. turn-by l gb j (ltb (j .0) (length ys)) refl) (0, ys, record { fits = omega arith; clear = λ j h. absurd (not-suc-le-zero h) }, refl)))
+        first ! $ blocks ! $ loops ! 𝓣 Nearer Nearer-wf (At l gb) (λ j. turn-by l gb j (ltb (j .0) (length ys)) refl)
+        (0, ys, record { fits = omega arith; clear = λ j h. absurd (not-suc-le-zero h) }, refl)))
 
 pub blank-spec : {M : Type 1} → stated.statement M
 unfolding code.routine tablesOf

@@ -1,4 +1,4 @@
--- `search::from_root` meets its contract: a walk of its MIR, by hand, with calls of `put` and of another driver, `run` (`Calls.antt`).
+-- `search::from_root` meets its contract: a walk of its MIR, by hand, with calls of `put` and of another driver, `run` (`Drives.antt`).
 -- Assumes nothing.
 use mathlib.Core.Path.{_≡_, refl}
 use Prim.Native.Nat.{ℕ}
@@ -93,7 +93,8 @@ module _ {M : Type 1} (𝓤 : URA M) (H : Heap 𝓤) (A : Atoms 𝓤) (W : Given
     abbrev L : ℕ → ℕ
     L n = pos 4 13 n
 
-    walk : Ends (fromRoot c) → Room T.the-row (length (c .row)) → Room u8 (length (c .out)) → (𝓣 : Tables 𝓤 H) → Triple 𝓤 (𝓣 .C #search·put) (Put 𝓤 H A mem run) → Triple 𝓤 (𝓣 .C #search·run) (Running 𝓤 H A)
+    walk : Ends (fromRoot c) → Room T.the-row (length (c .row)) → Room u8 (length (c .out)) → (𝓣 : Tables 𝓤 H)
+        → Triple 𝓤 (𝓣 .C #search·put) (Put 𝓤 H A mem run) → Triple 𝓤 (𝓣 .C #search·run) (Running 𝓤 H A)
         → ent 𝓤 (onEntry 𝓤 H A from-root.signature (κ, (κ′, tt)) (q, (q′, tt)) (bound .0 .3) (bound .0 .4)) (WpFn 𝓤 H (𝓣 .C) (𝓣 .Λ) code.function (r₀ ∷ o₀ ∷ s₀ ∷ []) Post)
     walk ends fits fits′ 𝓣 kp kr =
         qed W ((‵ (flft κ q) ⊛ (‵ (flft κ′ q′) ⊛ ‵ ftrue)) ∷ ‵ (owns (MutSlice (named 0) κ T.the-row ∷ MutSlice (named 1) κ′ u8 ∷ S.the-row ∷ []) (bound .0 .3) (bound .0 .4)) ∷ []) ∵
@@ -105,15 +106,19 @@ module _ {M : Type 1} (𝓤 : URA M) (H : Heap 𝓤) (A : Atoms 𝓤) (W : Given
         sets ! (of-opd ! (load ! (from ! (fld ! refl (stop !))) (look-in ! (L 3) (sub ! 11 refl (whole !))))) (init ! (L 4) refl (LL.lawful T.the-type T′.the-laws 𝓤 H A W .typed p _ gp .0)) $
         reborrows ! (L 1) (L 7) (L 8) (fits .0) refl refl refl refl refl refl refl refl $
         calls-put ! mem run (fmOf 𝓤 H (W .laws) 𝓣) kp (c .row) 0 p fits refl (lit< tt) gp
-        (λ P δ ν. and-then ! (var ! (L 8) refl) (and-then ! (lit ! tt) (and-then ! (var ! (L 4) refl) (no-more !)))) (land ! (from ! (stop !)) (init ! (L 6) refl (tt, tt)) $
+        (λ P δ ν. and-then ! (var ! (L 8) refl) (and-then ! (lit ! tt) (and-then ! (var ! (L 4) refl) (no-more !))))
+        (land ! (from ! (stop !)) (init ! (L 6) refl (tt, tt)) $
         -- run(row, out, s)
         reborrows ! (L 1) (L 9) (L 10) (fits .0) refl refl refl refl refl refl refl refl $
         reborrows ! (L 2) (L 11) (L 12) (fits′ .0) refl refl refl refl refl refl refl refl $
-        calls-drive ! (λ y. fact 𝓤 (Ends y)) Reaches (fmOf 𝓤 H (W .laws) 𝓣) kr (fromRoot c) (factI 𝓤 (Ends (fromRoot c)) (emp 𝓤) ends) fits (length-set (c .row) 0 p) fits′ refl gs
-        (λ P δ δ′ ν ν′. and-then ! (var ! (L 10) refl) (and-then ! (var ! (L 12) refl) (and-then ! (var ! (L 3) refl) (no-more !)))) (λ d is e e′ g. land ! (from ! (stop !)) (init ! (L 5) refl (LL.lawful S.the-type S′.the-laws 𝓤 H A W .typed (d .state) _ g .0)) $
+        calls-drive ! (λ y. fact 𝓤 (Ends y)) Reaches (fmOf 𝓤 H (W .laws) 𝓣) kr (fromRoot c)
+        (factI 𝓤 (Ends (fromRoot c)) (emp 𝓤) ends) fits (length-set (c .row) 0 p) fits′ refl gs
+        (λ P δ δ′ ν ν′. and-then ! (var ! (L 10) refl) (and-then ! (var ! (L 12) refl) (and-then ! (var ! (L 3) refl) (no-more !))))
+        (λ d is e e′ g. land ! (from ! (stop !)) (init ! (L 5) refl (LL.lawful S.the-type S′.the-laws 𝓤 H A W .typed (d .state) _ g .0)) $
         sets ! (of-opd ! (var ! (L 5) refl)) (init ! (L 0) refl (LL.lawful S.the-type S′.the-laws 𝓤 H A W .typed (d .state) _ g .0)) $
         returns ! (look ! (L 0) refl) $ frees-all W ! (Lists (d .row) (d .out)) (envOf 𝓤 H A (code.function .locals) l)
-        (holds (mach-state (d .state)) ∷ holds r₀ ∷ holds o₀ ∷ holds s₀ ∷ holds (mach p) ∷ holds (mach-state (d .state)) ∷ holds vunit ∷ holds (vptr b o) ∷ holds r₀ ∷ holds (vptr b o) ∷ holds r₀ ∷ holds (vptr b′ o′) ∷ holds o₀ ∷ [])
+        (holds (mach-state (d .state)) ∷ holds r₀ ∷ holds o₀ ∷ holds s₀ ∷ holds (mach p) ∷ holds (mach-state (d .state)) ∷ holds vunit
+        ∷ holds (vptr b o) ∷ holds r₀ ∷ holds (vptr b o) ∷ holds r₀ ∷ holds (vptr b′ o′) ∷ holds o₀ ∷ [])
         (exits d e e′ g is))))
       where
         gp : Is T.the-row p (mach p ∷ [])
