@@ -7,45 +7,41 @@ use mathlib.Core.List.{List, [], _∷_, _++_}
 use Prim.Native.Nat.{ℕ, zero, suc, _+_, _-_, _*_, _≤_, _<_}
 use native.Mathlib.Omega.{arith}
 use native.Mathlib.Decide.{ℕ-discrete, decLt}
-use lib.Dec.{eqb, leb}
-use lib.ListN.{length, length-append, getD, set, take, drop, replicate, length-replicate}
-use lib.Seq.{sets, length-sets, sets-eq, take-set-le, take-nil, drop-drop, take-take, take-at, drop-at, length-take-le}
-use borrow.Author.Tests.{leb-true, le-ltb, lt-ltb, eq-eqb, ne-eqb}
+use lib.Dec.{leb}
+use lib.ListN.{length, length-append, getD, set, length-set, take, drop, replicate, length-replicate, getD-replicate}
+use lib.Seq.{sets, length-sets, sets-eq, slice, slice-empty, take-set-le, take-nil, drop-drop, take-take, take-at, drop-at, length-take-le}
+use lib.Seq.{getD-set-same, getD-set-other}
+use borrow.Author.Tests.{leb-true, le-ltb, lt-ltb}
+use Rattle.lists.specs.Truths.{both-is}
 use Rattle.lists.specs.Seqs.{tabulate, tabulate-long}
 use Rattle.math_codes.specs.Spots.{Spot}
 use Rattle.math_codes.specs.Names.{noNames}
+use Rattle.math_codes.specs.Lines.{pairItems}
 use Rattle.math_codes.specs.Whole as whole
 use Rattle.math_codes.proofs.Makers as makers
 use Rattle.pair_row.specs.Row.{tableIn, shapeIn, spotIn}
 use Rattle.overlap_entries.specs.declared.Choice.{Choice}
 use Rattle.overlap_entries.specs.Entries.{itemAt}
 use Rattle.overlap_lines.specs.declared.Run.{Run}
-use Rattle.overlap_lines.specs.Lines.{Few, countAt, fitsFrom, fits, fieldIn, itemsIn, namesIn, laidFrom, laidIn, spotsIn, runAt, runFrom, runIn}
+use Rattle.overlap_lines.specs.Lines.{Few, countAt, fitsFrom, fits, fieldIn, itemsIn, namesIn, laidFrom, laidIn, spotsIn}
+use Rattle.overlap_lines.specs.Lines.{runAt, runsOver, noRuns, runBy}
 
 -- ---- a choice that fits
 
-and-left : (a b : Bool) → (a && b) ≡ true → a ≡ true
-and-left true b e = refl
-and-left false b e = e
-
-and-right : (a b : Bool) → (a && b) ≡ true → b ≡ true
-and-right true b e = e
-and-right false b e = absurd (let o : _≡_ {A = ℕ} 0 1 = ap (λ (x : Bool). cond x 1 0) e in omega (arith, o))
-
 pub fields-fit : (n : ℕ) (c : Choice) → fits n c ≡ true → n ≤ 4
-fields-fit n c e = leb-true n 4 (and-left (leb n 4) (fitsFrom c 0 n) e)
+fields-fit n c e = leb-true n 4 (both-is (leb n 4) (fitsFrom c 0 n) .0 e .0)
 
 from-fits : (c : Choice) (n j : ℕ) → fitsFrom c j n ≡ true → (i : ℕ) → i < n → countAt c (j + i) ≤ 31
 from-fits c zero j e i h = absurd (omega arith)
 from-fits c (suc n) j e zero h =
-    rw (let z : j + 0 ≡ j = omega arith in z) (leb-true (countAt c j) 31 (and-left (leb (countAt c j) 31) (fitsFrom c (suc j) n) e))
+    rw (let z : j + 0 ≡ j = omega arith in z) (leb-true (countAt c j) 31 (both-is (leb (countAt c j) 31) (fitsFrom c (suc j) n) .0 e .0))
 from-fits c (suc n) j e (suc i) h =
     rw (let z : j + suc i ≡ suc j + i = omega arith in z)
-    (from-fits c n (suc j) (and-right (leb (countAt c j) 31) (fitsFrom c (suc j) n) e) i (omega arith))
+    (from-fits c n (suc j) (both-is (leb (countAt c j) 31) (fitsFrom c (suc j) n) .0 e .1) i (omega arith))
 
 -- no field has more than 31 items
 pub count-fits : (n : ℕ) (c : Choice) → fits n c ≡ true → (j : ℕ) → j < n → countAt c j ≤ 31
-count-fits n c e j h = rw (let z : j ≡ 0 + j = omega arith in z) (from-fits c n 0 (and-right (leb n 4) (fitsFrom c 0 n) e) j h)
+count-fits n c e j h = rw (let z : j ≡ 0 + j = omega arith in z) (from-fits c n 0 (both-is (leb n 4) (fitsFrom c 0 n) .0 e .1) j h)
 
 -- ---- parts of a row
 
@@ -128,67 +124,104 @@ module _ (row : List ℕ) (n : ℕ) (c : Choice) (atoms : List ℕ) where
 
 -- ---- runs
 
--- where the items of a run stand
-abbrev pub ranOver : List ℕ → Run → List ℕ
-ranOver l r = take (r .to - r .from) (drop (r .from) l)
-
 -- a run is within 124 places
 abbrev pub Within : Run → Type 0
 Within r = (r .from ≤ r .to) × (r .to ≤ 124)
 
-no-items : (m : ℕ) (l : List ℕ) → m ≡ 0 → take m l ≡ []
-no-items m l e = ap (λ (k : ℕ). take k l) e
-
--- the items of a field between its first h and its last t
-run-part : (from count h t : ℕ) (l w : List ℕ) → take count (drop from l) ≡ w → length w ≡ count
-    → ranOver l (runAt from count h t) ≡ take (length w - (h + t)) (drop h w)
-run-part from count h t l w e long = go (decLt count (h + t))
-  where
-    go : Dec (count < h + t) → ranOver l (runAt from count h t) ≡ take (length w - (h + t)) (drop h w)
-    go (yes p) =
-        rw (lt-ltb count (h + t) p)
-        (no-items (from - from) (drop from l) (omega arith) ∙ sym (no-items (length w - (h + t)) (drop h w) (omega (arith, long))))
-    go (no p) =
-        let m = length w - (h + t) in
-        rw (le-ltb count (h + t) (omega arith))
-        (ap (λ (k : ℕ). take k (drop (from + h) l)) (let z : from + (count - t) - (from + h) ≡ m = omega (arith, long) in z)
-        ∙ ap (take m) (sym (drop-drop h from l))
-        ∙ sym (part-in h m count (drop from l) (omega (arith, long)))
-        ∙ ap (λ (s : List ℕ). take m (drop h s)) e)
-
-run-within : (from count h t : ℕ) → from + count ≤ 124 → Within (runAt from count h t)
+pub run-within : (from count h t : ℕ) → from + count ≤ 124 → Within (runAt from count h t)
 run-within from count h t room = go (decLt count (h + t))
   where
     go : Dec (count < h + t) → Within (runAt from count h t)
     go (yes p) = rw (lt-ltb count (h + t) p) (omega arith, omega arith)
     go (no p) = rw (le-ltb count (h + t) (omega arith)) (omega arith, omega arith)
 
--- a field that has the list variable l has its run; of another the rest has it
-run-one : (gapped : Bool) (m l h t from count : ℕ) (items w : List ℕ) (r : Run) (rest : List ℕ) → take count (drop from items) ≡ w → length w ≡ count
-    → ranOver items r ≡ rest
-    → ranOver items (cond (gapped && eqb m l) (runAt from count h t) r) ≡ whole.runIn (cond gapped (some m) none) h t w l rest
-run-one false m l h t from count items w r rest e long q = q
-run-one true m l h t from count items w r rest e long q = go (ℕ-discrete l m)
+no-items : (m : ℕ) (l : List ℕ) → m ≡ 0 → take m l ≡ []
+no-items m l e = ap (λ (k : ℕ). take k l) e
+
+-- the items of a field between its first h and its last t
+run-part : (from count h t : ℕ) (l w : List ℕ) → take count (drop from l) ≡ w → length w ≡ count
+    → slice (runAt from count h t .from) (runAt from count h t .to) l ≡ take (length w - (h + t)) (drop h w)
+run-part from count h t l w e long = go (decLt count (h + t))
   where
-    go : (d : Dec (l ≡ m)) → ranOver items (cond (eqb m l) (runAt from count h t) r) ≡ ite d (take (length w - (h + t)) (drop h w)) rest
-    go (yes p) = rw (eq-eqb m l (sym p)) (run-part from count h t items w e long)
-    go (no p) = rw (ne-eqb m l (λ z. p (sym z))) q
+    go : Dec (count < h + t) → slice (runAt from count h t .from) (runAt from count h t .to) l ≡ take (length w - (h + t)) (drop h w)
+    go (yes p) =
+        rw (lt-ltb count (h + t) p)
+        (slice-empty from l ∙ sym (no-items (length w - (h + t)) (drop h w) (omega (arith, long))))
+    go (no p) =
+        let m = length w - (h + t) in
+        rw (le-ltb count (h + t) (omega arith))
+        (ap (λ (k : ℕ). slice (from + h) k l) (let z : from + (count - t) ≡ from + h + m = omega (arith, long) in z)
+        ∙ sym (part-of (from + h) m l)
+        ∙ ap (take m) (sym (drop-drop h from l))
+        ∙ sym (part-in h m count (drop from l) (omega (arith, long)))
+        ∙ ap (λ (s : List ℕ). take m (drop h s)) e)
 
-one-within : (b : Bool) (r s : Run) → Within r → Within s → Within (cond b r s)
-one-within true r s p q = p
-one-within false r s p q = q
+-- what a table has for l, with the run of m noted
+module _ (runs : List ℕ) (long : length runs ≡ 32) (l m a b : ℕ) where
+  abbrev noted : List ℕ
+  noted = set (set runs (2 * m) a) (2 * m + 1) b
 
-module _ (row : List ℕ) (right : Bool) (n l : ℕ) (c : Choice) (atoms : List ℕ) (ok : fits n c ≡ true) where
+  noted-same : l < 16 → l ≡ m → (getD noted (2 * l) 0 ≡ a) × (getD noted (2 * l + 1) 0 ≡ b)
+  noted-same h e = (
+    ap (λ (i : ℕ). getD noted i 0) (let z : 2 * l ≡ 2 * m = omega arith in z)
+        ∙ getD-set-other (set runs (2 * m) a) (2 * m + 1) (2 * m) b 0 (λ z. omega arith)
+        ∙ getD-set-same runs (2 * m) a 0 (omega (arith, long)),
+    ap (λ (i : ℕ). getD noted i 0) (let z : 2 * l + 1 ≡ 2 * m + 1 = omega arith in z)
+        ∙ getD-set-same (set runs (2 * m) a) (2 * m + 1) b 0 (omega (arith, long, length-set runs (2 * m) a)),
+  )
+
+  noted-other : (l ≡ m → ⊥) → (getD noted (2 * l) 0 ≡ getD runs (2 * l) 0) × (getD noted (2 * l + 1) 0 ≡ getD runs (2 * l + 1) 0)
+  noted-other n = (
+    getD-set-other (set runs (2 * m) a) (2 * m + 1) (2 * l) b 0 (λ z. omega arith)
+        ∙ getD-set-other runs (2 * m) (2 * l) a 0 (λ z. n (omega arith)),
+    getD-set-other (set runs (2 * m) a) (2 * m + 1) (2 * l + 1) b 0 (λ z. n (omega arith))
+        ∙ getD-set-other runs (2 * m) (2 * l + 1) a 0 (λ z. omega arith),
+  )
+
+-- a field that has the list variable l has its run; of another the rest has it
+run-one : (gapped : Bool) (m l h t from count : ℕ) (items w runs rest : List ℕ) → l < 16 → length runs ≡ 32
+    → take count (drop from items) ≡ w → length w ≡ count → runBy runs items l ≡ rest
+    → runBy (cond gapped (set (set runs (2 * m) (runAt from count h t .from)) (2 * m + 1) (runAt from count h t .to)) runs) items l
+    ≡ whole.runIn (cond gapped (some m) none) h t w l rest
+run-one false m l h t from count items w runs rest small room e long q = q
+run-one true m l h t from count items w runs rest small room e long q = go (ℕ-discrete l m)
+  where
+    a : ℕ
+    a = runAt from count h t .from
+
+    b : ℕ
+    b = runAt from count h t .to
+
+    go : (d : Dec (l ≡ m)) → runBy (set (set runs (2 * m) a) (2 * m + 1) b) items l ≡ ite d (take (length w - (h + t)) (drop h w)) rest
+    go (yes p) =
+        let z = noted-same runs room l m a b small p in
+        ap₂ (λ (i j : ℕ). slice i j items) (z .0) (z .1) ∙ run-part from count h t items w e long
+    go (no p) = let z = noted-other runs room l m a b p in ap₂ (λ (i j : ℕ). slice i j items) (z .0) (z .1) ∙ q
+
+note-long : (gapped : Bool) (m a b : ℕ) (runs : List ℕ) → length (cond gapped (set (set runs (2 * m) a) (2 * m + 1) b) runs) ≡ length runs
+note-long true m a b runs = length-set (set runs (2 * m) a) (2 * m + 1) b ∙ length-set runs (2 * m) a
+note-long false m a b runs = refl
+
+pub runs-long : (row : List ℕ) (right : Bool) (c : Choice) (old : List ℕ) (j k : ℕ) → length (runsOver row right c old j k) ≡ length old
+runs-long row right c old j zero = refl
+runs-long row right c old j (suc k) =
+    let s = shapeIn row right j in
+    let r = runAt (31 * j) (countAt c j) (s .head) (s .tail) in
+    note-long (s .gapped) (s .list) (r .from) (r .to) (runsOver row right c old (suc j) k) ∙ runs-long row right c old (suc j) k
+
+module _ (row : List ℕ) (right : Bool) (n l : ℕ) (c : Choice) (atoms : List ℕ) (ok : fits n c ≡ true) (small : l < 16) where
   -- k fields from field j on
   run-from : (k j : ℕ) (P : ℕ → Spot ℕ) (f : ℕ → List ℕ) → j + k ≤ n → ((i : ℕ) → i < k → P i ≡ spotIn row right (j + i))
       → ((i : ℕ) → i < k → f i ≡ fieldIn row c atoms (j + i))
-      → ranOver (laidIn row n c atoms) (runFrom row right l c j k) ≡ whole.runOn (tabulate k P) (tabulate k f) l
-  run-from zero j P f h p q = no-items (0 - 0) (drop 0 (laidIn row n c atoms)) (omega arith)
+      → runBy (runsOver row right c noRuns j k) (laidIn row n c atoms) l ≡ whole.runOn (tabulate k P) (tabulate k f) l
+  run-from zero j P f h p q =
+      ap₂ (λ (a b : ℕ). slice a b (laidIn row n c atoms)) (getD-replicate 32 (2 * l) 0 0 (omega arith)) (getD-replicate 32 (2 * l + 1) 0 0 (omega arith))
   run-from (suc k) j P f h p q =
       let s = shapeIn row right j in
       let rest = whole.runOn (tabulate k (λ i. P (suc i))) (tabulate k (λ i. f (suc i))) l in
       run-one (s .gapped) (s .list) l (s .head) (s .tail) (31 * j) (countAt c j) (laidIn row n c atoms) (fieldIn row c atoms j)
-      (runFrom row right l c (suc j) k) rest (laid-field row n c atoms ok j (omega arith)) (field-long row c atoms j)
+      (runsOver row right c noRuns (suc j) k) rest small (runs-long row right c noRuns (suc j) k ∙ length-replicate {A = ℕ} 32 0)
+      (laid-field row n c atoms ok j (omega arith)) (field-long row c atoms j)
       (run-from k (suc j) (λ i. P (suc i)) (λ i. f (suc i)) (omega arith)
       (λ i z. p (suc i) (omega arith) ∙ ap (spotIn row right) (let e : j + suc i ≡ suc j + i = omega arith in e))
       (λ i z. q (suc i) (omega arith) ∙ ap (fieldIn row c atoms) (let e : j + suc i ≡ suc j + i = omega arith in e)))
@@ -196,22 +229,11 @@ module _ (row : List ℕ) (right : Bool) (n l : ℕ) (c : Choice) (atoms : List 
       (sym (p 0 (omega arith) ∙ ap (spotIn row right) (let e : j + 0 ≡ j = omega arith in e)))
       (sym (q 0 (omega arith) ∙ ap (fieldIn row c atoms) (let e : j + 0 ≡ j = omega arith in e)))
 
-  from-within : (k j : ℕ) → j + k ≤ n → Within (runFrom row right l c j k)
-  from-within zero j h = (omega arith, omega arith)
-  from-within (suc k) j h =
-      let s = shapeIn row right j in
-      one-within (s .gapped && eqb (s .list) l) (runAt (31 * j) (countAt c j) (s .head) (s .tail)) (runFrom row right l c (suc j) k)
-      (run-within (31 * j) (countAt c j) (s .head) (s .tail) (laid-room row n c atoms ok j (omega arith)))
-      (from-within k (suc j) (omega arith))
-
   -- THE RUN of a list variable
-  pub run-is : ranOver (laidIn row n c atoms) (runIn row right n l c) ≡ whole.runOn (spotsIn row right n) (itemsIn row n c atoms) l
+  pub run-is : runBy (runsOver row right c noRuns 0 n) (laidIn row n c atoms) l ≡ whole.runOn (spotsIn row right n) (itemsIn row n c atoms) l
   run-is =
       run-from n 0 (spotIn row right) (fieldIn row c atoms) (omega arith) (λ i h. ap (spotIn row right) (let e : i ≡ 0 + i = omega arith in e))
       (λ i h. ap (fieldIn row c atoms) (let e : i ≡ 0 + i = omega arith in e))
-
-  pub run-room : Within (runIn row right n l c)
-  run-room = from-within n 0 (omega arith)
 
 -- ---- few items, and few numbers
 
@@ -235,5 +257,5 @@ module _ (row : List ℕ) (n : ℕ) (c : Choice) (atoms : List ℕ) where
 
     pub names-small : Few 124 (namesIn row n c atoms .numbers)
     names-small i =
-        let few = makers.names-few (tableIn row) (itemsIn row n c atoms) 0 (noNames 132 4) (zeros 0 4, zeros 0 132) .1 in
+        let few = makers.names-few (tableIn row) (itemsIn row n c atoms) 0 (noNames pairItems 4) (zeros 0 4, zeros 0 pairItems) .1 in
         omega (arith, makers.at-most (0 + makers.itemCount (itemsIn row n c atoms)) (namesIn row n c atoms .numbers) few i, items-small)

@@ -4,14 +4,17 @@ use mathlib.Core.Bool.{Bool, true, false, _&&_}
 use mathlib.Core.List.{List, [], _∷_, List·Memᴰ}
 use Prim.Native.Nat.{ℕ, zero, suc, _+_, _≤_, _<_}
 use native.Mathlib.Omega.{arith}
+use lib.Dec.{leb}
 use lib.ListN.{length, getD, length-set}
 use lib.Seq.{getD-set-same, getD-set-other}
 use borrow.Author.Tests.{le-leb}
+use Rattle.lists.specs.Truths.{both-is}
 use Rattle.lists.specs.Seqs.{All, tabulate, tabulate-long}
 use Rattle.unifiers.specs.Candidates.{Cand, exact, long}
 use Rattle.math_codes.specs.Spots.{Spot, spotCands}
 use Rattle.math_codes.specs.Walks.{spanOn, fieldItems}
 use Rattle.math_codes.specs.Names.{noNames, nameFields}
+use Rattle.math_codes.specs.Lines.{pairItems}
 use Rattle.math_codes.specs.Whole.{itemsFrom}
 use Rattle.math_codes.specs.Index.{indexedItems, indexedLine}
 use Rattle.math_codes.proofs.Whole.{Chosen}
@@ -20,7 +23,7 @@ use Rattle.pair_row.specs.Row.{tableIn, textIn, spotIn, indexIn, topIn}
 use Rattle.overlap_entries.specs.declared.Choice.{Choice}
 use Rattle.overlap_entries.specs.Entries.{candOf, itemCount, itemAt, noChoice, chosenAt}
 use Rattle.overlap_entries.proofs.Laws.{items-are}
-use Rattle.overlap_lines.specs.Lines.{countAt, fitsFrom, fits, fieldIn, itemsIn, spotsIn, lineIn, isLong, chosenBy}
+use Rattle.overlap_lines.specs.Lines.{countAt, fitsFrom, fits, fieldIn, itemsIn, spotsIn, sideFew, numbersFew, lineIn, isLong, chosenBy}
 
 -- ---- what a choice has for candidates, from field j on
 
@@ -137,12 +140,23 @@ module _ (row texts : List ℕ) (n : ℕ) (few : n ≤ 4) (cs : List Cand) (h : 
         (ap (fitsFrom made 0) (sym (tabulate-long n (spotIn row false))) ∙ fits-from made Ps Qs cs 0 made-has h p q)
 
     -- THE LINE of candidates, by the choice that code makes of them
-    pub line-is : (atoms : List ℕ)
+    pub line-is : numbersFew row ≡ true → (atoms : List ℕ)
         → lineIn row texts n (chosenBy noChoice 0 (spotsIn row false n) (spotsIn row true n) cs) atoms
         ≡ indexedLine (tableIn row) (textIn row texts) (indexIn row false) (topIn row false) (indexIn row true) (topIn row true) (spotsIn row false n)
         (spotsIn row true n) cs atoms
     unfolding lineIn
-    line-is atoms =
-        rw fits-made
+    line-is m atoms =
+        rw (fits-made, m)
         (ap (λ (is : List (List ℕ)). indexedItems (tableIn row) (textIn row texts) (indexIn row false) (topIn row false) (indexIn row true) (topIn row true)
-        Ps Qs atoms is (nameFields (tableIn row) (noNames 132 4) is .numbers)) (items-made atoms))
+        Ps Qs atoms is (nameFields (tableIn row) (noNames pairItems 4) is .numbers)) (items-made atoms))
+
+-- rows of rules have few numbers
+pub numbers-few : (row : List ℕ) → ((k : ℕ) → k < 4 → topIn row false k ≤ 16) → ((k : ℕ) → k < 4 → topIn row true k ≤ 16) → numbersFew row ≡ true
+numbers-few row h₁ h₂ = both-is (sideFew row false) (sideFew row true) .1 (side false h₁, side true h₂)
+  where
+    side : (right : Bool) → ((k : ℕ) → k < 4 → topIn row right k ≤ 16) → sideFew row right ≡ true
+    side right h =
+        let few : ℕ → Bool = λ k. leb (topIn row right k) 16 in
+        let at : (k : ℕ) → k < 4 → few k ≡ true = λ k l. le-leb (topIn row right k) 16 (h k l) in
+        both-is (few 0) (few 1 && (few 2 && few 3)) .1 (at 0 (omega arith), both-is (few 1) (few 2 && few 3) .1 (at 1 (omega arith),
+        both-is (few 2) (few 3) .1 (at 2 (omega arith), at 3 (omega arith))))

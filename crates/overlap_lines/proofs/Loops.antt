@@ -1,22 +1,22 @@
 -- What the loops over fields and items keep: which fields are left, and what of the items is laid out and named.
 use mathlib.Core.Path.{_≡_, refl, sym, _∙_, ap, ap₂}
-use mathlib.Core.Bool.{Bool, true, false, cond, _&&_}
+use mathlib.Core.Bool.{Bool, true, false, _&&_}
 use mathlib.Core.List.{List, [], _∷_, _++_, foldl-append}
 use Prim.Native.Nat.{ℕ, zero, suc, _+_, _-_, _*_, _≤_, _<_}
 use native.Mathlib.Omega.{arith}
-use lib.Dec.{eqb, leb}
+use lib.Dec.{leb}
 use lib.ListN.{length, getD, set, replicate, length-replicate}
 use lib.Seq.{sets, length-sets}
 use borrow.Author.Tests.{le-leb, lt-leb}
 use Rattle.lists.specs.Seqs.{tabulate, tabulate-long}
 use Rattle.math_codes.specs.Tables.{Table}
+use Rattle.math_codes.specs.Lines.{pairItems}
 use Rattle.math_codes.specs.Names.{Names, noNames, nameCode, nameCodes, nameFields}
 use Rattle.pair_row.specs.declared.Shape.{Shape}
 use Rattle.pair_row.specs.Row.{tableIn, shapeIn, spotOf}
 use Rattle.overlap_entries.specs.declared.Choice.{Choice}
 use Rattle.overlap_entries.specs.Entries.{itemAt}
-use Rattle.overlap_lines.specs.declared.Run.{Run}
-use Rattle.overlap_lines.specs.Lines.{Few, countAt, fitsFrom, fits, fieldIn, namesIn, laidFrom, laidIn, runAt, runFrom, runIn}
+use Rattle.overlap_lines.specs.Lines.{Few, countAt, fitsFrom, fits, fieldIn, namesIn, laidFrom, laidIn, noteRun, runsOver}
 use Rattle.overlap_lines.proofs.Laying.{laid-keeps, field-long}
 use Rattle.overlap_lines.proofs.Naming.{name-long, few-name}
 
@@ -52,49 +52,31 @@ module _ (n : ℕ) (c : Choice) (j : ℕ) (v : FitsLeft n c j) where
       fits-opened ∙ ap (λ (b : Bool). b && fitsFrom c (j + 1) (n - (j + 1))) (le-leb (countAt c j) 31 (omega (arith, e))),
     )
 
--- ---- the first field that has a list variable: those from field j on are left
+-- ---- the runs of a rule's list variables, from the last field on: those from field j on are noted
 
-abbrev pub RunLeft : List ℕ → Bool → ℕ → ℕ → Choice → ℕ → Type 0
-RunLeft row right n l c j = (j ≤ n) × (runIn row right n l c ≡ runFrom row right l c j (n - j))
+module _ (row : List ℕ) (right : Bool) (n : ℕ) (c : Choice) (old : List ℕ) where
+  abbrev pub RunsFrom : ℕ → List ℕ → Type 0
+  RunsFrom j runs = (j ≤ n) × (runs ≡ runsOver row right c old j (n - j))
 
-module _ (row : List ℕ) (right : Bool) (n l : ℕ) (c : Choice) where
-  pub run-first : RunLeft row right n l c 0
-  run-first = (omega arith, ap (runFrom row right l c 0) (let e : n ≡ n - 0 = omega arith in e))
+  pub runs-first : RunsFrom n old
+  runs-first = (omega arith, ap (runsOver row right c old n) (let e : 0 ≡ n - n = omega arith in e))
 
-  module _ (j : ℕ) (v : RunLeft row right n l c j) where
-    pub run-none : n ≤ j → record { from = 0; to = 0 } ≡ runIn row right n l c
-    run-none h = sym (v .1 ∙ ap (runFrom row right l c j) (let e : n - j ≡ 0 = omega arith in e))
+  -- field j - 1
+  pub runs-one : (j : ℕ) (runs next : List ℕ) → RunsFrom j runs → 0 < j → (s : Shape) → s ≡ shapeIn row right (j - 1) → (k : ℕ) → k ≡ countAt c (j - 1)
+      → next ≡ noteRun s (31 * (j - 1)) k runs
+      → RunsFrom (j - 1) next
+  runs-one j runs next v h s is-s k is-k e = (
+    omega (arith, v .0),
+    e
+        ∙ ap₂ (λ (z : Shape) (m : ℕ). noteRun z (31 * (j - 1)) m runs) is-s is-k
+        ∙ ap (noteRun (shapeIn row right (j - 1)) (31 * (j - 1)) (countAt c (j - 1))) (v .1)
+        ∙ ap (λ (i : ℕ). noteRun (shapeIn row right (j - 1)) (31 * (j - 1)) (countAt c (j - 1)) (runsOver row right c old i (n - j)))
+            (let z : j ≡ suc (j - 1) = omega arith in z)
+        ∙ ap (runsOver row right c old (j - 1)) (let z : suc (n - j) ≡ n - (j - 1) = omega (arith, v .0) in z),
+  )
 
-    module _ (h : j < n) (s : Shape) (is-s : s ≡ shapeIn row right j) where
-      run-opened : runIn row right n l c ≡ cond (s .gapped && eqb (s .list) l) (runAt (31 * j) (countAt c j) (s .head) (s .tail))
-          (runFrom row right l c (j + 1) (n - (j + 1)))
-      run-opened =
-          v .1
-          ∙ ap (runFrom row right l c j) (let e : n - j ≡ suc (n - (j + 1)) = omega arith in e)
-          ∙ ap₂ (λ (i : ℕ) (t : Shape). cond (t .gapped && eqb (t .list) l) (runAt (31 * j) (countAt c j) (t .head) (t .tail))
-          (runFrom row right l c i (n - (j + 1)))) (let e : suc j ≡ j + 1 = omega arith in e) (sym is-s)
-
-      pub run-here : s .gapped ≡ true → eqb (s .list) l ≡ true → (r : Run) (k : ℕ) → r ≡ runAt (31 * j) k (s .head) (s .tail) → k ≡ countAt c j
-          → r ≡ runIn row right n l c
-      run-here p q r k e f =
-          e
-          ∙ ap (λ (m : ℕ). runAt (31 * j) m (s .head) (s .tail)) f
-          ∙ sym (run-opened ∙ ap₂ (λ (a b : Bool). cond (a && b) (runAt (31 * j) (countAt c j) (s .head) (s .tail))
-          (runFrom row right l c (j + 1) (n - (j + 1)))) p q)
-
-      pub run-shut : s .gapped ≡ false → RunLeft row right n l c (j + 1)
-      run-shut p = (
-        omega arith,
-        run-opened ∙ ap (λ (a : Bool). cond (a && eqb (s .list) l) (runAt (31 * j) (countAt c j) (s .head) (s .tail))
-            (runFrom row right l c (j + 1) (n - (j + 1)))) p,
-      )
-
-      pub run-other : s .gapped ≡ true → eqb (s .list) l ≡ false → RunLeft row right n l c (j + 1)
-      run-other p q = (
-        omega arith,
-        run-opened ∙ ap₂ (λ (a b : Bool). cond (a && b) (runAt (31 * j) (countAt c j) (s .head) (s .tail))
-            (runFrom row right l c (j + 1) (n - (j + 1)))) p q,
-      )
+  pub runs-all : (j : ℕ) (runs : List ℕ) → RunsFrom j runs → j ≤ 0 → runs ≡ runsOver row right c old 0 n
+  runs-all j runs v h = v .1 ∙ ap₂ (runsOver row right c old) (let e : j ≡ 0 = omega arith in e) (let e : n - j ≡ n = omega arith in e)
 
 -- ---- the items of a field: the first i of them are laid out and named
 
@@ -198,8 +180,8 @@ module _ (row : List ℕ) (c : Choice) (atoms : List ℕ) where
   abbrev pub Lays : ℕ → List ℕ → List ℕ → List ℕ → Type 0
   Lays j items counts numbers =
       (items ≡ laidFrom 0 (tabulate j (fieldIn row c atoms)) (replicate 124 0))
-      × (counts ≡ nameFields (tableIn row) (noNames 132 4) (tabulate j (fieldIn row c atoms)) .counts)
-      × (numbers ≡ nameFields (tableIn row) (noNames 132 4) (tabulate j (fieldIn row c atoms)) .numbers)
+      × (counts ≡ nameFields (tableIn row) (noNames pairItems 4) (tabulate j (fieldIn row c atoms)) .counts)
+      × (numbers ≡ nameFields (tableIn row) (noNames pairItems 4) (tabulate j (fieldIn row c atoms)) .numbers)
       × Few (31 * j) counts
 
   no-counts : (n m i : ℕ) → getD (replicate n 0) i 0 ≤ m
@@ -207,7 +189,7 @@ module _ (row : List ℕ) (c : Choice) (atoms : List ℕ) where
   no-counts (suc n) m zero = omega arith
   no-counts (suc n) m (suc i) = no-counts n m i
 
-  pub lays-first : Lays 0 (replicate 124 0) (replicate 4 0) (replicate 132 0)
+  pub lays-first : Lays 0 (replicate 124 0) (replicate 4 0) (replicate pairItems 0)
   lays-first = (refl, refl, refl, no-counts 4 (31 * 0))
 
   pub lays-one : (j : ℕ) (items counts numbers : List ℕ) → Lays j items counts numbers → countAt c j ≤ 31 → (items′ counts′ numbers′ : List ℕ)
@@ -231,19 +213,19 @@ module _ (row : List ℕ) (c : Choice) (atoms : List ℕ) where
       T : Table
       T = tableIn row
 
-      next : nameCodes T (record { counts = counts; numbers = numbers }) (F j) ≡ nameFields T (noNames 132 4) (tabulate (j + 1) F)
+      next : nameCodes T (record { counts = counts; numbers = numbers }) (F j) ≡ nameFields T (noNames pairItems 4) (tabulate (j + 1) F)
       next =
           ap₂ (λ (a b : List ℕ). nameCodes T (record { counts = a; numbers = b }) (F j)) (v .1) (v .2)
-          ∙ sym (ap (nameFields T (noNames 132 4)) (tabulate-last j F) ∙ foldl-append (nameCodes T) (noNames 132 4) (tabulate j F) (F j ∷ []))
+          ∙ sym (ap (nameFields T (noNames pairItems 4)) (tabulate-last j F) ∙ foldl-append (nameCodes T) (noNames pairItems 4) (tabulate j F) (F j ∷ []))
 
   pub lays-all : (j n : ℕ) (items counts numbers : List ℕ) → Lays j items counts numbers → j ≡ n
       → (items ≡ laidIn row n c atoms) × (numbers ≡ namesIn row n c atoms .numbers)
   lays-all j n items counts numbers v e = (v .0 ∙ ap (λ (k : ℕ). laidIn row k c atoms) e, v .2 ∙ ap (λ (k : ℕ). namesIn row k c atoms .numbers) e)
 
-  pub lays-long : (j : ℕ) (items counts numbers : List ℕ) → Lays j items counts numbers → (124 ≡ length items) × (4 ≡ length counts) × (132 ≡ length numbers)
+  pub lays-long : (j : ℕ) (items counts numbers : List ℕ) → Lays j items counts numbers → (124 ≡ length items) × (4 ≡ length counts) × (160 ≡ length numbers)
   lays-long j items counts numbers v =
-      let r = all-named (tableIn row) (tabulate j (fieldIn row c atoms)) (noNames 132 4) in (
+      let r = all-named (tableIn row) (tabulate j (fieldIn row c atoms)) (noNames pairItems 4) in (
         sym (ap (λ (l : List ℕ). length l) (v .0) ∙ laid-keeps (tabulate j (fieldIn row c atoms)) 0 (replicate 124 0) ∙ length-replicate {A = ℕ} 124 0),
         sym (ap (λ (l : List ℕ). length l) (v .1) ∙ r .0),
-        sym (ap (λ (l : List ℕ). length l) (v .2) ∙ r .1 ∙ length-replicate {A = ℕ} 132 0),
+        sym (ap (λ (l : List ℕ). length l) (v .2) ∙ r .1 ∙ length-replicate {A = ℕ} pairItems 0),
       )

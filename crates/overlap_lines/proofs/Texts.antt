@@ -1,17 +1,20 @@
 -- The texts of an entry, piece by piece: of an item, of items and of fields. Assumes nothing.
 use mathlib.Core.Path.{_≡_, refl, sym, ap, _∙_}
-use mathlib.Core.Bool.{true, false}
+use mathlib.Core.Bool.{Bool, true, false, cond, false≢true}
 use mathlib.Core.List.{List, [], _∷_, _++_, append-assoc, append-nil}
 use Prim.Native.Nat.{ℕ, zero, suc, _+_, _-_, _≤_, _<_}
 use native.Mathlib.Omega.{arith}
+use lib.Dec.{leb}
 use lib.ListN.{length, getD, take, drop, length-append, length-drop, take-append-drop}
 use lib.Seq.{take-all, take-suc}
 use Rattle.lists.specs.Seqs.{tabulate, tabulate-long, tabulate-at}
 use borrow.Author.Tests.{eq-eqb, ne-eqb}
+use Rattle.order.specs.Order.{list}
+use Rattle.order.specs.Types.{rank}
 use Rattle.text.specs.Numbers.{digitsOf}
 use Rattle.math_codes.specs.Tables.{Table}
-use Rattle.math_codes.specs.Lines.{letterAt, itemText, colonTexts, itemsText, barTexts, fieldsText}
-use Rattle.pair_row.specs.Row.{tableIn, bytesIn, textIn}
+use Rattle.math_codes.specs.Lines.{pairPlaces, letterAt, itemText, colonTexts, itemsText, barTexts, fieldsText}
+use Rattle.pair_row.specs.Row.{kindsAt, variablesAt, isSet, tableIn, bytesIn, textIn}
 
 -- ---- an item
 
@@ -20,12 +23,21 @@ module _ (row texts numbers : List ℕ) (c : ℕ) where
       → letterAt (tableIn row .kind c) ∷ digitsOf (getD numbers c 0 - 1) ≡ itemText (tableIn row) (textIn row texts) numbers c
   item-name h = rw h
 
+  -- what is no variable has a place
+  place-kind : tableIn row .variable c ≡ false → tableIn row .kind c ≡ getD row (kindsAt + c) 0
+  place-kind h = go (leb pairPlaces c) h
+    where
+      go : (b : Bool) → cond b true (isSet (getD row (variablesAt + c) 0)) ≡ false
+          → cond b (rank list) (getD row (kindsAt + c) 0) ≡ getD row (kindsAt + c) 0
+      go true e = absurd (false≢true (sym e))
+      go false e = refl
+
   pub item-plain : tableIn row .variable c ≡ false → (tableIn row .kind c ≡ 1 → ⊥) → bytesIn texts c ≡ itemText (tableIn row) (textIn row texts) numbers c
-  item-plain h k = rw (h, ne-eqb (tableIn row .kind c) 1 k)
+  item-plain h k = rw (h, ne-eqb (getD row (kindsAt + c) 0) 1 (λ e. k (place-kind h ∙ e)))
 
   pub item-string : tableIn row .variable c ≡ false → tableIn row .kind c ≡ 1
       → 34 ∷ (bytesIn texts c ++ 34 ∷ []) ≡ itemText (tableIn row) (textIn row texts) numbers c
-  item-string h k = rw (h, eq-eqb (tableIn row .kind c) 1 k)
+  item-string h k = rw (h, eq-eqb (getD row (kindsAt + c) 0) 1 (sym (place-kind h) ∙ k))
 
 -- ---- items and fields, each with one more
 

@@ -1,12 +1,12 @@
 -- The line of a choice and its last codes, as code makes it of the pair's tables. `line-is` of proofs/ says that it is the mathematics'
 -- `indexedLine`.
 use mathlib.Core.Path.{_≡_}
-use mathlib.Core.Bool.{Bool, true, false, cond, _&&_}
+use mathlib.Core.Bool.{Bool, true, false, cond, _&&_, _||_}
 use mathlib.Core.List.{List, [], _∷_, _++_}
 use Prim.Native.Nat.{ℕ, zero, suc, _+_, _-_, _*_, _^_, _≤_}
-use lib.Dec.{eqb, leb, ltb}
-use lib.ListN.{length, getD, replicate}
-use lib.Seq.{sets}
+use lib.Dec.{leb, ltb}
+use lib.ListN.{length, getD, set, drop, replicate}
+use lib.Seq.{sets, slice}
 use Rattle.lists.specs.Seqs.{tabulate}
 use Rattle.unifiers.specs.Candidates.{Cand, exact, long}
 use Rattle.listing.specs.Lines.{leftMark, rightMark}
@@ -16,6 +16,7 @@ use Rattle.math_codes.specs.Names.{Names, noNames, nameFields}
 use Rattle.math_codes.specs.Lines.{pairPlaces, pairItems}
 use Rattle.math_codes.specs.Index.{valueAt, rankValues, indexedValues, indexedItems}
 use Rattle.pair_row.specs.Row.{tableIn, textIn, shapeIn, spotIn, indexIn, topIn}
+use Rattle.pair_row.specs.declared.Shape.{Shape}
 use Rattle.overlap_entries.specs.declared.Choice.{Choice}
 use Rattle.overlap_entries.specs.Entries.{itemCount, itemAt, chosenAt}
 use Rattle.overlap_lines.specs.declared.Run.{Run}
@@ -77,33 +78,49 @@ abbrev pub runAt : ℕ → ℕ → ℕ → ℕ → Run
 runAt from count head tail =
     cond (ltb count (head + tail)) (record { from = from; to = from }) (record { from = from + head; to = from + (count - tail) })
 
--- of the list variable l, in the first of k fields from field j on that has it
-abbrev pub runFrom : List ℕ → Bool → ℕ → Choice → ℕ → ℕ → Run
-runFrom row right l c j zero = record { from = 0; to = 0 }
-runFrom row right l c j (suc k) =
-    let s = shapeIn row right j in
-    cond (s .gapped && eqb (s .list) l) (runAt (fieldItems * j) (countAt c j) (s .head) (s .tail)) (runFrom row right l c (suc j) k)
+-- a field's list variable, by its number: where its run begins and ends
+abbrev pub noteRun : Shape → ℕ → ℕ → List ℕ → List ℕ
+noteRun s from count runs =
+    let r = runAt from count (s .head) (s .tail) in
+    cond (s .gapped) (set (set runs (2 * s .list) (r .from)) (2 * s .list + 1) (r .to)) runs
 
-abbrev pub runIn : List ℕ → Bool → ℕ → ℕ → Choice → Run
-runIn row right n l c = runFrom row right l c 0 n
+-- those of k fields from field j on; where two have the same one, the first counts
+abbrev pub runsOver : List ℕ → Bool → Choice → List ℕ → ℕ → ℕ → List ℕ
+runsOver row right c old j zero = old
+runsOver row right c old j (suc k) =
+    noteRun (shapeIn row right j) (fieldItems * j) (countAt c j) (runsOver row right c old (suc j) k)
+
+-- 16 numbers have room
+abbrev pub noRuns : List ℕ
+noRuns = replicate 32 0
+
+-- the items of the list variable l by such a table, whatever it says
+abbrev pub runBy : List ℕ → List ℕ → ℕ → List ℕ
+runBy runs items l = slice (getD runs (2 * l) 0) (getD runs (2 * l + 1) 0) items
 
 abbrev pub markOf : Bool → ℕ
 markOf true = rightMark
 markOf false = leftMark
 
+-- a blank before a binding, but not where a line begins; `led` has one there too
+abbrev pub blank : Bool → ℕ → List ℕ
+blank led at = cond (led || ltb 0 at) (32 ∷ []) []
+
+-- bindings, each with a blank before it, as they are put at a place
+abbrev pub unled : Bool → ℕ → List ℕ → List ℕ
+unled led at t = cond (led || ltb 0 at) t (drop 1 t)
+
 -- a variable's value; the variables of a type's rank; all of a rule
-abbrev pub valueIn : List ℕ → Bool → ℕ → Choice → List ℕ → ℕ → ℕ → List ℕ
-valueIn row right n c atoms k v = valueAt (indexIn row right) (spotsIn row right n) atoms (itemsIn row n c atoms) k v
+abbrev pub valueIn : List ℕ → Bool → List ℕ → (ℕ → List ℕ) → ℕ → ℕ → List ℕ
+valueIn row right atoms runs k v = valueAt (indexIn row right) atoms runs k v
 
-abbrev pub rankIn : List ℕ → List ℕ → List ℕ → Bool → ℕ → Choice → List ℕ → ℕ → List ℕ
-rankIn row texts numbers right n c atoms k =
-    rankValues (tableIn row) (textIn row texts) numbers (markOf right) (indexIn row right) (topIn row right) (spotsIn row right n) atoms
-    (itemsIn row n c atoms) k
+abbrev pub rankIn : List ℕ → List ℕ → List ℕ → Bool → List ℕ → (ℕ → List ℕ) → ℕ → List ℕ
+rankIn row texts numbers right atoms runs k =
+    rankValues (tableIn row) (textIn row texts) numbers (markOf right) (indexIn row right) (topIn row right) atoms runs k
 
-abbrev pub valuesIn : List ℕ → List ℕ → List ℕ → Bool → ℕ → Choice → List ℕ → List ℕ
-valuesIn row texts numbers right n c atoms =
-    indexedValues (tableIn row) (textIn row texts) numbers (markOf right) (indexIn row right) (topIn row right) (spotsIn row right n) atoms
-    (itemsIn row n c atoms)
+abbrev pub valuesIn : List ℕ → List ℕ → List ℕ → Bool → List ℕ → (ℕ → List ℕ) → List ℕ
+valuesIn row texts numbers right atoms runs =
+    indexedValues (tableIn row) (textIn row texts) numbers (markOf right) (indexIn row right) (topIn row right) atoms runs
 
 -- ---- the line
 
@@ -112,9 +129,17 @@ wholeLine row texts n c atoms =
     indexedItems (tableIn row) (textIn row texts) (indexIn row false) (topIn row false) (indexIn row true) (topIn row true)
     (spotsIn row false n) (spotsIn row true n) atoms (itemsIn row n c atoms) (namesIn row n c atoms .numbers)
 
+-- no number of a rule's variables is above 15
+abbrev pub sideFew : List ℕ → Bool → Bool
+sideFew row right =
+    leb (topIn row right 0) 16 && (leb (topIn row right 1) 16 && (leb (topIn row right 2) 16 && leb (topIn row right 3) 16))
+
+abbrev pub numbersFew : List ℕ → Bool
+numbersFew row = sideFew row false && sideFew row true
+
 -- THE LINE of a choice of n fields; one that does not fit has none
 unfoldable pub lineIn : List ℕ → List ℕ → ℕ → Choice → List ℕ → List ℕ
-lineIn row texts n c atoms = cond (fits n c) (wholeLine row texts n c atoms) []
+lineIn row texts n c atoms = cond (fits n c && numbersFew row) (wholeLine row texts n c atoms) []
 
 -- no line has more bytes, whatever the tables hold
 abbrev pub lineBound : ℕ

@@ -3,7 +3,7 @@
 ghost use mathlib.Core.Path.{_≡_};
 ghost use mathlib.Core.Bool.{true, false};
 ghost use mathlib.Core.List.{List, [], _∷_, _++_};
-ghost use Prim.Native.Nat.{_+_, _-_, _*_, _^_, _≤_, _<_};
+ghost use Prim.Native.Nat.{_+_, _-_, _*_, _^_, _≤_, _<_, min};
 ghost use lib.ListN.{length, getD, set};
 ghost use lib.Seq.{sets};
 ghost use Rattle.text.specs.Numbers.{digitsOf};
@@ -12,15 +12,17 @@ ghost use Rattle.math_codes.specs.Lines.{letterAt, itemText, itemsText, fieldsT
 ghost use Rattle.math_codes.specs.Index.{nameAt};
 ghost use Rattle.overlap_entries.specs.Entries.{itemCount};
 ghost use Rattle.pair_row.specs.Row.{tableIn, bytesIn, textIn};
-ghost use Rattle.overlap_lines.specs.Lines.{Puts, Few, fits, fieldIn, itemsIn, namesIn, laidIn, runAt, runIn, markOf, valueIn};
-ghost use Rattle.overlap_lines.specs.Lines.{rankIn, valuesIn, lineIn, lineBound};
+ghost use Rattle.overlap_lines.specs.Lines.{Puts, Few, sideFew, numbersFew, fits, fieldIn, itemsIn, namesIn, laidIn};
+ghost use Rattle.overlap_lines.specs.Lines.{runAt, noteRun, runsOver, runBy, markOf, blank, unled, valueIn, rankIn, valuesIn};
+ghost use Rattle.overlap_lines.specs.Lines.{lineIn, lineBound};
 use overlap_entries::Choice;
 use pair_row::byte_at;
+use pair_row::Shape;
 
 // An entry's items in one row, 31 places a field, and by item the number that it got and one; 0 for none.
 struct Laid {
     items: [u8; 124],
-    numbers: [u8; 132],
+    numbers: [u8; 160],
 }
 
 // Where a run of items begins and ends in that row.
@@ -101,7 +103,7 @@ fn lay(row: &[u8], fields: u8, c: Choice, atoms: &[u8]) -> Laid
 {
     let mut items = [0u8; 124];
     let mut counts = [0u8; 4];
-    let mut numbers = [0u8; 132];
+    let mut numbers = [0u8; 160];
     let mut j: u8 = 0;
     while j < fields {
         lay_field(row, j, c, atoms, &mut items, &mut counts, &mut numbers);
@@ -222,23 +224,6 @@ fn put_empty(out: &mut [u8], at: usize) -> usize
 
 // ---- values
 
-// The run of a rule's list variable: in the first field that has it, between the atoms before and behind it.
-fn run_of(row: &[u8], right: bool, fields: u8, n: u8, c: Choice) -> Run
-    requires { ⌜ fits fields c ≡ true ⌝ }
-    ensures { λ r. ⌜ r ≡ runIn (now (row .entry)) right fields n c ⌝ }
-{
-    let mut j: u8 = 0;
-    while j < fields {
-        let s = pair_row::shape_at(row, right, j);
-        if s.gapped && s.list == n {
-            let count = overlap_entries::item_count(c.sizes[j as usize], c.longs[j as usize]);
-            return run_in(31 * j as usize, count, s.head as usize, s.tail as usize);
-        }
-        j += 1;
-    }
-    Run { from: 0, to: 0 }
-}
-
 // Behind `head` items and before the last `tail` of `count`, which stand from a place on.
 fn run_in(from: usize, count: usize, head: usize, tail: usize) -> Run
     requires { ⌜ (from ≤ 93) × (count ≤ 31) × (head ≤ 255) × (tail ≤ 255) ⌝ }
@@ -253,44 +238,90 @@ fn run_in(from: usize, count: usize, head: usize, tail: usize) -> Run
     }
 }
 
-// The value of a rule's variable: what its atom stands for, or a run of items.
+// A field's list variable: where its run begins and ends is noted by its number. The field's items stand from a place on.
+fn note_run(runs: &mut [u8], s: Shape, from: usize, count: usize)
+    requires { ⌜ (from ≤ 93) × (count ≤ 31) ⌝ }
+    ensures { λ _. ⌜ now (runs .exit) ≡ noteRun s from count (now (runs .entry)) ⌝ }
+{
+    if !s.gapped {
+        return;
+    }
+    let r = run_in(from, count, s.head as usize, s.tail as usize);
+    let at = 2 * s.list as usize;
+    put_at(runs, at, r.from as u8);
+    put_at(runs, at + 1, r.to as u8);
+}
+
+// The runs of a rule's list variables; where two fields have the same one, the first counts.
+fn put_runs(row: &[u8], right: bool, fields: u8, c: Choice, runs: &mut [u8])
+    requires { ⌜ fits fields c ≡ true ⌝ }
+    ensures { λ _. ⌜ now (runs .exit) ≡ runsOver (now (row .entry)) right c (now (runs .entry)) 0 fields ⌝ }
+{
+    let mut j = fields;
+    while 0 < j {
+        j -= 1;
+        let s = pair_row::shape_at(row, right, j);
+        let count = overlap_entries::item_count(c.sizes[j as usize], c.longs[j as usize]);
+        note_run(runs, s, 31 * j as usize, count);
+    }
+}
+
+fn least(a: usize, b: usize) -> usize
+    ensures { λ r. ⌜ r ≡ min a b ⌝ }
+{
+    if b < a { b } else { a }
+}
+
+// The value of a rule's variable: what its atom stands for, or a run of items. `runs` has where those of the list variables stand.
 fn put_value(
     row: &[u8],
     texts: &[u8],
     right: bool,
     rank: u8,
     n: u8,
-    fields: u8,
-    c: Choice,
     atoms: &[u8],
     items: &[u8],
+    runs: &[u8],
     numbers: &[u8],
     out: &mut [u8],
     at: usize,
 ) -> usize
-    requires { ⌜ (fits fields c ≡ true) × (now items ≡ laidIn (now row) fields c (now atoms)) ⌝ }
     requires { ⌜ at + length (itemsText (tableIn (now row)) (textIn (now row) (now texts)) (now numbers)
-        (valueIn (now row) right fields c (now atoms) rank n)) < 2 ^ 64 ⌝ }
+        (valueIn (now row) right (now atoms) (runBy (now runs) (now items)) rank n)) < 2 ^ 64 ⌝ }
     ensures { λ r. ⌜ Puts (itemsText (tableIn (now (row .entry))) (textIn (now (row .entry)) (now (texts .entry))) (now (numbers .entry))
-        (valueIn (now (row .entry)) right fields c (now (atoms .entry)) rank n)) at (now (out .entry)) r (now (out .exit)) ⌝ }
+        (valueIn (now (row .entry)) right (now (atoms .entry)) (runBy (now (runs .entry)) (now (items .entry))) rank n)) at
+        (now (out .entry)) r (now (out .exit)) ⌝ }
 {
     if rank < 3 {
         let x = pair_row::index_at(row, right, rank, n);
         let place = if x == 0 { 0 } else { x as usize - 1 };
         return put_item(row, texts, byte_at(atoms, place), numbers, out, at);
     }
-    let r = run_of(row, right, fields, n, c);
-    let from = r.from;
-    let to = r.to;
+    let k = 2 * n as usize;
+    let to = least(byte_at(runs, k + 1) as usize, items.len());
+    let from = least(byte_at(runs, k) as usize, to);
     put_run(row, texts, &items[from..to], numbers, out, at)
 }
 
-// A rule's mark and a variable's name: ` <a0=`.
-fn put_name(right: bool, rank: u8, n: u8, out: &mut [u8], at: usize) -> usize
-    requires { ⌜ at + (4 + length (digitsOf n)) < 2 ^ 64 ⌝ }
-    ensures { λ r. ⌜ Puts (32 ∷ (markOf right ∷ (nameAt rank n ++ 61 ∷ []))) at (now (out .entry)) r (now (out .exit)) ⌝ }
+// A blank, but not where a line begins; `led` has one there too.
+fn put_blank(led: bool, out: &mut [u8], at: usize) -> usize
+    requires { ⌜ at + 1 < 2 ^ 64 ⌝ }
+    ensures { λ r. ⌜ Puts (blank led at) at (now (out .entry)) r (now (out .exit)) ⌝ }
 {
-    let a = put_byte(b' ', out, at);
+    if !led {
+        if at == 0 {
+            return at;
+        }
+    }
+    put_byte(b' ', out, at)
+}
+
+// A rule's mark and a variable's name: ` <a0=`.
+fn put_name(led: bool, right: bool, rank: u8, n: u8, out: &mut [u8], at: usize) -> usize
+    requires { ⌜ at + (4 + length (digitsOf n)) < 2 ^ 64 ⌝ }
+    ensures { λ r. ⌜ Puts (unled led at (32 ∷ (markOf right ∷ (nameAt rank n ++ 61 ∷ [])))) at (now (out .entry)) r (now (out .exit)) ⌝ }
+{
+    let a = put_blank(led, out, at);
     let b = put_byte(if right { b'>' } else { b'<' }, out, a);
     let c = put_byte(letter(rank), out, b);
     let d = put_digits(n, out, c);
@@ -301,37 +332,35 @@ fn put_name(right: bool, rank: u8, n: u8, out: &mut [u8], at: usize) -> usize
 fn put_rank(
     row: &[u8],
     texts: &[u8],
+    led: bool,
     right: bool,
     rank: u8,
-    fields: u8,
-    c: Choice,
     atoms: &[u8],
     items: &[u8],
+    runs: &[u8],
     numbers: &[u8],
     out: &mut [u8],
     at: usize,
 ) -> usize
-    requires { ⌜ (fits fields c ≡ true) × (now items ≡ laidIn (now row) fields c (now atoms)) ⌝ }
-    requires { ⌜ at + length (rankIn (now row) (now texts) (now numbers) right fields c (now atoms) rank) < 2 ^ 64 ⌝ }
-    ensures { λ r. ⌜ Puts (rankIn (now (row .entry)) (now (texts .entry)) (now (numbers .entry)) right fields c (now (atoms .entry)) rank)
-        at (now (out .entry)) r (now (out .exit)) ⌝ }
+    requires { ⌜ at + length (rankIn (now row) (now texts) (now numbers) right (now atoms) (runBy (now runs) (now items)) rank) < 2 ^ 64 ⌝ }
+    ensures { λ r. ⌜ Puts (unled led at (rankIn (now (row .entry)) (now (texts .entry)) (now (numbers .entry)) right (now (atoms .entry))
+        (runBy (now (runs .entry)) (now (items .entry))) rank)) at (now (out .entry)) r (now (out .exit)) ⌝ }
 {
     let top = pair_row::top_at(row, right, rank);
     let mut q = at;
     let mut n: u8 = 0;
     while n < top {
         if pair_row::index_at(row, right, rank, n) != 0 {
-            let p = put_name(right, rank, n, out, q);
+            let p = put_name(led, right, rank, n, out, q);
             q = put_value(
                 row,
                 texts,
                 right,
                 rank,
                 n,
-                fields,
-                c,
                 atoms,
                 items,
+                runs,
                 numbers,
                 out,
                 p,
@@ -346,19 +375,18 @@ fn put_rank(
 fn put_values(
     row: &[u8],
     texts: &[u8],
+    led: bool,
     right: bool,
-    fields: u8,
-    c: Choice,
     atoms: &[u8],
     items: &[u8],
+    runs: &[u8],
     numbers: &[u8],
     out: &mut [u8],
     at: usize,
 ) -> usize
-    requires { ⌜ (fits fields c ≡ true) × (now items ≡ laidIn (now row) fields c (now atoms)) ⌝ }
-    requires { ⌜ at + length (valuesIn (now row) (now texts) (now numbers) right fields c (now atoms)) < 2 ^ 64 ⌝ }
-    ensures { λ r. ⌜ Puts (valuesIn (now (row .entry)) (now (texts .entry)) (now (numbers .entry)) right fields c (now (atoms .entry))) at
-        (now (out .entry)) r (now (out .exit)) ⌝ }
+    requires { ⌜ at + length (valuesIn (now row) (now texts) (now numbers) right (now atoms) (runBy (now runs) (now items))) < 2 ^ 64 ⌝ }
+    ensures { λ r. ⌜ Puts (unled led at (valuesIn (now (row .entry)) (now (texts .entry)) (now (numbers .entry)) right (now (atoms .entry))
+        (runBy (now (runs .entry)) (now (items .entry))))) at (now (out .entry)) r (now (out .exit)) ⌝ }
 {
     let mut q = at;
     let mut k: u8 = 0;
@@ -366,12 +394,12 @@ fn put_values(
         q = put_rank(
             row,
             texts,
+            led,
             right,
             k,
-            fields,
-            c,
             atoms,
             items,
+            runs,
             numbers,
             out,
             q,
@@ -432,8 +460,33 @@ fn fits(fields: u8, c: Choice) -> bool
     true
 }
 
+// Whether no number of a rule's variables is above 15.
+fn side_few(row: &[u8], right: bool) -> bool
+    ensures { λ r. ⌜ r ≡ sideFew (now (row .entry)) right ⌝ }
+{
+    if 16 < pair_row::top_at(row, right, 0) {
+        return false;
+    }
+    if 16 < pair_row::top_at(row, right, 1) {
+        return false;
+    }
+    if 16 < pair_row::top_at(row, right, 2) {
+        return false;
+    }
+    pair_row::top_at(row, right, 3) <= 16
+}
+
+fn numbers_few(row: &[u8]) -> bool
+    ensures { λ r. ⌜ r ≡ numbersFew (now (row .entry)) ⌝ }
+{
+    if !side_few(row, false) {
+        return false;
+    }
+    side_few(row, true)
+}
+
 // The line of a choice and the codes that its last state has, into the lent bytes as far as they go; and its size.
-// A choice that no rules have, of too many fields or items, has no line.
+// A choice that no rules have, of too many fields or items, has no line, nor have tables with too many variables.
 pub fn put_line(
     row: &[u8],
     texts: &[u8],
@@ -449,22 +502,29 @@ pub fn put_line(
     if !fits(fields, c) {
         return 0;
     }
+    if !numbers_few(row) {
+        return 0;
+    }
     let x = lay(row, fields, c, atoms);
     let items = x.items;
     let numbers = x.numbers;
+    let mut left = [0u8; 32];
+    put_runs(row, false, fields, c, &mut left);
+    let mut right = [0u8; 32];
+    put_runs(row, true, fields, c, &mut right);
     let p = put_fields(row, texts, fields, c, atoms, &items, &numbers, out);
     let q = put_values(
         row,
         texts,
+        true,
         false,
-        fields,
-        c,
         atoms,
         &items,
+        &left,
         &numbers,
         out,
         p,
     );
-    let r = put_values(row, texts, true, fields, c, atoms, &items, &numbers, out, q);
+    let r = put_values(row, texts, true, true, atoms, &items, &right, &numbers, out, q);
     put_byte(b'\n', out, r)
 }
