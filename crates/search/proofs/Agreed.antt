@@ -9,15 +9,19 @@ use Rattle.text.specs.Terms.{OurTerm}
 use Rattle.text.specs.Limits.{IsLeft}
 use Rattle.terms.specs.Values.{encodeField}
 use Rattle.unifiers.specs.Shapes.{left, right}
-use Rattle.searching.specs.Problems.{Field, Bindings, Rest, solved, equation, problem}
+use Rattle.searching.specs.Problems.{Field, Bindings, Rest, solved, equation, problem, root}
 use Rattle.searching.specs.Rules.{Rule, Move, rule}
 use Rattle.searching.specs.Fresh.{lowest}
 use Rattle.worklist.specs.Machine.{Records}
 use Rattle.worklist.specs.Agreement.{Agrees, openRest}
 use Rattle.worklist.specs.Agreement as worklist
 use Rattle.solving.specs.Answers.{setting, fieldOn, answerText}
-use Rattle.math_codes.specs.Lines.{OurAtom, ourRow}
-use Rattle.pair_row.specs.Row.{tableIn}
+use Rattle.text.specs.Sizes.{mostFields}
+use Rattle.math_codes.specs.Lines.{OurAtom, ourRow, fieldPlaces, rulePlaces, pairPlaces}
+use Rattle.math_codes.specs.Spots.{Spot}
+use Rattle.math_codes.proofs.Places.{Stands, left-stand, right-stand}
+use Rattle.math_codes.proofs.Lists.{row-long}
+use Rattle.pair_row.specs.Row.{tableIn, textIn}
 use Rattle.pair_table.specs.Pairs.{PairIn}
 use Rattle.pair_lines.specs.Lines.{lineBound}
 use Rattle.search_rules.specs.Values.{number}
@@ -25,7 +29,9 @@ use Rattle.search_problems.specs.declared.Problem.{Problem}
 use Rattle.search_problems.specs.declared.Child.{Child}
 use Rattle.search_problems.specs.Steps.{childOf}
 use Rattle.search_problems.proofs.Holds.{Equation, isOpen, Holds}
+use Rattle.search_problems.specs.Roots.{rootValue}
 use Rattle.search_problems.proofs.Agree as steps
+use Rattle.search_problems.proofs.Rooted.{equation-of, root-holds}
 use Rattle.search_tables.specs.Tables.{rowsIn}
 use Rattle.search_tables.proofs.Noted.{tables-hold}
 use Rattle.queue.specs.Machine.{lineIn}
@@ -52,8 +58,17 @@ module _ (f g : List OurTerm) (is-f : IsLeft (f ∷ [])) (is-g : IsLeft (g ∷ [
   pair : PairIn (f ∷ []) (g ∷ []) tables texts
   pair = tables-hold f g is-f is-g
 
+  long : length pairTable ≡ pairPlaces
+  long = row-long (f ∷ []) (g ∷ []) (tableIn tables) (textIn tables texts) (pair .tables) is-f is-g
+
+  stand-f : Stands pairTable left 0 f
+  stand-f = left-stand fieldPlaces mostFields (f ∷ []) (g ∷ []) (is-f .0 .2) (is-g .0 .2) (omega arith) .0
+
+  stand-g : Stands pairTable right rulePlaces g
+  stand-g = right-stand fieldPlaces mostFields (f ∷ []) (g ∷ []) (is-f .0 .2) (is-g .0 .2) (omega arith) .0
+
   equal : Equation pairTable A B
-  equal = equation-of f g is-f is-g
+  equal = equation-of pairTable long tables (pair .tables .atoms) f g is-f is-g stand-f stand-g
 
   abbrev all : Records
   all = records tables texts
@@ -87,3 +102,12 @@ module _ (f g : List OurTerm) (is-f : IsLeft (f ∷ [])) (is-g : IsLeft (g ∷ [
         child-same p σ u r (rule setting r L M (lowest u)) (steps.child-holds pairTable long tables (pair .tables .atoms) A B equal p L M σ u h nf r);
     line-is = line-is;
   }
+
+  -- THE ROOT
+  pub root-held : Held (rootValue tables) (root setting A B)
+  root-held =
+      root-holds pairTable long tables (pair .tables .atoms) f g is-f is-g stand-f stand-g
+      (ap (λ (l : List (Spot ℕ)). getD l 0 noSpot) (pair .left-shapes)) (ap (λ (l : List (Spot ℕ)). getD l 0 noSpot) (pair .right-shapes))
+    where
+      noSpot : Spot ℕ
+      noSpot = record { base = 0; head = 0; tail = 0; name = none }
