@@ -47,7 +47,9 @@ applies t (bind x s v (equation L M)) = refl
 
 made : (t : List (Option OurAtom)) (p : Problem) (f : ℕ) (m : rules.Move setting) → noneLeft p ≡ false
     → childBy p (moveCode t (some m)) f ≡ record { ok = true; problem = appliedValue p (moveCode t (some m)) f }
-made t p f m e = ap (λ (b : Bool). cond b child noChild) (ap₂ _&&_ (applies t m) (ap (λ (b : Bool). not (moveCode t (some m) .fresh && b)) e ∙ none (moveCode t (some m) .fresh)))
+made t p f m e =
+    ap (λ (b : Bool). cond b child noChild)
+    (ap₂ _&&_ (applies t m) (ap (λ (b : Bool). not (moveCode t (some m) .fresh && b)) e ∙ none (moveCode t (some m) .fresh)))
   where
     child : Child
     child = record { ok = true; problem = appliedValue p (moveCode t (some m)) f }

@@ -82,7 +82,8 @@ module _ (σ : Bindings setting) (kinds : (t : Tm setting) → Fits setting t (�
       ap (replace basics consts ourVars x w) (state-old y) ∙ go (kinds (atomic (free y)) .0) ∙ sym (state-at (atomic (free x)) (atomic w ∷ []) y)
     where
       go : (a : OurAtom) → replace basics consts ourVars x w a ≡ oneAtom y (put setting (atomic (free x)) (atomic w ∷ []) (atomic a))
-      go (fixed c) = sym (ap (oneAtom y) (put-ne setting (atomic (free x)) (atomic w ∷ []) (atomic (fixed c)) (λ e. let o : _≡_ {A = ℕ} 0 1 = cc in omega arith)))
+      go (fixed c) =
+          sym (ap (oneAtom y) (put-ne setting (atomic (free x)) (atomic w ∷ []) (atomic (fixed c)) (λ e. let o : _≡_ {A = ℕ} 0 1 = cc in omega arith)))
       go (free z) = pick (variable-eq side-eq basic-eq ℕ-discrete z x)
         where
           pick : (d : Dec (z ≡ x)) → ite d w (free z) ≡ oneAtom y (put setting (atomic (free x)) (atomic w ∷ []) (atomic (free z)))

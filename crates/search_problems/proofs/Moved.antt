@@ -50,7 +50,9 @@ module _ (t : List (Option OurAtom)) (long : length t ≡ pairPlaces) where
     -- of a problem that is met: the numbers used, and the fresh one
     module _ (P : search.Problem setting) (m : Met setting A B P) where
       used-in : All (λ n. n < 32) (search.used setting P)
-      used-in = names-below basics consts ourVars A B (q .linear) (q .left-short) (q .right-short) (names-within t A (q .left-in)) (names-within t B (q .right-in)) P m
+      used-in =
+          names-below basics consts ourVars A B (q .linear) (q .left-short) (q .right-short) (names-within t A (q .left-in))
+          (names-within t B (q .right-in)) P m
 
       fresh-in : lowest (search.used setting P) < digits
       fresh-in = fresh-small basics consts ourVars A B (q .linear) (q .left-short) (q .right-short) P m
@@ -71,10 +73,12 @@ module _ (t : List (Option OurAtom)) (long : length t ≡ pairPlaces) where
     fresh-left p P h =
         subst (λ (s : ℕ). listVariables s < digits) (sym (h .used))
         (some-left (lowest (search.used setting P)) (search.used setting P)
-        (all-map (λ n. n < 32) (λ n. n < digits) (λ n l. omega arith) (search.used setting P) (used-in P (h .met))) (fresh-in P (h .met)) (lowest-new (search.used setting P)))
+        (all-map (λ n. n < 32) (λ n. n < digits) (λ n l. omega arith) (search.used setting P) (used-in P (h .met))) (fresh-in P (h .met))
+        (lowest-new (search.used setting P)))
 
     -- "ones count variables of a problem": those used, each once
-    pub variables-holds : (p : Problem) (P : search.Problem setting) → Holds t A B p P → listVariables (p .used) ≡ length (firsts ℕ-discrete (search.used setting P))
+    pub variables-holds : (p : Problem) (P : search.Problem setting) → Holds t A B p P → listVariables (p .used)
+        ≡ length (firsts ℕ-discrete (search.used setting P))
     variables-holds p P h = ap listVariables (h .used) ∙ variables-distinct (search.used setting P)
 
     module _ (p : Problem) (L M : Field setting) (σ : Bindings setting) (u : List ℕ) (h : Holds t A B p (problem (equation L M) σ u)) where
@@ -121,7 +125,8 @@ module _ (t : List (Option OurAtom)) (long : length t ≡ pairPlaces) where
         sizes = value-short setting 16 L M (lowest u) (short .0) (short .1) r x s v n e
 
         values-moved : (y : Tm setting) → StandsIn setting A B y → All (On t) (compose setting σ x s y)
-        values-moved y i = all-put-in setting (On t) x s (all-in .0) (σ y) (all-map (On t) (λ y. Other setting x y → On t y) (λ y w _. w) (σ y) (h .values-in y i))
+        values-moved y i =
+            all-put-in setting (On t) x s (all-in .0) (σ y) (all-map (On t) (λ y. Other setting x y → On t y) (λ y w _. w) (σ y) (h .values-in y i))
 
       -- ---- the child
 
@@ -147,7 +152,9 @@ module _ (t : List (Option OurAtom)) (long : length t ≡ pairPlaces) where
             is-open = refl;
             left = refl;
             right = refl;
-            atoms = atoms-bound t long σ (fine .inv .kinds) (p .atoms) (h .atoms) x s (x-in r x s v solved e) (all-in r x s v solved e .0) (does r x s v solved e .fits);
+            atoms =
+                atoms-bound t long σ (fine .inv .kinds) (p .atoms) (h .atoms) x s (x-in r x s v solved e) (all-in r x s v solved e .0)
+                (does r x s v solved e .fits);
             lists = lists-moved x s (x-in r x s v solved e) (sizes r x s v solved e .0);
             used = h .used ∙ ap (λ (v : List ℕ). setOf (v ++ u)) (sym (sizes r x s v solved e .1));
             rest-in = tt;

@@ -89,7 +89,8 @@ module _ (t : List (Option OurAtom)) (long : length t ≡ pairPlaces) where
   module _ (f : ℕ) where
     remove-agrees : (L M : Field setting) → All (On t) L → All (On t) M
         → values.remove (codesOf t L) (codesOf t M) ≡ moveCode t (rules.remove setting L M)
-    remove-agrees L M h k = ap (λ (b : Bool). cond b (moveCode t (some (keep solved))) noMove) (same-agree t long L M h k) ∙ made-if (field-eq setting L M) (keep solved)
+    remove-agrees L M h k =
+        ap (λ (b : Bool). cond b (moveCode t (some (keep solved))) noMove) (same-agree t long L M h k) ∙ made-if (field-eq setting L M) (keep solved)
 
     decomp1-agrees : (L M : Field setting) → values.decomp1 (headTm t L) (headTm t M) (codesOf t L) (codesOf t M) ≡ moveCode t (rules.decomp1 setting L M)
     decomp1-agrees [] M = refl
@@ -114,7 +115,8 @@ module _ (t : List (Option OurAtom)) (long : length t ≡ pairPlaces) where
     decomp1′-agrees (atomic (free x) ∷ (w ∷ L)) (listvar y ∷ M) h k = refl
     decomp1′-agrees (listvar x ∷ L) M h k = refl
 
-    decomp2-agrees : (L M : Field setting) → values.decomp2 (headTm t L) (headTm t M) (codesOf t L) (codesOf t M) (pairPlaces + f) ≡ moveCode t (rules.decomp2 setting L M f)
+    decomp2-agrees : (L M : Field setting) → values.decomp2 (headTm t L) (headTm t M) (codesOf t L) (codesOf t M) (pairPlaces + f)
+        ≡ moveCode t (rules.decomp2 setting L M f)
     decomp2-agrees [] M = refl
     decomp2-agrees (atomic a ∷ L) M = refl
     decomp2-agrees (listvar x ∷ []) M = refl
@@ -122,7 +124,8 @@ module _ (t : List (Option OurAtom)) (long : length t ≡ pairPlaces) where
     decomp2-agrees (listvar x ∷ (w ∷ L)) (atomic a ∷ M) = refl
     decomp2-agrees (listvar x ∷ (w ∷ L)) (listvar y ∷ M) = refl
 
-    decomp2′-agrees : (L M : Field setting) → values.decomp2′ (headTm t L) (headTm t M) (codesOf t L) (codesOf t M) (pairPlaces + f) ≡ moveCode t (rules.decomp2′ setting L M f)
+    decomp2′-agrees : (L M : Field setting) → values.decomp2′ (headTm t L) (headTm t M) (codesOf t L) (codesOf t M) (pairPlaces + f)
+        ≡ moveCode t (rules.decomp2′ setting L M f)
     decomp2′-agrees [] M = refl
     decomp2′-agrees (atomic a ∷ L) M = refl
     decomp2′-agrees (listvar x ∷ []) M = refl
@@ -135,7 +138,8 @@ module _ (t : List (Option OurAtom)) (long : length t ≡ pairPlaces) where
     decomp3-agrees [] M h k = refl
     decomp3-agrees (s ∷ L) [] h k = refl
     decomp3-agrees (s ∷ L) (w ∷ M) h k =
-        ap (λ (b : Bool). cond b (moveCode t (some (keep (equation L M)))) noMove) (code-same t long s w (h .0) (k .0)) ∙ made-if (tm-eq setting s w) (keep (equation L M))
+        ap (λ (b : Bool). cond b (moveCode t (some (keep (equation L M)))) noMove) (code-same t long s w (h .0) (k .0))
+        ∙ made-if (tm-eq setting s w) (keep (equation L M))
 
     decomp4-agrees : (L M : Field setting) → All (On t) L → All (On t) M
         → values.decomp4 (headTm t L) (headTm t M) (headTm t (drop 1 M)) (codesOf t M) ≡ moveCode t (rules.decomp4 setting L M)
@@ -155,11 +159,13 @@ module _ (t : List (Option OurAtom)) (long : length t ≡ pairPlaces) where
 
     -- x ↦ L, of any variable x
     solve-by : (x : Tm setting) (M : Field setting) → (On t) x → All (On t) M
-        → cond (entry ((headTm t M) .whole) (rank (termType setting x)) && not (occursIn (codeTm t x) (codesOf t M))) (moveCode t (some (bind x M [] solved))) noMove
+        → cond (entry ((headTm t M) .whole) (rank (termType setting x)) && not (occursIn (codeTm t x) (codesOf t M)))
+        (moveCode t (some (bind x M [] solved))) noMove
         ≡ moveCode t (rules.solveBy setting x M)
     solve-by x M h k =
         ap₂ (λ (p q : Bool). cond (p && not q) (moveCode t (some (bind x M [] solved))) noMove)
-        (ap (λ (j : ℕ). entry j (rank (termType setting x))) (whole-is t M) ∙ le-agrees (fieldType setting M) (termType setting x)) (occurs-agree t long x M h k)
+        (ap (λ (j : ℕ). entry j (rank (termType setting x))) (whole-is t M) ∙ le-agrees (fieldType setting M) (termType setting x))
+        (occurs-agree t long x M h k)
         ∙ made-both (full-le basics (fieldType setting M) (termType setting x)) (rules.occurs setting x M) (bind x M [] solved)
 
     subst1-agrees : (L M : Field setting) → All (On t) L → All (On t) M
@@ -177,7 +183,8 @@ module _ (t : List (Option OurAtom)) (long : length t ≡ pairPlaces) where
     subst2-agrees (listvar x ∷ []) M = refl
     subst2-agrees (listvar x ∷ (w ∷ L)) M = refl
 
-    subst3-agrees : (L M : Field setting) → values.subst3 (headTm t L) (headTm t M) (codesOf t L) (codesOf t M) (pairPlaces + f) ≡ moveCode t (rules.subst3 setting L M f)
+    subst3-agrees : (L M : Field setting) → values.subst3 (headTm t L) (headTm t M) (codesOf t L) (codesOf t M) (pairPlaces + f)
+        ≡ moveCode t (rules.subst3 setting L M f)
     subst3-agrees [] M = refl
     subst3-agrees (atomic a ∷ L) M = refl
     subst3-agrees (listvar x ∷ []) M = refl
@@ -234,7 +241,8 @@ module _ (t : List (Option OurAtom)) (long : length t ≡ pairPlaces) where
     orient3-agrees (atomic (free x) ∷ L) (atomic (free y) ∷ M) =
         let T = atomic (free x) ∷ L in
         let S = atomic (free y) ∷ M in
-        ap (turnedIf T S) (below-agrees (basic (kindIn x)) (basic (kindIn y))) ∙ made-by (rules.below setting (basic (kindIn x)) (basic (kindIn y))) (keep (equation S T))
+        ap (turnedIf T S) (below-agrees (basic (kindIn x)) (basic (kindIn y)))
+        ∙ made-by (rules.below setting (basic (kindIn x)) (basic (kindIn y))) (keep (equation S T))
     orient3-agrees (atomic (free x) ∷ L) (listvar y ∷ M) = ap (turnedIf (atomic (free x) ∷ L) (listvar y ∷ M)) (below-agrees (basic (kindIn x)) list)
     orient3-agrees (listvar x ∷ L) [] = refl
     orient3-agrees (listvar x ∷ L) (atomic (fixed d) ∷ M) = refl
@@ -249,7 +257,8 @@ module _ (t : List (Option OurAtom)) (long : length t ≡ pairPlaces) where
 
     -- of the heads
     rule-agrees : (r : Rule) (L M : Field setting) → All (On t) L → All (On t) M
-        → getD (allBy (headTm t L) (headTm t M) (headTm t (drop 1 M)) (itemsValue t L) (itemsValue t M) (codesOf t L) (codesOf t M) (pairPlaces + f)) (number r) noMove ≡ moveCode t (rule setting r L M f)
+        → getD (allBy (headTm t L) (headTm t M) (headTm t (drop 1 M)) (itemsValue t L) (itemsValue t M) (codesOf t L) (codesOf t M) (pairPlaces + f))
+        (number r) noMove ≡ moveCode t (rule setting r L M f)
     rule-agrees Remove L M h k = remove-agrees L M h k
     rule-agrees Decomp1 L M h k = decomp1-agrees L M
     rule-agrees Decomp1′ L M h k = decomp1′-agrees L M h k

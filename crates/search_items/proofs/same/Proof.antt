@@ -25,7 +25,8 @@ returns c =
     let z = c .before .before .before .args in
     let p : length (z .t1 .codes) ≡ 17 = search needs in
     let q : length (z .t2 .codes) ≡ 17 = search needs in
-    same-counts (z .t1 .n) (z .t1 .codes) (z .t2 .n) (z .t2 .codes) 17 p q (λ e. c .if1 .taken (c .before .before .used .ensures ∙ e ∙ sym (c .before .used2 .ensures)))
+    same-counts (z .t1 .n) (z .t1 .codes) (z .t2 .n) (z .t2 .codes) 17 p q
+    (λ e. c .if1 .taken (c .before .before .used .ensures ∙ e ∙ sym (c .before .used2 .ensures)))
 
 loop-holds : tie.Need-loop-holds Inv-loop μ-loop
 loop-holds c =

@@ -18,7 +18,8 @@ returns : tie.Need-returns
 returns c =
     let d = c .before in
     let z = d .before .before .before .before .before .args in
-    given (tableIn (z .row .now)) (z .p) (z .rule) (d .before .fresh .result) (d .move-of .result) (d .before .fresh .ensures) (d .move-of .ensures) (c .is-made .ensures)
+    given (tableIn (z .row .now)) (z .p) (z .rule) (d .before .fresh .result) (d .move-of .result) (d .before .fresh .ensures) (d .move-of .ensures)
+    (c .is-made .ensures)
 
 pub gives-spec : {M : Type 1} → statement M
 gives-spec = tie.close (tie.spec fresh-requires move-of-requires is-made-requires returns)

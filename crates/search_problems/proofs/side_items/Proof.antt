@@ -32,7 +32,8 @@ returns c =
     let z = c .before .before .before .before .before .before .before .args in
     let y = c .before .before .push-codes in
     let e = z .s .base + z .s .head in
-    side-closed (z .row .now) (z .right) (z .s) (y .result) (e - z .s .base) (omega arith) (y .ensures ∙ ap (λ (b : Items). foldl pushed b (codesAt (z .row .now) (z .s .base) (e - z .s .base))) (c .before .before .before .blank-items .ensures))
+    side-closed (z .row .now) (z .right) (z .s) (y .result) (e - z .s .base) (omega arith)
+    (y .ensures ∙ ap (λ (b : Items). foldl pushed b (codesAt (z .row .now) (z .s .base) (e - z .s .base))) (c .before .before .before .blank-items .ensures))
     (not-true (z .s .gapped) (c .if1 .taken))
 
 list-number-requires : tie.Need-list-number-requires

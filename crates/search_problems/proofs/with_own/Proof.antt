@@ -15,7 +15,8 @@ with-name-requires c κs = search needs
 
 returns-2 : tie.Need-returns-2
 returns-2 c =
-    rw (not-false (c .before .before .before .before .args .s .gapped) (c .before .before .if1 .left), ← c .before .list-number .ensures) (c .with-name .ensures)
+    rw (not-false (c .before .before .before .before .args .s .gapped) (c .before .before .if1 .left), ← c .before .list-number .ensures)
+    (c .with-name .ensures)
 
 pub with-own-spec : {M : Type 1} → statement M
 with-own-spec = tie.close (tie.spec returns list-number-requires with-name-requires returns-2)

@@ -71,19 +71,24 @@ returns : tie.Need-returns
 returns c = rw (c .before .match .keys1, c .remove .ensures)
 
 returns-2 : tie.Need-returns-2
-returns-2 c = rw (c .before .match .keys2, c .decomp1 .ensures, c .before .before .before .before .head-of .ensures, c .before .before .before .head-of2 .ensures)
+returns-2 c =
+    rw (c .before .match .keys2, c .decomp1 .ensures, c .before .before .before .before .head-of .ensures, c .before .before .before .head-of2 .ensures)
 
 returns-3 : tie.Need-returns-3
-returns-3 c = rw (c .before .match .keys3, c .decomp1-prime .ensures, c .before .before .before .before .head-of .ensures, c .before .before .before .head-of2 .ensures)
+returns-3 c =
+    rw (c .before .match .keys3, c .decomp1-prime .ensures, c .before .before .before .before .head-of .ensures, c .before .before .before .head-of2 .ensures)
 
 returns-4 : tie.Need-returns-4
-returns-4 c = rw (c .before .match .keys4, c .decomp2 .ensures, c .before .before .before .before .head-of .ensures, c .before .before .before .head-of2 .ensures, c .before .before .fresh-code .ensures)
+returns-4 c =
+    rw (c .before .match .keys4, c .decomp2 .ensures, c .before .before .before .before .head-of .ensures, c .before .before .before .head-of2 .ensures, c .before .before .fresh-code .ensures)
 
 returns-5 : tie.Need-returns-5
-returns-5 c = rw (c .before .match .keys5, c .decomp2-prime .ensures, c .before .before .before .before .head-of .ensures, c .before .before .before .head-of2 .ensures, c .before .before .fresh-code .ensures)
+returns-5 c =
+    rw (c .before .match .keys5, c .decomp2-prime .ensures, c .before .before .before .before .head-of .ensures, c .before .before .before .head-of2 .ensures, c .before .before .fresh-code .ensures)
 
 returns-6 : tie.Need-returns-6
-returns-6 c = rw (c .before .match .keys6, c .decomp3 .ensures, c .before .before .before .before .head-of .ensures, c .before .before .before .head-of2 .ensures)
+returns-6 c =
+    rw (c .before .match .keys6, c .decomp3 .ensures, c .before .before .before .before .head-of .ensures, c .before .before .before .head-of2 .ensures)
 
 returns-7 : tie.Need-returns-7
 returns-7 c =
@@ -91,25 +96,31 @@ returns-7 c =
     rw (c .before .before .match .keys7, c .decomp4 .ensures, c .before .head-of-rest .ensures, d .before .head-of .ensures, d .head-of2 .ensures)
 
 returns-8 : tie.Need-returns-8
-returns-8 c = rw (c .before .match .keys8, c .subst1 .ensures, c .before .before .before .before .head-of .ensures, c .before .before .before .head-of2 .ensures)
+returns-8 c =
+    rw (c .before .match .keys8, c .subst1 .ensures, c .before .before .before .before .head-of .ensures, c .before .before .before .head-of2 .ensures)
 
 returns-9 : tie.Need-returns-9
 returns-9 c = rw (c .before .match .keys9, c .subst2 .ensures, c .before .before .before .before .head-of .ensures)
 
 returns-10 : tie.Need-returns-10
-returns-10 c = rw (c .before .match .keys10, c .subst3 .ensures, c .before .before .before .before .head-of .ensures, c .before .before .before .head-of2 .ensures, c .before .before .fresh-code .ensures)
+returns-10 c =
+    rw (c .before .match .keys10, c .subst3 .ensures, c .before .before .before .before .head-of .ensures, c .before .before .before .head-of2 .ensures, c .before .before .fresh-code .ensures)
 
 returns-11 : tie.Need-returns-11
-returns-11 c = rw (c .before .match .keys11, c .orient1 .ensures, c .before .before .before .before .head-of .ensures, c .before .before .before .head-of2 .ensures)
+returns-11 c =
+    rw (c .before .match .keys11, c .orient1 .ensures, c .before .before .before .before .head-of .ensures, c .before .before .before .head-of2 .ensures)
 
 returns-12 : tie.Need-returns-12
-returns-12 c = rw (c .before .match .keys12, c .orient2 .ensures, c .before .before .before .before .head-of .ensures, c .before .before .before .head-of2 .ensures)
+returns-12 c =
+    rw (c .before .match .keys12, c .orient2 .ensures, c .before .before .before .before .head-of .ensures, c .before .before .before .head-of2 .ensures)
 
 returns-13 : tie.Need-returns-13
-returns-13 c = rw (c .before .match .keys13, c .orient3 .ensures, c .before .before .before .before .head-of .ensures, c .before .before .before .head-of2 .ensures)
+returns-13 c =
+    rw (c .before .match .keys13, c .orient3 .ensures, c .before .before .before .before .head-of .ensures, c .before .before .before .head-of2 .ensures)
 
 returns-14 : tie.Need-returns-14
-returns-14 c = rw (c .before .match .keys14, c .orient4 .ensures, c .before .before .before .before .head-of .ensures, c .before .before .before .head-of2 .ensures)
+returns-14 c =
+    rw (c .before .match .keys14, c .orient4 .ensures, c .before .before .before .before .head-of .ensures, c .before .before .before .head-of2 .ensures)
 
 returns-15 : tie.Need-returns-15
 returns-15 c =
