@@ -158,5 +158,10 @@ numbers-few row h₁ h₂ = both-is (sideFew row false) (sideFew row true) .1 (s
     side right h =
         let few : ℕ → Bool = λ k. leb (topIn row right k) 16 in
         let at : (k : ℕ) → k < 4 → few k ≡ true = λ k l. le-leb (topIn row right k) 16 (h k l) in
-        both-is (few 0) (few 1 && (few 2 && few 3)) .1 (at 0 (omega arith), both-is (few 1) (few 2 && few 3) .1 (at 1 (omega arith),
-        both-is (few 2) (few 3) .1 (at 2 (omega arith), at 3 (omega arith))))
+        both-is (few 0) (few 1 && (few 2 && few 3)) .1 (
+          at 0 (omega arith),
+          both-is (few 1) (few 2 && few 3) .1 (
+            at 1 (omega arith),
+            both-is (few 2) (few 3) .1 (at 2 (omega arith), at 3 (omega arith)),
+          ),
+        )

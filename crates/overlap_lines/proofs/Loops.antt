@@ -71,7 +71,7 @@ module _ (row : List ℕ) (right : Bool) (n : ℕ) (c : Choice) (old : List ℕ)
         ∙ ap₂ (λ (z : Shape) (m : ℕ). noteRun z (31 * (j - 1)) m runs) is-s is-k
         ∙ ap (noteRun (shapeIn row right (j - 1)) (31 * (j - 1)) (countAt c (j - 1))) (v .1)
         ∙ ap (λ (i : ℕ). noteRun (shapeIn row right (j - 1)) (31 * (j - 1)) (countAt c (j - 1)) (runsOver row right c old i (n - j)))
-            (let z : j ≡ suc (j - 1) = omega arith in z)
+        (let z : j ≡ suc (j - 1) = omega arith in z)
         ∙ ap (runsOver row right c old (j - 1)) (let z : suc (n - j) ≡ n - (j - 1) = omega (arith, v .0) in z),
   )
 

@@ -79,7 +79,8 @@ there (suc x) h = refl
 
 module _ (row texts numbers : List ℕ) (right : Bool) (atoms : List ℕ) (runs : ℕ → List ℕ) (k v : ℕ) where
   pub shown-there : (indexIn row right (16 * k + v) ≡ 0 → ⊥)
-      → nameIn right k v ++ itemsText (tableIn row) (textIn row texts) numbers (valueIn row right atoms runs k v) ≡ shownIn row texts numbers right atoms runs k v
+      → nameIn right k v ++ itemsText (tableIn row) (textIn row texts) numbers (valueIn row right atoms runs k v)
+      ≡ shownIn row texts numbers right atoms runs k v
   shown-there h =
       ap (λ (t : List ℕ). 32 ∷ (markOf right ∷ t))
       (append-assoc (nameAt k v) (61 ∷ []) (itemsText (tableIn row) (textIn row texts) numbers (valueIn row right atoms runs k v)))

@@ -16,8 +16,8 @@ ghost use Rattle.overlap_lines.specs.Lines.{Puts, Few, sideFew, numbersF
 ghost use Rattle.overlap_lines.specs.Lines.{runAt, noteRun, runsOver, runBy, markOf, blank, unled, valueIn, rankIn, valuesIn};
 ghost use Rattle.overlap_lines.specs.Lines.{lineIn, lineBound};
 use overlap_entries::Choice;
-use pair_row::byte_at;
 use pair_row::Shape;
+use pair_row::byte_at;
 
 // An entry's items in one row, 31 places a field, and by item the number that it got and one; 0 for none.
 struct Laid {
@@ -525,6 +525,17 @@ pub fn put_line(
         out,
         p,
     );
-    let r = put_values(row, texts, true, true, atoms, &items, &right, &numbers, out, q);
+    let r = put_values(
+        row,
+        texts,
+        true,
+        true,
+        atoms,
+        &items,
+        &right,
+        &numbers,
+        out,
+        q,
+    );
     put_byte(b'\n', out, r)
 }

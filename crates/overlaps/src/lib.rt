@@ -216,14 +216,13 @@ fn list_read(left: &[u8], right: &[u8], out: &mut [u8]) -> Listed
     requires { ⌜ Accepts (now left) (now right) ⌝ }
     ensures { λ r. ⌜ SidesList (now (left .entry)) (now (right .entry)) (now (out .entry)) r (now (out .exit)) ⌝ }
 {
-    let mut row = [0u8; 689];
+    let mut row = [0u8; 681];
     let mut texts = [0u8; 2048];
     let n = text_passes::note_side(left, false, &mut row, &mut texts);
     let m = text_passes::note_side(right, true, &mut row, &mut texts);
     if n != m {
         return Listed::Lines(0, 0);
     }
-    pair_table::note_lists(&mut row);
     list_pair(&row, &texts, n as u8, out)
 }
 

@@ -30,7 +30,10 @@ there c =
     ⊎-elim (λ w. rw (not-true (z .led) (w .0 .taken), lt-ltb 0 (z .at) (omega (arith, w .1 .left)))) (λ w. rw (not-false (z .led) (w .left))) (c .if1 .came)
 
 returns-2 : tie.Need-returns-2
-returns-2 c = let z = c .before .before .before .before .before .before .args in puts-as (z .at) (z .out .now) (there (c .before .before .before .before)) (c .before .before .put-byte .ensures)
+returns-2 c =
+    let c4 = c .before .before .before .before in
+    let z = c4 .before .before .args in
+    puts-as (z .at) (z .out .now) (there (c4)) (c .before .before .put-byte .ensures)
 
 pub put-blank-spec : {M : Type 1} → statement M
 put-blank-spec = tie.close (tie.spec returns put-byte-requires same-length returns-2)

@@ -36,7 +36,8 @@ returns-2 c =
     let z = c .before .before .before .before .before .before .before .before .args in
     let a = c .before .numbers-few in
     let e = sym (a .ensures) ∙ not-true (a .result) (c .if2 .taken) in (
-      puts-as 0 (z .out .now) (line-many (z .row .now) (z .texts .now) (z .fields) (z .c) (z .atoms .now) (ok (c .before .before)) e) (puts-none 0 (z .out .now)),
+      puts-as 0 (z .out .now) (line-many (z .row .now) (z .texts .now) (z .fields) (z .c) (z .atoms .now) (ok (c .before .before)) e)
+          (puts-none 0 (z .out .now)),
       omega arith,
     )
 
@@ -63,10 +64,12 @@ put-runs-requires-2 c κs = ok (c .before .before .before .before .before .befor
 small : (c : tie.After-put-runs2)
     → let z = c .before .before .before .before .before .before .before .before .before .before .before .before .before .before .before .before .args in
     let y = c .before .before .before .before .before .before .before .lay .result in
+    let left = c .before .before .before .put-runs .last .1 .1 .1 .1 .0 in
+    let right = c .put-runs2 .last .1 .1 .1 .1 .0 in
     length (fieldsText (tableIn (z .row .now)) (textIn (z .row .now) (z .texts .now)) (y .numbers)
     (itemsIn (z .row .now) (z .fields) (z .c) (z .atoms .now)))
-    + (length (valuesIn (z .row .now) (z .texts .now) (y .numbers) false (z .atoms .now) (runBy (c .before .before .before .put-runs .last .1 .1 .1 .1 .0) (y .items)))
-    + (length (valuesIn (z .row .now) (z .texts .now) (y .numbers) true (z .atoms .now) (runBy (c .put-runs2 .last .1 .1 .1 .1 .0) (y .items)))
+    + (length (valuesIn (z .row .now) (z .texts .now) (y .numbers) false (z .atoms .now) (runBy left (y .items)))
+    + (length (valuesIn (z .row .now) (z .texts .now) (y .numbers) true (z .atoms .now) (runBy right (y .items)))
     + 1)) ≤ 134217728
 small c =
     let c7 = c .before .before .before .before .before .before .before in
@@ -103,7 +106,9 @@ slice-aggregate-put-values-2 : tie.Need-slice-aggregate-put-values-2
 slice-aggregate-put-values-2 c = search needs
 
 slice-aggregate-put-values-3 : tie.Need-slice-aggregate-put-values-3
-slice-aggregate-put-values-3 c = let c7 = c .before .before .before .before .before .before .before in sym (long (c7 .before .before .before .before .before .before .before .before .before .before))
+slice-aggregate-put-values-3 c =
+    let c7 = c .before .before .before .before .before .before .before in
+    sym (long (c7 .before .before .before .before .before .before .before .before .before .before))
 
 put-values-requires : tie.Need-put-values-requires
 put-values-requires c κs =

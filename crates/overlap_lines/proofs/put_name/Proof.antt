@@ -16,7 +16,10 @@ put-blank-requires : tie.Need-put-blank-requires
 put-blank-requires c κs = search needs
 
 put-byte-requires : tie.Need-put-byte-requires
-put-byte-requires c κs = let z = c .before .before .before .before .before .before .before .args in omega (arith, c .before .before .before .before .put-blank .ensures .0, blank-few (z .led) (z .at))
+put-byte-requires c κs =
+    let c4 = c .before .before .before .before in
+    let z = c4 .before .before .before .args in
+    omega (arith, c4 .put-blank .ensures .0, blank-few (z .led) (z .at))
 
 letter-requires : tie.Need-letter-requires
 letter-requires c κs = search needs
@@ -31,7 +34,13 @@ put-digits-requires : tie.Need-put-digits-requires
 put-digits-requires c κs =
     let c8 = c .before .before .before .before .before .before .before .before in
     let z = c8 .before .before .before .before .before .before .before .before .args in
-    omega (arith, c .before .before .before .put-byte2 .ensures .0, c8 .put-byte .ensures .0, c8 .before .before .before .before .before .put-blank .ensures .0, blank-few (z .led) (z .at))
+    omega (
+      arith,
+      c .before .before .before .put-byte2 .ensures .0,
+      c8 .put-byte .ensures .0,
+      c8 .before .before .before .before .before .put-blank .ensures .0,
+      blank-few (z .led) (z .at),
+    )
 
 put-byte-requires-3 : tie.Need-put-byte-requires-3
 put-byte-requires-3 c κs =

@@ -27,7 +27,9 @@ byte-at-requires : tie.Need-byte-at-requires
 byte-at-requires c κs = search needs
 
 -- the atom's place
-place : (c : tie.Joined2) → let z = c .before .before .before .before .before .before .before .before .before .before .args in c .if2 .place ≡ indexIn (z .row .now) (z .right) (16 * z .rank + z .n) - 1
+place : (c : tie.Joined2)
+    → let z = c .before .before .before .before .before .before .before .before .before .before .args in
+    c .if2 .place ≡ indexIn (z .row .now) (z .right) (16 * z .rank + z .n) - 1
 place c =
     let e = c .before .index-at .ensures in
     ⊎-elim (λ w. omega (arith, e, w .0 .taken, w .1)) (λ w. omega (arith, e, w .0 .left, w .1)) (c .if2 .came)
@@ -45,7 +47,9 @@ atom c =
     (c .byte-at .result) (c3 .if1 .taken) (c .byte-at .ensures ∙ ap (λ (p : ℕ). getD (z .atoms .now) p 0) (place (c .before)))
 
 put-item-requires : tie.Need-put-item-requires
-put-item-requires c κs = omega (arith, c .before .before .before .before .before .before .before .before .before .before .before .before .pre, ap length (atom (c .before)))
+put-item-requires c κs =
+    let c12 = c .before .before .before .before .before .before .before .before .before .before .before .before in
+    omega (arith, c12 .pre, ap length (atom (c .before)))
 
 same-length : tie.Need-same-length
 same-length c = search needs
@@ -100,7 +104,8 @@ run c =
     let l = z .items .now in
     let a = getD (z .runs .now) (2 * z .n) 0 in
     let b = getD (z .runs .now) (2 * z .n + 1) 0 in
-    let t : c .before .before .least .result ≡ min b (length l) = c .before .before .least .ensures ∙ ap (λ (x : ℕ). min x (length l)) (c .before .before .before .byte-at2 .ensures) in
+    let T = c .before .before .least in
+    let t : T .result ≡ min b (length l) = T .ensures ∙ ap (λ (x : ℕ). min x (length l)) (c .before .before .before .byte-at2 .ensures) in
     let f : c .least2 .result ≡ min a (min b (length l)) = c .least2 .ensures ∙ ap₂ min (c .before .byte-at3 .ensures) t in
     ap₂ (λ (x y : ℕ). take (x - y) (drop y l)) t f
     ∙ part-within l a b
