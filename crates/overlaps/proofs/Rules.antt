@@ -30,8 +30,8 @@ use Rattle.text_passes.proofs.Fields.{side-fields}
 use Rattle.reading.specs.Answers.{sideSaid}
 use Rattle.writing.specs.Answers.{after}
 use Rattle.pieces.specs.Stored.{bytesOf}
-use Rattle.overlap_lines.specs.Lines.{spotsIn}
-use Rattle.overlap_lines.proofs.Lines.{line-is, numbers-few}
+use Rattle.pair_lines.specs.Lines.{spotsIn}
+use Rattle.pair_lines.proofs.Lines.{line-is, numbers-few}
 use Rattle.overlaps.specs.declared.Listed.{Listed}
 use Rattle.overlaps.specs.declared.Listed.the-variants.{Lines}
 use Rattle.overlaps.specs.Listing.{allLines, choices, longestLine, noTally, Countable}

@@ -9,7 +9,7 @@ ghost use lib.ListN.{length};
 ghost use Rattle.accepted.specs.Accepted.{countedLeft};
 ghost use Rattle.accepted_rules.specs.Rules.{countedRule};
 ghost use Rattle.pieces.specs.Stored.{bytesOf};
-ghost use Rattle.overlap_lines.specs.Lines.{lineIn};
+ghost use Rattle.pair_lines.specs.Lines.{lineIn};
 ghost use Rattle.overlaps.specs.Listing.{candidateOf, noTally, Stores, linesIn, choicesIn, allLines, choices, longestLine};
 ghost use Rattle.overlaps.specs.Listing.{Moderate, Countable};
 ghost use Rattle.overlaps.specs.Answers.{Lists, ListsLines, Accepts, SidesList, TextsList};
@@ -72,7 +72,7 @@ fn put_entry(
     ensures { λ r. ⌜ Moderate r ⌝ }
 {
     let at = at_most(t.bytes, out.len());
-    let n = overlap_lines::put_line(row, texts, fields, ch, &st.atoms, &mut out[at..]);
+    let n = pair_lines::put_line(row, texts, fields, ch, &st.atoms, &mut out[at..]);
     Tally {
         entries: t.entries + 1,
         bytes: t.bytes + n,
