@@ -27,7 +27,7 @@ use Rattle.overlaps.specs.declared.Tally.{Tally}
 use Rattle.overlaps.specs.declared.Candidate.{Candidate}
 use Rattle.overlaps.specs.declared.Listed.the-variants.{Lines, TooSmall}
 use Rattle.overlaps.specs.Answers.{ListsLines}
-use Rattle.overlap_lines.specs.Lines.{spotsIn}
+use Rattle.pair_lines.specs.Lines.{spotsIn}
 use Rattle.overlaps.specs.Listing.{spanAt, candidateOf, joinsAt, afterJoin, candidateLines, choiceLines, linesFrom, linesIn, allLines}
 use Rattle.overlaps.specs.Listing.{noTally, tallied, Stores, mostEntries, Countable}
 

@@ -17,7 +17,7 @@ use Rattle.pair_state.specs.declared.Joined.{Joined}
 use Rattle.overlap_entries.specs.declared.Span.{Span}
 use Rattle.overlap_entries.specs.declared.Choice.{Choice}
 use Rattle.overlap_entries.specs.Entries.{chosenAt}
-use Rattle.overlap_lines.specs.Lines.{lineIn, lineBound}
+use Rattle.pair_lines.specs.Lines.{lineIn, lineBound}
 use Rattle.overlaps.specs.declared.Tally.{Tally}
 use Rattle.overlaps.specs.declared.Candidate.{Candidate}
 use Rattle.overlaps.specs.Listing.{spanAt, candidateOf, joinsAt, candidateLines, choiceLines, linesFrom, linesIn, choicesIn}

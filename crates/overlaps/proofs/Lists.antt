@@ -28,8 +28,8 @@ use Rattle.math_codes.proofs.Whole.{Chosen, walk-same}
 use Rattle.math_codes.proofs.Index.{lines-agree}
 use Rattle.pair_row.specs.Row.{tableIn, textIn, indexIn, topIn}
 use Rattle.overlap_entries.specs.Entries.{noChoice}
-use Rattle.overlap_lines.specs.Lines.{spotsIn, lineIn}
-use Rattle.overlap_lines.specs.Lines.{chosenBy}
+use Rattle.pair_lines.specs.Lines.{spotsIn, lineIn}
+use Rattle.pair_lines.specs.Lines.{chosenBy}
 use Rattle.overlaps.specs.Listing.{allLines}
 use Rattle.overlaps.proofs.Walk.{walk-lines}
 

@@ -19,7 +19,7 @@ use Rattle.listing.specs.Lines.{Line, lineText, listText}
 use Rattle.listing.specs.Overlaps.{linesOf, overlapText}
 use Rattle.math_codes.specs.Whole.{spotsOf}
 use Rattle.math_codes.proofs.Measures.{spotTerms, spots-few}
-use Rattle.pair_table.specs.Notes.{sideNoted, listsNoted, blankRows}
+use Rattle.pair_table.specs.Notes.{sideNoted, blankRows}
 use Rattle.pair_table.specs.Pairs.{PairIn}
 use Rattle.pair_table.proofs.Pairs.{pair-noted}
 use Rattle.text_passes.specs.Passes.{tooLong}
@@ -30,8 +30,8 @@ use Rattle.text_passes.proofs.Fields.{side-fields}
 use Rattle.reading.specs.Answers.{sideSaid}
 use Rattle.writing.specs.Answers.{after}
 use Rattle.pieces.specs.Stored.{bytesOf}
-use Rattle.overlap_lines.specs.Lines.{spotsIn}
-use Rattle.overlap_lines.proofs.Lines.{line-is}
+use Rattle.pair_lines.specs.Lines.{spotsIn}
+use Rattle.pair_lines.proofs.Lines.{line-is, numbers-few}
 use Rattle.overlaps.specs.declared.Listed.{Listed}
 use Rattle.overlaps.specs.declared.Listed.the-variants.{Lines}
 use Rattle.overlaps.specs.Listing.{allLines, choices, longestLine, noTally, Countable}
@@ -94,7 +94,8 @@ module _ (r₁ r₂ : List (List OurTerm)) (ok₁ : IsLeft r₁) (ok₂ : IsLeft
   lines-are cs last h =
       line-is row texts n at-most-four cs h
       (subst (All (λ s. spotTerms s ≤ 16)) (sym left-spots) (spots-few 16 0 r₁ (ok₁ .0 .2)))
-      (subst (All (λ s. spotTerms s ≤ 16)) (sym right-spots) (spots-few 16 64 r₂ (ok₂ .0 .2))) last
+      (subst (All (λ s. spotTerms s ≤ 16)) (sym right-spots) (spots-few 16 64 r₂ (ok₂ .0 .2)))
+      (numbers-few row (pair .left-tops .within) (pair .right-tops .within)) last
 
   pub pair-lines : allLines row texts n ≡ map lineText (linesOf r₁ r₂)
   pair-lines =
@@ -138,9 +139,9 @@ module _ (t u : List ℕ) (h : Accepts t u) where
     counts-differ d old = said-listed (none-listed x y (lines-none x y (λ e. d (left-count ∙ e ∙ sym right-count))) old)
 
     -- both are noted, one after the other, in rows that hold nothing
-    module _ (same : n ≡ m) (row₁ texts₁ row₂ texts₂ row : List ℕ) (is-row₁ : row₁ ≡ notedIn false t (blankRows .0) (blankRows .1) .0)
+    module _ (same : n ≡ m) (row₁ texts₁ row₂ texts₂ : List ℕ) (is-row₁ : row₁ ≡ notedIn false t (blankRows .0) (blankRows .1) .0)
         (is-texts₁ : texts₁ ≡ notedIn false t (blankRows .0) (blankRows .1) .1) (is-row₂ : row₂ ≡ notedIn true u row₁ texts₁ .0)
-        (is-texts₂ : texts₂ ≡ notedIn true u row₁ texts₁ .1) (is-row : row ≡ listsNoted row₂) where
+        (is-texts₂ : texts₂ ≡ notedIn true u row₁ texts₁ .1) where
       abbrev Rows : Type 0
       Rows = List ℕ × List ℕ
 
@@ -153,22 +154,22 @@ module _ (t u : List ℕ) (h : Accepts t u) where
           ∙ ap₂ (λ (a b : List ℕ). sideNoted true u (a, b)) is-row₁ is-texts₁
           ∙ ap (λ (z : Rows). sideNoted true u (z .0, z .1)) first
 
-      tables-noted : PairIn x y row texts₂
+      tables-noted : PairIn x y row₂ texts₂
       tables-noted =
           subst₂ (λ (a b : List ℕ). PairIn x y a b)
-          (sym (is-row ∙ ap listsNoted (is-row₂ ∙ ap (λ (z : Rows). z .0) second)))
+          (sym (is-row₂ ∙ ap (λ (z : Rows). z .0) second))
           (sym (is-texts₂ ∙ ap (λ (z : Rows). z .1) second))
           (pair-noted t u x y (h .reads-left) (h .reads-right))
 
-      pub read-countable : Countable noTally (allLines row texts₂ n)
+      pub read-countable : Countable noTally (allLines row₂ texts₂ n)
       read-countable =
-          pair-countable x y (rule-read t x (h .reads-left)) (rule-read u y (h .reads-right)) row texts₂ tables-noted n left-count (same ∙ right-count)
+          pair-countable x y (rule-read t x (h .reads-left)) (rule-read u y (h .reads-right)) row₂ texts₂ tables-noted n left-count (same ∙ right-count)
 
-      pub read-few : length (bytesOf (allLines row texts₂ n)) ≤ choices row 0 n * longestLine
+      pub read-few : length (bytesOf (allLines row₂ texts₂ n)) ≤ choices row₂ 0 n * longestLine
       read-few =
-          pair-few x y (rule-read t x (h .reads-left)) (rule-read u y (h .reads-right)) row texts₂ tables-noted n left-count (same ∙ right-count)
+          pair-few x y (rule-read t x (h .reads-left)) (rule-read u y (h .reads-right)) row₂ texts₂ tables-noted n left-count (same ∙ right-count)
 
-      pub read-listed : {old : List ℕ} {r : Listed} {new : List ℕ} → ListsLines (allLines row texts₂ n) old r new → SidesList t u old r new
+      pub read-listed : {old : List ℕ} {r : Listed} {new : List ℕ} → ListsLines (allLines row₂ texts₂ n) old r new → SidesList t u old r new
       read-listed l =
           said-listed (lines-list x y
-          (pair-lines x y (rule-read t x (h .reads-left)) (rule-read u y (h .reads-right)) row texts₂ tables-noted n left-count (same ∙ right-count)) l)
+          (pair-lines x y (rule-read t x (h .reads-left)) (rule-read u y (h .reads-right)) row₂ texts₂ tables-noted n left-count (same ∙ right-count)) l)

@@ -12,8 +12,8 @@ use Rattle.pair_state.specs.declared.State.{State}
 use Rattle.pair_state.specs.declared.Joined.{Joined}
 use Rattle.overlap_entries.specs.declared.Choice.{Choice}
 use Rattle.overlap_entries.specs.Entries.{noChoice, chosenAt}
-use Rattle.overlap_lines.specs.Lines.{lineIn}
-use Rattle.overlap_lines.proofs.Short.{any-line}
+use Rattle.pair_lines.specs.Lines.{lineIn}
+use Rattle.pair_lines.proofs.Short.{any-line}
 use Rattle.pieces.specs.Stored.{bytesOf}
 use Rattle.overlaps.specs.declared.Candidate.{Candidate}
 use Rattle.overlaps.specs.Listing.{spanAt, candidateOf, joinsAt, afterJoin, candidateLines, choiceLines, linesFrom, allLines}

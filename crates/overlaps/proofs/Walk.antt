@@ -22,8 +22,8 @@ use Rattle.overlap_entries.specs.declared.Span.{Span}
 use Rattle.overlap_entries.specs.declared.Choice.{Choice}
 use Rattle.overlap_entries.specs.Entries.{spanOf, candOf, candAt, noChoice, chosenAt}
 use Rattle.overlap_entries.proofs.Laws.{cands-are, span-is}
-use Rattle.overlap_lines.specs.Lines.{spotsIn, lineIn}
-use Rattle.overlap_lines.specs.Lines.{isLong, chosenBy}
+use Rattle.pair_lines.specs.Lines.{spotsIn, lineIn}
+use Rattle.pair_lines.specs.Lines.{isLong, chosenBy}
 use Rattle.overlaps.specs.declared.Candidate.{Candidate}
 use Rattle.overlaps.specs.Listing.{spanAt, candidateOf, afterJoin, candidateLines, choiceLines, linesFrom, allLines}
 

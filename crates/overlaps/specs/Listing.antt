@@ -17,7 +17,7 @@ use Rattle.pair_state.specs.States.{joinedOf}
 use Rattle.overlap_entries.specs.declared.Span.{Span}
 use Rattle.overlap_entries.specs.declared.Choice.{Choice}
 use Rattle.overlap_entries.specs.Entries.{spanOf, noChoice, chosenAt}
-use Rattle.overlap_lines.specs.Lines.{lineIn, lineBound}
+use Rattle.pair_lines.specs.Lines.{lineIn, lineBound}
 use Rattle.overlaps.specs.declared.Tally.{Tally}
 use Rattle.overlaps.specs.declared.Candidate.{Candidate}
 

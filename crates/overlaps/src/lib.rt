@@ -9,7 +9,7 @@ ghost use lib.ListN.{length};
 ghost use Rattle.accepted.specs.Accepted.{countedLeft};
 ghost use Rattle.accepted_rules.specs.Rules.{countedRule};
 ghost use Rattle.pieces.specs.Stored.{bytesOf};
-ghost use Rattle.overlap_lines.specs.Lines.{lineIn};
+ghost use Rattle.pair_lines.specs.Lines.{lineIn};
 ghost use Rattle.overlaps.specs.Listing.{candidateOf, noTally, Stores, linesIn, choicesIn, allLines, choices, longestLine};
 ghost use Rattle.overlaps.specs.Listing.{Moderate, Countable};
 ghost use Rattle.overlaps.specs.Answers.{Lists, ListsLines, Accepts, SidesList, TextsList};
@@ -72,7 +72,7 @@ fn put_entry(
     ensures { λ r. ⌜ Moderate r ⌝ }
 {
     let at = at_most(t.bytes, out.len());
-    let n = overlap_lines::put_line(row, texts, fields, ch, &st.atoms, &mut out[at..]);
+    let n = pair_lines::put_line(row, texts, fields, ch, &st.atoms, &mut out[at..]);
     Tally {
         entries: t.entries + 1,
         bytes: t.bytes + n,
@@ -216,14 +216,13 @@ fn list_read(left: &[u8], right: &[u8], out: &mut [u8]) -> Listed
     requires { ⌜ Accepts (now left) (now right) ⌝ }
     ensures { λ r. ⌜ SidesList (now (left .entry)) (now (right .entry)) (now (out .entry)) r (now (out .exit)) ⌝ }
 {
-    let mut row = [0u8; 689];
+    let mut row = [0u8; 681];
     let mut texts = [0u8; 2048];
     let n = text_passes::note_side(left, false, &mut row, &mut texts);
     let m = text_passes::note_side(right, true, &mut row, &mut texts);
     if n != m {
         return Listed::Lines(0, 0);
     }
-    pair_table::note_lists(&mut row);
     list_pair(&row, &texts, n as u8, out)
 }
 

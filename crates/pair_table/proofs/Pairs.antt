@@ -266,7 +266,8 @@ module _ (r₁ r₂ : List (List OurTerm)) (ok₁ : IsLeft r₁) (ok₂ : IsLeft
                 ap (λ (j : ℕ). var list (place j)) (let z : p - 128 ≡ 0 + (p - 128) = omega arith in z)
                     ∙ Option·some-injective (var list (place (0 + (p - 128)))) u (sym (range-at listTerm 0 listItems (p - 128) none l) ∙ at e),
               )
-          behind (no m) e = absurd (Option·none-ne-some u (sym (List·getD-eq-default (map listTerm (range 0 listItems)) none {n = p - 128} (omega arith)) ∙ at e))
+          behind (no m) e =
+              absurd (Option·none-ne-some u (sym (List·getD-eq-default (map listTerm (range 0 listItems)) none {n = p - 128} (omega arith)) ∙ at e))
 
   made-terms : MadeTerms rank (tableIn row) (ourTerms r₁ r₂)
   made-terms =

@@ -31,12 +31,6 @@ returns c =
     counts-differ (z .args .left .now) (z .args .right .now) (z .pre) (N .result) (M .result) (N .ensures .0) (M .ensures .0) (c .if1 .taken)
     (z .args .out .now)
 
-slice-aggregate-note-lists : tie.Need-slice-aggregate-note-lists
-slice-aggregate-note-lists c = search needs
-
-note-lists-requires : tie.Need-note-lists-requires
-note-lists-requires c κs = search needs
-
 slice-aggregate-list-pair : tie.Need-slice-aggregate-list-pair
 slice-aggregate-list-pair c = search needs
 
@@ -45,29 +39,30 @@ slice-aggregate-list-pair-2 c = search needs
 
 cast-list-pair : tie.Need-cast-list-pair
 cast-list-pair c =
-    let b = c .before .before .before .before .before .before .before .before .before .before in
-    let z = b .before .before .before .before .before .before .before .before .before in
-    let N = c .before .before .before .before .before .before .before .before .before .before .before .before .before .note-side in
-    let M = c .before .before .before .before .before .before .before .before .note-side2 in
+    let c5 = c .before .before .before .before .before in
+    let c10 = c5 .before .before .before .before .before in
+    let z = c10 .before .before .before .before .before .before in
+    let N = c10 .note-side in
+    let M = c5 .note-side2 in
     let few = counts-small (z .args .left .now) (z .args .right .now) (z .pre) (N .result) (M .result) (N .ensures .0) (M .ensures .0) in
     record { fits = omega (arith, few) }
 
 list-pair-requires : tie.Need-list-pair-requires
 list-pair-requires c κs =
-    let b = c .before .before .before .before .before .before .before .before .before .before in
-    let z = b .before .before .before .before .before .before .before .before .before .before in
-    let N = c .before .before .before .before .before .before .before .before .before .before .before .before .before .before .note-side in
-    let M = c .before .before .before .before .before .before .before .before .before .note-side2 in
-    let L = c .before .before .before .before .note-lists in
-    let same = c .before .before .before .before .before .before .if1 .left in (
+    let c6 = c .before .before .before .before .before .before in
+    let c11 = c6 .before .before .before .before .before in
+    let z = c11 .before .before .before .before .before .before in
+    let N = c11 .note-side in
+    let M = c6 .note-side2 in
+    let same = c .before .before .before .if1 .left in (
       counts-small (z .args .left .now) (z .args .right .now) (z .pre) (N .result) (M .result) (N .ensures .0) (M .ensures .0),
       (
         read-countable (z .args .left .now) (z .args .right .now) (z .pre) (N .result) (M .result) (N .ensures .0) (M .ensures .0) same
-            (N .last .1 .1 .0) (N .last .1 .1 .1 .0) (M .last .1 .1 .0) (M .last .1 .1 .1 .0) (L .last .0)
-            (N .ensures .1 .0) (N .ensures .1 .1) (M .ensures .1 .0) (M .ensures .1 .1) (L .ensures),
+            (N .last .1 .1 .0) (N .last .1 .1 .1 .0) (M .last .1 .1 .0) (M .last .1 .1 .1 .0)
+            (N .ensures .1 .0) (N .ensures .1 .1) (M .ensures .1 .0) (M .ensures .1 .1),
         read-few (z .args .left .now) (z .args .right .now) (z .pre) (N .result) (M .result) (N .ensures .0) (M .ensures .0) same
-            (N .last .1 .1 .0) (N .last .1 .1 .1 .0) (M .last .1 .1 .0) (M .last .1 .1 .1 .0) (L .last .0)
-            (N .ensures .1 .0) (N .ensures .1 .1) (M .ensures .1 .0) (M .ensures .1 .1) (L .ensures),
+            (N .last .1 .1 .0) (N .last .1 .1 .1 .0) (M .last .1 .1 .0) (M .last .1 .1 .1 .0)
+            (N .ensures .1 .0) (N .ensures .1 .1) (M .ensures .1 .0) (M .ensures .1 .1),
       ),
     )
 
@@ -76,15 +71,15 @@ same-length c = search needs
 
 returns-2 : tie.Need-returns-2
 returns-2 c =
-    let b = c .before .before .before .before .before .before .before .before .before .before in
-    let z = b .before .before .before .before .before .before .before .before .before .before .before .before .before in
-    let N = b .before .before .before .before .before .before .before .note-side in
-    let M = c .before .before .before .before .before .before .before .before .before .before .before .before .note-side2 in
-    let L = c .before .before .before .before .before .before .before .note-lists in
+    let c9 = c .before .before .before .before .before .before .before .before .before in
+    let c14 = c9 .before .before .before .before .before in
+    let z = c14 .before .before .before .before .before .before in
+    let N = c14 .note-side in
+    let M = c9 .note-side2 in
     read-listed (z .args .left .now) (z .args .right .now) (z .pre) (N .result) (M .result) (N .ensures .0) (M .ensures .0)
-    (c .before .before .before .before .before .before .before .before .before .if1 .left)
-    (N .last .1 .1 .0) (N .last .1 .1 .1 .0) (M .last .1 .1 .0) (M .last .1 .1 .1 .0) (L .last .0)
-    (N .ensures .1 .0) (N .ensures .1 .1) (M .ensures .1 .0) (M .ensures .1 .1) (L .ensures) (c .before .before .list-pair .ensures)
+    (c .before .before .before .before .before .before .if1 .left)
+    (N .last .1 .1 .0) (N .last .1 .1 .1 .0) (M .last .1 .1 .0) (M .last .1 .1 .1 .0)
+    (N .ensures .1 .0) (N .ensures .1 .1) (M .ensures .1 .0) (M .ensures .1 .1) (c .before .before .list-pair .ensures)
 
 pub list-read-spec : {M : Type 1} → statement M
 list-read-spec =
@@ -97,8 +92,6 @@ list-read-spec =
     slice-aggregate-note-side-4
     note-side-requires-2
     returns
-    slice-aggregate-note-lists
-    note-lists-requires
     slice-aggregate-list-pair
     slice-aggregate-list-pair-2
     cast-list-pair

@@ -1,6 +1,6 @@
 -- `overlaps::put_entry` meets its contract. Assumes nothing.
 use borrow.Author.Needs.{needs}
-use Rattle.overlap_lines.specs.Lines.{lineIn}
+use Rattle.pair_lines.specs.Lines.{lineIn}
 use Rattle.overlaps.proofs.Laws.{tally-one, still-moderate, line-part}
 use Rattle.overlaps.proofs.put_entry.Statement.{statement}
 use Rattle.overlaps.proofs.put_entry.Tie as tie
