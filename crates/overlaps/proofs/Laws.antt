@@ -4,14 +4,12 @@ use mathlib.Core.Bool.{Bool, true, false, cond}
 use mathlib.Core.List.{List, [], _∷_, _++_, append-nil}
 use Prim.Native.Nat.{ℕ, suc, _+_, _-_, _*_, _≤_, _<_, min}
 use native.Mathlib.Omega.{arith}
-use native.Mathlib.Decide.{decLt}
-use lib.ListN.{length, set, take, drop, length-append, length-take, length-drop, take-append-drop, drop-of-length-le}
-use lib.Seq.{sets, length-sets, take-all}
+use lib.ListN.{length, take, drop, length-append}
+use lib.Seq.{sets, length-sets}
 use Rattle.theory.proofs.Seqs.{concat-map-append}
 use Rattle.writing.proofs.Stores.{sets-append}
 use Rattle.pieces.specs.Stored.{bytesOf}
-use Rattle.pieces.proofs.Stored.{bytes-length}
-use Rattle.pieces.proofs.Pieces.{sets-out}
+use Rattle.pieces.proofs.Stored.{bytes-length, store-part}
 use Rattle.pair_state.specs.declared.State.{State}
 use Rattle.pair_state.specs.declared.Joined.{Joined}
 use Rattle.overlap_entries.specs.declared.Span.{Span}
@@ -53,35 +51,10 @@ module _ (t : Tally) (a b : List (List ℕ)) (h : Countable t (a ++ b)) where
 
 -- ---- bytes
 
-sets-later : (x : ℕ) (l : List ℕ) (i : ℕ) (t : List ℕ) → sets (x ∷ l) (suc i) t ≡ x ∷ sets l i t
-sets-later x l i [] = refl
-sets-later x l i (b ∷ t) = sets-later x (set l i b) (suc i) t
-
--- what is put behind p leaves p
-sets-behind : (p l t : List ℕ) → sets (p ++ l) (length p) t ≡ p ++ sets l 0 t
-sets-behind [] l t = refl
-sets-behind (x ∷ p) l t = sets-later x (p ++ l) (length p) t ∙ ap (λ (r : List ℕ). x ∷ r) (sets-behind p l t)
-
--- a place behind the end is as good as the end
-sets-clip : (t old : List ℕ) (n : ℕ) → sets old n t ≡ sets old (min n (length old)) t
-sets-clip t old n = go (decLt n (length old))
-  where
-    go : Dec (n < length old) → sets old n t ≡ sets old (min n (length old)) t
-    go (yes h) = ap (λ (k : ℕ). sets old k t) (let e : n ≡ min n (length old) = omega arith in e)
-    go (no h) = sets-out t old n (omega (arith, h)) ∙ sym (sets-out t old (min n (length old)) (omega (arith, h)))
-
 -- a line in the part of the bytes from its place on, which is lent to the line writer
 pub line-part : (l old : List ℕ) (n at : ℕ) {m : List ℕ} → at ≡ min n (length old) → m ≡ sets (take (length old - at) (drop at old)) 0 l
     → take at old ++ (m ++ drop (length old - at) (drop at old)) ≡ sets old n (bytesOf (l ∷ []))
-line-part l old n at {m} a e =
-    ap (λ (r : List ℕ). take at old ++ (m ++ r)) (drop-of-length-le (drop at old) {i = length old - at} (omega (arith, length-drop at old)))
-    ∙ ap (λ (r : List ℕ). take at old ++ r)
-    (append-nil m ∙ e ∙ ap (λ (r : List ℕ). sets r 0 l) (take-all (length old - at) (drop at old) (omega (arith, length-drop at old))))
-    ∙ sym (sets-behind (take at old) (drop at old) l)
-    ∙ ap₂ (λ (r : List ℕ) (k : ℕ). sets r k l) (take-append-drop at old)
-    (let q : length (take at old) ≡ min n (length old) = omega (arith, length-take at old, a) in q)
-    ∙ sym (sets-clip l old n)
-    ∙ ap (sets old n) (sym (append-nil l))
+line-part l old n at a e = store-part l old n at a e ∙ ap (sets old n) (sym (append-nil l))
 
 -- ---- what is left to list
 

@@ -15,7 +15,7 @@ use lib.ListN.{length, getD, set}
 use Rattle.search_problems.specs.declared.Problem.{Problem}
 use Rattle.search_problems.specs.Values.{blankProblem}
 use Rattle.search_items.specs.Items.{itemsOf, blankItems}
-use Rattle.pair_lines.specs.Lines.{answerIn}
+use Rattle.pair_lines.specs.Answers.{answerIn}
 use Rattle.pieces.specs.Stored.{storeLine}
 use Rattle.turns.specs.declared.State.{State}
 use Rattle.turns.specs.declared.Turn.{Turn}

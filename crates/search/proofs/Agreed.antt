@@ -88,7 +88,7 @@ module _ (f g : List OurTerm) (is-f : IsLeft (f ∷ [])) (is-g : IsLeft (g ∷ [
 
   module _ (p : Problem) (σ : Bindings setting) (u : List ℕ) (h : Held p (problem solved σ u)) where
     line-is : lineIn tables texts p ≡ answerText f g σ
-    line-is = solved-line f g is-f is-g tables texts pair equal p σ u h
+    line-is = solved-line f g is-f is-g tables texts pair long equal p σ u h
 
     pub line-short : length (answerText f g σ) ≤ lineBound
     line-short = omega (arith, ap (λ (l : List ℕ). length l) line-is, line-bounded tables texts p)

@@ -1,15 +1,18 @@
 -- The line of a solved problem's record, on the tables of two fields, is that of the answer which it is.
-use mathlib.Core.Path.{_≡_, refl, sym, _∙_, ap, subst}
-use mathlib.Core.Bool.{true, false}
+use mathlib.Core.Path.{_≡_, refl, sym, _∙_, ap, ap₂, subst}
+use mathlib.Core.Bool.{Bool, true, false, cond, _&&_}
 use mathlib.Core.Logic.{inl, inr}
 use mathlib.Core.List.{List, [], _∷_, append-nil}
-use Prim.Native.Nat.{ℕ, suc, _≤_}
+use Prim.Native.Nat.{ℕ, suc, _≤_, _<_}
 use native.Mathlib.Omega.{arith}
-use lib.ListN.{length, getD}
+use lib.Dec.{lit<}
+use lib.ListN.{length, getD, length-map}
+use borrow.Author.Tests.{le-leb, lt-ltb}
 use Rattle.lists.specs.Seqs.{All}
 use Rattle.order.specs.Order.{basic, list}
 use Rattle.theory.specs.Terms.{con, var}
 use Rattle.theory.specs.Fillings.{Occurs}
+use Rattle.text.specs.Sizes.{largestNumber}
 use Rattle.text.specs.Terms.{OurTerm}
 use Rattle.text.specs.Limits.{IsLeft}
 use Rattle.unifiers.specs.Shapes.{Side, left, right}
@@ -17,13 +20,17 @@ use Rattle.searching.specs.Problems.{listvar, Field, Bindings, namesIn, solved,
 use Rattle.searching.specs.Pairs.{sixteenAbove}
 use Rattle.searching.proofs.Root.{names-listvars}
 use Rattle.solving.specs.Answers.{setting, fieldOn, answerText}
-use Rattle.math_codes.specs.Lines.{ourRow}
+use Rattle.math_codes.specs.Lines.{ourRow, pairPlaces, pairItems}
 use Rattle.math_codes.specs.Index.{indexedAnswer}
-use Rattle.search_codes.specs.Codes.{codesOf, On}
+use Rattle.search_codes.specs.Codes.{codeTm, codesOf, On}
+use Rattle.search_codes.proofs.Codes.{code-below}
 use Rattle.search_codes.proofs.Answers.{answer-agrees}
 use Rattle.search_items.specs.Items.{itemsOf, blankItems}
 use Rattle.pair_row.specs.Row.{tableIn, textIn, indexIn, topIn}
 use Rattle.pair_table.specs.Pairs.{PairIn}
+use Rattle.pair_lines.specs.Lines.{sideFew}
+use Rattle.pair_lines.specs.Answers.{areItems, valueFits, answerFits, wholeAnswer, answerIn}
+use Rattle.queue.specs.Machine.{lineIn}
 use Rattle.search_problems.specs.declared.Problem.{Problem}
 use Rattle.search_items.specs.declared.Items.{Items}
 use Rattle.search_problems.proofs.Holds.{Equation, stateOf, Holds}
@@ -65,7 +72,7 @@ value-known t σ d f w few h n o =
 -- ---- the line
 
 module _ (f g : List OurTerm) (is-f : IsLeft (f ∷ [])) (is-g : IsLeft (g ∷ [])) (row texts : List ℕ) (pair : PairIn (f ∷ []) (g ∷ []) row texts)
-    (q : Equation (ourRow (f ∷ []) (g ∷ [])) (fieldOn left f) (fieldOn right g))
+    (long : length (ourRow (f ∷ []) (g ∷ [])) ≡ pairPlaces) (q : Equation (ourRow (f ∷ []) (g ∷ [])) (fieldOn left f) (fieldOn right g))
     (p : Problem) (σ : Bindings setting) (u : List ℕ)
     (h : Holds (ourRow (f ∷ []) (g ∷ [])) (fieldOn left f) (fieldOn right g) p (problem solved σ u)) where
   abbrev A : Field setting
@@ -88,3 +95,43 @@ module _ (f g : List OurTerm) (is-f : IsLeft (f ∷ [])) (is-g : IsLeft (g ∷ [
       (λ n. items 0) (λ n. items 1)
       (value-known t σ left f (getD (p .lists) 0 blankItems) (omega (arith, names-listvars setting A, q .linear .left)) (left-known t A B q p P h))
       (value-known t σ right g (getD (p .lists) 1 blankItems) (omega (arith, names-listvars setting B, q .linear .right)) (right-known t A B q p P h))
+
+  -- ---- it fits the writer
+
+  fewer : (right : Bool) → ((k : ℕ) → k < 4 → topIn row right k ≤ suc largestNumber) → sideFew row right ≡ true
+  fewer d h =
+      let a = h 0 (lit< tt) in
+      let b = h 1 (lit< tt) in
+      let c = h 2 (lit< tt) in
+      let e = h 3 (lit< tt) in
+      rw (le-leb (topIn row d 0) 16 (omega (arith, a)), le-leb (topIn row d 1) 16 (omega (arith, b)), le-leb (topIn row d 2) 16 (omega (arith, c)),
+      le-leb (topIn row d 3) 16 (omega (arith, e)))
+
+  are-items : (ts : Field setting) → All (On (ourRow (f ∷ []) (g ∷ []))) ts → areItems (codesOf (ourRow (f ∷ []) (g ∷ [])) ts) ≡ true
+  are-items [] h = refl
+  are-items (x ∷ ts) h =
+      let t = ourRow (f ∷ []) (g ∷ []) in
+      ap₂ (λ (a b : Bool). a && b) (lt-ltb (codeTm t x) pairItems (code-below t long x (h .0))) (are-items ts (h .1))
+
+  value-fits : (u : List ℕ) (w : Items) → Listed (ourRow (f ∷ []) (g ∷ [])) σ u w → valueFits (itemsOf w) ≡ true
+  value-fits u w k =
+      let t = ourRow (f ∷ []) (g ∷ []) in
+      ap valueFits (k .items)
+      ∙ ap₂ (λ (a b : Bool). a && b)
+      (le-leb (length (codesOf t (valueOf σ u))) 31 (omega (arith, length-map (valueOf σ u) (codeTm t), k .short)))
+      (are-items (valueOf σ u) (k .within))
+
+  answer-fits : answerFits row (items 0) (items 1) ≡ true
+  answer-fits =
+      let t = ourRow (f ∷ []) (g ∷ []) in
+      let P = problem solved σ u in
+      ap₂ (λ (a b : Bool). a && b)
+      (ap₂ (λ (a b : Bool). a && b) (fewer false (pair .left-tops .within)) (fewer true (pair .right-tops .within)))
+      (ap₂ (λ (a b : Bool). a && b) (value-fits (namesIn setting A) (getD (p .lists) 0 blankItems) (left-known t A B q p P h))
+      (value-fits (namesIn setting B) (getD (p .lists) 1 blankItems) (right-known t A B q p P h)))
+
+  -- THE LINE
+  pub solved-line : lineIn row texts p ≡ answerText f g σ
+  unfolding answerIn
+  solved-line =
+      ap (λ (b : Bool). cond b (wholeAnswer row texts (p .atoms .atoms) (items 0) (items 1)) []) answer-fits ∙ indexed-line
