@@ -1,4 +1,5 @@
--- The search's terms as codes of the pair's table: an atom by the first place that holds it, a list variable by its number behind the places.
+-- The terms of the search as codes of the pair's table: an atom by the first place that holds it, a list variable by its number
+-- behind the places.
 use mathlib.Core.Option.{Option}
 use mathlib.Core.List.{List, map}
 use Prim.Native.Nat.{ℕ, _+_, _<_}

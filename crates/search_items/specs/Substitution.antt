@@ -1,4 +1,5 @@
--- What the search does with lists of codes, as code makes it. `proofs/Agree` says that on the values of the search's fields it is the search's.
+-- What the search does with lists of codes, as code makes it. `proofs/Agree` says that on the values of the search's fields it is the
+-- search's.
 use mathlib.Core.Bool.{Bool, true, false, cond, _&&_, _||_}
 use mathlib.Core.List.{List, [], _∷_}
 use Prim.Native.Nat.{ℕ}

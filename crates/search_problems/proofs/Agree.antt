@@ -5,7 +5,7 @@ use mathlib.Core.Option.{Option, none, some}
 use mathlib.Core.List.{List}
 use Prim.Native.Nat.{ℕ, _≤_, _<_}
 use native.Mathlib.Omega.{arith}
-use lib.ListN.{length}
+use lib.ListN.{length, getD}
 use borrow.Author.Tests.{lt-leb}
 use Rattle.order.specs.Types.{basics}
 use Rattle.instance.specs.Constants.{consts}
@@ -21,15 +21,16 @@ use Rattle.solving.specs.Answers.{setting}
 use Rattle.pair_row.specs.Row.{tableIn}
 use Rattle.search_items.specs.declared.Items.{Items}
 use Rattle.search_rules.specs.declared.Move.{Move}
-use Rattle.search_rules.specs.Moves.{moveValue}
+use Rattle.search_rules.specs.Moves.{freshRules, appliesValue, moveValue}
 use Rattle.search_rules.specs.Fails.{failsValue}
 use Rattle.search_rules.specs.Values.{number, moveCode}
 use Rattle.search_rules.proofs.Failing.{fails-agrees}
 use Rattle.search_rules.proofs.Moving.{move-agrees}
+use Rattle.search_rules.proofs.Telling.{applies-is, fresh-is}
 use Rattle.search_problems.specs.declared.Problem.{Problem}
 use Rattle.search_problems.specs.declared.Child.{Child}
 use Rattle.search_problems.specs.Applied.{appliedValue}
-use Rattle.search_problems.specs.Steps.{failsOf, noChild, noneLeft, childBy, childOf, gives}
+use Rattle.search_problems.specs.Steps.{failsOf, noChild, noneLeft, makes, childBy, childOf, gives}
 use Rattle.search_problems.proofs.Holds.{Equation, Holds}
 use Rattle.search_problems.proofs.Moved.{fresh-holds, fresh-digit, fresh-left, applied-holds}
 
@@ -60,11 +61,22 @@ made t p f m e =
 
 -- the test is that of the child
 pub gives-is : (T : Table) (p : Problem) (r : ℕ) → childOf T p r .ok ≡ gives T p r
-gives-is T p r = go (gives T p r) (appliedValue p (moveValue T r (p .left) (p .right) (freshValue (p .used))) (freshValue (p .used)))
+gives-is T p r =
+    by (makes p m) (appliedValue p m (freshValue (p .used)))
+    ∙ ap₂ (λ (b d : Bool). b && not (d && noneLeft p)) (applies-is T r (p .left) (p .right) (freshValue (p .used)))
+    (fresh-is T r (p .left) (p .right) (freshValue (p .used)))
+    ∙ once (appliesValue T r (p .left) (p .right)) (getD freshRules r false) (noneLeft p)
   where
-    go : (b : Bool) (q : Problem) → cond b (record { ok = true; problem = q }) noChild .ok ≡ b
-    go true q = refl
-    go false q = refl
+    m : Move
+    m = moveValue T r (p .left) (p .right) (freshValue (p .used))
+
+    by : (b : Bool) (q : Problem) → cond b (record { ok = true; problem = q }) noChild .ok ≡ b
+    by true q = refl
+    by false q = refl
+
+    once : (b d e : Bool) → (b && not ((b && d) && e)) ≡ (b && not (d && e))
+    once true d e = refl
+    once false d e = refl
 
 -- over the pair's table t, which the row has
 module _ (t : List (Option OurAtom)) (long : length t ≡ pairPlaces) (row : List ℕ) (made-row : Made basics consts ourVars ourRanks (tableIn row) t) where

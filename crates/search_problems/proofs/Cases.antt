@@ -1,17 +1,20 @@
 -- The ways that the functions of a step end.
-use mathlib.Core.Path.{_≡_, refl, sym, _∙_, ap}
+use mathlib.Core.Path.{_≡_, refl, sym, _∙_, ap, ap₂}
 use mathlib.Core.Bool.{Bool, true, false, cond, not, _&&_}
 use Prim.Native.Nat.{ℕ}
 use lib.Dec.{leb, ltb}
+use lib.ListN.{getD}
 use borrow.Author.Tests.{not-true, not-false, ltb-true, ltb-false, le-leb, lt-leb}
 use Rattle.names.specs.Sets.{digits, freshValue, listVariables}
 use Rattle.math_codes.specs.Tables.{Table}
+use Rattle.search_items.specs.Items.{itemsOf}
+use Rattle.search_rules.specs.declared.Head.{Head}
 use Rattle.search_rules.specs.declared.Move.{Move}
-use Rattle.search_rules.specs.Moves.{moveValue}
+use Rattle.search_rules.specs.Moves.{freshRules, appliesBy, moveValue}
 use Rattle.search_problems.specs.declared.Problem.{Problem}
 use Rattle.search_problems.specs.Applied.{appliedValue}
 use Rattle.search_problems.specs.declared.Child.{Child}
-use Rattle.search_problems.specs.Steps.{noChild, noneLeft, makes, childBy, childWith, childOf, gives}
+use Rattle.search_problems.specs.Steps.{noChild, noneLeft, makes, childBy, childWith, childOf, givesBy}
 
 -- ---- whether a move gives a child
 
@@ -37,15 +40,25 @@ module _ (p : Problem) (m : Move) where
     pub made-plain : m .fresh ≡ false → true ≡ makes p m
     made-plain f = made-by true false (not-false (m .applies) applies) f
 
--- ---- the child, and whether there is one
+-- ---- whether a rule gives a child, told before its move is made
+
+module _ (p : Problem) (a b : Head) (r : ℕ) (t f : Bool) (is-t : t ≡ appliesBy a b (itemsOf (p .left)) (itemsOf (p .right)) r) where
+  pub not-given : not t ≡ true → false ≡ givesBy p a b r
+  not-given e = ap (λ (c : Bool). c && not (getD freshRules r false && noneLeft p)) (sym (not-true t e) ∙ is-t)
+
+  module _ (applies : not t ≡ false) (is-f : f ≡ getD freshRules r false) where
+    given-by : (d : Bool) → f ≡ d → not (d && noneLeft p) ≡ givesBy p a b r
+    given-by d e = ap₂ (λ (c g : Bool). c && not (g && noneLeft p)) (sym (not-false t applies) ∙ is-t) (sym e ∙ is-f)
+
+    pub given-fresh : {n : ℕ} → f ≡ true → n ≡ listVariables (p .used) → ltb n digits ≡ givesBy p a b r
+    given-fresh {n = n} e q = some-left n ∙ ap (λ (k : ℕ). not (leb digits k)) q ∙ given-by true e
+
+    pub given-plain : f ≡ false → true ≡ givesBy p a b r
+    given-plain e = given-by false e
+
+-- ---- the child
 
 module _ (T : Table) (p : Problem) (r f : ℕ) (m : Move) (is-f : f ≡ freshValue (p .used)) (is-m : m ≡ moveValue T r (p .left) (p .right) f) where
-  move-is : m ≡ moveValue T r (p .left) (p .right) (freshValue (p .used))
-  move-is = is-m ∙ ap (moveValue T r (p .left) (p .right)) is-f
-
-  pub given : {b : Bool} → b ≡ makes p m → b ≡ gives T p r
-  given e = e ∙ ap (makes p) move-is
-
   child-is : (b : Bool) → makes p m ≡ b → cond b (record { ok = true; problem = appliedValue p m f }) noChild ≡ childOf T p r
   child-is b e =
       ap (λ (c : Bool). cond c (record { ok = true; problem = appliedValue p m f }) noChild) (sym e)

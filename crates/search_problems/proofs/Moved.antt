@@ -133,7 +133,17 @@ module _ (t : List (Option OurAtom)) (long : length t ≡ pairPlaces) where
       applied-by : (r : Rule) (m : Move setting) → rule setting r L M (lowest u) ≡ some m → Met setting A B (apply setting σ u m)
           → Holds t A B (appliedValue p (moveCode t (some m)) (lowest u)) (apply setting σ u m)
       applied-by r (keep solved) e c =
-          record { met = c; is-open = refl; left = refl; right = refl; atoms = h .atoms; lists = h .lists; used = h .used; rest-in = tt; values-in = h .values-in }
+          record {
+            met = c;
+            is-open = refl;
+            left = refl;
+            right = refl;
+            atoms = h .atoms;
+            lists = h .lists;
+            used = h .used;
+            rest-in = tt;
+            values-in = h .values-in;
+          }
       applied-by r (keep (equation L′ M′)) e c =
           record {
             met = c;

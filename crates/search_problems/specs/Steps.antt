@@ -2,11 +2,15 @@
 use mathlib.Core.Bool.{Bool, true, false, not, cond, _&&_}
 use Prim.Native.Nat.{ℕ}
 use lib.Dec.{leb}
+use lib.ListN.{getD}
 use Rattle.worklist.specs.Next.{nextOk}
 use Rattle.names.specs.Sets.{digits, freshValue, listVariables}
 use Rattle.math_codes.specs.Tables.{Table}
+use Rattle.search_items.specs.Items.{itemsOf}
+use Rattle.search_rules.specs.declared.Head.{Head}
 use Rattle.search_rules.specs.declared.Move.{Move}
-use Rattle.search_rules.specs.Moves.{moveValue}
+use Rattle.search_rules.specs.Heads.{headOf}
+use Rattle.search_rules.specs.Moves.{freshRules, appliesBy, moveValue}
 use Rattle.search_rules.specs.Fails.{failsValue}
 use Rattle.search_problems.specs.declared.Problem.{Problem}
 use Rattle.search_problems.specs.declared.Child.{Child}
@@ -28,6 +32,10 @@ makes p m = m .applies && not (m .fresh && noneLeft p)
 abbrev pub childBy : Problem → Move → ℕ → Child
 childBy p m f = cond (makes p m) (record { ok = true; problem = appliedValue p m f }) noChild
 
+-- the rule of a number gives a child, by the heads a and b of the sides: told before the move is made
+abbrev pub givesBy : Problem → Head → Head → ℕ → Bool
+givesBy p a b r = appliesBy a b (itemsOf (p .left)) (itemsOf (p .right)) r && not (getD freshRules r false && noneLeft p)
+
 module _ (T : Table) where
   -- "Failure rules come first: a problem that meets one gives no child."
   abbrev pub failsOf : Problem → Bool
@@ -42,7 +50,7 @@ module _ (T : Table) where
 
   -- the rule of a number gives a child; `gives-is` of proofs/Agree: it is `childOf p r .ok`
   abbrev pub gives : Problem → ℕ → Bool
-  gives p r = makes p (moveValue T r (p .left) (p .right) (freshValue (p .used)))
+  gives p r = givesBy p (headOf T (itemsOf (p .left))) (headOf T (itemsOf (p .right))) r
 
   -- the first rule from k on that gives a child
   abbrev pub nextRule : Problem → ℕ → ℕ

@@ -1,6 +1,6 @@
 // The problems of the search as records on codes: what is left of the equation, the bindings so far, the list variables used so far; what
-// a move makes of a record; a step of the search: whether a problem fails, the child that a rule gives it, the next rule that gives one; and
-// the record where the search starts.
+// a move makes of a record; a step of the search: whether a problem fails, the child that a rule gives it, the next rule that gives one;
+// and the record where the search starts.
 // A lent row has the tables of the pair (`pair_row`).
 ghost use mathlib.Core.Path.{_≡_};
 ghost use mathlib.Core.Bool.{cond};
@@ -11,11 +11,12 @@ ghost use Rattle.pair_row.specs.Row.{tableIn};
 ghost use Rattle.search_items.specs.Items.{pushed};
 ghost use Rattle.search_problems.specs.Values.{blankProblem};
 ghost use Rattle.search_problems.specs.Applied.{boundAtoms, boundTo, leftBy, appliedValue};
-ghost use Rattle.search_problems.specs.Steps.{failsOf, noChild, makes, childOf, gives, nextRule};
+ghost use Rattle.search_problems.specs.Steps.{failsOf, noChild, makes, childOf, givesBy, gives, nextRule};
 ghost use Rattle.search_problems.specs.Roots.{codesAt, listNumber, sideItems, ownItems, withOwn, rootValue};
 use pair_row::Shape;
 use pair_state::State;
 use search_items::Items;
+use search_rules::Head;
 use search_rules::Move;
 
 // A problem. `open`: an equation left = right is left to solve; else it is solved.
@@ -181,24 +182,43 @@ pub fn child_of(p: Problem, rule: usize, row: &[u8]) -> Child
     no_child()
 }
 
+// Whether the rule of this number gives a child; a and b are the heads of the sides. Nothing of the child is made.
+fn gives_by(p: Problem, a: Head, b: Head, rule: usize) -> bool
+    ensures { λ r. ⌜ r ≡ givesBy p a b rule ⌝ }
+{
+    let left = p.left;
+    let right = p.right;
+    if !search_rules::applies(rule, left, right, a, b) {
+        return false;
+    }
+    if search_rules::brings(rule) {
+        return list_variables(p) < 64;
+    }
+    true
+}
+
 // Whether the rule of this number gives a child.
 pub fn gives(p: Problem, rule: usize, row: &[u8]) -> bool
     ensures { λ r. ⌜ r ≡ gives (tableIn (now (row .entry))) p rule ⌝ }
 {
     let left = p.left;
     let right = p.right;
-    let fresh = names::fresh(p.used);
-    let m = search_rules::move_of(rule, left, right, fresh, row);
-    is_made(p, m)
+    let a = search_rules::head_of(left, row);
+    let b = search_rules::head_of(right, row);
+    gives_by(p, a, b, rule)
 }
 
 // The first rule from k on that gives a child, by its number; 14 where none does.
 pub fn next_rule(p: Problem, k: usize, row: &[u8]) -> usize
     ensures { λ r. ⌜ r ≡ nextRule (tableIn (now (row .entry))) p k ⌝ }
 {
+    let left = p.left;
+    let right = p.right;
+    let a = search_rules::head_of(left, row);
+    let b = search_rules::head_of(right, row);
     let mut i = k;
     while i < 14 {
-        if gives(p, i, row) {
+        if gives_by(p, a, b, i) {
             return i;
         }
         i += 1;

@@ -14,8 +14,9 @@ use Rattle.order.specs.Types.{Basic, basics, rank, entry}
 use Rattle.text.specs.Terms.{Con}
 use Rattle.instance.specs.Constants.{consts, con-eq}
 use Rattle.unifiers.specs.Shapes.{fixed, free}
-use Rattle.searching.specs.Problems.{atomic, listvar, Tm, Field, field-eq, termType, fieldType}
+use Rattle.searching.specs.Problems.{atomic, listvar, Tm, Field, field-eq, termType, fieldType, fixed-once}
 use Rattle.searching.specs.Rules as rules
+use Rattle.searching.proofs.Terms.{atomic-once}
 use Rattle.math_codes.specs.Tables.{Made}
 use Rattle.math_codes.specs.Lines.{OurAtom, ourVars, ourRanks, pairPlaces}
 use Rattle.solving.specs.Answers.{setting}
@@ -36,9 +37,6 @@ undecided : {P : Type 0} (d : Dec P) → not (decided d) ≡ ite d false true
 undecided (yes p) = refl
 undecided (no n) = refl
 
-constant-once : {c d : Con} → _≡_ {A = Tm setting} (atomic (fixed c)) (atomic (fixed d)) → c ≡ d
-constant-once e = cc
-
 apart-agrees : (j k : Full Basic) → (not (entry (rank j) (rank k)) && not (entry (rank k) (rank j))) ≡ rules.apart setting j k
 apart-agrees j k = ap₂ (λ (p q : Bool). not p && not q) (le-agrees j k) (le-agrees k j)
 
@@ -52,7 +50,7 @@ module _ (t : List (Option OurAtom)) (long : length t ≡ pairPlaces) where
       go : (e : Dec (c ≡ d)) → eqb (codeTm t (atomic (fixed c))) (codeTm t (atomic (fixed d))) ≡ decided e
       go (yes e) = eq-eqb (codeTm t (atomic (fixed c))) (codeTm t (atomic (fixed d))) (ap (λ (b : Con). codeTm t (atomic (fixed b))) e)
       go (no n) = ne-eqb (codeTm t (atomic (fixed c))) (codeTm t (atomic (fixed d)))
-          (λ e. n (constant-once (code-tm-once t long (atomic (fixed c)) (atomic (fixed d)) h k e)))
+          (λ e. n (fixed-once (atomic-once (code-tm-once t long (atomic (fixed c)) (atomic (fixed d)) h k e))))
 
   occur-agrees : (L M : Field setting) → All (On t) L → All (On t) M
       → failing.occur (headTm t L) (codesOf t L) (codesOf t M) ≡ rules.occur setting L M

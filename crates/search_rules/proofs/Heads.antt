@@ -6,7 +6,7 @@ use mathlib.Core.List.{List, [], _∷_}
 use Prim.Native.Nat.{ℕ, _+_}
 use native.Mathlib.Omega.{arith}
 use lib.Dec.{eqb}
-use lib.ListN.{length, drop}
+use lib.ListN.{length}
 use borrow.Author.Tests.{le-leb}
 use Rattle.lists.specs.Seqs.{All}
 use Rattle.order.specs.Order.{Full, basic, list, full-le}
@@ -55,10 +55,6 @@ module _ (t : List (Option OurAtom)) where
     pub head-agrees : (L : Field setting) → All (On t) L → headOf T (codesOf t L) ≡ headTm L
     head-agrees [] h = refl
     head-agrees (x ∷ ts) h = rw (code-variable t long T m l x (h .0), code-list t long x (h .0), code-kind t long T m l x (h .0))
-
-    pub rest-head : (L : Field setting) → All (On t) L → headOf T (drop 1 (codesOf t L)) ≡ headTm (drop 1 L)
-    rest-head [] h = refl
-    rest-head (x ∷ ts) h = head-agrees ts (h .1)
 
 -- ---- types
 

@@ -7,7 +7,7 @@ use mathlib.Core.List.{List, [], _∷_}
 use Prim.Native.Nat.{ℕ, _+_, _≤_, _<_}
 use native.Mathlib.Nat.{mod-eq-of-lt}
 use lib.Dec.{eqb}
-use lib.ListN.{length, getD, drop}
+use lib.ListN.{length, getD}
 use borrow.Author.Tests.{eq-eqb, ne-eqb}
 use Rattle.lists.specs.Seqs.{All}
 use Rattle.order.specs.Order.{Full, basic, list, full-le}
@@ -18,28 +18,26 @@ use Rattle.searching.specs.Problems.{atomic, listvar, At, Tm, Field, at-eq, tm-
 use Rattle.searching.specs.Rules.{Rule, keep, bind, rule, Remove, Decomp1, Decomp1′, Decomp2, Decomp2′, Decomp3, Decomp4}
 use Rattle.searching.specs.Rules.{Subst1, Subst2, Subst3, Orient1, Orient2, Orient3, Orient4}
 use Rattle.searching.specs.Rules as rules
+use Rattle.searching.proofs.Terms.{atomic-once}
 use Rattle.math_codes.specs.Tables.{Made}
 use Rattle.math_codes.specs.Lines.{OurAtom, ourVars, ourRanks, pairPlaces}
 use Rattle.solving.specs.Answers.{setting}
 use Rattle.pair_row.specs.Row.{tableIn}
 use Rattle.search_codes.specs.Codes.{codeTm, codesOf, On}
-use Rattle.search_codes.proofs.Codes.{decided, code-tm-once, code-same}
+use Rattle.search_codes.proofs.Codes.{decided, listTm, code-tm-once, code-same, code-list}
 use Rattle.search_items.specs.declared.Items.{Items}
 use Rattle.search_items.specs.Items.{mostItems}
-use Rattle.search_items.specs.Substitution.{occursIn}
+use Rattle.search_items.specs.Substitution.{sameCodes, occursIn}
 use Rattle.search_items.specs.Values.{itemsValue}
 use Rattle.search_items.proofs.Agree.{items-of, put-in-agree, same-agree, occurs-agree}
 use Rattle.search_rules.specs.declared.Head.{Head}
 use Rattle.search_rules.specs.declared.Move.{Move}
 use Rattle.search_rules.specs.Heads.{headOf}
-use Rattle.search_rules.specs.Tests.{strictly, freshCode}
+use Rattle.search_rules.specs.Tests.{strictly, listEnd, freshCode}
 use Rattle.search_rules.specs.Moves as values
-use Rattle.search_rules.specs.Moves.{noMove, bound, allBy, allOf, moveValue}
+use Rattle.search_rules.specs.Moves.{noMove, solvedMove, solvedBy, kept, bound, testsBy, madeBy, moveBy, moveValue}
 use Rattle.search_rules.specs.Values.{number, moveCode}
-use Rattle.search_rules.proofs.Heads.{lists-behind, headTm, head-agrees, rest-head, whole-is, le-agrees, same-basic, basic-list, list-basic}
-
-atomic-once : {a b : At setting} → _≡_ {A = Tm setting} (atomic a) (atomic b) → a ≡ b
-atomic-once e = cc
+use Rattle.search_rules.proofs.Heads.{lists-behind, headTm, head-agrees, whole-is, le-agrees, same-basic, basic-list, list-basic}
 
 pub below-agrees : (j k : Full Basic) → strictly (rank j) (rank k) ≡ rules.below setting j k
 below-agrees j k = ap₂ (λ (p q : Bool). p && not q) (le-agrees j k) (le-agrees k j)
@@ -84,15 +82,34 @@ module _ (t : List (Option OurAtom)) (long : length t ≡ pairPlaces) where
       (same-at a (free x) k h) (le-agrees (termType setting (atomic a)) (basic (kindIn x)))
       ∙ made-unless (at-eq setting a (free x)) (full-le basics (termType setting (atomic a)) (basic (kindIn x))) (bind (atomic (free x)) (atomic a ∷ []) [] n)
 
+  -- a term and a list variable
+  abbrev endsTm : Field setting → Bool
+  endsTm [] = false
+  endsTm (x ∷ []) = false
+  endsTm (x ∷ (y ∷ [])) = listTm y
+  endsTm (x ∷ (y ∷ (z ∷ L))) = false
+
+  list-end : (L : Field setting) → All (On t) L → listEnd (codesOf t L) ≡ endsTm L
+  list-end [] h = refl
+  list-end (x ∷ []) h = refl
+  list-end (x ∷ (y ∷ [])) h = code-list t long y (h .1 .0)
+  list-end (x ∷ (y ∷ (z ∷ L))) h = refl
+
   -- ---- the rules
+
+  -- what a rule makes, where its test comes out so
+  abbrev tried : Bool → Move → Move
+  tried b m = cond b m noMove
 
   module _ (f : ℕ) where
     remove-agrees : (L M : Field setting) → All (On t) L → All (On t) M
-        → values.remove (codesOf t L) (codesOf t M) ≡ moveCode t (rules.remove setting L M)
+        → tried (sameCodes (codesOf t L) (codesOf t M)) solvedMove ≡ moveCode t (rules.remove setting L M)
     remove-agrees L M h k =
         ap (λ (b : Bool). cond b (moveCode t (some (keep solved))) noMove) (same-agree t long L M h k) ∙ made-if (field-eq setting L M) (keep solved)
 
-    decomp1-agrees : (L M : Field setting) → values.decomp1 (headTm t L) (headTm t M) (codesOf t L) (codesOf t M) ≡ moveCode t (rules.decomp1 setting L M)
+    decomp1-agrees : (L M : Field setting)
+        → tried (values.decomp1? (headTm t L) (headTm t M)) (values.decomp1 (headTm t L .first) (headTm t M .first) (codesOf t L) (codesOf t M))
+        ≡ moveCode t (rules.decomp1 setting L M)
     decomp1-agrees [] M = refl
     decomp1-agrees (atomic a ∷ L) M = refl
     decomp1-agrees (listvar x ∷ []) M = refl
@@ -100,7 +117,8 @@ module _ (t : List (Option OurAtom)) (long : length t ≡ pairPlaces) where
     decomp1-agrees (listvar x ∷ (w ∷ L)) (s ∷ M) = refl
 
     decomp1′-agrees : (L M : Field setting) → All (On t) L → All (On t) M
-        → values.decomp1′ (headTm t L) (headTm t M) (codesOf t L) (codesOf t M) ≡ moveCode t (rules.decomp1′ setting L M)
+        → tried (values.decomp1′? (headTm t L) (headTm t M)) (values.decomp1′ (headTm t L .first) (headTm t M .first) (codesOf t L) (codesOf t M))
+        ≡ moveCode t (rules.decomp1′ setting L M)
     decomp1′-agrees [] M h k = refl
     decomp1′-agrees (atomic (fixed c) ∷ L) M h k = refl
     decomp1′-agrees (atomic (free x) ∷ []) M h k = refl
@@ -115,7 +133,9 @@ module _ (t : List (Option OurAtom)) (long : length t ≡ pairPlaces) where
     decomp1′-agrees (atomic (free x) ∷ (w ∷ L)) (listvar y ∷ M) h k = refl
     decomp1′-agrees (listvar x ∷ L) M h k = refl
 
-    decomp2-agrees : (L M : Field setting) → values.decomp2 (headTm t L) (headTm t M) (codesOf t L) (codesOf t M) (pairPlaces + f)
+    decomp2-agrees : (L M : Field setting)
+        → tried (values.decomp2? (headTm t L) (headTm t M))
+        (values.decomp2 (headTm t L .first) (headTm t M .first) (codesOf t L) (codesOf t M) (pairPlaces + f))
         ≡ moveCode t (rules.decomp2 setting L M f)
     decomp2-agrees [] M = refl
     decomp2-agrees (atomic a ∷ L) M = refl
@@ -124,7 +144,9 @@ module _ (t : List (Option OurAtom)) (long : length t ≡ pairPlaces) where
     decomp2-agrees (listvar x ∷ (w ∷ L)) (atomic a ∷ M) = refl
     decomp2-agrees (listvar x ∷ (w ∷ L)) (listvar y ∷ M) = refl
 
-    decomp2′-agrees : (L M : Field setting) → values.decomp2′ (headTm t L) (headTm t M) (codesOf t L) (codesOf t M) (pairPlaces + f)
+    decomp2′-agrees : (L M : Field setting)
+        → tried (values.decomp2? (headTm t L) (headTm t M))
+        (values.decomp2′ (headTm t L .first) (headTm t M .first) (codesOf t L) (codesOf t M) (pairPlaces + f))
         ≡ moveCode t (rules.decomp2′ setting L M f)
     decomp2′-agrees [] M = refl
     decomp2′-agrees (atomic a ∷ L) M = refl
@@ -134,7 +156,7 @@ module _ (t : List (Option OurAtom)) (long : length t ≡ pairPlaces) where
     decomp2′-agrees (listvar x ∷ (w ∷ L)) (listvar y ∷ M) = refl
 
     decomp3-agrees : (L M : Field setting) → All (On t) L → All (On t) M
-        → values.decomp3 (headTm t L) (headTm t M) (codesOf t L) (codesOf t M) ≡ moveCode t (rules.decomp3 setting L M)
+        → tried (values.decomp3? (headTm t L) (headTm t M)) (values.decomp3 (codesOf t L) (codesOf t M)) ≡ moveCode t (rules.decomp3 setting L M)
     decomp3-agrees [] M h k = refl
     decomp3-agrees (s ∷ L) [] h k = refl
     decomp3-agrees (s ∷ L) (w ∷ M) h k =
@@ -142,16 +164,19 @@ module _ (t : List (Option OurAtom)) (long : length t ≡ pairPlaces) where
         ∙ made-if (tm-eq setting s w) (keep (equation L M))
 
     decomp4-agrees : (L M : Field setting) → All (On t) L → All (On t) M
-        → values.decomp4 (headTm t L) (headTm t M) (headTm t (drop 1 M)) (codesOf t M) ≡ moveCode t (rules.decomp4 setting L M)
+        → tried (values.decomp4? (headTm t L) (headTm t M) (endsTm M)) (values.decomp4 (headTm t L .first) (headTm t M .first) (codesOf t M))
+        ≡ moveCode t (rules.decomp4 setting L M)
     decomp4-agrees [] M h k = refl
     decomp4-agrees (atomic (fixed c) ∷ L) M h k = refl
     decomp4-agrees (atomic (free x) ∷ []) [] h k = refl
     decomp4-agrees (atomic (free x) ∷ []) (atomic a ∷ []) h k = refl
-    decomp4-agrees (atomic (free x) ∷ []) (atomic a ∷ (atomic b ∷ M)) h k = refl
+    decomp4-agrees (atomic (free x) ∷ []) (atomic a ∷ (atomic b ∷ [])) h k = refl
+    decomp4-agrees (atomic (free x) ∷ []) (atomic a ∷ (atomic b ∷ (w ∷ M))) h k = refl
     decomp4-agrees (atomic (free x) ∷ []) (atomic a ∷ (listvar y ∷ [])) h k = bind-atom x a (equation [] (listvar y ∷ [])) (h .0) (k .0)
     decomp4-agrees (atomic (free x) ∷ []) (atomic a ∷ (listvar y ∷ (w ∷ M))) h k = refl
     decomp4-agrees (atomic (free x) ∷ []) (listvar y ∷ []) h k = refl
-    decomp4-agrees (atomic (free x) ∷ []) (listvar y ∷ (atomic b ∷ M)) h k = refl
+    decomp4-agrees (atomic (free x) ∷ []) (listvar y ∷ (atomic b ∷ [])) h k = refl
+    decomp4-agrees (atomic (free x) ∷ []) (listvar y ∷ (atomic b ∷ (w ∷ M))) h k = refl
     decomp4-agrees (atomic (free x) ∷ []) (listvar y ∷ (listvar z ∷ [])) h k = refl
     decomp4-agrees (atomic (free x) ∷ []) (listvar y ∷ (listvar z ∷ (w ∷ M))) h k = refl
     decomp4-agrees (atomic (free x) ∷ (w ∷ L)) M h k = refl
@@ -169,7 +194,7 @@ module _ (t : List (Option OurAtom)) (long : length t ≡ pairPlaces) where
         ∙ made-both (full-le basics (fieldType setting M) (termType setting x)) (rules.occurs setting x M) (bind x M [] solved)
 
     subst1-agrees : (L M : Field setting) → All (On t) L → All (On t) M
-        → values.subst1 (headTm t L) (headTm t M) (itemsValue t M) (codesOf t M) ≡ moveCode t (rules.subst1 setting L M)
+        → tried (values.subst1? (headTm t L) (headTm t M) (codesOf t M)) (solvedBy (headTm t L .first) (itemsValue t M)) ≡ moveCode t (rules.subst1 setting L M)
     subst1-agrees [] M h k = refl
     subst1-agrees (atomic (fixed c) ∷ L) M h k = refl
     subst1-agrees (atomic (free x) ∷ []) M h k = solve-by (atomic (free x)) M (h .0) k
@@ -177,13 +202,15 @@ module _ (t : List (Option OurAtom)) (long : length t ≡ pairPlaces) where
     subst1-agrees (listvar x ∷ []) M h k = solve-by (listvar x) M (h .0) k
     subst1-agrees (listvar x ∷ (w ∷ L)) M h k = refl
 
-    subst2-agrees : (L M : Field setting) → values.subst2 (headTm t L) (itemsValue t M) (codesOf t L) ≡ moveCode t (rules.subst2 setting L M)
+    subst2-agrees : (L M : Field setting) → tried (values.subst2? (headTm t L)) (values.subst2 (headTm t L .first) (itemsValue t M) (codesOf t L))
+        ≡ moveCode t (rules.subst2 setting L M)
     subst2-agrees [] M = refl
     subst2-agrees (atomic a ∷ L) M = refl
     subst2-agrees (listvar x ∷ []) M = refl
     subst2-agrees (listvar x ∷ (w ∷ L)) M = refl
 
-    subst3-agrees : (L M : Field setting) → values.subst3 (headTm t L) (headTm t M) (codesOf t L) (codesOf t M) (pairPlaces + f)
+    subst3-agrees : (L M : Field setting)
+        → tried (values.subst3? (headTm t L) (headTm t M)) (values.decomp2 (headTm t L .first) (headTm t M .first) (codesOf t L) (codesOf t M) (pairPlaces + f))
         ≡ moveCode t (rules.subst3 setting L M f)
     subst3-agrees [] M = refl
     subst3-agrees (atomic a ∷ L) M = refl
@@ -192,7 +219,8 @@ module _ (t : List (Option OurAtom)) (long : length t ≡ pairPlaces) where
     subst3-agrees (listvar x ∷ (w ∷ L)) (atomic a ∷ M) = refl
     subst3-agrees (listvar x ∷ (w ∷ L)) (listvar y ∷ M) = refl
 
-    orient1-agrees : (L M : Field setting) → values.orient1 (headTm t L) (headTm t M) (itemsValue t L) (itemsValue t M) ≡ moveCode t (rules.orient1 setting L M)
+    orient1-agrees : (L M : Field setting) → tried (values.orient1? (headTm t L) (headTm t M)) (kept (itemsValue t M) (itemsValue t L))
+        ≡ moveCode t (rules.orient1 setting L M)
     orient1-agrees [] M = refl
     orient1-agrees (atomic (fixed c) ∷ L) [] = refl
     orient1-agrees (atomic (fixed c) ∷ L) (atomic (fixed d) ∷ M) = refl
@@ -206,7 +234,7 @@ module _ (t : List (Option OurAtom)) (long : length t ≡ pairPlaces) where
     turnedIf L M b = cond b (moveCode t (some (keep (equation M L)))) noMove
 
     orient2-agrees : (L M : Field setting)
-        → values.orient2 (headTm t L) (headTm t M) (itemsValue t L) (itemsValue t M) ≡ moveCode t (rules.orient2 setting L M)
+        → tried (values.orient2? (headTm t L) (headTm t M)) (kept (itemsValue t M) (itemsValue t L)) ≡ moveCode t (rules.orient2 setting L M)
     orient2-agrees [] M = refl
     orient2-agrees (atomic (fixed c) ∷ []) M = refl
     orient2-agrees (atomic (free x) ∷ []) M = refl
@@ -233,7 +261,7 @@ module _ (t : List (Option OurAtom)) (long : length t ≡ pairPlaces) where
     orient2-agrees (listvar x ∷ (u ∷ L)) (listvar y ∷ (v ∷ M)) = refl
 
     orient3-agrees : (L M : Field setting)
-        → values.orient3 (headTm t L) (headTm t M) (itemsValue t L) (itemsValue t M) ≡ moveCode t (rules.orient3 setting L M)
+        → tried (values.orient3? (headTm t L) (headTm t M)) (kept (itemsValue t M) (itemsValue t L)) ≡ moveCode t (rules.orient3 setting L M)
     orient3-agrees [] M = refl
     orient3-agrees (atomic (fixed c) ∷ L) M = refl
     orient3-agrees (atomic (free x) ∷ L) [] = refl
@@ -249,7 +277,8 @@ module _ (t : List (Option OurAtom)) (long : length t ≡ pairPlaces) where
     orient3-agrees (listvar x ∷ L) (atomic (free y) ∷ M) = ap (turnedIf (listvar x ∷ L) (atomic (free y) ∷ M)) (below-agrees list (basic (kindIn y)))
     orient3-agrees (listvar x ∷ L) (listvar y ∷ M) = refl
 
-    orient4-agrees : (L M : Field setting) → values.orient4 (headTm t L) (headTm t M) (itemsValue t L) (itemsValue t M) ≡ moveCode t (rules.orient4 setting L M)
+    orient4-agrees : (L M : Field setting) → tried (values.orient4? (headTm t L) (headTm t M)) (kept (itemsValue t M) (itemsValue t L))
+        ≡ moveCode t (rules.orient4 setting L M)
     orient4-agrees [] [] = refl
     orient4-agrees [] (atomic a ∷ M) = refl
     orient4-agrees [] (listvar y ∷ M) = refl
@@ -257,8 +286,10 @@ module _ (t : List (Option OurAtom)) (long : length t ≡ pairPlaces) where
 
     -- of the heads
     rule-agrees : (r : Rule) (L M : Field setting) → All (On t) L → All (On t) M
-        → getD (allBy (headTm t L) (headTm t M) (headTm t (drop 1 M)) (itemsValue t L) (itemsValue t M) (codesOf t L) (codesOf t M) (pairPlaces + f))
-        (number r) noMove ≡ moveCode t (rule setting r L M f)
+        → tried (getD (testsBy (headTm t L) (headTm t M) (endsTm M) (codesOf t L) (codesOf t M)) (number r) false)
+        (getD (madeBy (headTm t L .first) (headTm t M .first) (itemsValue t L) (itemsValue t M) (codesOf t L) (codesOf t M) (pairPlaces + f)) (number r)
+        noMove)
+        ≡ moveCode t (rule setting r L M f)
     rule-agrees Remove L M h k = remove-agrees L M h k
     rule-agrees Decomp1 L M h k = decomp1-agrees L M
     rule-agrees Decomp1′ L M h k = decomp1′-agrees L M h k
@@ -285,9 +316,9 @@ module _ (t : List (Option OurAtom)) (long : length t ≡ pairPlaces) where
       let ms = codesOf t M in
       let T = tableIn row in
       let z = lists-behind row in
-      ap₂ (λ (s w : List ℕ). getD (allOf T l m s w (freshCode f)) (number r) noMove) (items-of t L p) (items-of t M q)
-      ∙ ap (λ (n : ℕ). getD (allOf T l m ls ms (pairPlaces + n)) (number r) noMove) (mod-eq-of-lt small)
-      ∙ ap₂ (λ (a b : Head). getD (allBy a b (headOf T (drop 1 ms)) l m ls ms (pairPlaces + f)) (number r) noMove)
-      (head-agrees t long T made z L h) (head-agrees t long T made z M k)
-      ∙ ap (λ (c : Head). getD (allBy (headTm t L) (headTm t M) c l m ls ms (pairPlaces + f)) (number r) noMove) (rest-head t long T made z M k)
+      ap₂ (λ (s w : List ℕ). moveBy (headOf T s) (headOf T w) l m s w (freshCode f) (number r)) (items-of t L p) (items-of t M q)
+      ∙ ap (λ (n : ℕ). moveBy (headOf T ls) (headOf T ms) l m ls ms (pairPlaces + n) (number r)) (mod-eq-of-lt small)
+      ∙ ap₂ (λ (a b : Head). moveBy a b l m ls ms (pairPlaces + f) (number r)) (head-agrees t long T made z L h) (head-agrees t long T made z M k)
+      ∙ ap (λ (e : Bool). tried (getD (testsBy (headTm t L) (headTm t M) e ls ms) (number r) false)
+      (getD (madeBy (headTm t L .first) (headTm t M .first) l m ls ms (pairPlaces + f)) (number r) noMove)) (list-end M k)
       ∙ rule-agrees f r L M h k

@@ -1,4 +1,5 @@
--- What the rules of the search ask of a side of an equation, on codes. `head-agrees` of proofs/Heads says that it is so of the search's fields.
+-- What the rules of the search ask of a side of an equation, on codes. `head-agrees` of proofs/Heads says that it is so of the search's
+-- fields.
 use mathlib.Core.Bool.{Bool, true, false, cond}
 use mathlib.Core.List.{List, [], _∷_}
 use Prim.Native.Nat.{ℕ}

@@ -1,7 +1,8 @@
 -- What the rules of the search ask of two heads, on codes, and the code of the fresh list variable.
 use mathlib.Core.Bool.{Bool, false, cond, _&&_, not}
+use mathlib.Core.List.{List, [], _∷_}
 use Prim.Native.Nat.{ℕ, _+_, _%_}
-use lib.Dec.{eqb}
+use lib.Dec.{eqb, leb}
 use Rattle.order.specs.Types.{entry}
 use Rattle.math_codes.specs.Lines.{pairPlaces}
 use Rattle.search_rules.specs.declared.Head.{Head}
@@ -14,6 +15,13 @@ replaces a b = cond (b .some && not (b .list)) (not (eqb (b .first) (a .first)) 
 -- type < type, of ranks
 abbrev pub strictly : ℕ → ℕ → Bool
 strictly j k = entry j k && not (entry k j)
+
+-- a side is a term and a list variable
+abbrev pub listEnd : List ℕ → Bool
+listEnd [] = false
+listEnd (c ∷ []) = false
+listEnd (c ∷ (d ∷ [])) = leb pairPlaces d
+listEnd (c ∷ (d ∷ (e ∷ cs))) = false
 
 -- the fresh list variable of a number; numbers of a byte have a code by their remainder
 abbrev pub freshCode : ℕ → ℕ

@@ -1,17 +1,18 @@
 // The search's rules on codes: what they ask of a side of an equation, which equations have no solution, and what each rule makes of one.
 // A lent row has the tables of the pair (`pair_row`).
 ghost use mathlib.Core.Path.{_≡_};
-ghost use mathlib.Core.Bool.{cond};
+ghost use mathlib.Core.Bool.{false};
 ghost use mathlib.Core.List.{_∷_};
-ghost use lib.ListN.{drop};
+ghost use lib.ListN.{getD, drop};
 ghost use Rattle.theory.specs.Seqs.{concat-map};
 ghost use Rattle.pair_row.specs.Row.{tableIn};
 ghost use Rattle.search_items.specs.Items.{itemsOf, collect};
 ghost use Rattle.search_items.specs.Substitution.{putCode};
 ghost use Rattle.search_rules.specs.Heads.{noHead, wholeBy, headOf};
 ghost use Rattle.search_rules.specs.Fails.{occur, clash1, clash2, clash3, clash4, failsValue};
-ghost use Rattle.search_rules.specs.Tests.{replaces, strictly, freshCode};
-ghost use Rattle.search_rules.specs.Moves.{noMove, solvedMove, solvedBy, kept, bound, moveValue, remove, decomp1, decomp1′, decomp2, decomp2′, decomp3, decomp4, subst1, subst2, subst3, orient1, orient2, orient3, orient4};
+ghost use Rattle.search_rules.specs.Tests.{replaces, strictly, listEnd, freshCode};
+ghost use Rattle.search_rules.specs.Moves.{noMove, solvedMove, solvedBy, kept, bound, decomp1, decomp1′, decomp2, decomp2′};
+ghost use Rattle.search_rules.specs.Moves.{decomp3, decomp4, subst2, decomp4?, subst1?, freshRules, appliesBy, moveValue};
 use search_items::Items;
 
 // ---- heads
@@ -76,13 +77,6 @@ pub fn head_of(w: Items, row: &[u8]) -> Head
     }
 }
 
-// The head of w without its first code.
-fn head_of_rest(w: Items, row: &[u8]) -> Head
-    ensures { λ r. ⌜ r ≡ headOf (tableIn (now (row .entry))) (drop 1 (itemsOf w)) ⌝ }
-{
-    head_of(search_items::rest(w), row)
-}
-
 // ---- failure rules, of the sides l and r with the heads a and b
 
 fn occur(l: Items, r: Items, a: Head) -> bool
@@ -132,25 +126,7 @@ pub fn fails(left: Items, right: Items, row: &[u8]) -> bool
     occur(left, right, a) | (clash1(a, b) | (clash2(a, b) | (clash3(a, b) | clash4(a, b))))
 }
 
-// ---- moves
-
-// What a rule makes of an equation.
-//   applies  the rule applies; else all else is blank
-//   open     an equation is left, left = right; else it is solved, and both are blank
-//   binds    the variable is bound to the value; else both are blank
-//   fresh    the fresh list variable was brought in
-pub struct Move {
-    pub applies: bool,
-    pub open: bool,
-    pub binds: bool,
-    pub fresh: bool,
-    pub variable: u8,
-    pub value: Items,
-    pub left: Items,
-    pub right: Items,
-}
-
-// ---- what the rules ask
+// ---- which rules apply to l = r, whose sides have the heads a and b
 
 // Whether b's first term is an atom that can replace a's, a variable x of type atom or below.
 // Document 01: "type(a) at or below type(x)", "need x and a to differ".
@@ -172,6 +148,111 @@ fn strictly(j: u8, k: u8) -> bool
     ensures { λ r. ⌜ r ≡ strictly j k ⌝ }
 {
     order::below_rank(j, k) & !order::below_rank(k, j)
+}
+
+// Whether a side is a term and a list variable.
+fn list_end(w: Items) -> bool
+    ensures { λ r. ⌜ r ≡ listEnd (itemsOf w) ⌝ }
+{
+    let n = w.n;
+    if n != 2 {
+        return false;
+    }
+    pair_row::LISTS <= w.codes[1]
+}
+
+fn is_decomp4(r: Items, a: Head, b: Head) -> bool
+    ensures { λ t. ⌜ t ≡ decomp4? a b (listEnd (itemsOf r)) ⌝ }
+{
+    if a.variable & !a.list & !a.longer {
+        return list_end(r) & replaces(a, b);
+    }
+    false
+}
+
+fn is_subst1(r: Items, a: Head, b: Head) -> bool
+    ensures { λ t. ⌜ t ≡ subst1? a b (itemsOf r) ⌝ }
+{
+    let x = a.first;
+    let j = b.whole;
+    let k = a.kind;
+    if a.variable & !a.longer {
+        return order::below_rank(j, k) & !search_items::occurs(x, r);
+    }
+    false
+}
+
+// Whether the rule of this number applies to l = r, the rules counted from 0 in document 01's order. No other number has a rule.
+pub fn applies(rule: usize, l: Items, r: Items, a: Head, b: Head) -> bool
+    ensures { λ t. ⌜ t ≡ appliesBy a b (itemsOf l) (itemsOf r) rule ⌝ }
+{
+    let x = a.first;
+    let y = b.first;
+    let j = a.kind;
+    let k = b.kind;
+    match rule {
+        0 => search_items::same(l, r),
+        1 => a.list & a.longer & b.some,
+        2 => a.variable & !a.list & a.longer & replaces(a, b),
+        3 => a.list & a.longer & b.list,
+        4 => a.list & a.longer & b.list,
+        5 => a.some & b.some & (x == y),
+        6 => is_decomp4(r, a, b),
+        7 => is_subst1(r, a, b),
+        8 => a.list & a.longer,
+        9 => a.list & a.longer & b.some & !b.list,
+        10 => a.some & !a.variable & b.variable,
+        11 => a.variable & a.longer & b.variable & !b.longer & (j == k),
+        12 => a.variable & b.variable & strictly(j, k),
+        13 => !a.some & b.list,
+        _ => false,
+    }
+}
+
+// Which rules bring in the fresh list variable.
+const BRINGS: [bool; 14] = [
+    false, // Remove
+    false, // Decomp1
+    false, // Decomp1'
+    true, // Decomp2
+    true, // Decomp2'
+    false, // Decomp3
+    false, // Decomp4
+    false, // Subst1
+    false, // Subst2
+    true, // Subst3
+    false, // Orient1
+    false, // Orient2
+    false, // Orient3
+    false, // Orient4
+];
+
+// Whether the rule of this number brings in the fresh list variable.
+pub fn brings(rule: usize) -> bool
+    ensures { λ r. ⌜ r ≡ getD freshRules rule false ⌝ }
+{
+    if 14 <= rule {
+        return false;
+    }
+    BRINGS[rule]
+}
+
+// ---- moves
+
+// What a rule makes of an equation.
+//   applies  the rule applies; else all else is blank
+//   open     an equation is left, left = right; else it is solved, and both are blank
+//   binds    the variable is bound to the value; else both are blank
+//   fresh    the fresh list variable was brought in
+pub struct Move {
+    pub applies: bool,
+    pub open: bool,
+    pub binds: bool,
+    pub fresh: bool,
+    pub variable: u8,
+    pub value: Items,
+    pub left: Items,
+    pub right: Items,
 }
 
 // The code of the fresh list variable of a number. (A number over 127, which no problem has, counts by its remainder.)
@@ -280,216 +361,109 @@ fn bound(fresh: bool, x: u8, s: Items, l: Items, r: Items) -> Move
     }
 }
 
-// ---- the rules, of the sides l and r with the heads a and b
+// ---- what the rules make of l = r, whose sides begin with x and y; n is the fresh list variable
 
-fn remove(l: Items, r: Items) -> Move
-    ensures { λ m. ⌜ m ≡ remove (itemsOf l) (itemsOf r) ⌝ }
+fn decomp1(l: Items, r: Items, x: u8, y: u8) -> Move
+    ensures { λ m. ⌜ m ≡ decomp1 x y (itemsOf l) (itemsOf r) ⌝ }
 {
-    if search_items::same(l, r) {
-        return solved();
-    }
-    no_move()
+    bound(
+        false,
+        x,
+        search_items::one(y),
+        search_items::rest(l),
+        search_items::rest(r),
+    )
 }
 
-fn decomp1(l: Items, r: Items, a: Head, b: Head) -> Move
-    ensures { λ m. ⌜ m ≡ decomp1 a b (itemsOf l) (itemsOf r) ⌝ }
+fn decomp1_prime(l: Items, r: Items, x: u8, y: u8) -> Move
+    ensures { λ m. ⌜ m ≡ decomp1′ x y (itemsOf l) (itemsOf r) ⌝ }
 {
-    let x = a.first;
-    let s = b.first;
-    if a.list & a.longer & b.some {
-        return bound(
-            false,
-            x,
-            search_items::one(s),
-            search_items::rest(l),
-            search_items::rest(r),
-        );
-    }
-    no_move()
+    let v = search_items::one(y);
+    bound(false, x, v, put_rest(x, v, l), put_rest(x, v, r))
 }
 
-fn decomp1_prime(l: Items, r: Items, a: Head, b: Head) -> Move
-    ensures { λ m. ⌜ m ≡ decomp1′ a b (itemsOf l) (itemsOf r) ⌝ }
+// Subst3 makes the same.
+fn decomp2(l: Items, r: Items, x: u8, y: u8, n: u8) -> Move
+    ensures { λ m. ⌜ m ≡ decomp2 x y (itemsOf l) (itemsOf r) n ⌝ }
 {
-    let x = a.first;
-    let s = b.first;
-    if a.variable & !a.list & a.longer & replaces(a, b) {
-        let v = search_items::one(s);
-        return bound(false, x, v, put_rest(x, v, l), put_rest(x, v, r));
-    }
-    no_move()
+    bound(
+        true,
+        x,
+        search_items::two(y, n),
+        before_rest(n, l),
+        search_items::rest(r),
+    )
 }
 
-fn decomp2(l: Items, r: Items, a: Head, b: Head, n: u8) -> Move
-    ensures { λ m. ⌜ m ≡ decomp2 a b (itemsOf l) (itemsOf r) n ⌝ }
+fn decomp2_prime(l: Items, r: Items, x: u8, y: u8, n: u8) -> Move
+    ensures { λ m. ⌜ m ≡ decomp2′ x y (itemsOf l) (itemsOf r) n ⌝ }
 {
-    let x = a.first;
-    let y = b.first;
-    if a.list & a.longer & b.list {
-        return bound(
-            true,
-            x,
-            search_items::two(y, n),
-            before_rest(n, l),
-            search_items::rest(r),
-        );
-    }
-    no_move()
+    bound(
+        true,
+        y,
+        search_items::two(x, n),
+        search_items::rest(l),
+        before_rest(n, r),
+    )
 }
 
-fn decomp2_prime(l: Items, r: Items, a: Head, b: Head, n: u8) -> Move
-    ensures { λ m. ⌜ m ≡ decomp2′ a b (itemsOf l) (itemsOf r) n ⌝ }
+fn decomp3(l: Items, r: Items) -> Move
+    ensures { λ m. ⌜ m ≡ decomp3 (itemsOf l) (itemsOf r) ⌝ }
 {
-    let x = a.first;
-    let y = b.first;
-    if a.list & a.longer & b.list {
-        return bound(
-            true,
-            y,
-            search_items::two(x, n),
-            search_items::rest(l),
-            before_rest(n, r),
-        );
-    }
-    no_move()
+    kept(search_items::rest(l), search_items::rest(r))
 }
 
-fn decomp3(l: Items, r: Items, a: Head, b: Head) -> Move
-    ensures { λ m. ⌜ m ≡ decomp3 a b (itemsOf l) (itemsOf r) ⌝ }
+fn decomp4(r: Items, x: u8, y: u8) -> Move
+    ensures { λ m. ⌜ m ≡ decomp4 x y (itemsOf r) ⌝ }
 {
-    let s = a.first;
-    let t = b.first;
-    if a.some & b.some & (s == t) {
-        return kept(search_items::rest(l), search_items::rest(r));
-    }
-    no_move()
+    bound(
+        false,
+        x,
+        search_items::one(y),
+        search_items::blank_items(),
+        search_items::rest(r),
+    )
 }
 
-// c is the head of r without its first term.
-fn decomp4(r: Items, a: Head, b: Head, c: Head) -> Move
-    ensures { λ m. ⌜ m ≡ decomp4 a b c (itemsOf r) ⌝ }
+fn subst2(l: Items, r: Items, x: u8) -> Move
+    ensures { λ m. ⌜ m ≡ subst2 x r (itemsOf l) ⌝ }
 {
-    let x = a.first;
-    let s = b.first;
-    if a.variable & !a.list & !a.longer & c.list & !c.longer & replaces(a, b) {
-        return bound(
-            false,
-            x,
-            search_items::one(s),
-            search_items::blank_items(),
-            search_items::rest(r),
-        );
-    }
-    no_move()
+    bound(
+        false,
+        x,
+        search_items::blank_items(),
+        search_items::rest(l),
+        r,
+    )
 }
 
-fn subst1(r: Items, a: Head, b: Head) -> Move
-    ensures { λ m. ⌜ m ≡ subst1 a b r (itemsOf r) ⌝ }
-{
-    let x = a.first;
-    let j = b.whole;
-    let k = a.kind;
-    if a.variable & !a.longer & order::below_rank(j, k) & !search_items::occurs(x, r) {
-        return solved_by(x, r);
-    }
-    no_move()
-}
-
-fn subst2(l: Items, r: Items, a: Head) -> Move
-    ensures { λ m. ⌜ m ≡ subst2 a r (itemsOf l) ⌝ }
-{
-    let x = a.first;
-    if a.list & a.longer {
-        return bound(
-            false,
-            x,
-            search_items::blank_items(),
-            search_items::rest(l),
-            r,
-        );
-    }
-    no_move()
-}
-
-fn subst3(l: Items, r: Items, a: Head, b: Head, n: u8) -> Move
-    ensures { λ m. ⌜ m ≡ subst3 a b (itemsOf l) (itemsOf r) n ⌝ }
-{
-    let x = a.first;
-    let s = b.first;
-    if a.list & a.longer & b.some & !b.list {
-        return bound(
-            true,
-            x,
-            search_items::two(s, n),
-            before_rest(n, l),
-            search_items::rest(r),
-        );
-    }
-    no_move()
-}
-
-fn orient1(l: Items, r: Items, a: Head, b: Head) -> Move
-    ensures { λ m. ⌜ m ≡ orient1 a b l r ⌝ }
-{
-    if a.some & !a.variable & b.variable {
-        return kept(r, l);
-    }
-    no_move()
-}
-
-fn orient2(l: Items, r: Items, a: Head, b: Head) -> Move
-    ensures { λ m. ⌜ m ≡ orient2 a b l r ⌝ }
-{
-    let j = a.kind;
-    let k = b.kind;
-    if a.variable & a.longer & b.variable & !b.longer & (j == k) {
-        return kept(r, l);
-    }
-    no_move()
-}
-
-fn orient3(l: Items, r: Items, a: Head, b: Head) -> Move
-    ensures { λ m. ⌜ m ≡ orient3 a b l r ⌝ }
-{
-    let j = a.kind;
-    let k = b.kind;
-    if a.variable & b.variable & strictly(j, k) {
-        return kept(r, l);
-    }
-    no_move()
-}
-
-fn orient4(l: Items, r: Items, a: Head, b: Head) -> Move
-    ensures { λ m. ⌜ m ≡ orient4 a b l r ⌝ }
-{
-    if !a.some & b.list {
-        return kept(r, l);
-    }
-    no_move()
-}
-
-// What the rule of this number makes of left = right, the rules counted from 0 in document 01's order. No other number has a rule.
+// What the rule of this number makes of left = right.
 pub fn move_of(rule: usize, left: Items, right: Items, fresh: u8, row: &[u8]) -> Move
     ensures { λ m. ⌜ m ≡ moveValue (tableIn (now (row .entry))) rule left right fresh ⌝ }
 {
     let a = head_of(left, row);
     let b = head_of(right, row);
+    if !applies(rule, left, right, a, b) {
+        return no_move();
+    }
     let n = fresh_code(fresh);
+    let x = a.first;
+    let y = b.first;
     match rule {
-        0 => remove(left, right),
-        1 => decomp1(left, right, a, b),
-        2 => decomp1_prime(left, right, a, b),
-        3 => decomp2(left, right, a, b, n),
-        4 => decomp2_prime(left, right, a, b, n),
-        5 => decomp3(left, right, a, b),
-        6 => decomp4(right, a, b, head_of_rest(right, row)),
-        7 => subst1(right, a, b),
-        8 => subst2(left, right, a),
-        9 => subst3(left, right, a, b, n),
-        10 => orient1(left, right, a, b),
-        11 => orient2(left, right, a, b),
-        12 => orient3(left, right, a, b),
-        13 => orient4(left, right, a, b),
+        0 => solved(),
+        1 => decomp1(left, right, x, y),
+        2 => decomp1_prime(left, right, x, y),
+        3 => decomp2(left, right, x, y, n),
+        4 => decomp2_prime(left, right, x, y, n),
+        5 => decomp3(left, right),
+        6 => decomp4(right, x, y),
+        7 => solved_by(x, right),
+        8 => subst2(left, right, x),
+        9 => decomp2(left, right, x, y, n),
+        10 => kept(right, left),
+        11 => kept(right, left),
+        12 => kept(right, left),
+        13 => kept(right, left),
         _ => no_move(),
     }
 }

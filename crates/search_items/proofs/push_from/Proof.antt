@@ -39,9 +39,11 @@ loop-again c =
     let z = c .before .before .before .before .before .args in
     let L = c .before .before .before .loop in
     let h = c .before .before .loop-test .taken in
-    let whole = foldl pushed (z .x) (drop (z .k) (itemsOf (z .t2))) in
-    (L .inv .0, folding-one pushed whole (z .t2 .n) (z .t2 .codes) 17 (L .i) (L .y) (c .push .result) _ (L .inv .1) (omega (arith, L .inv .0))
-    (c .push .ensures))
+    let whole = foldl pushed (z .x) (drop (z .k) (itemsOf (z .t2))) in (
+      L .inv .0,
+      folding-one pushed whole (z .t2 .n) (z .t2 .codes) 17 (L .i) (L .y) (c .push .result) _ (L .inv .1) (omega (arith, L .inv .0))
+          (c .push .ensures),
+    )
 
 returns : tie.Need-returns Inv-loop μ-loop
 returns c =

@@ -50,9 +50,11 @@ loop-again c =
     let L = c .before .before .before .loop in
     let h = c .before .before .loop-test .taken in
     let f = putOne (z .x) (z .s) in
-    let p = c .put-code in
-    (L .inv .0, folding-one f (foldl f blankItems (itemsOf (z .t3))) (z .t3 .n) (z .t3 .codes) 17 (L .i) (L .y) (p .result) _ (L .inv .1)
-    (omega (arith, L .inv .0)) (p .ensures))
+    let p = c .put-code in (
+      L .inv .0,
+      folding-one f (foldl f blankItems (itemsOf (z .t3))) (z .t3 .n) (z .t3 .codes) 17 (L .i) (L .y) (p .result) _ (L .inv .1)
+          (omega (arith, L .inv .0)) (p .ensures),
+    )
 
 returns : tie.Need-returns Inv-loop μ-loop
 returns c =

@@ -16,24 +16,8 @@ bound-requires : tie.Need-bound-requires
 bound-requires c κs = search needs
 
 returns : tie.Need-returns
-returns c =
-    let d = c .before .before .before in
-    rw (d .before .if1 .taken, c .bound .ensures, d .one .ensures, c .before .before .rest .ensures, c .before .rest2 .ensures)
-
-no-move-requires : tie.Need-no-move-requires
-no-move-requires c κs = search needs
-
-returns-2 : tie.Need-returns-2
-returns-2 c = rw (c .before .if1 .left, c .no-move .ensures)
+returns c = rw (c .bound .ensures, c .before .before .before .one .ensures, c .before .before .rest .ensures, c .before .rest2 .ensures)
 
 pub decomp1-spec : {M : Type 1} → statement M
 decomp1-spec =
-    tie.close
-    (tie.spec
-    one-requires
-    rest-requires
-    rest-requires-2
-    bound-requires
-    returns
-    no-move-requires
-    returns-2)
+    tie.close (tie.spec one-requires rest-requires rest-requires-2 bound-requires returns)

@@ -13,17 +13,7 @@ kept-requires : tie.Need-kept-requires
 kept-requires c κs = search needs
 
 returns : tie.Need-returns
-returns c =
-    let d = c .before .before .before in
-    rw (d .if1 .taken, c .kept .ensures, c .before .before .rest .ensures, c .before .rest2 .ensures)
-
-no-move-requires : tie.Need-no-move-requires
-no-move-requires c κs = search needs
-
-returns-2 : tie.Need-returns-2
-returns-2 c = rw (c .before .if1 .left, c .no-move .ensures)
+returns c = rw (c .kept .ensures, c .before .before .rest .ensures, c .before .rest2 .ensures)
 
 pub decomp3-spec : {M : Type 1} → statement M
-decomp3-spec =
-    tie.close
-    (tie.spec rest-requires rest-requires-2 kept-requires returns no-move-requires returns-2)
+decomp3-spec = tie.close (tie.spec rest-requires rest-requires-2 kept-requires returns)

@@ -13,15 +13,7 @@ bound-requires : tie.Need-bound-requires
 bound-requires c κs = search needs
 
 returns : tie.Need-returns
-returns c = rw (c .before .before .before .if1 .taken, c .bound .ensures, c .before .before .blank-items .ensures, c .before .rest .ensures)
-
-no-move-requires : tie.Need-no-move-requires
-no-move-requires c κs = search needs
-
-returns-2 : tie.Need-returns-2
-returns-2 c = rw (c .before .if1 .left, c .no-move .ensures)
+returns c = rw (c .bound .ensures, c .before .before .blank-items .ensures, c .before .rest .ensures)
 
 pub subst2-spec : {M : Type 1} → statement M
-subst2-spec =
-    tie.close
-    (tie.spec blank-items-requires rest-requires bound-requires returns no-move-requires returns-2)
+subst2-spec = tie.close (tie.spec blank-items-requires rest-requires bound-requires returns)
