@@ -175,5 +175,5 @@ blank-spec 𝓤 H 𝓜 𝓖 𝓡 =
     (walk-meets 𝓤 H A blank.ended stayed W (goes-slice 𝓤 H A W 1 0 tt (plain (λ _. T.the-row)), tt) clauses goes (WpFn-mono 𝓤 H (W .laws) 𝓣 code.function)
     (walked 𝓤 H A blank.ended stayed clauses goes (λ κs. (slice-vals, tt)) (λ κs. (mut-slice-tells (named 0) (κs .0) T.the-row, tt))
     (λ κs qs bounds a g are. via 𝓤 _ (fst∗ 𝓤 _ (emp 𝓤)) (walk 𝓤 H A W (𝓜 .mem) (𝓡 .run) (κs .0) (qs .0) (a .0 .ptr .0) (a .0 .ptr .1) (a .0 .name) (a .0 .now) (are .0 .0 .1) 𝓣
-    (cited 𝓤 H (Blank 𝓤 H A (𝓜 .mem) (𝓡 .run)) 𝓜 𝓡 code.env #search-problems·blank-problem blank-problem-def.routine code.calls-problems·blank-problem (blank-problem-thm.met 𝓤 H 𝓜 𝓖 𝓡))
+    (cited 𝓤 H (Blank 𝓤 H A (𝓜 .mem) (𝓡 .run)) 𝓜 𝓡 code.env #search-problems·blank-problem blank-problem-def.routine code.calls-search-problems·blank-problem (blank-problem-thm.met 𝓤 H 𝓜 𝓖 𝓡))
     (cited 𝓤 H (Put 𝓤 H A (𝓜 .mem) (𝓡 .run)) 𝓜 𝓡 code.env #search·put put-def.routine code.calls-search·put (put-thm.met 𝓤 H 𝓜 𝓖 𝓡))))))

@@ -138,4 +138,4 @@ take-spec 𝓤 H 𝓜 𝓖 𝓡 =
     (walk-meets 𝓤 H A take.ended stayed W (goes-slice 𝓤 H A W 1 0 tt (plain (λ _. T.the-row)), (goes-none 𝓤 H A W 1 (λ _. usize) yes (λ κs x f. refl), tt)) clauses goes (WpFn-mono 𝓤 H (W .laws) 𝓣 code.function)
     (walked 𝓤 H A take.ended stayed clauses goes (λ κs. (slice-vals, (uint-vals w64, tt))) (λ κs. (mut-slice-tells (named 0) (κs .0) T.the-row, (uint-tells w64, tt)))
     (λ κs qs bounds a g are. via 𝓤 _ (fst∗ 𝓤 _ (emp 𝓤)) (walk 𝓤 H A W (𝓜 .mem) (𝓡 .run) (κs .0) (qs .0) (a .0 .ptr .0) (a .0 .ptr .1) (a .0 .name) (a .0 .now) (a .1 .0) (are .0 .0 .1) (are .1 .0 .1) 𝓣
-    (cited 𝓤 H (Blank 𝓤 H A (𝓜 .mem) (𝓡 .run)) 𝓜 𝓡 code.env #search-problems·blank-problem blank-problem-def.routine code.calls-problems·blank-problem (blank-problem-thm.met 𝓤 H 𝓜 𝓖 𝓡))))))
+    (cited 𝓤 H (Blank 𝓤 H A (𝓜 .mem) (𝓡 .run)) 𝓜 𝓡 code.env #search-problems·blank-problem blank-problem-def.routine code.calls-search-problems·blank-problem (blank-problem-thm.met 𝓤 H 𝓜 𝓖 𝓡))))))

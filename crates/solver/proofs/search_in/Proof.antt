@@ -186,6 +186,6 @@ search-in-spec 𝓤 H 𝓜 𝓖 𝓡 =
     (walked 𝓤 H A search-in.ended stayed clauses goes (λ κs. (LL.vals F.the-type F′.the-laws, (LL.vals F.the-type F′.the-laws, (uint-vals w64, (slice-vals, tt))))) (λ κs. (LL.tells F.the-type F′.the-laws, (LL.tells F.the-type F′.the-laws, (uint-tells w64, (mut-slice-tells (named 0) (κs .0) u8, tt)))))
     (λ κs qs bounds a g are. via 𝓤 _ (fst∗ 𝓤 _ (emp 𝓤))
     (walk 𝓤 H A W (𝓜 .mem) (𝓡 .run) (κs .0) (qs .0) (a .1 .1 .1 .0 .ptr .0) (a .1 .1 .1 .0 .ptr .1) (a .1 .1 .1 .0 .name) (a .0) (a .1 .0) (a .1 .1 .0) (a .1 .1 .1 .0 .now) (are .0) (are .1 .0) (are .1 .1 .0 .1) (are .1 .1 .1 .0 .0 .1) 𝓣
-    (cited 𝓤 H (Blank 𝓤 H A (𝓜 .mem) (𝓡 .run)) 𝓜 𝓡 code.env #search-problems·blank-problem blank-problem-def.routine code.calls-problems·blank-problem (blank-problem-thm.met 𝓤 H 𝓜 𝓖 𝓡))
+    (cited 𝓤 H (Blank 𝓤 H A (𝓜 .mem) (𝓡 .run)) 𝓜 𝓡 code.env #search-problems·blank-problem blank-problem-def.routine code.calls-search-problems·blank-problem (blank-problem-thm.met 𝓤 H 𝓜 𝓖 𝓡))
     (cited 𝓤 H (AtMost 𝓤 H A (𝓜 .mem) (𝓡 .run)) 𝓜 𝓡 code.env #solver·at-most at-most-def.routine code.calls-solver·at-most (at-most-thm.met 𝓤 H 𝓜 𝓖 𝓡))
     (cited 𝓤 H (Search 𝓤 H A (𝓜 .mem) (𝓡 .run)) 𝓜 𝓡 code.env #search·search search-def.routine code.calls-search·search (search-thm.met 𝓤 H 𝓜 𝓖 𝓡))))))
