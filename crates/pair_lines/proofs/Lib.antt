@@ -7,3 +7,4 @@ pub mod Puts
 pub mod Texts
 pub mod Values
 pub mod Short
+pub mod Answers
