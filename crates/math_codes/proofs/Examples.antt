@@ -10,9 +10,10 @@ use Rattle.theory.specs.Terms.{con, var}
 use Rattle.text.specs.Ascii.{ascii}
 use Rattle.text.specs.Terms.{OurTerm, int}
 use Rattle.unifiers.specs.Shapes.{left, right}
+use Rattle.math_codes.specs.Tables.{Table}
 use Rattle.math_codes.specs.Lines.{ourTable, ourTexts}
 use Rattle.math_codes.specs.Whole.{spotsOf}
-use Rattle.math_codes.specs.Index.{ourIndex, ourTops, indexedList}
+use Rattle.math_codes.specs.Index.{ourIndex, ourTops, indexedList, indexedAnswer}
 use Rattle.math_codes.specs.Makers.{someOn}
 
 abbrev num : ℕ → OurTerm
@@ -31,7 +32,16 @@ abbrev listed : List (List OurTerm) → List (List OurTerm) → List (List ℕ)
 listed r₁ r₂ = indexedList (ourTable r₁ r₂) (ourTexts r₁ r₂) r₁ r₂ (ourIndex r₁ r₂ left r₁) ourTops (ourIndex r₁ r₂ right r₂) ourTops
 
 -- `a0:l0` and `l0:2`
-first-list : listed ((a 0 ∷ l 0 ∷ []) ∷ []) ((l 0 ∷ num 2 ∷ []) ∷ [])
+abbrev r₁ : List (List OurTerm)
+r₁ = (a 0 ∷ l 0 ∷ []) ∷ []
+
+abbrev r₂ : List (List OurTerm)
+r₂ = (l 0 ∷ num 2 ∷ []) ∷ []
+
+abbrev table : Table
+table = ourTable r₁ r₂
+
+first-list : listed r₁ r₂
     ≡ ascii "2 <a0=2 <l0=empty >l0=empty\n" ∷ ascii "a0:l0:2 <a0=a0 <l0=l0:2 >l0=a0:l0\n" ∷ []
 unfolding ℕ-discrete decLt
 first-list = refl
@@ -51,3 +61,9 @@ no-entry : someOn entry (ourTable ((num 1 ∷ []) ∷ []) ((num 2 ∷ []) ∷ []
     (ourTable ((num 1 ∷ []) ∷ []) ((num 2 ∷ []) ∷ []) .first) ≡ false
 unfolding ℕ-discrete decLt
 no-entry = refl
+
+-- an answer of `a0:l0` and `l0:2`: `l0` on the left is `l0:2`, on the right `a0:l0`; 0 and 65 are the places of `a0` and `2`, 128 is `l0`
+answer-line : indexedAnswer table (ourTexts r₁ r₂) (ourIndex r₁ r₂ left r₁) ourTops (λ n. 128 ∷ 65 ∷ []) (ourIndex r₁ r₂ right r₂) ourTops
+    (λ n. 0 ∷ 128 ∷ []) (table .first) ≡ ascii "<a0=a0 <l0=l0:2 >l0=a0:l0\n"
+unfolding ℕ-discrete decLt
+answer-line = refl

@@ -26,11 +26,11 @@ use Rattle.math_codes.specs.Lines.{fieldsText, valueText, valuesText, pa
 use Rattle.math_codes.specs.Spots.{Spot}
 use Rattle.math_codes.specs.Walks.{walkOn}
 use Rattle.math_codes.specs.Whole.{spotsOf, itemsFrom, runOn, valueOn, lineItems, lineSpots}
-use Rattle.math_codes.specs.Index.{slot, Right, Indexes, Tops, isThere, indexedValue, shownValue, everyValue, rankedValue, rankValues, indexedValues}
-use Rattle.math_codes.specs.Index.{indexedItems, indexedLine, indexedList, kindOfRank, codeIn, indexAt, ourIndex, ourTops}
+use Rattle.math_codes.specs.Index.{slot, Right, Indexes, Tops, isThere, has, indexedValue, everyValue, hasAt, valueAt, boundText}
+use Rattle.math_codes.specs.Index.{indexedValues, listedValues, indexedItems, indexedLine, indexedList, kindOfRank, codeIn, indexAt, ourIndex, ourTops}
 use Rattle.math_codes.proofs.Walks.{concat-mapped}
 use Rattle.math_codes.proofs.Lists.{our-tables}
-use Rattle.math_codes.proofs.Whole.{concat-same, walk-same, spots-agree}
+use Rattle.math_codes.proofs.Whole.{concat-same, concat-single, walk-same, spots-agree}
 
 -- ---- a loop over all that passes over some
 
@@ -59,10 +59,10 @@ module _ {B : Type 0} (f : ℕ → List B) where
       (below-top m zero (suc a) (omega arith) (λ n l u. k n (omega arith) (omega arith)))
   below-top (suc m) (suc t) a h k = ap (λ (s : List B). f a ++ s) (below-top m t (suc a) (omega arith) (λ n l u. k n (omega arith) (omega arith)))
 
--- ---- the values over all variables
+-- ---- the values of a rule's variables in their order, by an index
 
-module _ (r₁ r₂ : List (List OurTerm)) (d : Side) (r : List (List OurTerm)) (x : ℕ → ℕ) (ix : Indexes r₁ r₂ d r x)
-    (T : Table) (texts : ℕ → List ℕ) (atoms : List ℕ) (runs : ℕ → List ℕ) (ns : List ℕ) (mark : ℕ) where
+module _ (r₁ r₂ : List (List OurTerm)) (d : Side) (r : List (List OurTerm)) (x : ℕ → ℕ) (ix : Indexes r₁ r₂ d r x) (atoms : List ℕ)
+    (runs : ℕ → List ℕ) where
   there : (v : ℕ) → 0 < v → isThere v ≡ true
   there zero h = absurd (omega arith)
   there (suc c) h = refl
@@ -77,53 +77,82 @@ module _ (r₁ r₂ : List (List OurTerm)) (d : Side) (r : List (List OurTerm)) 
       (let z : codeOf (same basics consts ourVars) (ourRow r₁ r₂) (free (of d k n)) ≡ x (slot (basic k) n) - 1 = omega (arith, e) in z)
   value-there list n e = refl
 
-  value-shown : (v : Variable) → v .1 ≤ 15 → occurs (v .0) (v .1) r ≡ true
-      → valueText T texts ns mark v (valueOn r₁ r₂ d atoms runs (v .0) (v .1)) ≡ shownValue T texts ns mark x atoms runs v
-  value-shown v l o =
-      let e = ix .present (v .0) (v .1) l o in
-      rw (right-there (v .0) (v .1) (x (slot (v .0) (v .1))) e) (ap (valueText T texts ns mark v) (value-there (v .0) (v .1) e))
+  -- whatever is made of a variable and its value, over all variables
+  module _ {B : Type 0} (show : Variable → List ℕ → List B) where
+    abbrev shownBy : Variable → List B
+    shownBy v = cond (has x v) (show v (indexedValue x atoms runs (v .0) (v .1))) []
 
-  value-hidden : (v : Variable) → v .1 ≤ 15 → occurs (v .0) (v .1) r ≡ false → [] ≡ shownValue T texts ns mark x atoms runs v
-  value-hidden v l o = rw (ix .absent (v .0) (v .1) l o)
+    by-shown : (v : Variable) → v .1 ≤ 15 → occurs (v .0) (v .1) r ≡ true → show v (valueOn r₁ r₂ d atoms runs (v .0) (v .1)) ≡ shownBy v
+    by-shown v l o =
+        let e = ix .present (v .0) (v .1) l o in
+        rw (right-there (v .0) (v .1) (x (slot (v .0) (v .1))) e) (ap (show v) (value-there (v .0) (v .1) e))
 
-  -- THE VALUES of a rule's variables in their order
-  pub values-indexed : valuesText T texts ns mark (λ v. valueOn r₁ r₂ d atoms runs (v .0) (v .1)) (variables r) ≡ everyValue T texts ns mark x atoms runs
-  values-indexed =
-      kept (λ v. occurs (v .0) (v .1) r) (λ v. valueText T texts ns mark v (valueOn r₁ r₂ d atoms runs (v .0) (v .1)))
-      (shownValue T texts ns mark x atoms runs) every
-      (λ v i. (value-shown v (every-mem (v .0) (v .1) .0 i), value-hidden v (every-mem (v .0) (v .1) .0 i)))
+    by-hidden : (v : Variable) → v .1 ≤ 15 → occurs (v .0) (v .1) r ≡ false → [] ≡ shownBy v
+    by-hidden v l o = rw (ix .absent (v .0) (v .1) l o)
 
-  -- ---- by rank and number
+    by-index : concat-map (λ v. show v (valueOn r₁ r₂ d atoms runs (v .0) (v .1))) (variables r) ≡ concat-map shownBy every
+    by-index =
+        kept (λ v. occurs (v .0) (v .1) r) (λ v. show v (valueOn r₁ r₂ d atoms runs (v .0) (v .1))) shownBy every
+        (λ v i. (by-shown v (every-mem (v .0) (v .1) .0 i), by-hidden v (every-mem (v .0) (v .1) .0 i)))
 
-  module _ (tops : ℕ → ℕ) (tp : Tops r tops) where
-    -- the same for a variable
-    at-rank : (k : Kind) (n : ℕ) → shownValue T texts ns mark x atoms runs (k, n) ≡ rankedValue T texts ns mark x atoms runs (rank k) n
-    at-rank (basic integer) n = refl
-    at-rank (basic string) n = refl
-    at-rank (basic atom) n = refl
-    at-rank list n = refl
+    -- by rank and number
+    module _ (tops : ℕ → ℕ) (tp : Tops r tops) (showAt : ℕ → ℕ → List ℕ → List B)
+        (same : (k : Kind) (n : ℕ) (cs : List ℕ) → show (k, n) cs ≡ showAt (rank k) n cs) where
+      abbrev shownAt : ℕ → ℕ → List B
+      shownAt k n = cond (hasAt x k n) (showAt k n (valueAt x atoms runs k n)) []
 
-    -- nothing from the top on
-    past-top : (k : Kind) (n : ℕ) → n ≤ 15 → tops (rank k) ≤ n → rankedValue T texts ns mark x atoms runs (rank k) n ≡ []
-    past-top k n l h = go (occurs k n r) refl
-      where
-        go : (b : Bool) → occurs k n r ≡ b → rankedValue T texts ns mark x atoms runs (rank k) n ≡ []
-        go true e = absurd (let m = tp .above k n e in omega arith)
-        go false e = rw (ix .absent k n l e)
+      value-rank : (k : Kind) (n : ℕ) → indexedValue x atoms runs k n ≡ valueAt x atoms runs (rank k) n
+      value-rank (basic integer) n = refl
+      value-rank (basic string) n = refl
+      value-rank (basic atom) n = refl
+      value-rank list n = refl
 
-    kind-values : (k : Kind) → concat-map (shownValue T texts ns mark x atoms runs) (ofKind k) ≡ rankValues T texts ns mark x tops atoms runs (rank k)
-    kind-values k =
-        concat-mapped (shownValue T texts ns mark x atoms runs) (λ (n : ℕ). (k, n)) numbers
-        ∙ concat-same (λ n. shownValue T texts ns mark x atoms runs (k, n)) (rankedValue T texts ns mark x atoms runs (rank k)) numbers (λ n i. at-rank k n)
-        ∙ below-top (rankedValue T texts ns mark x atoms runs (rank k)) 16 (tops (rank k)) 0 (tp .within (rank k) (rank-below k))
-        (λ n l m. past-top k n (omega arith) (omega arith))
+      -- the same for a variable
+      at-rank : (k : Kind) (n : ℕ) → shownBy (k, n) ≡ shownAt (rank k) n
+      at-rank k n =
+          ap (λ (l : List B). cond (has x (k, n)) l [])
+          (same k n (indexedValue x atoms runs k n) ∙ ap (showAt (rank k) n) (value-rank k n))
+
+      -- nothing from the top on
+      past-top : (k : Kind) (n : ℕ) → n ≤ 15 → tops (rank k) ≤ n → shownAt (rank k) n ≡ []
+      past-top k n l h = go (occurs k n r) refl
+        where
+          go : (b : Bool) → occurs k n r ≡ b → shownAt (rank k) n ≡ []
+          go true e = absurd (let m = tp .above k n e in omega arith)
+          go false e = rw (ix .absent k n l e)
+
+      kind-loop : (k : Kind) → concat-map shownBy (ofKind k) ≡ concat-map (shownAt (rank k)) (range 0 (tops (rank k)))
+      kind-loop k =
+          concat-mapped shownBy (λ (n : ℕ). (k, n)) numbers
+          ∙ concat-same (λ n. shownBy (k, n)) (shownAt (rank k)) numbers (λ n i. at-rank k n)
+          ∙ below-top (shownAt (rank k)) 16 (tops (rank k)) 0 (tp .within (rank k) (rank-below k)) (λ n l m. past-top k n (omega arith) (omega arith))
+
+      by-rank : concat-map shownBy every ≡ concat-map (λ k. concat-map (shownAt k) (range 0 (tops k))) (range 0 4)
+      by-rank =
+          concat-twice shownBy ofKind kinds
+          ∙ concat-same (λ k. concat-map shownBy (ofKind k)) (λ k. concat-map (shownAt (rank k)) (range 0 (tops (rank k)))) kinds (λ k i. kind-loop k)
+
+  -- THE VALUES in a line
+  module _ (T : Table) (texts : ℕ → List ℕ) (ns : List ℕ) (mark : ℕ) where
+    pub values-indexed : valuesText T texts ns mark (λ v. valueOn r₁ r₂ d atoms runs (v .0) (v .1)) (variables r)
+        ≡ everyValue T texts ns mark x atoms runs
+    values-indexed = by-index (valueText T texts ns mark)
+
+    name-ranked : (k : Kind) (n : ℕ) (cs : List ℕ) → valueText T texts ns mark (k, n) cs ≡ boundText T texts ns mark (rank k) n cs
+    name-ranked (basic integer) n cs = refl
+    name-ranked (basic string) n cs = refl
+    name-ranked (basic atom) n cs = refl
+    name-ranked list n cs = refl
 
     -- THE LOOPS write the same
-    pub values-ranked : everyValue T texts ns mark x atoms runs ≡ indexedValues T texts ns mark x tops atoms runs
-    values-ranked =
-        concat-twice (shownValue T texts ns mark x atoms runs) ofKind kinds
-        ∙ concat-same (λ k. concat-map (shownValue T texts ns mark x atoms runs) (ofKind k))
-        (λ k. rankValues T texts ns mark x tops atoms runs (rank k)) kinds (λ k i. kind-values k)
+    pub values-ranked : (tops : ℕ → ℕ) → Tops r tops → everyValue T texts ns mark x atoms runs ≡ indexedValues T texts ns mark x tops atoms runs
+    values-ranked tops tp = by-rank (valueText T texts ns mark) tops tp (boundText T texts ns mark) name-ranked
+
+  -- THE VALUES alone
+  pub values-listed : (tops : ℕ → ℕ) → Tops r tops → listedValues x tops atoms runs ≡ map (λ v. valueOn r₁ r₂ d atoms runs (v .0) (v .1)) (variables r)
+  values-listed tops tp =
+      sym (by-index (λ v cs. cs ∷ []) ∙ by-rank (λ v cs. cs ∷ []) tops tp (λ k n cs. cs ∷ []) (λ k n cs. refl))
+      ∙ concat-single (λ v. valueOn r₁ r₂ d atoms runs (v .0) (v .1)) (variables r)
 
 -- ---- the list
 
@@ -134,10 +163,10 @@ module _ (r₁ r₂ : List (List OurTerm)) (T : Table) (texts : ℕ → List ℕ
   line-indexed Ps Qs is last =
       let ns = nameFields T (noNames pairItems 4) is .numbers in
       sym (ap₂ (λ (a b : List ℕ). fieldsText T texts ns is ++ (a ++ (b ++ 10 ∷ [])))
-      (values-indexed r₁ r₂ left r₁ x₁ ix₁ T texts last (runOn Ps is) ns leftMark
-      ∙ values-ranked r₁ r₂ left r₁ x₁ ix₁ T texts last (runOn Ps is) ns leftMark t₁ tp₁)
-      (values-indexed r₁ r₂ right r₂ x₂ ix₂ T texts last (runOn Qs is) ns rightMark
-      ∙ values-ranked r₁ r₂ right r₂ x₂ ix₂ T texts last (runOn Qs is) ns rightMark t₂ tp₂))
+      (values-indexed r₁ r₂ left r₁ x₁ ix₁ last (runOn Ps is) T texts ns leftMark
+      ∙ values-ranked r₁ r₂ left r₁ x₁ ix₁ last (runOn Ps is) T texts ns leftMark t₁ tp₁)
+      (values-indexed r₁ r₂ right r₂ x₂ ix₂ last (runOn Qs is) T texts ns rightMark
+      ∙ values-ranked r₁ r₂ right r₂ x₂ ix₂ last (runOn Qs is) T texts ns rightMark t₂ tp₂))
 
   -- THE LIST as the code makes it
   pub lines-agree : walkOn entry T (spotsOf 16 0 r₁) (spotsOf 16 64 r₂) (T .first)

@@ -48,7 +48,7 @@ use Rattle.math_codes.proofs.Items.{term-eq, Items, entry-items, atom-v
 
 module _ {C K B : Type 0} where
   -- a term that can be shown: a constant, or a variable of the fields
-  abbrev Met : List (List (Term C K B)) → Term C K B → Type 0
+  abbrev pub Met : List (List (Term C K B)) → Term C K B → Type 0
   Met fs (con c) = Unit {0}
   Met fs (var k b) = Any (Occurs k b) fs
 
@@ -57,7 +57,7 @@ module _ {C K B : Type 0} where
   met-terms fs (con c ∷ f) h = (tt, met-terms fs f h)
   met-terms fs (var j a ∷ f) h = (h j a (inl (refl, refl)), met-terms fs f (λ k b o. h k b (inr o)))
 
-  met-fields : (fs gs : List (List (Term C K B))) → ((k : K) (b : B) → Any (Occurs k b) gs → Any (Occurs k b) fs) → All (All (Met fs)) gs
+  pub met-fields : (fs gs : List (List (Term C K B))) → ((k : K) (b : B) → Any (Occurs k b) gs → Any (Occurs k b) fs) → All (All (Met fs)) gs
   met-fields fs [] h = tt
   met-fields fs (f ∷ gs) h = (met-terms fs f (λ k b o. h k b (inl o)), met-fields fs gs (λ k b o. h k b (inr o)))
 
@@ -69,7 +69,7 @@ letter-is list = refl
 
 -- ---- texts
 
-abbrev marked-eq : Discrete OurMarked
+abbrev pub marked-eq : Discrete OurMarked
 marked-eq = term-eq con-eq (full-eq basic-eq) (mark-eq side-eq ℕ-discrete ℕ-discrete)
 
 module _ (r₁ r₂ : List (List OurTerm)) (T : Table) (texts : ℕ → List ℕ) (ot : OurTables r₁ r₂ T texts)
@@ -77,10 +77,10 @@ module _ (r₁ r₂ : List (List OurTerm)) (T : Table) (texts : ℕ → List ℕ
   abbrev Is : ℕ → OurMarked → Type 0
   Is c u = IsCode marked-eq (ourTerms r₁ r₂) c u
 
-  abbrev numbers : List ℕ
+  abbrev pub numbers : List ℕ
   numbers = nameFields T (noNames (length (ourTerms r₁ r₂)) 4) is .numbers
 
-  abbrev ν : OurMarked → OurTerm
+  abbrev pub ν : OurMarked → OurTerm
   ν u = rename (numbersOf basics consts ℕ-discrete fs) u
 
   module _ (h : Each (Each Is) is fs) where
@@ -121,7 +121,7 @@ module _ (r₁ r₂ : List (List OurTerm)) (T : Table) (texts : ℕ → List ℕ
     fields-text (j ∷ js) (g ∷ gs) i m = ap₂ (λ (s t : List ℕ). s ++ t) (items-text j g (i .0) (m .0)) (bar-texts js gs (i .1) (m .1))
 
     -- the values of variables
-    values-text : (mark : ℕ) (value : Variable → List ℕ) (σ : Kind → ℕ → List OurMarked) (vs : List Variable)
+    pub values-text : (mark : ℕ) (value : Variable → List ℕ) (σ : Kind → ℕ → List OurMarked) (vs : List Variable)
         → ((k : Kind) (n : ℕ) → List·Memᴰ (k, n) vs → Each Is (value (k, n)) (σ k n) × All (Met fs) (σ k n))
         → valuesText T texts numbers mark value vs ≡ concat-map (bindingText mark)
         (map (λ v. record { kind = v .0; number = v .1; value = map ν (σ (v .0) (v .1)) }) vs)

@@ -135,7 +135,8 @@ module _ (T : Table) (texts : ℕ → List ℕ) where
     abbrev pub indexedItems : List ℕ → List (List ℕ) → List ℕ → List ℕ
     indexedItems atoms is numbers =
         fieldsText T texts numbers is
-        ++ (indexedValues numbers leftMark x₁ t₁ atoms (runOn Ps is) ++ (indexedValues numbers rightMark x₂ t₂ atoms (runOn Qs is) ++ 10 ∷ []))
+        ++ (indexedValues numbers leftMark x₁ t₁ atoms (runOn Ps is)
+        ++ (indexedValues numbers rightMark x₂ t₂ atoms (runOn Qs is) ++ 10 ∷ []))
 
     -- of a choice and its last array
     abbrev pub indexedLine : List Cand → List ℕ → List ℕ

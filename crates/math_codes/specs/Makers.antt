@@ -70,7 +70,8 @@ module _ (size : ℕ → ℕ) where
 
   -- the line of an entry's items, by the indexes and tops of the two rules
   abbrev pub sizeItems : (ℕ → ℕ) → (ℕ → ℕ) → (ℕ → ℕ) → (ℕ → ℕ) → List (Spot ℕ) → List (Spot ℕ) → List ℕ → List (List ℕ) → ℕ
-  sizeItems x₁ t₁ x₂ t₂ Ps Qs atoms is = fieldsSize size is + (valuesSize x₁ t₁ atoms (runOn Ps is) + (valuesSize x₂ t₂ atoms (runOn Qs is) + 1))
+  sizeItems x₁ t₁ x₂ t₂ Ps Qs atoms is =
+      fieldsSize size is + (valuesSize x₁ t₁ atoms (runOn Ps is) + (valuesSize x₂ t₂ atoms (runOn Qs is) + 1))
 
 -- THE SIZE of the line of a choice and its last array
 module _ (T : Table) (sizes : ℕ → ℕ) (x₁ t₁ x₂ t₂ : ℕ → ℕ) (Ps Qs : List (Spot ℕ)) where
