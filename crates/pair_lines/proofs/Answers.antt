@@ -33,7 +33,7 @@ Gives y counts numbers = (counts ≡ y .counts) × (numbers ≡ y .numbers)
 abbrev pub inHand : List ℕ → List ℕ → Names
 inHand counts numbers = record { counts = counts; numbers = numbers }
 
-in-hand : (y : Names) (counts numbers : List ℕ) → Gives y counts numbers → inHand counts numbers ≡ y
+pub in-hand : (y : Names) (counts numbers : List ℕ) → Gives y counts numbers → inHand counts numbers ≡ y
 in-hand y counts numbers g = ap₂ (λ (a b : List ℕ). inHand a b) (g .0) (g .1)
 
 pub gives-as : (y z : Names) (counts numbers : List ℕ) → y ≡ z → Gives y counts numbers → Gives z counts numbers

@@ -8,3 +8,5 @@ pub mod Texts
 pub mod Values
 pub mod Short
 pub mod Answers
+pub mod AnswerNumbers
+pub mod AnswerLines

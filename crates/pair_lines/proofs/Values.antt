@@ -115,6 +115,10 @@ pub rank-led : (row texts numbers : List ℕ) (right : Bool) (atoms : List ℕ) 
 rank-led row texts numbers right atoms runs k =
     all-led (shownIn row texts numbers right atoms runs k) (shown-led row texts numbers right atoms runs k) (range 0 (topIn row right k))
 
+pub values-led : (row texts numbers : List ℕ) (right : Bool) (atoms : List ℕ) (runs : ℕ → List ℕ) → Led (valuesIn row texts numbers right atoms runs)
+values-led row texts numbers right atoms runs =
+    all-led (rankIn row texts numbers right atoms runs) (rank-led row texts numbers right atoms runs) (range 0 4)
+
 -- ---- runs that agree on the numbers below 16
 
 texts-agree : (f g : ℕ → List ℕ) (a k : ℕ) → ((n : ℕ) → n < a + k → f n ≡ g n) → concat-map f (range a k) ≡ concat-map g (range a k)
