@@ -214,7 +214,7 @@ module _ (T : Table) (texts : ℕ → List ℕ) (numbers : List ℕ) (size : ℕ
     rank-size : (k : ℕ) → length (rankValues T texts numbers mark ix tops atoms runs k) ≡ rankSizes size ix tops atoms runs k
     rank-size k = loop-size (rankedValue T texts numbers mark ix atoms runs k) (rankedSize size ix atoms runs k) (ranked-size k) (range 0 (tops k))
 
-    values-size : length (indexedValues T texts numbers mark ix tops atoms runs) ≡ valuesSize size ix tops atoms runs
+    pub values-size : length (indexedValues T texts numbers mark ix tops atoms runs) ≡ valuesSize size ix tops atoms runs
     values-size = loop-size (rankValues T texts numbers mark ix tops atoms runs) (rankSizes size ix tops atoms runs) rank-size (range 0 4)
 
   -- THE SIZE of a line is a sum

@@ -27,9 +27,9 @@ use Rattle.math_codes.specs.Spots.{Spot, shapeFrom, spotShape, scanAt, s
 use Rattle.math_codes.specs.Walks.{spanOn, itemAt, fieldItems}
 use Rattle.math_codes.specs.Whole.{spotsOf, itemsFrom, runIn, runOn}
 use Rattle.math_codes.specs.Makers.{itemSize, sumOf, boundSize, rankedSize, rankSizes, valuesSize, sizeItems, sizeLine}
-use Rattle.math_codes.specs.Index.{slotAt, hasAt, valueAt, indexedItems, indexedLine}
+use Rattle.math_codes.specs.Index.{slotAt, hasAt, valueAt, indexedValues, indexedItems, indexedLine}
 use Rattle.math_codes.proofs.Spots.{range-long, spot-cands}
-use Rattle.math_codes.proofs.Makers.{AtMost, at-most, itemCount, names-few, digits-size, item-size, line-size}
+use Rattle.math_codes.proofs.Makers.{AtMost, at-most, itemCount, names-few, digits-size, item-size, values-size, line-size}
 use Rattle.math_codes.proofs.Whole.{Chosen}
 
 -- ---- how many items
@@ -231,6 +231,19 @@ item-short T texts w short numbers low c = go (T .variable c)
     go : (b : Bool) → length (cond b (letterAt (T .kind c) ∷ digitsOf (getD numbers c 0 - 1)) (texts c)) ≤ w + 4
     go true = let l = low c in omega (arith, digits-short (getD numbers c 0 - 1) (omega arith))
     go false = omega (arith, short c)
+
+-- THE VALUES of a rule, of at most m items each
+pub values-bounded : (T : Table) (texts : ℕ → List ℕ) (w : ℕ) → ((c : ℕ) → length (texts c) ≤ w) → (numbers : List ℕ)
+    → ((c : ℕ) → getD numbers c 0 ≤ 255) → (mark : ℕ) (x t : ℕ → ℕ) → ((k : ℕ) → k < 4 → t k ≤ 255) → (atoms : List ℕ) (runs : ℕ → List ℕ) (m : ℕ)
+    → 1 ≤ m → ((n : ℕ) → length (runs n) ≤ m)
+    → length (indexedValues T texts numbers mark x t atoms runs) ≤ 1020 * (m * (w + 5) + 12)
+values-bounded T texts w short numbers low mark x t few atoms runs m one most =
+    let size : ℕ → ℕ = λ c. length (itemText T texts numbers c) in
+    omega (
+      arith,
+      values-size T texts numbers size (λ c. refl) mark x t atoms runs,
+      values-short size w (item-short T texts w short numbers low) m one x t few atoms runs most,
+    )
 
 -- A LINE of at most m items in at most m fields; the fields are counted too, for one without items is written `empty`
 pub line-bounded : (T : Table) (texts : ℕ → List ℕ) (w : ℕ) → ((c : ℕ) → length (texts c) ≤ w) → (numbers : List ℕ)

@@ -2,7 +2,7 @@
 use mathlib.Core.Path.{_≡_, sym, ap, ap₂, _∙_}
 use mathlib.Core.Bool.{Bool, true, false, cond, _&&_}
 use mathlib.Core.List.{List, [], _∷_, _++_}
-use Prim.Native.Nat.{ℕ, _+_, _*_, _≤_, _<_}
+use Prim.Native.Nat.{ℕ, zero, suc, _+_, _*_, _≤_, _<_}
 use native.Mathlib.Omega.{arith}
 use lib.Dec.{leb}
 use lib.ListN.{length, getD, drop, length-append, length-take}
@@ -19,11 +19,38 @@ use Rattle.pair_lines.proofs.Laying.{fields-fit, run-is, items-long, it
 use Rattle.pair_lines.proofs.Values.{values-agree}
 
 module _ (row : List ℕ) (right : Bool) where
-  pub tops-few : sideFew row right ≡ true → topIn row right 3 ≤ 16
-  tops-few e =
-      let few : ℕ → Bool = λ k. leb (topIn row right k) 16 in
-      let a = both-is (few 0) (few 1 && (few 2 && few 3)) .0 e .1 in
-      leb-true (topIn row right 3) 16 (both-is (few 2) (few 3) .0 (both-is (few 1) (few 2 && few 3) .0 a .1) .1)
+  pub tops-few : sideFew row right ≡ true → (k : ℕ) → k < 4 → topIn row right k ≤ 16
+  tops-few e k l = leb-true (topIn row right k) 16 (at k l)
+    where
+      few : ℕ → Bool
+      few k = leb (topIn row right k) 16
+
+      first : (few 0 ≡ true) × ((few 1 && (few 2 && few 3)) ≡ true)
+      first = both-is (few 0) (few 1 && (few 2 && few 3)) .0 e
+
+      second : (few 1 ≡ true) × ((few 2 && few 3) ≡ true)
+      second = both-is (few 1) (few 2 && few 3) .0 (first .1)
+
+      third : (few 2 ≡ true) × (few 3 ≡ true)
+      third = both-is (few 2) (few 3) .0 (second .1)
+
+      at : (k : ℕ) → k < 4 → few k ≡ true
+      at zero l = first .0
+      at (suc zero) l = second .0
+      at (suc (suc zero)) l = third .0
+      at (suc (suc (suc zero))) l = third .1
+      at (suc (suc (suc (suc k)))) l = absurd (omega arith)
+
+module _ (row texts : List ℕ) (small : (i : ℕ) → getD texts i 0 < 256) where
+  pub text-short : (k : ℕ) → length (textIn row texts k) ≤ 257
+  text-short k = go (isString row k)
+    where
+      few : length (bytesIn texts k) ≤ 255
+      few = omega (arith, small (16 * k), length-take (getD texts (16 * k) 0) (drop (16 * k + 1) texts))
+
+      go : (b : Bool) → length (cond b (34 ∷ (bytesIn texts k ++ 34 ∷ [])) (bytesIn texts k)) ≤ 257
+      go true = omega (arith, few, length-append (bytesIn texts k) (34 ∷ []))
+      go false = omega (arith, few)
 
 module _ (row texts : List ℕ) (n : ℕ) (c : Choice) (atoms : List ℕ) where
   pub line-none : fits n c ≡ false → [] ≡ lineIn row texts n c atoms
@@ -44,7 +71,7 @@ module _ (row texts : List ℕ) (n : ℕ) (c : Choice) (atoms : List ℕ) where
       → valuesIn row texts numbers right atoms (runBy runs items)
       ≡ valuesIn row texts numbers right atoms (runOn (spotsIn row right n) (itemsIn row n c atoms))
   values-laid numbers right runs items e f ok few =
-      values-agree row texts numbers right atoms (tops-few row right few) (runBy runs items) (runOn (spotsIn row right n) (itemsIn row n c atoms))
+      values-agree row texts numbers right atoms (tops-few row right few 3 (omega arith)) (runBy runs items) (runOn (spotsIn row right n) (itemsIn row n c atoms))
       (λ l h. ap₂ (λ (a b : List ℕ). runBy a b l) e f ∙ run-is row right n l c atoms ok h)
 
   -- by the items, the numbers that they got, and the runs of both rules
@@ -71,16 +98,6 @@ module _ (row texts : List ℕ) (n : ℕ) (c : Choice) (atoms : List ℕ) where
         ∙ line-whole ok few
 
   module _ (low : (i : ℕ) → getD row i 0 < 256) (small : (i : ℕ) → getD texts i 0 < 256) where
-    text-short : (k : ℕ) → length (textIn row texts k) ≤ 257
-    text-short k = go (isString row k)
-      where
-        few : length (bytesIn texts k) ≤ 255
-        few = omega (arith, small (16 * k), length-take (getD texts (16 * k) 0) (drop (16 * k + 1) texts))
-
-        go : (b : Bool) → length (cond b (34 ∷ (bytesIn texts k ++ 34 ∷ [])) (bytesIn texts k)) ≤ 257
-        go true = omega (arith, few, length-append (bytesIn texts k) (34 ∷ []))
-        go false = omega (arith, few)
-
     top-low : (right : Bool) (k : ℕ) → topIn row right k ≤ 255
     top-low true k = omega (arith, low (topsAt + 4 + k))
     top-low false k = omega (arith, low (topsAt + k))
@@ -88,7 +105,7 @@ module _ (row texts : List ℕ) (n : ℕ) (c : Choice) (atoms : List ℕ) where
     -- THE SIZE OF A LINE
     line-short : fits n c ≡ true → length (wholeLine row texts n c atoms) ≤ lineBound
     line-short ok =
-        let b = line-bounded (tableIn row) (textIn row texts) 257 text-short (namesIn row n c atoms .numbers)
+        let b = line-bounded (tableIn row) (textIn row texts) 257 (text-short row texts small) (namesIn row n c atoms .numbers)
         (λ i. let z = names-small row n c atoms ok i in omega arith)
         (indexIn row false) (topIn row false) (indexIn row true) (topIn row true) (λ k h. top-low false k) (λ k h. top-low true k)
         (spotsIn row false n) (spotsIn row true n) atoms (itemsIn row n c atoms) 124 (omega arith) (items-small row n c atoms ok)

@@ -241,7 +241,7 @@ few-items : (n : ℕ) (f : ℕ → List ℕ) → ((j : ℕ) → j < n → length
 few-items zero f h = omega arith
 few-items (suc n) f h = omega (arith, h 0 (omega arith), few-items n (λ i. f (suc i)) (λ i p. h (suc i) (omega arith)))
 
-zeros : (m n : ℕ) → makers.AtMost m (replicate n 0)
+pub zeros : (m n : ℕ) → makers.AtMost m (replicate n 0)
 zeros m zero = tt
 zeros m (suc n) = (omega arith, zeros m n)
 

@@ -7,3 +7,6 @@ pub mod Puts
 pub mod Texts
 pub mod Values
 pub mod Short
+pub mod Answers
+pub mod AnswerNumbers
+pub mod AnswerLines

@@ -96,7 +96,7 @@ few-names T [] m x h = rw (let e : m + 0 ≡ m = omega arith in e) h
 few-names T (c ∷ cs) m x h =
     rw (let e : m + suc (length cs) ≡ m + 1 + length cs = omega arith in e) (few-names T cs (m + 1) (nameCode T x c) (few-name T m x c h))
 
-names-long : (T : Table) (cs : List ℕ) (x : Names)
+pub names-long : (T : Table) (cs : List ℕ) (x : Names)
     → (length (nameCodes T x cs .counts) ≡ length (x .counts)) × (length (nameCodes T x cs .numbers) ≡ length (x .numbers))
 names-long T [] x = (refl, refl)
 names-long T (c ∷ cs) x =
@@ -168,7 +168,7 @@ laid-last (g ∷ fs) f at items =
     laid-last fs f (at + 31) (sets items at g)
     ∙ ap (λ (k : ℕ). sets (laidFrom (at + 31) fs (sets items at g)) k f) (let e : at + 31 + 31 * length fs ≡ at + 31 * suc (length fs) = omega arith in e)
 
-all-named : (T : Table) (fs : List (List ℕ)) (x : Names)
+pub all-named : (T : Table) (fs : List (List ℕ)) (x : Names)
     → (length (nameFields T x fs .counts) ≡ length (x .counts)) × (length (nameFields T x fs .numbers) ≡ length (x .numbers))
 all-named T [] x = (refl, refl)
 all-named T (f ∷ fs) x =

@@ -73,7 +73,7 @@ nameIn right k v = 32 ∷ (markOf right ∷ (nameAt k v ++ 61 ∷ []))
 pub name-long : (right : Bool) (k v : ℕ) → length (nameIn right k v) ≡ 4 + length (digitsOf v)
 name-long right k v = omega (arith, length-append (digitsOf v) (61 ∷ []))
 
-there : (x : ℕ) → (x ≡ 0 → ⊥) → isThere x ≡ true
+pub there : (x : ℕ) → (x ≡ 0 → ⊥) → isThere x ≡ true
 there zero h = absurd (h refl)
 there (suc x) h = refl
 
@@ -115,6 +115,10 @@ pub rank-led : (row texts numbers : List ℕ) (right : Bool) (atoms : List ℕ) 
 rank-led row texts numbers right atoms runs k =
     all-led (shownIn row texts numbers right atoms runs k) (shown-led row texts numbers right atoms runs k) (range 0 (topIn row right k))
 
+pub values-led : (row texts numbers : List ℕ) (right : Bool) (atoms : List ℕ) (runs : ℕ → List ℕ) → Led (valuesIn row texts numbers right atoms runs)
+values-led row texts numbers right atoms runs =
+    all-led (rankIn row texts numbers right atoms runs) (rank-led row texts numbers right atoms runs) (range 0 4)
+
 -- ---- runs that agree on the numbers below 16
 
 texts-agree : (f g : ℕ → List ℕ) (a k : ℕ) → ((n : ℕ) → n < a + k → f n ≡ g n) → concat-map f (range a k) ≡ concat-map g (range a k)
@@ -132,34 +136,33 @@ module _ (row texts numbers : List ℕ) (right : Bool) (atoms : List ℕ) (few :
       (λ n l. ap (λ (w : List ℕ). cond (hasAt (indexIn row right) 3 n)
       (boundText (tableIn row) (textIn row texts) numbers (markOf right) 3 n w) []) (h n (omega arith))))
 
--- ---- a text for each number, one behind the other
+-- ---- a list for each number, one behind the other
 
-module _ (f : ℕ → List ℕ) where
-  range-one : (a k : ℕ) → range a k ++ (a + k) ∷ [] ≡ range a (k + 1)
-  range-one a zero = ap (λ (n : ℕ). n ∷ []) (let e : a + 0 ≡ a = omega arith in e)
-  range-one a (suc k) =
-      ap (λ (n : ℕ). range a (suc k) ++ n ∷ []) (let e : a + suc k ≡ suc a + k = omega arith in e)
-      ∙ ap (λ (l : List ℕ). a ∷ l) (range-one (suc a) k)
-      ∙ ap (range a) (let e : suc (k + 1) ≡ suc k + 1 = omega arith in e)
+range-one : (a k : ℕ) → range a k ++ (a + k) ∷ [] ≡ range a (k + 1)
+range-one a zero = ap (λ (n : ℕ). n ∷ []) (let e : a + 0 ≡ a = omega arith in e)
+range-one a (suc k) =
+    ap (λ (n : ℕ). range a (suc k) ++ n ∷ []) (let e : a + suc k ≡ suc a + k = omega arith in e)
+    ∙ ap (λ (l : List ℕ). a ∷ l) (range-one (suc a) k)
+    ∙ ap (range a) (let e : suc (k + 1) ≡ suc k + 1 = omega arith in e)
 
+module _ {A : Type 0} (f : ℕ → List A) where
   pub texts-one : (k : ℕ) → concat-map f (range 0 k) ++ f k ≡ concat-map f (range 0 (k + 1))
   texts-one k =
-      ap (λ (t : List ℕ). concat-map f (range 0 k) ++ t) (sym (append-nil (f k)) ∙ ap (λ (n : ℕ). f n ++ []) (let e : k ≡ 0 + k = omega arith in e))
+      ap (λ (t : List A). concat-map f (range 0 k) ++ t) (sym (append-nil (f k)) ∙ ap (λ (n : ℕ). f n ++ []) (let e : k ≡ 0 + k = omega arith in e))
       ∙ sym (concat-map-append f (range 0 k) ((0 + k) ∷ []))
       ∙ ap (concat-map f) (range-one 0 k)
 
-  texts-front : (k m a : ℕ) → k ≤ m → length (concat-map f (range a k)) ≤ length (concat-map f (range a m))
-  texts-front zero m a h = omega arith
-  texts-front (suc k) zero a h = absurd (omega arith)
-  texts-front (suc k) (suc m) a h =
-      omega (
-        arith,
-        length-append (f a) (concat-map f (range (suc a) k)),
-        length-append (f a) (concat-map f (range (suc a) m)),
-        texts-front k m (suc a) (omega arith),
-      )
+  -- the first k are a front of more
+  pub texts-split : (k m a : ℕ) → k ≤ m → (rest : List A) × (concat-map f (range a k) ++ rest ≡ concat-map f (range a m))
+  texts-split zero m a h = (concat-map f (range a m), refl)
+  texts-split (suc k) zero a h = absurd (omega arith)
+  texts-split (suc k) (suc m) a h =
+      let r = texts-split k m (suc a) (omega arith) in
+      (r .0, append-assoc (f a) (concat-map f (range (suc a) k)) (r .0) ∙ ap (λ (t : List A). f a ++ t) (r .1))
 
   -- all have room for one more
   pub texts-room : (k m : ℕ) → k < m → length (concat-map f (range 0 k)) + length (f k) ≤ length (concat-map f (range 0 m))
   texts-room k m h =
-      omega (arith, texts-front (k + 1) m 0 (omega arith), ap length (texts-one k), length-append (concat-map f (range 0 k)) (f k))
+      let s = texts-split (k + 1) m 0 (omega arith) in
+      let a = concat-map f (range 0 (k + 1)) in
+      omega (arith, ap length (s .1), length-append a (s .0), ap length (texts-one k), length-append (concat-map f (range 0 k)) (f k))

@@ -7,14 +7,15 @@ ghost use Prim.Native.Nat.{_+_, _-_, _*_, _^_, _≤_, _<_, min};
 ghost use lib.ListN.{length, getD, set};
 ghost use lib.Seq.{sets};
 ghost use Rattle.text.specs.Numbers.{digitsOf};
-ghost use Rattle.math_codes.specs.Names.{nameCode, nameCodes};
+ghost use Rattle.math_codes.specs.Names.{nameCode, nameCodes, nameFields};
 ghost use Rattle.math_codes.specs.Lines.{letterAt, itemText, itemsText, fieldsText};
 ghost use Rattle.math_codes.specs.Index.{nameAt};
 ghost use Rattle.overlap_entries.specs.Entries.{itemCount};
-ghost use Rattle.pair_row.specs.Row.{tableIn, bytesIn, textIn};
+ghost use Rattle.pair_row.specs.Row.{tableIn, bytesIn, textIn, indexIn};
 ghost use Rattle.pair_lines.specs.Lines.{Puts, Few, sideFew, numbersFew, fits, fieldIn, itemsIn, namesIn, laidIn};
 ghost use Rattle.pair_lines.specs.Lines.{runAt, noteRun, runsOver, runBy, markOf, blank, unled, valueIn, rankIn, valuesIn};
 ghost use Rattle.pair_lines.specs.Lines.{lineIn, lineBound};
+ghost use Rattle.pair_lines.specs.Answers.{valueFits, wholeRuns, valueWith, listedRank, listedIn, answerIn};
 use overlap_entries::Choice;
 use pair_row::Shape;
 use pair_row::byte_at;
@@ -272,6 +273,15 @@ fn least(a: usize, b: usize) -> usize
     if b < a { b } else { a }
 }
 
+// What the atom of a rule's variable stands for.
+fn atom_of(row: &[u8], right: bool, rank: u8, n: u8, atoms: &[u8]) -> u8
+    ensures { λ r. ⌜ r ≡ getD (now (atoms .entry)) (indexIn (now (row .entry)) right (16 * rank + n) - 1) 0 ⌝ }
+{
+    let x = pair_row::index_at(row, right, rank, n);
+    let place = if x == 0 { 0 } else { x as usize - 1 };
+    byte_at(atoms, place)
+}
+
 // The value of a rule's variable: what its atom stands for, or a run of items. `runs` has where those of the list variables stand.
 fn put_value(
     row: &[u8],
@@ -293,9 +303,8 @@ fn put_value(
         (now (out .entry)) r (now (out .exit)) ⌝ }
 {
     if rank < 3 {
-        let x = pair_row::index_at(row, right, rank, n);
-        let place = if x == 0 { 0 } else { x as usize - 1 };
-        return put_item(row, texts, byte_at(atoms, place), numbers, out, at);
+        let x = atom_of(row, right, rank, n, atoms);
+        return put_item(row, texts, x, numbers, out, at);
     }
     let k = 2 * n as usize;
     let to = least(byte_at(runs, k + 1) as usize, items.len());
@@ -538,4 +547,219 @@ pub fn put_line(
         q,
     );
     put_byte(b'\n', out, r)
+}
+
+// ---- the line of an answer of the search
+
+// Whether a list variable's value is one that an answer has: at most 31 items.
+fn value_fits(items: &[u8]) -> bool
+    ensures { λ r. ⌜ r ≡ valueFits (now (items .entry)) ⌝ }
+{
+    if 31 < items.len() {
+        return false;
+    }
+    let mut i: usize = 0;
+    while i < items.len() {
+        if 160 <= items[i] {
+            return false;
+        }
+        i += 1;
+    }
+    true
+}
+
+// The numbers of items, from the left.
+fn name_items(row: &[u8], items: &[u8], counts: &mut [u8], numbers: &mut [u8])
+    requires { ⌜ Few 254
+        ((nameCodes (tableIn (now row)) (record { counts = now counts; numbers = now numbers }) (now items)) .counts) ⌝ }
+    ensures { λ _. ⌜ now (counts .exit) ≡
+        (nameCodes (tableIn (now (row .entry))) (record { counts = now (counts .entry); numbers = now (numbers .entry) })
+        (now (items .entry))) .counts ⌝ }
+    ensures { λ _. ⌜ now (numbers .exit) ≡
+        (nameCodes (tableIn (now (row .entry))) (record { counts = now (counts .entry); numbers = now (numbers .entry) })
+        (now (items .entry))) .numbers ⌝ }
+{
+    let mut i: usize = 0;
+    while i < items.len() {
+        name_item(row, items[i], counts, numbers);
+        i += 1;
+    }
+}
+
+// Those of the value of a rule's variable; every list variable of the rule has the same items.
+fn name_value(
+    row: &[u8],
+    right: bool,
+    rank: u8,
+    n: u8,
+    atoms: &[u8],
+    items: &[u8],
+    counts: &mut [u8],
+    numbers: &mut [u8],
+)
+    requires { ⌜ Few 254 ((nameCodes (tableIn (now row)) (record { counts = now counts; numbers = now numbers })
+        (valueWith (now row) right (now atoms) (now items) rank n)) .counts) ⌝ }
+    ensures { λ _. ⌜ now (counts .exit) ≡
+        (nameCodes (tableIn (now (row .entry))) (record { counts = now (counts .entry); numbers = now (numbers .entry) })
+        (valueWith (now (row .entry)) right (now (atoms .entry)) (now (items .entry)) rank n)) .counts ⌝ }
+    ensures { λ _. ⌜ now (numbers .exit) ≡
+        (nameCodes (tableIn (now (row .entry))) (record { counts = now (counts .entry); numbers = now (numbers .entry) })
+        (valueWith (now (row .entry)) right (now (atoms .entry)) (now (items .entry)) rank n)) .numbers ⌝ }
+{
+    if rank < 3 {
+        let x = atom_of(row, right, rank, n, atoms);
+        name_item(row, x, counts, numbers);
+        return;
+    }
+    name_items(row, items, counts, numbers);
+}
+
+// Those of the variables of one type that the rule has, in the order of their numbers.
+fn name_rank(
+    row: &[u8],
+    right: bool,
+    rank: u8,
+    atoms: &[u8],
+    items: &[u8],
+    counts: &mut [u8],
+    numbers: &mut [u8],
+)
+    requires { ⌜ Few 254 ((nameFields (tableIn (now row)) (record { counts = now counts; numbers = now numbers })
+        (listedRank (now row) right (now atoms) (now items) rank)) .counts) ⌝ }
+    ensures { λ _. ⌜ now (counts .exit) ≡
+        (nameFields (tableIn (now (row .entry))) (record { counts = now (counts .entry); numbers = now (numbers .entry) })
+        (listedRank (now (row .entry)) right (now (atoms .entry)) (now (items .entry)) rank)) .counts ⌝ }
+    ensures { λ _. ⌜ now (numbers .exit) ≡
+        (nameFields (tableIn (now (row .entry))) (record { counts = now (counts .entry); numbers = now (numbers .entry) })
+        (listedRank (now (row .entry)) right (now (atoms .entry)) (now (items .entry)) rank)) .numbers ⌝ }
+{
+    let top = pair_row::top_at(row, right, rank);
+    let mut n: u8 = 0;
+    while n < top {
+        if pair_row::index_at(row, right, rank, n) != 0 {
+            name_value(row, right, rank, n, atoms, items, counts, numbers);
+        }
+        n += 1;
+    }
+}
+
+// Those of all variables of the rule, type by type: in the order in which the line has their values.
+fn name_values(
+    row: &[u8],
+    right: bool,
+    atoms: &[u8],
+    items: &[u8],
+    counts: &mut [u8],
+    numbers: &mut [u8],
+)
+    requires { ⌜ Few 254 ((nameFields (tableIn (now row)) (record { counts = now counts; numbers = now numbers })
+        (listedIn (now row) right (now atoms) (now items))) .counts) ⌝ }
+    ensures { λ _. ⌜ now (counts .exit) ≡
+        (nameFields (tableIn (now (row .entry))) (record { counts = now (counts .entry); numbers = now (numbers .entry) })
+        (listedIn (now (row .entry)) right (now (atoms .entry)) (now (items .entry)))) .counts ⌝ }
+    ensures { λ _. ⌜ now (numbers .exit) ≡
+        (nameFields (tableIn (now (row .entry))) (record { counts = now (counts .entry); numbers = now (numbers .entry) })
+        (listedIn (now (row .entry)) right (now (atoms .entry)) (now (items .entry)))) .numbers ⌝ }
+{
+    let mut k: u8 = 0;
+    while k < 4 {
+        name_rank(row, right, k, atoms, items, counts, numbers);
+        k += 1;
+    }
+}
+
+// Where the runs of 16 list variables stand that are the first n items each.
+fn whole_runs(n: u8) -> [u8; 32]
+    ensures { λ r. ⌜ r ≡ wholeRuns n ⌝ }
+{
+    [
+        0,
+        n,
+        0,
+        n,
+        0,
+        n,
+        0,
+        n,
+        0,
+        n,
+        0,
+        n,
+        0,
+        n,
+        0,
+        n,
+        0,
+        n,
+        0,
+        n,
+        0,
+        n,
+        0,
+        n,
+        0,
+        n,
+        0,
+        n,
+        0,
+        n,
+        0,
+        n,
+    ]
+}
+
+// The line of an answer: the values of the left rule's variables, then of the right one's, by what the atoms stand for and the items that
+// the list variables of each side stand for; and its size. Values of more than 31 items have no line.
+pub fn put_answer(
+    row: &[u8],
+    texts: &[u8],
+    atoms: &[u8],
+    left: &[u8],
+    right: &[u8],
+    out: &mut [u8],
+) -> usize
+    ensures { λ r. ⌜ Puts (answerIn (now (row .entry)) (now (texts .entry)) (now (atoms .entry)) (now (left .entry)) (now (right .entry))) 0
+        (now (out .entry)) r (now (out .exit)) ⌝ }
+    ensures { λ r. ⌜ r ≤ lineBound ⌝ }
+{
+    if !numbers_few(row) {
+        return 0;
+    }
+    if !value_fits(left) {
+        return 0;
+    }
+    if !value_fits(right) {
+        return 0;
+    }
+    let mut counts = [0u8; 4];
+    let mut numbers = [0u8; 160];
+    name_values(row, false, atoms, left, &mut counts, &mut numbers);
+    name_values(row, true, atoms, right, &mut counts, &mut numbers);
+    let runs = whole_runs(left.len() as u8);
+    let p = put_values(
+        row,
+        texts,
+        false,
+        false,
+        atoms,
+        left,
+        &runs,
+        &numbers,
+        out,
+        0,
+    );
+    let right_runs = whole_runs(right.len() as u8);
+    let q = put_values(
+        row,
+        texts,
+        false,
+        true,
+        atoms,
+        right,
+        &right_runs,
+        &numbers,
+        out,
+        p,
+    );
+    put_byte(b'\n', out, q)
 }

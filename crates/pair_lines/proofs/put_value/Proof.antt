@@ -1,55 +1,34 @@
 -- `pair_lines::put_value` meets its contract: an item, or a run of the row. Assumes nothing.
 use mathlib.Core.Path.{_≡_, ap, ap₂, _∙_}
-use mathlib.Core.Logic.{⊎-elim}
 use mathlib.Core.List.{List}
 use Prim.Native.Nat.{ℕ, _+_, _-_, _*_, min}
 use native.Mathlib.Omega.{arith}
 use lib.ListN.{length, getD, take, drop}
 use borrow.Author.Needs.{needs}
 use Rattle.math_codes.specs.Lines.{itemText, itemsText}
-use Rattle.pair_row.specs.Row.{tableIn, textIn, indexIn}
+use Rattle.pair_row.specs.Row.{tableIn, textIn}
 use Rattle.pair_lines.specs.Lines.{runBy, valueIn}
 use Rattle.pair_lines.proofs.Puts.{puts-as}
 use Rattle.pair_lines.proofs.Values.{value-atom, value-run, part-within}
 use Rattle.pair_lines.proofs.put_value.Statement.{statement}
 use Rattle.pair_lines.proofs.put_value.Tie as tie
 
-index-at-requires : tie.Need-index-at-requires
-index-at-requires c κs = search needs
-
-cast-place : tie.Need-cast-place
-cast-place c = search needs
-
-sub-place : tie.Need-sub-place
-sub-place c = search needs
-
-byte-at-requires : tie.Need-byte-at-requires
-byte-at-requires c κs = search needs
-
--- the atom's place
-place : (c : tie.Joined2)
-    → let z = c .before .before .before .before .before .before .before .before .before .before .args in
-    c .if2 .place ≡ indexIn (z .row .now) (z .right) (16 * z .rank + z .n) - 1
-place c =
-    let e = c .before .index-at .ensures in
-    ⊎-elim (λ w. omega (arith, e, w .0 .taken, w .1)) (λ w. omega (arith, e, w .0 .left, w .1)) (c .if2 .came)
+atom-of-requires : tie.Need-atom-of-requires
+atom-of-requires c κs = search needs
 
 -- the item is the value
-atom : (c : tie.After-byte-at)
-    → let z = c .before .before .before .before .before .before .before .before .before .before .before .args in
-    itemText (tableIn (z .row .now)) (textIn (z .row .now) (z .texts .now)) (z .numbers .now) (c .byte-at .result)
+atom : (c : tie.After-atom-of)
+    → let z = c .before .before .before .before .before .before .before .before .before .args in
+    itemText (tableIn (z .row .now)) (textIn (z .row .now) (z .texts .now)) (z .numbers .now) (c .atom-of .result)
     ≡ itemsText (tableIn (z .row .now)) (textIn (z .row .now) (z .texts .now)) (z .numbers .now)
     (valueIn (z .row .now) (z .right) (z .atoms .now) (runBy (z .runs .now) (z .items .now)) (z .rank) (z .n))
 atom c =
-    let c3 = c .before .before .before in
-    let z = c3 .before .before .before .before .before .before .before .before .args in
+    let z = c .before .before .before .before .before .before .before .before .before .args in
     value-atom (z .row .now) (z .right) (z .atoms .now) (runBy (z .runs .now) (z .items .now)) (z .rank) (z .n) (z .texts .now) (z .numbers .now)
-    (c .byte-at .result) (c3 .if1 .taken) (c .byte-at .ensures ∙ ap (λ (p : ℕ). getD (z .atoms .now) p 0) (place (c .before)))
+    (c .atom-of .result) (c .before .if1 .taken) (c .atom-of .ensures)
 
 put-item-requires : tie.Need-put-item-requires
-put-item-requires c κs =
-    let c12 = c .before .before .before .before .before .before .before .before .before .before .before .before in
-    omega (arith, c12 .pre, ap length (atom (c .before)))
+put-item-requires c κs = let c10 = c .before .before .before .before .before .before .before .before .before .before in omega (arith, c10 .pre, ap length (atom (c .before)))
 
 same-length : tie.Need-same-length
 same-length c = search needs
@@ -57,7 +36,7 @@ same-length c = search needs
 returns : tie.Need-returns
 returns c =
     let c4 = c .before .before .before .before in
-    let z = c4 .before .before .before .before .before .before .before .before .before .before .before .args in
+    let z = c4 .before .before .before .before .before .before .before .before .before .args in
     puts-as (z .at) (z .out .now) (atom (c4)) (c .before .before .put-item .ensures)
 
 mul-k : tie.Need-mul-k
@@ -66,8 +45,8 @@ mul-k c = search needs
 add-byte-at : tie.Need-add-byte-at
 add-byte-at c = search needs
 
-byte-at-requires-2 : tie.Need-byte-at-requires-2
-byte-at-requires-2 c κs = search needs
+byte-at-requires : tie.Need-byte-at-requires
+byte-at-requires c κs = search needs
 
 cast-least : tie.Need-cast-least
 cast-least c = search needs
@@ -75,8 +54,8 @@ cast-least c = search needs
 least-requires : tie.Need-least-requires
 least-requires c κs = search needs
 
-byte-at-requires-3 : tie.Need-byte-at-requires-3
-byte-at-requires-3 c κs = search needs
+byte-at-requires-2 : tie.Need-byte-at-requires-2
+byte-at-requires-2 c κs = search needs
 
 cast-least-2 : tie.Need-cast-least-2
 cast-least-2 c = search needs
@@ -105,8 +84,8 @@ run c =
     let a = getD (z .runs .now) (2 * z .n) 0 in
     let b = getD (z .runs .now) (2 * z .n + 1) 0 in
     let T = c .before .before .least in
-    let t : T .result ≡ min b (length l) = T .ensures ∙ ap (λ (x : ℕ). min x (length l)) (c .before .before .before .byte-at2 .ensures) in
-    let f : c .least2 .result ≡ min a (min b (length l)) = c .least2 .ensures ∙ ap₂ min (c .before .byte-at3 .ensures) t in
+    let t : T .result ≡ min b (length l) = T .ensures ∙ ap (λ (x : ℕ). min x (length l)) (c .before .before .before .byte-at .ensures) in
+    let f : c .least2 .result ≡ min a (min b (length l)) = c .least2 .ensures ∙ ap₂ min (c .before .byte-at2 .ensures) t in
     ap₂ (λ (x y : ℕ). take (x - y) (drop y l)) t f
     ∙ part-within l a b
     ∙ value-run (z .row .now) (z .right) (z .atoms .now) (runBy (z .runs .now) l) (z .rank) (z .n) (c4 .if1 .left)
@@ -134,19 +113,16 @@ pub put-value-spec : {M : Type 1} → statement M
 put-value-spec =
     tie.close
     (tie.spec
-    index-at-requires
-    cast-place
-    sub-place
-    byte-at-requires
+    atom-of-requires
     put-item-requires
     same-length
     returns
     mul-k
     add-byte-at
-    byte-at-requires-2
+    byte-at-requires
     cast-least
     least-requires
-    byte-at-requires-3
+    byte-at-requires-2
     cast-least-2
     least-requires-2
     sub-put-run
