@@ -2,19 +2,24 @@
 --     place-fits, line-part    an answer's line in the part of the output that is lent to the line writer
 --     noted, not-noted         what an answer leaves in the output, and what is none
 --     turn-is                  a turn where a line's size counts only for an answer
-use mathlib.Core.Path.{_≡_, refl, sym, _∙_, ap}
+use mathlib.Core.Path.{_≡_, refl, sym, _∙_, ap, subst₂}
 use mathlib.Core.Bool.{Bool, true, false, not, cond}
 use mathlib.Core.List.{List, _++_}
 use Prim.Native.Nat.{ℕ, _-_, _≤_, min}
 use native.Mathlib.Omega.{arith}
 use lib.Dec.{eqb}
-use lib.ListN.{length, take, drop}
+use lib.ListN.{length, getD, take, drop}
 use lib.Seq.{sets}
 use Rattle.search_problems.specs.declared.Problem.{Problem}
 use Rattle.search_problems.specs.Values.{blankProblem}
 use Rattle.pieces.specs.Stored.{storeLine}
 use Rattle.pieces.proofs.Stored.{store-part, store-end}
+use Rattle.math_codes.proofs.Tables.{entry-any}
 use Rattle.pair_row.specs.Row.{tableIn}
+use Rattle.pair_lines.specs.Lines.{Puts}
+use Rattle.pair_lines.specs.Answers.{answerIn}
+use Rattle.search_items.specs.declared.Items.{Items}
+use Rattle.search_items.specs.Items.{itemsOf, blankItems}
 use Rattle.turns.specs.declared.State.{State}
 use Rattle.turns.specs.declared.Turn.{Turn}
 use Rattle.turns.specs.Turns.{trying, nextPlace, aim, plus, firstRule, stopped, ruleTurn, decided}
@@ -37,6 +42,23 @@ module _ (l old : List ℕ) (k at : ℕ) {m : List ℕ} (e : m ≡ sets (take (l
 pub line-part : (s : State) (l old : List ℕ) (at : ℕ) {m : List ℕ} → at ≡ linePlace s (length old) → m ≡ sets (take (length old - at) (drop at old)) 0 l
     → take at old ++ (m ++ drop (length old - at) (drop at old)) ≡ cond (s .writing) (storeLine l (s .bytes) old) old
 line-part s l old at a e = part-by l old (s .bytes) at e (s .writing) a
+
+-- ---- an answer's line
+
+-- by the items that the list values are
+pub put-as : (row texts atoms out : List ℕ) {l l′ r r′ : List ℕ} {n : ℕ} {o : List ℕ} → l ≡ l′ → r ≡ r′ → Puts (answerIn row texts atoms l r) 0 out n o
+    → Puts (answerIn row texts atoms l′ r′) 0 out n o
+put-as row texts atoms out {n = n} {o = o} e d h = subst₂ (λ (l r : List ℕ). Puts (answerIn row texts atoms l r) 0 out n o) e d h
+
+-- of a record, whose two list values stand in an array
+pub line-by : (s : State) (p : Problem) (out : List ℕ) {n : ℕ} {o : List ℕ} (v : Items) → length (p .lists) ≡ 2
+    → Puts (answerIn (s .row) (s .texts) (p .atoms .atoms) (itemsOf (getD (p .lists) 0 v)) (itemsOf (getD (p .lists) 1 v))) 0 out n o
+    → (n ≡ length (lineOf s p)) × (o ≡ sets out 0 (lineOf s p))
+line-by s p out {n} {o} v e h =
+    let a = ap itemsOf (entry-any (p .lists) 0 v blankItems (omega (arith, e))) in
+    let b = ap itemsOf (entry-any (p .lists) 1 v blankItems (omega (arith, e))) in
+    let k = put-as (s .row) (s .texts) (p .atoms .atoms) out {n = n} {o = o} a b h in
+    (omega (arith, k .0), k .1)
 
 -- ---- an answer's line, where there is an answer
 

@@ -3,7 +3,11 @@ ghost use mathlib.Core.Path.{_≡_};
 ghost use mathlib.Core.Bool.{cond};
 ghost use lib.ListN.{length};
 ghost use Rattle.pieces.specs.Stored.{storeLine};
+ghost use Rattle.pair_lines.specs.Lines.{Puts};
+ghost use Rattle.pair_lines.specs.Answers.{answerIn};
+ghost use Rattle.search_items.specs.Items.{itemsOf};
 ghost use Rattle.queue.specs.Machine.{answers, lineOf, linePlace, moved, wrote};
+use search_items::Items;
 use search_problems::Problem;
 use turns::State;
 use turns::Turn;
@@ -33,22 +37,36 @@ fn line_place(s: State, room: usize) -> usize
     room
 }
 
+// The line of the atoms' state and of what the two list variables stand for, as far as there is room, and its size.
+fn put_values<'a>(
+    row: &'a [u8],
+    texts: &'a [u8],
+    st: pair_state::State,
+    l: Items,
+    r: Items,
+    out: &mut [u8],
+) -> usize
+    ensures { λ n. ⌜ Puts (answerIn (now (row .entry)) (now (texts .entry)) (st .atoms) (itemsOf l) (itemsOf r)) 0 (now (out .entry)) n
+        (now (out .exit)) ⌝ }
+{
+    let n = search_items::used(l);
+    let m = search_items::used(r);
+    let atoms = st.atoms;
+    let left = l.codes;
+    let right = r.codes;
+    pair_lines::put_answer(row, texts, &atoms, &left[..n], &right[..m], out)
+}
+
 // Puts an answer's line into the output, and returns its size.
 fn put_line(s: State, p: Problem, out: &mut [u8]) -> usize
     ensures { λ n. ⌜ n ≡ length (lineOf s p) ⌝ }
     ensures { λ _. ⌜ now (out .exit) ≡ cond (s .writing) (storeLine (lineOf s p) (s .bytes) (now (out .entry))) (now (out .entry)) ⌝ }
 {
     let at = line_place(s, out.len());
-    let row = s.row;
-    let texts = s.texts;
-    let atoms = p.atoms.atoms;
+    let st = p.atoms;
     let l = p.lists[0];
     let r = p.lists[1];
-    let n = search_items::used(l);
-    let m = search_items::used(r);
-    let left = l.codes;
-    let right = r.codes;
-    pair_lines::put_answer(&row, &texts, &atoms, &left[..n], &right[..m], &mut out[at..])
+    put_values(&s.row, &s.texts, st, l, r, &mut out[at..])
 }
 
 // The same, where there is an answer; no bytes where there is none.

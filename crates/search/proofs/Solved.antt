@@ -104,8 +104,12 @@ module _ (f g : List OurTerm) (is-f : IsLeft (f ∷ [])) (is-g : IsLeft (g ∷ [
       let b = h 1 (lit< tt) in
       let c = h 2 (lit< tt) in
       let e = h 3 (lit< tt) in
-      rw (le-leb (topIn row d 0) 16 (omega (arith, a)), le-leb (topIn row d 1) 16 (omega (arith, b)), le-leb (topIn row d 2) 16 (omega (arith, c)),
-      le-leb (topIn row d 3) 16 (omega (arith, e)))
+      rw (
+        le-leb (topIn row d 0) 16 (omega (arith, a)),
+        le-leb (topIn row d 1) 16 (omega (arith, b)),
+        le-leb (topIn row d 2) 16 (omega (arith, c)),
+        le-leb (topIn row d 3) 16 (omega (arith, e)),
+      )
 
   are-items : (ts : Field setting) → All (On (ourRow (f ∷ []) (g ∷ []))) ts → areItems (codesOf (ourRow (f ∷ []) (g ∷ [])) ts) ≡ true
   are-items [] h = refl

@@ -1,10 +1,11 @@
 -- The value of a list of codes: its places, and that the codes in use are the list. Assumes nothing.
 use mathlib.Core.Path.{_≡_, refl, sym, ap, ap₂, _∙_}
 use mathlib.Core.List.{List, [], _∷_, _++_, foldl, append-nil, append-assoc}
-use Prim.Native.Nat.{ℕ, suc, _+_, _-_, _<_, _≤_}
+use Prim.Native.Nat.{ℕ, suc, _+_, _-_, _<_, _≤_, min}
 use native.Mathlib.Omega.{arith}
+use native.Mathlib.Decide.{decLe}
 use lib.ListN.{length, set, take, drop, replicate, length-append, length-take, length-drop}
-use lib.Seq.{set-append-seam, take-at}
+use lib.Seq.{set-append-seam, take-at, take-all}
 use borrow.Author.Tests.{lt-leb}
 use Rattle.search_items.specs.declared.Items.{Items}
 use Rattle.search_items.specs.Items.{mostItems, itemsOf, pushed, collect}
@@ -53,3 +54,11 @@ items-few w e = omega (arith, length-take (w .n) (w .codes))
 
 pub items-rest : (w : Items) → length (w .codes) ≡ mostItems → itemsOf (collect (drop 1 (itemsOf w))) ≡ drop 1 (itemsOf w)
 items-rest w e = items-collect (drop 1 (itemsOf w)) (omega (arith, items-few w e, length-drop 1 (itemsOf w)))
+
+-- as many as code takes for used
+pub used-items : (w : Items) → length (w .codes) ≡ mostItems → take (min (w .n) mostItems) (w .codes) ≡ itemsOf w
+used-items w e = go (decLe (w .n) mostItems)
+  where
+    go : Dec (w .n ≤ mostItems) → take (min (w .n) mostItems) (w .codes) ≡ take (w .n) (w .codes)
+    go (yes h) = ap (λ (k : ℕ). take k (w .codes)) (let q : min (w .n) mostItems ≡ w .n = omega arith in q)
+    go (no h) = take-all (min (w .n) mostItems) (w .codes) (omega (arith, e)) ∙ sym (take-all (w .n) (w .codes) (omega (arith, e)))

@@ -1,54 +1,68 @@
 -- `queue::put_line` meets its contract. Assumes nothing.
-use Prim.Native.Nat.{_≤_}
+use mathlib.Core.Path.{_≡_}
+use Prim.Native.Nat.{_-_, _≤_}
 use native.Mathlib.Omega.{arith}
-use lib.ListN.{length}
+use lib.ListN.{length, take, drop}
+use Rattle.lists.specs.Seqs.{long-mapped}
 use borrow.Author.Needs.{needs}
 use Rattle.queue.specs.Machine.{lineOf}
-use Rattle.queue.proofs.Turns.{place-fits, line-part}
+use Rattle.queue.proofs.Turns.{place-fits, line-part, line-by}
 use Rattle.queue.proofs.put_line.Statement.{statement}
 use Rattle.queue.proofs.put_line.Tie as tie
 
 line-place-requires : tie.Need-line-place-requires
 line-place-requires c κs = search needs
 
-sub-put-answer : tie.Need-sub-put-answer
-sub-put-answer c =
-    let z = c .before .before .before .before .args in
-    let a = c .before .before .line-place in
-    let h : a .result ≤ length (z .out .now) = omega (arith, a .ensures, place-fits (z .s) (length (z .out .now))) in
+element-copy-out-l : tie.Need-element-copy-out-l
+element-copy-out-l c = search needs
+
+element-copy-out-r : tie.Need-element-copy-out-r
+element-copy-out-r c = search needs
+
+sub-put-values : tie.Need-sub-put-values
+sub-put-values c =
+    let z = c .before .before .before .before .before .before .before .before .before .before .args in
+    let a = c .before .before .before .before .before .before .before .before .line-place in
+    let h : a .result ≤ length (z .out .now) = omega (arith, a .ensures, place-fits (z .t1) (length (z .out .now))) in
     h
 
-part-put-answer-start : tie.Need-part-put-answer-start
-part-put-answer-start c =
-    let z = c .before .before .before .before .args in
-    let a = c .before .before .line-place in
-    let h : a .result ≤ length (z .out .now) = omega (arith, a .ensures, place-fits (z .s) (length (z .out .now))) in
+part-put-values-start : tie.Need-part-put-values-start
+part-put-values-start c =
+    let z = c .before .before .before .before .before .before .before .before .before .before .args in
+    let a = c .before .before .before .before .before .before .before .before .line-place in
+    let h : a .result ≤ length (z .out .now) = omega (arith, a .ensures, place-fits (z .t1) (length (z .out .now))) in
     search needs
 
-part-put-answer-end : tie.Need-part-put-answer-end
-part-put-answer-end c = search needs
+part-put-values-end : tie.Need-part-put-values-end
+part-put-values-end c = search needs
 
-put-answer-requires : tie.Need-put-answer-requires
-put-answer-requires c κs = search needs
+put-values-requires : tie.Need-put-values-requires
+put-values-requires c κs = search needs
 
 same-length : tie.Need-same-length
 same-length c = search needs
 
 returns : tie.Need-returns
 returns c =
-    let z = c .before .before .before .before .before .before .before .before .args in
-    let a = c .before .before .before .before .before .before .line-place in
-    let n = c .before .before .put-answer in
-    (n .ensures .0 .0, line-part (z .s) (lineOf (z .s) (z .p)) (z .out .now) (a .result) (a .ensures) (n .ensures .0 .1))
+    let b = c .before .before .before .before .before .before .before .before .before .before .before .before in
+    let z = b .before .before .args in
+    let a = b .line-place in
+    let n = c .before .before .put-values in
+    let known = b .before .before .good .1 .0 .1 .1 .1 .1 .1 .1 .0 .1 .0 in
+    let e : length (z .t2 .lists) ≡ 2 = search (long-mapped, known) in
+    let k = line-by (z .t1) (z .t2) (take (length (z .out .now) - a .result) (drop (a .result) (z .out .now))) _ e (n .ensures) in
+    (k .0, line-part (z .t1) (lineOf (z .t1) (z .t2)) (z .out .now) (a .result) (a .ensures) (k .1))
 
 pub put-line-spec : {M : Type 1} → statement M
 put-line-spec =
     tie.close
     (tie.spec
     line-place-requires
-    sub-put-answer
-    part-put-answer-start
-    part-put-answer-end
-    put-answer-requires
+    element-copy-out-l
+    element-copy-out-r
+    sub-put-values
+    part-put-values-start
+    part-put-values-end
+    put-values-requires
     same-length
     returns)

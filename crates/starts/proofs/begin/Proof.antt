@@ -27,8 +27,14 @@ choose-bool-requires-2 c κs = search needs
 returns : tie.Need-returns
 returns c =
     let d = c .before .before .before .before .before .before in
-    rw (c .choose-bool2 .ensures, c .before .choose-bool .ensures, c .before .before .root .ensures, d .tables-of .ensures, d .before .second-place .ensures,
-    d .before .before .are-fields .ensures)
+    rw (
+      c .choose-bool2 .ensures,
+      c .before .choose-bool .ensures,
+      c .before .before .root .ensures,
+      d .tables-of .ensures,
+      d .before .second-place .ensures,
+      d .before .before .are-fields .ensures,
+    )
 
 pub begin-spec : {M : Type 1} → statement M
 begin-spec =
