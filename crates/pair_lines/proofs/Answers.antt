@@ -1,28 +1,22 @@
 -- The values of an answer: their items get few numbers, the text of the line, and its size. Assumes nothing.
-use mathlib.Core.Path.{_≡_, refl, sym, ap, ap₂, _∙_, subst}
-use mathlib.Core.Logic.{_⊎_, inl, inr}
+use mathlib.Core.Path.{_≡_, refl, sym, ap, ap₂, _∙_}
 use mathlib.Core.Bool.{Bool, true, false, cond, _&&_}
-use mathlib.Core.List.{List, [], _∷_, _++_, append-assoc, foldl-append}
-use Prim.Native.Nat.{ℕ, zero, suc, _+_, _-_, _*_, _≤_, _<_}
+use mathlib.Core.List.{List, [], _∷_, _++_, foldl-append}
+use Prim.Native.Nat.{ℕ, suc, _+_, _-_, _*_, _≤_, _<_}
 use native.Mathlib.Omega.{arith}
 use native.Mathlib.Decide.{ℕ-discrete, decLt}
 use lib.Dec.{eqb, ltb}
-use lib.ListN.{length, getD, set, take, drop, length-append, length-drop, take-append-drop, length-replicate, drop-of-length-le}
-use lib.Seq.{getD-set-same, getD-set-other, set-out, take-suc, drop-cons, slice, take-all}
-use borrow.Author.Tests.{lt-ltb, le-ltb, lt-leb, le-leb, ltb-true, leb-true, eq-eqb, ne-eqb}
-use Rattle.lists.specs.Truths.{both-is}
-use Rattle.lists.specs.Seqs.{All, all-map, all-append, tabulate-at}
+use lib.ListN.{length, getD, set, take, drop, take-append-drop, drop-of-length-le}
+use lib.Seq.{getD-set-same, getD-set-other, set-out, take-suc, drop-cons, take-all}
+use borrow.Author.Tests.{lt-ltb, le-ltb, lt-leb, le-leb}
 use Rattle.theory.specs.Seqs.{concat-map}
 use Rattle.unifiers.specs.Candidates.{range}
 use Rattle.math_codes.specs.Tables.{Table}
-use Rattle.math_codes.specs.Names.{Names, noNames, counted, nameCode, nameCodes, nameFields}
+use Rattle.math_codes.specs.Names.{Names, counted, nameCode, nameCodes, nameFields}
 use Rattle.math_codes.specs.Lines.{pairItems}
-use Rattle.math_codes.specs.Index.{hasAt}
-use Rattle.math_codes.proofs.Makers.{AtMost, at-most, itemCount, names-few}
-use Rattle.pair_row.specs.Row.{tableIn, indexIn, topIn}
+use Rattle.pair_row.specs.Row.{indexIn}
 use Rattle.pair_lines.specs.Lines.{Few}
-use Rattle.pair_lines.specs.Answers.{areItems, valueFits, wholeRuns, valueWith, listedAt, listedRank, listedIn}
-use Rattle.pair_lines.proofs.Naming.{name-long}
+use Rattle.pair_lines.specs.Answers.{areItems, valueFits, valueWith, listedAt}
 use Rattle.pair_lines.proofs.Values.{there, texts-one, texts-split}
 
 -- ---- names in hand, as two rows of bytes

@@ -71,7 +71,8 @@ module _ (row texts : List ℕ) (n : ℕ) (c : Choice) (atoms : List ℕ) where
       → valuesIn row texts numbers right atoms (runBy runs items)
       ≡ valuesIn row texts numbers right atoms (runOn (spotsIn row right n) (itemsIn row n c atoms))
   values-laid numbers right runs items e f ok few =
-      values-agree row texts numbers right atoms (tops-few row right few 3 (omega arith)) (runBy runs items) (runOn (spotsIn row right n) (itemsIn row n c atoms))
+      values-agree row texts numbers right atoms (tops-few row right few 3 (omega arith)) (runBy runs items)
+      (runOn (spotsIn row right n) (itemsIn row n c atoms))
       (λ l h. ap₂ (λ (a b : List ℕ). runBy a b l) e f ∙ run-is row right n l c atoms ok h)
 
   -- by the items, the numbers that they got, and the runs of both rules

@@ -21,7 +21,7 @@ use Rattle.math_codes.specs.Entries.{atomOf}
 use Rattle.math_codes.specs.Lines.{ourVars, OurAtom}
 use Rattle.math_codes.proofs.Tables.{code-found}
 use Rattle.pair_row.specs.Row.{kindsAt, variablesAt, shapesAt, indexesAt, topsAt, rowBytes, isSet}
-use Rattle.pair_table.specs.Notes.{sideOf, classed, indexed, topped}
+use Rattle.pair_table.specs.Notes.{classed, indexed, topped}
 use Rattle.pair_table.proofs.PairsRow.{classed-long, classed-other, classed-kind, classed-variable, indexed-long, indexed-other}
 use Rattle.pair_table.proofs.PairsRow.{first-index, first-code, again-index, again-code, topped-long, topped-other, topped-at}
 use Rattle.pair_table.proofs.PairsNotes.{pick, Same, code, Codes, Here, here-from, codes-keep, codes-next, Among, Members, members-keep}

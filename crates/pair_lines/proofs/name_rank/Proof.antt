@@ -2,12 +2,12 @@
 use mathlib.Core.Path.{_≡_, refl, sym, ap, _∙_, subst}
 use mathlib.Core.Logic.{⊎-elim}
 use mathlib.Core.List.{List, [], _∷_}
-use Prim.Native.Nat.{ℕ, _+_, _-_, _*_, _≤_}
+use Prim.Native.Nat.{ℕ, _-_, _≤_}
 use native.Mathlib.Omega.{arith}
 use lib.ListN.{length}
 use borrow.Author.Needs.{needs}
-use Rattle.math_codes.specs.Names.{Names, nameFields}
-use Rattle.pair_row.specs.Row.{tableIn, indexIn, topIn}
+use Rattle.math_codes.specs.Names.{nameFields}
+use Rattle.pair_row.specs.Row.{tableIn, topIn}
 use Rattle.pair_lines.specs.Lines.{Few}
 use Rattle.pair_lines.specs.Answers.{valueWith, listedAt, listedRank}
 use Rattle.pair_lines.proofs.Loops.{all-named}
@@ -79,7 +79,8 @@ turn c =
     (λ w. gives-as (nameFields T x (v ∷ [])) (nameFields T x (f (L .n))) (c .if1 .counts) (c .if1 .numbers)
     (ap (nameFields T x) (there (c .before) (w .0 .taken))) (w .8 ∙ w .3 .ensures .0, w .9 ∙ w .3 .ensures .1))
     (λ w. gives-as x (nameFields T x (f (L .n))) (c .if1 .counts) (c .if1 .numbers)
-    (ap (nameFields T x) (listed-not (z .row .now) (z .right) (z .atoms .now) (z .items .now) (z .rank) (L .n) (sym (c .before .index-at .ensures) ∙ w .0 .left)))
+    (ap (nameFields T x) (listed-not (z .row .now) (z .right) (z .atoms .now) (z .items .now) (z .rank) (L .n)
+    (sym (c .before .index-at .ensures) ∙ w .0 .left)))
     (w .1, w .2))
     (c .if1 .came)
 

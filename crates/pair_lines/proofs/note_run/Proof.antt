@@ -1,9 +1,7 @@
 -- `pair_lines::note_run` meets its contract. Assumes nothing.
-use mathlib.Core.Path.{_≡_, ap}
 use native.Mathlib.Omega.{arith}
 use borrow.Author.Needs.{needs}
 use borrow.Author.Tests.{not-true, not-false}
-use Rattle.pair_lines.specs.declared.Run.{Run}
 use Rattle.pair_lines.proofs.Laying.{Within, run-within}
 use Rattle.pair_lines.proofs.note_run.Statement.{statement}
 use Rattle.pair_lines.proofs.note_run.Tie as tie

@@ -1,5 +1,4 @@
 -- `pair_lines::numbers_few` meets its contract. Assumes nothing.
-use mathlib.Core.Path.{_≡_}
 use borrow.Author.Needs.{needs}
 use borrow.Author.Tests.{not-true, not-false}
 use Rattle.pair_lines.proofs.numbers_few.Statement.{statement}

@@ -68,7 +68,9 @@ returns-3 c =
     )
 
 -- and so does the right ones'
-right-fits : (c : tie.Else3) → valueFits (c .before .before .before .before .before .before .before .before .before .before .before .before .args .right .now) ≡ true
+right-fits : (c : tie.Else3)
+    → let z = c .before .before .before .before .before .before .before .before .before .before .before .before .args in
+    valueFits (z .right .now) ≡ true
 right-fits c = let a = c .before .value-fits2 in sym (a .ensures) ∙ not-false (a .result) (c .if3 .left)
 
 slice-aggregate-name-values : tie.Need-slice-aggregate-name-values
@@ -118,7 +120,8 @@ slice-aggregate-put-values-2 c = search needs
 -- the parts are small together
 small : (c : tie.After-whole-runs)
     → let c3 = c .before .before .before in
-    let z = c3 .before .before .before .before .before .before .before .before .before .before .before .before .before .before .before .before .before .before .before .before .args in
+    let y = c3 .before .before .before .before .before .before .before .before .before .before in
+    let z = y .before .before .before .before .before .before .before .before .before .before .args in
     let ns = c3 .name-values2 .last .1 .1 .1 .1 .1 .0 in
     length (valuesIn (z .row .now) (z .texts .now) ns false (z .atoms .now) (runBy (c .whole-runs .result) (z .left .now)))
     + (length (valuesIn (z .row .now) (z .texts .now) ns true (z .atoms .now) (runBy (wholeRuns (length (z .right .now))) (z .right .now))) + 1)
@@ -130,7 +133,8 @@ small c =
     let z = c15 .before .before .before .before .before .before .before .before .args in
     let N = c3 .before .before .before .before .before .name-values in
     let M = c3 .name-values2 in
-    let byte : (i : ℕ) → getD (z .texts .now) i 0 < 256 = λ i. omega (arith, c15 .before .before .before .before .before .before .shared-slice-known2 .given i) in
+    let known = c15 .before .before .before .before .before .before in
+    let byte : (i : ℕ) → getD (z .texts .now) i 0 < 256 = λ i. omega (arith, known .shared-slice-known2 .given i) in
     let numbered = both-named (z .row .now) (z .texts .now) (z .atoms .now) (z .left .now) (z .right .now) (N .last .1 .1 .1 .1 .0)
     (N .last .1 .1 .1 .1 .1 .0) (M .last .1 .1 .1 .1 .0) (M .last .1 .1 .1 .1 .1 .0) (N .ensures .0, N .ensures .1) (M .ensures .0, M .ensures .1) in
     answer-short (z .row .now) (z .texts .now) (z .atoms .now) (z .left .now) (z .right .now) (few (c15)) (left-fits (c11 .before .before)) (right-fits (c11))
@@ -158,25 +162,30 @@ slice-aggregate-put-values-4 c = search needs
 -- the right values are as long by the runs in hand
 right-long : (c : tie.After-whole-runs2)
     → let c10 = c .before .before .before .before .before .before .before .before .before .before in
-    let z = c10 .before .before .before .before .before .before .before .before .before .before .before .before .before .before .before .before .before .before .before .before .args in
+    let y = c10 .before .before .before .before .before .before .before .before .before .before in
+    let z = y .before .before .before .before .before .before .before .before .before .before .args in
     let ns = c10 .name-values2 .last .1 .1 .1 .1 .1 .0 in
     length (valuesIn (z .row .now) (z .texts .now) ns true (z .atoms .now) (runBy (c .whole-runs2 .result) (z .right .now)))
     ≡ length (valuesIn (z .row .now) (z .texts .now) ns true (z .atoms .now) (runBy (wholeRuns (length (z .right .now))) (z .right .now)))
 right-long c =
     let c10 = c .before .before .before .before .before .before .before .before .before .before in
-    let z = c10 .before .before .before .before .before .before .before .before .before .before .before .before .before .before .before .before .before .before .before .before .args in
+    let y = c10 .before .before .before .before .before .before .before .before .before .before in
+    let z = y .before .before .before .before .before .before .before .before .before .before .args in
     let ns = c10 .name-values2 .last .1 .1 .1 .1 .1 .0 in
     ap (λ (r : List ℕ). length (valuesIn (z .row .now) (z .texts .now) ns true (z .atoms .now) (runBy r (z .right .now)))) (c .whole-runs2 .ensures)
 
 -- where the left values end
 left-end : (c : tie.After-put-values)
     → let c7 = c .before .before .before .before .before .before .before in
-    let z = c7 .before .before .before .before .before .before .before .before .before .before .before .before .before .before .before .before .before .before .before .before .args in
+    let y = c7 .before .before .before .before .before .before .before .before .before .before in
+    let z = y .before .before .before .before .before .before .before .before .before .before .args in
     let ns = c7 .name-values2 .last .1 .1 .1 .1 .1 .0 in
-    c .put-values .result ≤ length (valuesIn (z .row .now) (z .texts .now) ns false (z .atoms .now) (runBy (c .before .before .before .before .whole-runs .result) (z .left .now)))
+    let runs = c .before .before .before .before .whole-runs .result in
+    c .put-values .result ≤ length (valuesIn (z .row .now) (z .texts .now) ns false (z .atoms .now) (runBy runs (z .left .now)))
 left-end c =
     let c7 = c .before .before .before .before .before .before .before in
-    let z = c7 .before .before .before .before .before .before .before .before .before .before .before .before .before .before .before .before .before .before .before .before .args in
+    let y = c7 .before .before .before .before .before .before .before .before .before .before in
+    let z = y .before .before .before .before .before .before .before .before .before .before .args in
     let ns = c7 .name-values2 .last .1 .1 .1 .1 .1 .0 in
     let l = valuesIn (z .row .now) (z .texts .now) ns false (z .atoms .now) (runBy (c .before .before .before .before .whole-runs .result) (z .left .now)) in
     omega (arith, c .put-values .ensures .0, unled-few false 0 l)
@@ -189,14 +198,16 @@ put-values-requires-2 c κs =
 -- where the right values end
 right-end : (c : tie.After-put-values2)
     → let c14 = c .before .before .before .before .before .before .before .before .before .before .before .before .before .before in
-    let z = c14 .before .before .before .before .before .before .before .before .before .before .before .before .before .before .before .before .before .before .before .before .args in
+    let y = c14 .before .before .before .before .before .before .before .before .before .before in
+    let z = y .before .before .before .before .before .before .before .before .before .before .args in
     let ns = c14 .name-values2 .last .1 .1 .1 .1 .1 .0 in
     c .put-values2 .result
     ≤ c .before .before .before .before .before .before .before .put-values .result
     + length (valuesIn (z .row .now) (z .texts .now) ns true (z .atoms .now) (runBy (c .before .before .before .before .whole-runs2 .result) (z .right .now)))
 right-end c =
     let c14 = c .before .before .before .before .before .before .before .before .before .before .before .before .before .before in
-    let z = c14 .before .before .before .before .before .before .before .before .before .before .before .before .before .before .before .before .before .before .before .before .args in
+    let y = c14 .before .before .before .before .before .before .before .before .before .before in
+    let z = y .before .before .before .before .before .before .before .before .before .before .args in
     let ns = c14 .name-values2 .last .1 .1 .1 .1 .1 .0 in
     let r = valuesIn (z .row .now) (z .texts .now) ns true (z .atoms .now) (runBy (c .before .before .before .before .whole-runs2 .result) (z .right .now)) in
     omega (arith, c .put-values2 .ensures .0, unled-few false (c .before .before .before .before .before .before .before .put-values .result) r)
@@ -232,8 +243,9 @@ returns-4 c =
     let led = values-led (z .row .now) (z .texts .now) ns false (z .atoms .now) (runBy (c17 .whole-runs .result) (z .left .now)) in
     let numbered = both-named (z .row .now) (z .texts .now) (z .atoms .now) (z .left .now) (z .right .now) (N .last .1 .1 .1 .1 .0)
     (N .last .1 .1 .1 .1 .1 .0) (M .last .1 .1 .1 .1 .0) ns (N .ensures .0, N .ensures .1) (M .ensures .0, M .ensures .1) in
-    let text = answer-text (z .row .now) (z .texts .now) (z .atoms .now) (z .left .now) (z .right .now) (few (c32)) (left-fits (c28 .before .before)) (right-fits (c28))
-    ns (c17 .whole-runs .result) (c10 .whole-runs2 .result) numbered (c17 .whole-runs .ensures) (c10 .whole-runs2 .ensures) in
+    let text = answer-text (z .row .now) (z .texts .now) (z .atoms .now) (z .left .now) (z .right .now) (few (c32))
+    (left-fits (c28 .before .before)) (right-fits (c28)) ns (c17 .whole-runs .result) (c10 .whole-runs2 .result) numbered
+    (c17 .whole-runs .ensures) (c10 .whole-runs2 .ensures) in
     let values = unled-next false l r 0 (z .out .now) led (A .ensures) (B .ensures) in (
       puts-as 0 (z .out .now) text (puts-next (unled false 0 (l ++ r)) (10 ∷ []) 0 (z .out .now) values (E .ensures)),
       omega (arith, small (c17), right-long (c10), left-end (c13), right-end (c6), E .ensures .0),

@@ -28,7 +28,9 @@ atom c =
     (c .atom-of .result) (c .before .if1 .taken) (c .atom-of .ensures)
 
 put-item-requires : tie.Need-put-item-requires
-put-item-requires c κs = let c10 = c .before .before .before .before .before .before .before .before .before .before in omega (arith, c10 .pre, ap length (atom (c .before)))
+put-item-requires c κs =
+    let c10 = c .before .before .before .before .before .before .before .before .before .before in
+    omega (arith, c10 .pre, ap length (atom (c .before)))
 
 same-length : tie.Need-same-length
 same-length c = search needs

@@ -1,5 +1,4 @@
 -- `pair_lines::side_few` meets its contract: four tests. Assumes nothing.
-use mathlib.Core.Path.{_≡_, sym}
 use borrow.Author.Needs.{needs}
 use borrow.Author.Tests.{le-leb, lt-leb}
 use Rattle.pair_lines.proofs.side_few.Statement.{statement}
