@@ -1,11 +1,11 @@
 -- The line of an answer: which have none, its text from the parts that are put, and its size. Assumes nothing.
-use mathlib.Core.Path.{_≡_, sym, ap, ap₂, _∙_}
+use mathlib.Core.Path.{_≡_, refl, sym, ap, ap₂, _∙_}
 use mathlib.Core.Bool.{Bool, true, false, cond}
 use mathlib.Core.List.{List, [], _∷_, _++_, foldl-append}
 use Prim.Native.Nat.{ℕ, _+_, _*_, _%_, _≤_, _<_}
 use native.Mathlib.Omega.{arith}
 use lib.Dec.{eqb, leb}
-use lib.ListN.{length, getD, drop, length-replicate}
+use lib.ListN.{length, getD, drop, length-append, length-drop, length-replicate}
 use lib.Seq.{slice, take-all}
 use borrow.Author.Tests.{leb-true, eq-eqb, ne-eqb}
 use Rattle.lists.specs.Truths.{both-is}
@@ -18,7 +18,7 @@ use Rattle.math_codes.proofs.Measures.{values-bounded}
 use Rattle.pair_row.specs.Row.{tableIn, textIn, indexIn, topIn}
 use Rattle.pair_lines.specs.Lines.{Few, sideFew, numbersFew, runBy, markOf, unled, valuesIn, lineBound}
 use Rattle.pair_lines.specs.Answers.{areItems, valueFits, wholeRuns, listedIn, answerIn}
-use Rattle.pair_lines.proofs.Bounds.{tops-few, text-short}
+use Rattle.pair_lines.proofs.Bounds.{tops-few}
 use Rattle.pair_lines.proofs.Loops.{all-named}
 use Rattle.pair_lines.proofs.Values.{values-agree}
 use Rattle.pair_lines.proofs.Answers.{Gives, inHand, in-hand}
@@ -129,7 +129,7 @@ module _ (row texts atoms left right : List ℕ) where
           ∙ rw (few, ok₁, ok₂)
 
       -- its parts are small together
-      module _ (small : (i : ℕ) → getD texts i 0 < 256) where
+      module _ (short : (c : ℕ) → length (textIn row texts c) ≤ 257) where
         low : (i : ℕ) → getD numbers i 0 ≤ 255
         low i =
             let y = nameFields T first (listedIn row true atoms right) in
@@ -139,7 +139,7 @@ module _ (row texts atoms left right : List ℕ) where
         side-short : (side : Bool) → sideFew row side ≡ true → (items : List ℕ) → length items ≤ 31
             → length (valuesIn row texts numbers side atoms (λ l. items)) ≤ 8296680
         side-short side f items h =
-            values-bounded T (textIn row texts) 257 (text-short row texts small) numbers low (markOf side) (indexIn row side) (topIn row side)
+            values-bounded T (textIn row texts) 257 short numbers low (markOf side) (indexIn row side) (topIn row side)
             (λ k l. let t = tops-few row side f k l in omega arith) atoms (λ l. items) 31 (omega arith) (λ l. h)
 
         pub answer-short : length leftValues + (length rightValues + 1) ≤ lineBound
@@ -151,3 +151,19 @@ module _ (row texts atoms left right : List ℕ) where
               side-short false few₁ left (fits-short left ok₁),
               side-short true few₂ right (fits-short right ok₂),
             )
+
+        -- so is the line
+        pub answer-bounded : length (answerIn row texts atoms left right) ≤ lineBound
+        answer-bounded =
+            omega (
+              arith,
+              answer-short,
+              ap length answer-text,
+              length-append (unled false 0 (leftValues ++ rightValues)) (10 ∷ []),
+              length-drop 1 (leftValues ++ rightValues),
+              length-append leftValues rightValues,
+            )
+
+    -- of any tables whose constants have short texts
+    pub any-answer : ((c : ℕ) → length (textIn row texts c) ≤ 257) → length (answerIn row texts atoms left right) ≤ lineBound
+    any-answer short = answer-bounded (both .numbers) (wholeRuns (length left)) (wholeRuns (length right)) refl refl refl short

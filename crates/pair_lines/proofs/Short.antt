@@ -13,8 +13,8 @@ use Rattle.pair_lines.specs.Lines.{numbersFew, fits, fieldIn, itemsIn, n
 use Rattle.pair_lines.proofs.Laying.{fields-fit, count-fits, field-long, items-long, names-small}
 
 -- a constant's bytes, and two quotes
-text-short : (row texts : List ℕ) → ((c : ℕ) → getD texts (cellBytes * c) 0 ≤ 15) → (c : ℕ) → length (textIn row texts c) ≤ 17
-text-short row texts short c = go (isString row c)
+pub cell-short : (row texts : List ℕ) → ((c : ℕ) → getD texts (cellBytes * c) 0 ≤ 15) → (c : ℕ) → length (textIn row texts c) ≤ 17
+cell-short row texts short c = go (isString row c)
   where
     few : length (bytesIn texts c) ≤ 15
     few = omega (arith, short c, length-take (getD texts (cellBytes * c) 0) (drop (cellBytes * c + 1) texts))
@@ -36,7 +36,7 @@ any-line row texts n c atoms short low₁ low₂ = go (fits n c) (numbersFew row
   where
     go : (b d : Bool) → fits n c ≡ b → length (cond (b && d) (wholeLine row texts n c atoms) []) ≤ 24285
     go true true e =
-        line-short (tableIn row) (textIn row texts) (text-short row texts short) (namesIn row n c atoms .numbers) (names-small row n c atoms e)
+        line-short (tableIn row) (textIn row texts) (cell-short row texts short) (namesIn row n c atoms .numbers) (names-small row n c atoms e)
         (indexIn row false) (topIn row false) (indexIn row true) (topIn row true) low₁ low₂ (spotsIn row false n) (spotsIn row true n) atoms
         (itemsIn row n c atoms) (omega (arith, items-long row n c atoms, fields-fit n c e))
         (all-short n (fieldIn row c atoms) (λ j h. omega (arith, field-long row c atoms j, count-fits n c e j h)))

@@ -10,6 +10,7 @@ use Rattle.text.specs.Limits.{IsLeft}
 use Rattle.terms.specs.Values.{encodeField}
 use Rattle.unifiers.specs.Shapes.{left, right}
 use Rattle.searching.specs.Problems.{Field, Bindings, Rest, solved, equation, problem, root}
+use Rattle.searching.specs.Problems as theory
 use Rattle.searching.specs.Rules.{Rule, Move, rule}
 use Rattle.searching.specs.Fresh.{lowest}
 use Rattle.worklist.specs.Machine.{Records}
@@ -35,7 +36,7 @@ use Rattle.search_problems.proofs.Rooted.{equation-of, root-holds}
 use Rattle.search_tables.specs.Tables.{rowsIn}
 use Rattle.search_tables.proofs.Noted.{tables-hold}
 use Rattle.queue.specs.Machine.{lineIn}
-use Rattle.search.proofs.Solved.{solved-line}
+use Rattle.search.proofs.Solved.{solved-line, solved-short}
 use Rattle.search.proofs.Turns.{records}
 
 module _ (f g : List OurTerm) (is-f : IsLeft (f ∷ [])) (is-g : IsLeft (g ∷ [])) where
@@ -73,7 +74,7 @@ module _ (f g : List OurTerm) (is-f : IsLeft (f ∷ [])) (is-g : IsLeft (g ∷ [
   abbrev all : Records
   all = records tables texts
 
-  abbrev pub Held : Problem → _ → Type 0
+  abbrev pub Held : Problem → theory.Problem setting → Type 0
   Held = Holds pairTable A B
 
   open-same : (n : Rest setting) → isOpen n ≡ openRest setting all Held n
@@ -91,7 +92,7 @@ module _ (f g : List OurTerm) (is-f : IsLeft (f ∷ [])) (is-g : IsLeft (g ∷ [
     line-is = solved-line f g is-f is-g tables texts pair long equal p σ u h
 
     pub line-short : length (answerText f g σ) ≤ lineBound
-    line-short = omega (arith, ap (λ (l : List ℕ). length l) line-is, line-bounded tables texts p)
+    line-short = solved-short f g is-f is-g tables texts pair long equal p σ u h
 
   pub agreed : Agrees setting all Held number (answerText f g)
   agreed = record {

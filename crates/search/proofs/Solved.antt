@@ -28,8 +28,10 @@ use Rattle.search_codes.proofs.Answers.{answer-agrees}
 use Rattle.search_items.specs.Items.{itemsOf, blankItems}
 use Rattle.pair_row.specs.Row.{tableIn, textIn, indexIn, topIn}
 use Rattle.pair_table.specs.Pairs.{PairIn}
-use Rattle.pair_lines.specs.Lines.{sideFew}
+use Rattle.pair_lines.specs.Lines.{sideFew, numbersFew, lineBound}
 use Rattle.pair_lines.specs.Answers.{areItems, valueFits, answerFits, wholeAnswer, answerIn}
+use Rattle.pair_lines.proofs.AnswerLines.{any-answer}
+use Rattle.pair_lines.proofs.Short.{cell-short}
 use Rattle.queue.specs.Machine.{lineIn}
 use Rattle.search_problems.specs.declared.Problem.{Problem}
 use Rattle.search_items.specs.declared.Items.{Items}
@@ -125,17 +127,32 @@ module _ (f g : List OurTerm) (is-f : IsLeft (f ∷ [])) (is-g : IsLeft (g ∷ [
       (le-leb (length (codesOf t (valueOf σ u))) 31 (omega (arith, length-map (valueOf σ u) (codeTm t), k .short)))
       (are-items (valueOf σ u) (k .within))
 
-  answer-fits : answerFits row (items 0) (items 1) ≡ true
-  answer-fits =
-      let t = ourRow (f ∷ []) (g ∷ []) in
-      let P = problem solved σ u in
-      ap₂ (λ (a b : Bool). a && b)
-      (ap₂ (λ (a b : Bool). a && b) (fewer false (pair .left-tops .within)) (fewer true (pair .right-tops .within)))
-      (ap₂ (λ (a b : Bool). a && b) (value-fits (namesIn setting A) (getD (p .lists) 0 blankItems) (left-known t A B q p P h))
-      (value-fits (namesIn setting B) (getD (p .lists) 1 blankItems) (right-known t A B q p P h)))
+  numbers-few : numbersFew row ≡ true
+  numbers-few = ap₂ (λ (a b : Bool). a && b) (fewer false (pair .left-tops .within)) (fewer true (pair .right-tops .within))
+
+  left-fits : valueFits (items 0) ≡ true
+  left-fits =
+      value-fits (namesIn setting A) (getD (p .lists) 0 blankItems) (left-known (ourRow (f ∷ []) (g ∷ [])) A B q p (problem solved σ u) h)
+
+  right-fits : valueFits (items 1) ≡ true
+  right-fits =
+      value-fits (namesIn setting B) (getD (p .lists) 1 blankItems) (right-known (ourRow (f ∷ []) (g ∷ [])) A B q p (problem solved σ u) h)
 
   -- THE LINE
   pub solved-line : lineIn row texts p ≡ answerText f g σ
   unfolding answerIn
   solved-line =
-      ap (λ (b : Bool). cond b (wholeAnswer row texts (p .atoms .atoms) (items 0) (items 1)) []) answer-fits ∙ indexed-line
+      ap (λ (b : Bool). cond b (wholeAnswer row texts (p .atoms .atoms) (items 0) (items 1)) []) fits ∙ indexed-line
+    where
+      fits : answerFits row (items 0) (items 1) ≡ true
+      fits = ap₂ (λ (a b : Bool). a && b) numbers-few (ap₂ (λ (a b : Bool). a && b) left-fits right-fits)
+
+  -- it is short
+  pub solved-short : length (answerText f g σ) ≤ lineBound
+  solved-short =
+      omega (
+        arith,
+        ap (λ (l : List ℕ). length l) solved-line,
+        any-answer row texts (p .atoms .atoms) (items 0) (items 1) numbers-few left-fits right-fits
+            (λ c. let k = cell-short row texts (pair .bytes-few) c in omega arith),
+      )

@@ -6,6 +6,7 @@ use mathlib.Core.List.{List, [], _∷_, _++_}
 use Prim.Native.Nat.{ℕ, _+_, _≤_, _<_}
 use native.Mathlib.Omega.{arith}
 use lib.ListN.{length, getD}
+use Rattle.pair_lines.proofs.Bounds.{text-short}
 use borrow.Author.Needs.{needs}
 use borrow.Author.Tests.{not-true, not-false}
 use Rattle.pair_lines.specs.Lines.{numbersFew, runBy, unled, valuesIn}
@@ -138,7 +139,8 @@ small c =
     let numbered = both-named (z .row .now) (z .texts .now) (z .atoms .now) (z .left .now) (z .right .now) (N .last .1 .1 .1 .1 .0)
     (N .last .1 .1 .1 .1 .1 .0) (M .last .1 .1 .1 .1 .0) (M .last .1 .1 .1 .1 .1 .0) (N .ensures .0, N .ensures .1) (M .ensures .0, M .ensures .1) in
     answer-short (z .row .now) (z .texts .now) (z .atoms .now) (z .left .now) (z .right .now) (few (c15)) (left-fits (c11 .before .before)) (right-fits (c11))
-    (M .last .1 .1 .1 .1 .1 .0) (c .whole-runs .result) (wholeRuns (length (z .right .now))) numbered (c .whole-runs .ensures) refl byte
+    (M .last .1 .1 .1 .1 .1 .0) (c .whole-runs .result) (wholeRuns (length (z .right .now))) numbered (c .whole-runs .ensures) refl
+    (text-short (z .row .now) (z .texts .now) byte)
 
 put-values-requires : tie.Need-put-values-requires
 put-values-requires c κs = omega (arith, small (c .before .before .before))
