@@ -636,7 +636,8 @@ fn name_rank(
     let top = pair_row::top_at(row, right, rank);
     let mut n: u8 = 0;
     while n < top {
-        if pair_row::index_at(row, right, rank, n) != 0 {
+        let x = pair_row::index_at(row, right, rank, n);
+        if x != 0 {
             name_value(row, right, rank, n, atoms, items, counts, numbers);
         }
         n += 1;
@@ -661,10 +662,10 @@ fn name_values(
         (nameFields (tableIn (now (row .entry))) (record { counts = now (counts .entry); numbers = now (numbers .entry) })
         (listedIn (now (row .entry)) right (now (atoms .entry)) (now (items .entry)))) .numbers ⌝ }
 {
-    let mut k: u8 = 0;
-    while k < 4 {
-        name_rank(row, right, k, atoms, items, counts, numbers);
-        k += 1;
+    let mut rank: u8 = 0;
+    while rank < 4 {
+        name_rank(row, right, rank, atoms, items, counts, numbers);
+        rank += 1;
     }
 }
 

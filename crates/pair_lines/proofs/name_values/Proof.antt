@@ -1,4 +1,4 @@
--- `pair_lines::name_values` meets its contract. The loop's invariant: the values of the types below k have their numbers. Assumes nothing.
+-- `pair_lines::name_values` meets its contract. The loop's invariant: the values of the types below rank have their numbers. Assumes nothing.
 use mathlib.Core.Path.{_≡_, refl, ap, _∙_}
 use mathlib.Core.List.{List}
 use Prim.Native.Nat.{ℕ, _-_, _≤_}
@@ -14,11 +14,11 @@ use Rattle.pair_lines.proofs.name_values.Statement.{statement}
 use Rattle.pair_lines.proofs.name_values.Tie as tie
 
 abbrev Inv-loop : tie.InvT-loop
-Inv-loop row right atoms items counts₀ numbers₀ k₀ counts numbers k =
-    (k ≤ 4) × Gives (upTo (tableIn row) (inHand counts₀ numbers₀) (listedRank row right atoms items) k) counts numbers
+Inv-loop row right atoms items counts₀ numbers₀ rank₀ counts numbers rank =
+    (rank ≤ 4) × Gives (upTo (tableIn row) (inHand counts₀ numbers₀) (listedRank row right atoms items) rank) counts numbers
 
 abbrev μ-loop : tie.MeasureT-loop
-μ-loop row right atoms items counts₀ numbers₀ k₀ counts numbers k = 4 - k
+μ-loop row right atoms items counts₀ numbers₀ rank₀ counts numbers rank = 4 - rank
 
 loop-holds : tie.Need-loop-holds Inv-loop μ-loop
 loop-holds c = (omega arith, (refl, refl))
@@ -29,11 +29,11 @@ name-rank-requires c κs =
     let z = c9 .args in
     let L = c .before .before .before .loop in
     let f = listedRank (z .row .now) (z .right) (z .atoms .now) (z .items .now) in
-    values-few (tableIn (z .row .now)) (inHand (z .counts .now) (z .numbers .now)) f 254 (L .k) 4 (L .counts) (L .numbers) (L .inv .1)
+    values-few (tableIn (z .row .now)) (inHand (z .counts .now) (z .numbers .now)) f 254 (L .rank) 4 (L .counts) (L .numbers) (L .inv .1)
     (c .before .before .loop-test .taken) (c9 .pre)
 
-add-k : tie.Need-add-k Inv-loop μ-loop
-add-k c = search needs
+add-rank : tie.Need-add-rank Inv-loop μ-loop
+add-rank c = search needs
 
 loop-less : tie.Need-loop-less Inv-loop μ-loop
 loop-less c = search needs
@@ -47,7 +47,7 @@ loop-again c =
     let f = listedRank (z .row .now) (z .right) (z .atoms .now) (z .items .now) in
     let h = c7 .loop-test .taken in (
       omega arith,
-      values-one (tableIn (z .row .now)) (inHand (z .counts .now) (z .numbers .now)) f (L .k) (L .counts) (L .numbers) (L .inv .1) _ _
+      values-one (tableIn (z .row .now)) (inHand (z .counts .now) (z .numbers .now)) f (L .rank) (L .counts) (L .numbers) (L .inv .1) _ _
           (N .ensures .0, N .ensures .1),
     )
 
@@ -62,8 +62,8 @@ done c =
     let T = tableIn (z .row .now) in
     let x = inHand (z .counts .now) (z .numbers .now) in
     let f = listedRank (z .row .now) (z .right) (z .atoms .now) (z .items .now) in
-    let e : L .k ≡ 4 = omega (arith, c .loop-test .left, L .inv .0) in
-    gives-as (upTo T x f (L .k)) (upTo T x f 4) (L .counts) (L .numbers) (ap (upTo T x f) e) (L .inv .1)
+    let e : L .rank ≡ 4 = omega (arith, c .loop-test .left, L .inv .0) in
+    gives-as (upTo T x f (L .rank)) (upTo T x f 4) (L .counts) (L .numbers) (ap (upTo T x f) e) (L .inv .1)
 
 same-length : tie.Need-same-length Inv-loop μ-loop
 same-length c =
@@ -88,7 +88,7 @@ name-values-spec =
     μ-loop
     loop-holds
     name-rank-requires
-    add-k
+    add-rank
     loop-less
     loop-again
     same-length
