@@ -116,7 +116,9 @@ kept-a : (b : ℕ) (c : Begins b) → Kept after b (goA b c)
 kept-a b (b-digit h) = let k = plain-byte b (omega arith) (omega arith) in (tt, k .0, k .1)
 kept-a b (b-quote h) = (tt, (omega arith, omega arith), λ t. cut-quote b t false h)
 kept-a b (b-letter j h) = let l = letter-lower j in let k = plain-byte b (omega arith) (omega arith) in (tt, k .0, k .1)
-kept-a b (b-e h) = let k = plain-byte b (omega arith) (omega arith) in (((omega arith, omega arith), ((omega arith, omega arith), ((omega arith, omega arith), ((omega arith, omega arith), tt)))), k .0, k .1)
+kept-a b (b-e h) =
+    let k = plain-byte b (omega arith) (omega arith) in
+    (((omega arith, omega arith), ((omega arith, omega arith), ((omega arith, omega arith), ((omega arith, omega arith), tt)))), k .0, k .1)
 kept-a b (b-none d q l e) = tt
 
 kept-d : (b : ℕ) (c : Follows b) → Kept digits b (goD b c)

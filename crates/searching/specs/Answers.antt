@@ -71,7 +71,8 @@ module _ (E : Setting) where
 
   -- ---- solving
 
-  -- a value of the term's type: of an atom variable one atom at or below its type, of a list variable any field; a constant stands for itself
+  -- a value of the term's type: of an atom variable one atom at or below its type, of a list variable any field;
+  -- a constant stands for itself
   abbrev pub Fits : Tm E → Field E → Type 0
   Fits (atomic (fixed c)) s = s ≡ atomic (fixed c) ∷ []
   Fits (atomic (free x)) s = (a : At E) × (s ≡ atomic a ∷ []) × (le (kindOf E a) (sort x) ≡ true)

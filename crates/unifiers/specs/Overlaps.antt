@@ -107,7 +107,8 @@ module _ (O : Order) (C : Consts O) {A : Type 0} (name-eq : Discrete A) where
   markedFields Ss Ts e = map fieldOf (map (mapShape (resolve O C (pairVars O name-eq) (e .1))) (fieldsFor 0 Ss Ts (e .0)))
 
   -- the values of the variables of the rule on a side: of atom variables by the state, of list variables by their places
-  abbrev pub markedValue : Side → List PairShape → PairState → List (List (TermOver O C (Mark A))) → Subst (C .Con) (Full (O .Kind)) A (Mark A)
+  abbrev pub markedValue : Side → List PairShape → PairState
+      → List (List (TermOver O C (Mark A))) → Subst (C .Con) (Full (O .Kind)) A (Mark A)
   markedValue d Ss s fs (basic k) a = termOf (s (of d k a)) ∷ []
   markedValue d Ss s fs list a = runOf name-eq Ss fs a
 
