@@ -15,7 +15,8 @@ module _ {A B S : Type 0} (view : A → B) (f : S → B → S) where
   pub folded-none : (n : ℕ) (s : List A) (x₀ : S) → Folded n s x₀ 0 x₀
   folded-none n s x₀ = (omega arith, refl)
 
-  pub folded-one : (n : ℕ) (s : List A) (x₀ : S) (i : ℕ) (x : S) (d : A) → Folded n s x₀ i x → i < length (take n s) → Folded n s x₀ (i + 1) (f x (view (getD s i d)))
+  pub folded-one : (n : ℕ) (s : List A) (x₀ : S) (i : ℕ) (x : S) (d : A) → Folded n s x₀ i x
+      → i < length (take n s) → Folded n s x₀ (i + 1) (f x (view (getD s i d)))
   folded-one n s x₀ i x d v h =
       let k : i < n = omega (arith, length-take n s) in
       (omega arith, v .1 ∙ rw (add-one, drop-cons (take n s) i d h, getD-take n s i d k))

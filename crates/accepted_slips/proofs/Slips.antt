@@ -27,10 +27,24 @@ use Rattle.accepted_slips.specs.Slips.{slipFieldOk, slipFieldBlank, acce
 
 -- ---- fields and slips: a count and an array
 abbrev slip-field-parts : Counted Term SlipField
-slip-field-parts = record { count = λ f. f .n; places = λ f. f .terms; make = λ n ts. record { n = n; terms = ts }; make-parts = λ f. refl; count-make = λ n ts. refl; places-make = λ n ts. refl }
+slip-field-parts = record {
+  count = λ f. f .n;
+  places = λ f. f .terms;
+  make = λ n ts. record { n = n; terms = ts };
+  make-parts = λ f. refl;
+  count-make = λ n ts. refl;
+  places-make = λ n ts. refl;
+}
 
 abbrev slip-parts : Counted SlipField Slip
-slip-parts = record { count = λ s. s .n; places = λ s. s .fields; make = λ n fs. record { n = n; fields = fs }; make-parts = λ s. refl; count-make = λ n fs. refl; places-make = λ n fs. refl }
+slip-parts = record {
+  count = λ s. s .n;
+  places = λ s. s .fields;
+  make = λ n fs. record { n = n; fields = fs };
+  make-parts = λ s. refl;
+  count-make = λ n fs. refl;
+  places-make = λ n fs. refl;
+}
 
 -- a field's terms, a slip's fields: not too many, each within its limits
 abbrev pub SlipFieldIn : List OurTerm → Type 0

@@ -1,4 +1,5 @@
--- The same texts, from the values that the reading functions answer. `rule-said`, `slip-said` of proofs/Verdicts say that they are the same.
+-- The same texts, from the values that the reading functions answer.
+-- `rule-said`, `slip-said` of proofs/Verdicts say that they are the same.
 use mathlib.Core.List.{List, _++_}
 use Prim.Native.Nat.{ℕ}
 use Rattle.rules.specs.Plain.{plainBoth}

@@ -59,7 +59,8 @@ module _ {A B : Type 0} {view : A → B} {encode : B → A} {good blank : A → 
 
   encodes-good : (ys : List B) (k : ℕ) → All In ys → filled good blank (length ys) (map encode ys ++ replicate k d) ≡ true
   encodes-good [] k h = blanks-back k
-  encodes-good (y ∷ ys) k h = both-is (good (encode y)) (filled good blank (length ys) (map encode ys ++ replicate k d)) .1 (S .encode-good y (h .0), encodes-good ys k (h .1))
+  encodes-good (y ∷ ys) k h =
+      both-is (good (encode y)) (filled good blank (length ys) (map encode ys ++ replicate k d)) .1 (S .encode-good y (h .0), encodes-good ys k (h .1))
 
   views-encode : (ys : List B) → All In ys → map view (map encode ys) ≡ ys
   views-encode [] h = refl
@@ -117,7 +118,8 @@ pub counted : {A B R : Type 0} {view : A → B} {encode : B → A} {good blank :
     (λ (ys : List B). (length ys ≤ w) × All In ys)
 counted {A} {B} {R} {view} {encode} {good} {blank} {d} {In} C w S =
     record {
-      view-in = λ r h. (omega (arith, array-count S w (C .count r) (C .places r) h, array-few S w (C .count r) (C .places r) h), array-in S w (C .count r) (C .places r) h);
+      view-in = λ r h.
+          (omega (arith, array-count S w (C .count r) (C .places r) h, array-few S w (C .count r) (C .places r) h), array-in S w (C .count r) (C .places r) h);
       encode-view = λ r h. ap₂ (C .make) (array-count S w (C .count r) (C .places r) h) (array-encode-view S w (C .count r) (C .places r) h) ∙ C .make-parts r;
       encode-good = λ ys h. rw (C .count-make, C .places-make) (array-good S w ys (h .0) (h .1));
       view-encode = λ ys h. rw (C .count-make, C .places-make) (array-view S w ys (h .1));

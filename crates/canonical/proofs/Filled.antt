@@ -29,7 +29,9 @@ module _ {A : Type 0} (good blank : A → Bool) where
 
   filled-step : (n i : ℕ) (s : List A) (d : A) → i < length s
       → filled good blank (n - i) (drop i s) ≡ asked i n (getD s i d) && filled good blank (n - (i + 1)) (drop (i + 1) s)
-  filled-step n i s d h = rw (drop-cons s i d h) (head-step n i (getD s i d) (drop (suc i) s) ∙ ap (λ (k : ℕ). asked i n (getD s i d) && filled good blank (n - (i + 1)) (drop k s)) (sym (add-one i)))
+  filled-step n i s d h =
+      rw (drop-cons s i d h)
+      (head-step n i (getD s i d) (drop (suc i) s) ∙ ap (λ (k : ℕ). asked i n (getD s i d) && filled good blank (n - (i + 1)) (drop k s)) (sym (add-one i)))
 
   filled-on : (n i : ℕ) (s : List A) (d : A) → i < length s → asked i n (getD s i d) ≡ true
       → filled good blank (n - i) (drop i s) ≡ filled good blank (n - (i + 1)) (drop (i + 1) s)
@@ -63,10 +65,12 @@ module _ {A : Type 0} (good blank : A → Bool) where
   pub passed-none : (w n : ℕ) (s : List A) → length s ≡ w → n ≤ w → Passed w n s 0
   passed-none w n s e h = let z : n ≡ n - 0 = omega arith in (omega arith, h, e, ap (λ (k : ℕ). filled good blank k s) z)
 
-  pub passed-one : (w n : ℕ) (s : List A) (i : ℕ) (d : A) (b : Bool) → Passed w n s i → i < w → b ≡ asked i n (getD s i d) → not b ≡ false → Passed w n s (i + 1)
+  pub passed-one : (w n : ℕ) (s : List A) (i : ℕ) (d : A) (b : Bool) → Passed w n s i
+      → i < w → b ≡ asked i n (getD s i d) → not b ≡ false → Passed w n s (i + 1)
   passed-one w n s i d b v h e t = (omega arith, v .1, v .2, v .3 ∙ filled-on n i s d (omega (arith, v .2)) (sym e ∙ not-false b t))
 
-  pub passed-not : (w n : ℕ) (s : List A) (i : ℕ) (d : A) (b : Bool) → Passed w n s i → i < w → b ≡ asked i n (getD s i d) → not b ≡ true → false ≡ filledTo w good blank n s
+  pub passed-not : (w n : ℕ) (s : List A) (i : ℕ) (d : A) (b : Bool) → Passed w n s i → i < w
+      → b ≡ asked i n (getD s i d) → not b ≡ true → false ≡ filledTo w good blank n s
   passed-not w n s i d b v h e t = sym (sized w n s (v .2) ∙ v .3 ∙ filled-stop n i s d (omega (arith, v .2)) (sym e ∙ not-true b t))
 
   pub passed-all : (w n : ℕ) (s : List A) (i : ℕ) → Passed w n s i → w ≤ i → true ≡ filledTo w good blank n s

@@ -1,4 +1,5 @@
--- The terms that reading can return, as a test. `term-stands`, `item-stands` of proofs/Terms say that each is the one value of a term within its limits.
+-- The terms that reading can return, as a test. `term-stands`,
+-- `item-stands` of proofs/Terms say that each is the one value of a term within its limits.
 use mathlib.Core.Bool.{Bool, true, false, _&&_, not}
 use mathlib.Core.List.{List}
 use Prim.Native.Nat.{ℕ}

@@ -19,19 +19,27 @@ use Rattle.field_match.specs.Fields.{shapeWith, noShape, shapeOf, fitsLe
 
 shape-from : (f : List OurTerm) (x : Shape) → foldl shapeWith x (map encodeTerm f) ≡ record { atoms = x .atoms + atoms f; lists = x .lists + length (lists f) }
 shape-from [] x = ap₂ (λ (a b : ℕ). record { atoms = a; lists = b }) (omega arith) (omega arith)
-shape-from (con (int n) ∷ f) x = shape-from f (record { atoms = x .atoms + 1; lists = x .lists }) ∙ ap (λ (a : ℕ). record { atoms = a; lists = x .lists + length (lists f) }) (omega arith)
-shape-from (con (str s) ∷ f) x = shape-from f (record { atoms = x .atoms + 1; lists = x .lists }) ∙ ap (λ (a : ℕ). record { atoms = a; lists = x .lists + length (lists f) }) (omega arith)
-shape-from (var (basic integer) n ∷ f) x = shape-from f (record { atoms = x .atoms + 1; lists = x .lists }) ∙ ap (λ (a : ℕ). record { atoms = a; lists = x .lists + length (lists f) }) (omega arith)
-shape-from (var (basic string) n ∷ f) x = shape-from f (record { atoms = x .atoms + 1; lists = x .lists }) ∙ ap (λ (a : ℕ). record { atoms = a; lists = x .lists + length (lists f) }) (omega arith)
-shape-from (var (basic atom) n ∷ f) x = shape-from f (record { atoms = x .atoms + 1; lists = x .lists }) ∙ ap (λ (a : ℕ). record { atoms = a; lists = x .lists + length (lists f) }) (omega arith)
-shape-from (var list n ∷ f) x = shape-from f (record { atoms = x .atoms; lists = x .lists + 1 }) ∙ ap (λ (a : ℕ). record { atoms = x .atoms + atoms f; lists = a }) (omega arith)
+shape-from (con (int n) ∷ f) x =
+    shape-from f (record { atoms = x .atoms + 1; lists = x .lists }) ∙ ap (λ (a : ℕ). record { atoms = a; lists = x .lists + length (lists f) }) (omega arith)
+shape-from (con (str s) ∷ f) x =
+    shape-from f (record { atoms = x .atoms + 1; lists = x .lists }) ∙ ap (λ (a : ℕ). record { atoms = a; lists = x .lists + length (lists f) }) (omega arith)
+shape-from (var (basic integer) n ∷ f) x =
+    shape-from f (record { atoms = x .atoms + 1; lists = x .lists }) ∙ ap (λ (a : ℕ). record { atoms = a; lists = x .lists + length (lists f) }) (omega arith)
+shape-from (var (basic string) n ∷ f) x =
+    shape-from f (record { atoms = x .atoms + 1; lists = x .lists }) ∙ ap (λ (a : ℕ). record { atoms = a; lists = x .lists + length (lists f) }) (omega arith)
+shape-from (var (basic atom) n ∷ f) x =
+    shape-from f (record { atoms = x .atoms + 1; lists = x .lists }) ∙ ap (λ (a : ℕ). record { atoms = a; lists = x .lists + length (lists f) }) (omega arith)
+shape-from (var list n ∷ f) x =
+    shape-from f (record { atoms = x .atoms; lists = x .lists + 1 }) ∙ ap (λ (a : ℕ). record { atoms = x .atoms + atoms f; lists = a }) (omega arith)
 
 pub fits-room : (f : List OurTerm) (n : ℕ) → fitsLength (shapeOf (map encodeTerm f)) n ≡ hasRoom f n
 fits-room f n = ap (λ (x : Shape). fitsLength x n) (shape-from f noShape) ∙ go (lists f)
   where
     go : (l : List ℕ) → fitsLength (record { atoms = 0 + atoms f; lists = 0 + length l }) n ≡ room l (atoms f) n
     go [] = ap (λ (a : ℕ). eqb a n) (let z : 0 + atoms f ≡ atoms f = omega arith in z)
-    go (a ∷ l) = ap₂ (λ (b : Bool) (m : ℕ). cond b (eqb m n) (leb m n)) (ne-eqb (0 + suc (length l)) 0 (λ e. omega arith)) (let z : 0 + atoms f ≡ atoms f = omega arith in z)
+    go (a ∷ l) =
+        ap₂ (λ (b : Bool) (m : ℕ). cond b (eqb m n) (leb m n)) (ne-eqb (0 + suc (length l)) 0 (λ e. omega arith))
+        (let z : 0 + atoms f ≡ atoms f = omega arith in z)
 
 -- how many items a field leaves to its list variable
 pub gap-is : (f : List OurTerm) (n : ℕ) → n - (shapeOf (map encodeTerm f)) .atoms ≡ n - atoms f

@@ -58,7 +58,9 @@ module _ (n : ℕ) (s : List Term) (w : ℕ) where
   shape-small : (x : Shape) (t : Term) → ((shapeWith x t) .atoms ≤ x .atoms + 1) × ((shapeWith x t) .lists ≤ x .lists + 1)
   shape-small x t = go (isListTerm t)
     where
-      go : (b : Bool) → ((cond {A = Shape} b (record { atoms = x .atoms; lists = x .lists + 1 }) (record { atoms = x .atoms + 1; lists = x .lists })) .atoms ≤ x .atoms + 1) × ((cond {A = Shape} b (record { atoms = x .atoms; lists = x .lists + 1 }) (record { atoms = x .atoms + 1; lists = x .lists })) .lists ≤ x .lists + 1)
+      go : (b : Bool)
+          → ((cond {A = Shape} b (record { atoms = x .atoms; lists = x .lists + 1 }) (record { atoms = x .atoms + 1; lists = x .lists })) .atoms ≤ x .atoms + 1)
+          × ((cond {A = Shape} b (record { atoms = x .atoms; lists = x .lists + 1 }) (record { atoms = x .atoms + 1; lists = x .lists })) .lists ≤ x .lists + 1)
       go true = (omega arith, omega arith)
       go false = (omega arith, omega arith)
 

@@ -19,7 +19,12 @@ module _ (w : ℕ) (a b : List ℕ) where
   same-none p q = (omega arith, p, q, refl)
 
   pub same-one : (i : ℕ) → Same i → i < w → getD a i 0 ≡ getD b i 0 → Same (i + 1)
-  same-one i v h e = (omega arith, v .1, v .2, v .3 ∙ rw (add-one, drop-cons a i 0 (omega (arith, v .1)), drop-cons b i 0 (omega (arith, v .2)), eq-eqb (getD a i 0) (getD b i 0) e))
+  same-one i v h e = (
+    omega arith,
+    v .1,
+    v .2,
+    v .3 ∙ rw (add-one, drop-cons a i 0 (omega (arith, v .1)), drop-cons b i 0 (omega (arith, v .2)), eq-eqb (getD a i 0) (getD b i 0) e),
+  )
 
   pub same-not : (i : ℕ) → Same i → i < w → (getD a i 0 ≡ getD b i 0 → ⊥) → false ≡ sameBytes a b
   same-not i v h e = sym (v .3 ∙ rw (drop-cons a i 0 (omega (arith, v .1)), drop-cons b i 0 (omega (arith, v .2)), ne-eqb (getD a i 0) (getD b i 0) e))

@@ -13,13 +13,17 @@ use Rattle.bindings.specs.Values.{slot}
 use Rattle.item_match.specs.Tests.{sameTerm, itemKind, bound, met, testVar, isList}
 
 module _ (v : Values) (k : Kind) (i : ℕ) (item : Term) (b : Bool) (is-b : b ≡ getD (v .known) i false) where
-  pub met-known : (old : Term) (r : Bool) → b ≡ true → old ≡ getD (v .terms) i blankTerm → r ≡ sameTerm old item → record { ok = r; values = v } ≡ met (getD (v .known) i false) k i item v
-  met-known old r e o q = ap (λ (x : Bool). record { ok = x; values = v }) (q ∙ ap (λ (t : Term). sameTerm t item) o) ∙ ap (λ (x : Bool). met x k i item v) (sym e ∙ is-b)
+  pub met-known : (old : Term) (r : Bool) → b ≡ true → old ≡ getD (v .terms) i blankTerm
+      → r ≡ sameTerm old item → record { ok = r; values = v } ≡ met (getD (v .known) i false) k i item v
+  met-known old r e o q =
+      ap (λ (x : Bool). record { ok = x; values = v }) (q ∙ ap (λ (t : Term). sameTerm t item) o) ∙ ap (λ (x : Bool). met x k i item v) (sym e ∙ is-b)
 
   module _ (q : _) (c : Bool) (is-q : q ≡ kindFrom (itemKind (item .form))) (is-c : c ≡ le (kindOf q) k) (new : b ≡ false) where
-    by : (x : Bool) → c ≡ x → cond x (record { ok = true; values = bound v i item }) (record { ok = false; values = v }) ≡ met (getD (v .known) i false) k i item v
+    by : (x : Bool) → c ≡ x
+        → cond x (record { ok = true; values = bound v i item }) (record { ok = false; values = v }) ≡ met (getD (v .known) i false) k i item v
     by x e =
-        ap (λ (y : Bool). cond y (record { ok = true; values = bound v i item }) (record { ok = false; values = v })) (sym e ∙ is-c ∙ ap (λ (z : Kind). le z k) (ap kindOf is-q ∙ kindOf-from (itemKind (item .form))))
+        ap (λ (y : Bool). cond y (record { ok = true; values = bound v i item }) (record { ok = false; values = v }))
+        (sym e ∙ is-c ∙ ap (λ (z : Kind). le z k) (ap kindOf is-q ∙ kindOf-from (itemKind (item .form))))
         ∙ ap (λ (y : Bool). met y k i item v) (sym new ∙ is-b)
 
     pub met-new : (w : Values) → c ≡ true → w ≡ bound v i item → record { ok = true; values = w } ≡ met (getD (v .known) i false) k i item v
@@ -39,6 +43,7 @@ pub test-list : (k : Kind) (n : ℕ) (item : Term) (v : Values) → isList k ≡
 test-list (basic k) n item v e = absurd (false≢true e)
 test-list list n item v e = refl
 
-pub test-basic : (k : Kind) (n : ℕ) (item : Term) (v : Values) → isList k ≡ false → met (getD (v .known) (slot k n) false) k (slot k n) item v ≡ testVar k n item v
+pub test-basic : (k : Kind) (n : ℕ) (item : Term) (v : Values) → isList k ≡ false
+    → met (getD (v .known) (slot k n) false) k (slot k n) item v ≡ testVar k n item v
 test-basic (basic k) n item v e = refl
 test-basic list n item v e = absurd (false≢true (sym e))

@@ -48,7 +48,8 @@ bound v i t = record { known = set (v .known) i true; terms = set (v .terms) i t
 
 abbrev pub met : Bool → Kind → ℕ → Term → Values → Tested
 met true k i item v = record { ok = sameTerm (getD (v .terms) i blankTerm) item; values = v }
-met false k i item v = cond (le (itemKind (item .form)) k) (record { ok = true; values = bound v i item }) (record { ok = false; values = v })
+met false k i item v =
+    cond (le (itemKind (item .form)) k) (record { ok = true; values = bound v i item }) (record { ok = false; values = v })
 
 abbrev pub testVar : Kind → ℕ → Term → Values → Tested
 testVar (basic k) n item v = met (getD (v .known) (slot (basic k) n) false) (basic k) (slot (basic k) n) item v

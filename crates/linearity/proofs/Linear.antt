@@ -60,7 +60,8 @@ module _ {A : Type 0} where
   pub none-append : (P : List A → A → Type 0) (before s t : List A) → NoneOf P before (s ++ t) ↔ (NoneOf P before s × NoneOf P (before ++ s) t)
   none-append P before [] t = (λ h. (tt, rw append-nil h), λ h. rw append-nil at (h .1))
   none-append P before (x ∷ s) t =
-      let r : NoneOf P (before ++ x ∷ []) (s ++ t) ↔ (NoneOf P (before ++ x ∷ []) s × NoneOf P (before ++ x ∷ s) t) = rw append-assoc at (none-append P (before ++ x ∷ []) s t) in
+      let r : NoneOf P (before ++ x ∷ []) (s ++ t)
+      ↔ (NoneOf P (before ++ x ∷ []) s × NoneOf P (before ++ x ∷ s) t) = rw append-assoc at (none-append P (before ++ x ∷ []) s t) in
       (λ h. ((h .0, r .0 (h .1) .0), r .0 (h .1) .1), λ h. (h .0 .0, r .1 (h .0 .1, h .1)))
 
 -- document 01's left-linearity: none of the occurrences os clashes with one before it
@@ -114,7 +115,8 @@ tracks-add {before} {n} {l} v t h =
     }
   where
     seen : (u : ℕ) → u ≤ 15 → Dec (u ≡ v) → (getD (set (l .seen) v true) u false ≡ true) ↔ Any (Numbered u) (before ++ (n, v) ∷ [])
-    seen u k (yes e) = (λ g. any-right (Numbered u) before ((n, v) ∷ []) (inl (sym e)), λ a. rw (e, getD-set-same (l .seen) v true false (omega (arith, t .places))))
+    seen u k (yes e) =
+        (λ g. any-right (Numbered u) before ((n, v) ∷ []) (inl (sym e)), λ a. rw (e, getD-set-same (l .seen) v true false (omega (arith, t .places))))
     seen u k (no d) =
         let same : getD (set (l .seen) v true) u false ≡ getD (l .seen) u false = getD-set-other (l .seen) v u true false d in (
           λ g. any-left (Numbered u) before ((n, v) ∷ []) (t .seen-is u k .0 (sym same ∙ g)),
@@ -126,7 +128,8 @@ tracks-add {before} {n} {l} v t h =
         old (inr (inl e)) = absurd (d (sym e))
 
 -- it stays true exactly where it was, and the list variable of number v clashes with none before
-pub tracks-still : {before : List Occ} {n : ℕ} {l : Lists} (v : ℕ) → Tracks before n l → v ≤ 15 → (stillOk l v ≡ true) ↔ ((l .ok ≡ true) × (Any (Clash (n, v)) before → ⊥))
+pub tracks-still : {before : List Occ} {n : ℕ} {l : Lists} (v : ℕ) → Tracks before n l
+    → v ≤ 15 → (stillOk l v ≡ true) ↔ ((l .ok ≡ true) × (Any (Clash (n, v)) before → ⊥))
 tracks-still {before} {n} {l} v t h = (to, from)
   where
     to : stillOk l v ≡ true → (l .ok ≡ true) × (Any (Clash (n, v)) before → ⊥)
@@ -150,8 +153,10 @@ tracks-still {before} {n} {l} v t h = (to, from)
         )
 
 -- it turns false exactly at a clash
-pub tracks-clash : {before : List Occ} {n : ℕ} {l : Lists} (v : ℕ) → Tracks before n l → v ≤ 15 → l .ok ≡ true → (stillOk l v ≡ false) ↔ Any (Clash (n, v)) before
-tracks-clash {before} {n} {l} v t h k = (λ e. to e (any? (Clash (n, v)) (clash? (n, v)) before), λ a. false-is (stillOk l v) .1 (λ e. tracks-still v t h .0 e .1 a))
+pub tracks-clash : {before : List Occ} {n : ℕ} {l : Lists} (v : ℕ) → Tracks before n l
+    → v ≤ 15 → l .ok ≡ true → (stillOk l v ≡ false) ↔ Any (Clash (n, v)) before
+tracks-clash {before} {n} {l} v t h k =
+    (λ e. to e (any? (Clash (n, v)) (clash? (n, v)) before), λ a. false-is (stillOk l v) .1 (λ e. tracks-still v t h .0 e .1 a))
   where
     to : stillOk l v ≡ false → Dec (Any (Clash (n, v)) before) → Any (Clash (n, v)) before
     to e (yes a) = a
@@ -170,7 +175,8 @@ walked-then before os ps l m q g h =
       λ k. let n = both .0 (k .1) in h .1 (g .1 (k .0, n .0), n .1),
     )
 
-pub walked-term : {before : List Occ} {n : ℕ} {l : Lists} (t : OurTerm) → TermIn t → Tracks before n l → Tracks (before ++ occT n t) n (addTerm l t) × Walked before (occT n t) l (addTerm l t)
+pub walked-term : {before : List Occ} {n : ℕ} {l : Lists} (t : OurTerm) → TermIn t → Tracks before n l
+    → Tracks (before ++ occT n t) n (addTerm l t) × Walked before (occT n t) l (addTerm l t)
 walked-term {before} (con c) h r = (rw append-nil r, (λ e. (e, tt), λ k. k .0))
 walked-term {before} (var (basic k) v) h r = (rw append-nil r, (λ e. (e, tt), λ k. k .0))
 walked-term {before} {n} {l} (var list v) h r =
@@ -185,7 +191,8 @@ walked-terms {before} {n} {l} (t ∷ ts) h r =
     let rest = walked-terms ts (h .1) (one .0) in
     (rw append-assoc at (rest .0), walked-then before (occT n t) (occF n ts) l (addTerm l t) (foldl addTerm (addTerm l t) ts) (one .1) (rest .1))
 
-pub walked-fields : {before : List Occ} {n : ℕ} {l : Lists} (r : List (List OurTerm)) → All (All TermIn) r → Tracks before n l → Walked before (occR (suc n) r) l (foldl addField l r)
+pub walked-fields : {before : List Occ} {n : ℕ} {l : Lists} (r : List (List OurTerm))
+    → All (All TermIn) r → Tracks before n l → Walked before (occR (suc n) r) l (foldl addField l r)
 walked-fields [] h t = (λ e. (e, tt), λ k. k .0)
 walked-fields {before} {n} {l} (f ∷ fs) h t =
     let one = walked-terms f (h .0) (tracks-next t) in
@@ -198,7 +205,8 @@ linear-is r h = let w = walked-fields r h (tracks-none 0) in (λ e. w .0 e .1, �
 -- ---- a field of a left-linear rule is left-linear alone
 
 -- with another number for the field, and less before it
-renumbered : (ts : List OurTerm) (n k : ℕ) (before less : List Occ) → ((v : ℕ) → Any (Clash (k, v)) less → Any (Clash (n, v)) before) → Apart before (occF n ts) → Apart less (occF k ts)
+renumbered : (ts : List OurTerm) (n k : ℕ) (before less : List Occ)
+    → ((v : ℕ) → Any (Clash (k, v)) less → Any (Clash (n, v)) before) → Apart before (occF n ts) → Apart less (occF k ts)
 renumbered [] n k before less f h = tt
 renumbered (con c ∷ ts) n k before less f h = renumbered ts n k before less f h
 renumbered (var (basic b) v ∷ ts) n k before less f h = renumbered ts n k before less f h
@@ -210,7 +218,8 @@ renumbered (var list v ∷ ts) n k before less f h =
     go u (inr a) = any-right (Clash (n, u)) before ((n, v) ∷ []) (inl (inl refl))
 
 one-field : (r : List (List OurTerm)) (ts : List OurTerm) (n : ℕ) (before : List Occ) → Apart before (occR n r) → List·Memᴰ ts r → Apart [] (occF 1 ts)
-one-field (f ∷ fs) ts n before h (List·Memᴰ·head e) = rw e (renumbered f n 1 before [] (λ v a. absurd a) (apart-append before (occF n f) (occR (suc n) fs) .0 h .0))
+one-field (f ∷ fs) ts n before h (List·Memᴰ·head e) =
+    rw e (renumbered f n 1 before [] (λ v a. absurd a) (apart-append before (occF n f) (occR (suc n) fs) .0 h .0))
 one-field (f ∷ fs) ts n before h (List·Memᴰ·tail m) = one-field fs ts (suc n) (before ++ occF n f) (apart-append before (occF n f) (occR (suc n) fs) .0 h .1) m
 
 pub linear-field : (r : List (List OurTerm)) (ts : List OurTerm) → Linear r → List·Memᴰ ts r → Linear (ts ∷ [])

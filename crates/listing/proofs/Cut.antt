@@ -10,7 +10,32 @@ use native.Mathlib.Decide.{ℕ-discrete}
 use Rattle.lists.specs.Seqs.{All}
 use Rattle.order.specs.Order.{basic, list}
 use Rattle.order.specs.Types.{integer, string, atom, Kind}
-use Rattle.text.specs.Bytes.{letter, Begins, b-digit, b-quote, b-letter, b-e, b-none, begins, Follows, f-digit, f-colon, f-bar, f-none, follows, First, n-zero, n-more, n-none, first, Holds, h-quote, h-in, h-none, holds}
+use Rattle.text.specs.Bytes.{
+  letter,
+  Begins,
+  b-digit,
+  b-quote,
+  b-letter,
+  b-e,
+  b-none,
+  begins,
+  Follows,
+  f-digit,
+  f-colon,
+  f-bar,
+  f-none,
+  follows,
+  First,
+  n-zero,
+  n-more,
+  n-none,
+  first,
+  Holds,
+  h-quote,
+  h-in,
+  h-none,
+  holds,
+}
 use Rattle.text.specs.Grammar.{Grammar}
 use Rattle.text.specs.Machine.{State, after, digits, number, done, quoted, must, Move, goA, goD, goE, goN, goQ, goM, move, Final}
 use Rattle.text.proofs.Place.{run, thenRun, Accepts, grammar-run}
@@ -116,7 +141,9 @@ kept-a : (b : ℕ) (c : Begins b) → Kept after b (goA b c)
 kept-a b (b-digit h) = let k = plain-byte b (omega arith) (omega arith) in (tt, k .0, k .1)
 kept-a b (b-quote h) = (tt, (omega arith, omega arith), λ t. cut-quote b t false h)
 kept-a b (b-letter j h) = let l = letter-lower j in let k = plain-byte b (omega arith) (omega arith) in (tt, k .0, k .1)
-kept-a b (b-e h) = let k = plain-byte b (omega arith) (omega arith) in (((omega arith, omega arith), ((omega arith, omega arith), ((omega arith, omega arith), ((omega arith, omega arith), tt)))), k .0, k .1)
+kept-a b (b-e h) =
+    let k = plain-byte b (omega arith) (omega arith) in
+    (((omega arith, omega arith), ((omega arith, omega arith), ((omega arith, omega arith), ((omega arith, omega arith), tt)))), k .0, k .1)
 kept-a b (b-none d q l e) = tt
 
 kept-d : (b : ℕ) (c : Follows b) → Kept digits b (goD b c)

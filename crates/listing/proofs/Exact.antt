@@ -75,7 +75,8 @@ terms-ok f h = all-map (ConstantIn OurCon) TermOk term-ok f h
 
 -- ---- bindings
 
-names-are : (rule : List (List OurTerm)) (σ : Subst Con Kind ℕ ℕ) (vs : List Variable) → map nameOf (map (λ (v : Variable). record { kind = v .0; number = v .1; value = σ (v .0) (v .1) }) vs) ≡ vs
+names-are : (rule : List (List OurTerm)) (σ : Subst Con Kind ℕ ℕ) (vs : List Variable)
+    → map nameOf (map (λ (v : Variable). record { kind = v .0; number = v .1; value = σ (v .0) (v .1) }) vs) ≡ vs
 names-are rule σ [] = refl
 names-are rule σ (v ∷ vs) = ap (λ (l : List Variable). v ∷ l) (names-are rule σ vs)
 
@@ -89,11 +90,13 @@ shown-by : (rule : List (List OurTerm)) → IsLeft rule → (σ : Subst Con Kind
     → Typed basics consts (λ k n. fill ψ (σ k n)) → map (fill (λ k n. fill ψ (σ k n))) rule ≡ w → Shows rule (bindingsOf rule σ) ψ w
 shown-by rule r σ ψ w t h = (names-are rule σ (variables rule), values)
   where
-    values : (φ : Filling Con Kind ℕ) → Typed basics consts φ → map (fill φ) rule ≡ w → (b : Binding) → List·Memᴰ b (bindingsOf rule σ) → φ (b .kind) (b .number) ≡ fill ψ (b .value)
+    values : (φ : Filling Con Kind ℕ) → Typed basics consts φ → map (fill φ) rule ≡ w → (b : Binding)
+        → List·Memᴰ b (bindingsOf rule σ) → φ (b .kind) (b .number) ≡ fill ψ (b .value)
     values φ u e b i =
         let v = Memᴰ·of-map (λ (v : Variable). record { kind = v .0; number = v .1; value = σ (v .0) (v .1) }) (variables rule) i in
         subst (λ (c : Binding). φ (c .kind) (c .number) ≡ fill ψ (c .value)) (v .2)
-        (match-unique basics consts φ (λ k n. fill ψ (σ k n)) u t rule (left-linear rule (r .1) .1) (e ∙ sym h) (v .0 .0) (v .0 .1) (in-variables rule (r .0 .3) (v .0 .0) (v .0 .1) .0 (v .1)))
+        (match-unique basics consts φ (λ k n. fill ψ (σ k n)) u t rule (left-linear rule (r .1) .1) (e ∙ sym h) (v .0 .0) (v .0 .1)
+        (in-variables rule (r .0 .3) (v .0 .0) (v .0 .1) .0 (v .1)))
 
 -- ---- the theorems
 
@@ -145,13 +148,16 @@ module _ (r₁ r₂ : List (List OurTerm)) (is₁ : IsLeft r₁) (is₂ : IsLeft
           let e = entry-at (h .0) (h .1) (h .2) in
           iff .1 (e .0, at-in entries (h .0) (e .0) (e .1), subst (λ (l : Line). Fits l w) (sym (e .2)) (h .3))
 
-  pub lines-once : (i j : ℕ) (l m : Line) → getElem? (linesOf r₁ r₂) i ≡ some l → getElem? (linesOf r₁ r₂) j ≡ some m → (w : List (List Con)) → Fits l w → Fits m w → i ≡ j
+  pub lines-once : (i j : ℕ) (l m : Line) → getElem? (linesOf r₁ r₂) i ≡ some l
+      → getElem? (linesOf r₁ r₂) j ≡ some m → (w : List (List Con)) → Fits l w → Fits m w → i ≡ j
   lines-once i j l m p q w f g =
       let d = entry-at i l p in
       let e = entry-at j m q in
-      list.one-place basics consts ℕ-discrete r₁ r₂ lin₁ lin₂ i j (d .0) (e .0) (d .1) (e .1) w (subst (λ (x : Line). Fits x w) (sym (d .2)) f) (subst (λ (x : Line). Fits x w) (sym (e .2)) g)
+      list.one-place basics consts ℕ-discrete r₁ r₂ lin₁ lin₂ i j (d .0) (e .0) (d .1) (e .1) w (subst (λ (x : Line). Fits x w) (sym (d .2)) f)
+      (subst (λ (x : Line). Fits x w) (sym (e .2)) g)
 
-  pub lines-fillings : (i : ℕ) (l : Line) → getElem? (linesOf r₁ r₂) i ≡ some l → (w : List (List Con)) (ψ : Filling Con Kind ℕ) → Typed basics consts ψ → map (fill ψ) (l .fields) ≡ w
+  pub lines-fillings : (i : ℕ) (l : Line) → getElem? (linesOf r₁ r₂) i ≡ some l
+      → (w : List (List Con)) (ψ : Filling Con Kind ℕ) → Typed basics consts ψ → map (fill ψ) (l .fields) ≡ w
       → Shows r₁ (l .left) ψ w × Shows r₂ (l .right) ψ w
   lines-fillings i l p w ψ t h = subst (λ (x : Line). Shows r₁ (x .left) ψ w × Shows r₂ (x .right) ψ w) (e .2) (
     shown-by r₁ is₁ (e .0 .left) ψ w (a .0) (a .1),
@@ -173,7 +179,8 @@ module _ (r₁ r₂ : List (List OurTerm)) (is₁ : IsLeft r₁) (is₂ : IsLeft
   pub lines-slips : (i : ℕ) (l : Line) → getElem? (linesOf r₁ r₂) i ≡ some l → (w : List (List Con)) × OurSlip w × Fits l w
   lines-slips i l p =
       let e = entry-at i l p in
-      let s = list.has-slip basics consts ℕ-discrete r₁ r₂ lin₁ lin₂ OurCon some-ours (in-ours r₁ is₁) (in-ours r₂ is₂) (e .0) (at-in entries i (e .0) (e .1)) in
+      let s =
+      list.has-slip basics consts ℕ-discrete r₁ r₂ lin₁ lin₂ OurCon some-ours (in-ours r₁ is₁) (in-ours r₂ is₂) (e .0) (at-in entries i (e .0) (e .1)) in
       (s .0, s .1, subst (λ (x : Line). Fits x (s .0)) (e .2) (s .2))
 
   pub lines-least : (B : Type 0) (xs : List (Solution r₁ r₂ B))
@@ -190,7 +197,10 @@ module _ (r₁ r₂ : List (List OurTerm)) (is₁ : IsLeft r₁) (is₂ : IsLeft
       one e i =
           let c = list.entry-constants basics consts ℕ-discrete r₁ r₂ lin₁ lin₂ OurCon some-ours (in-ours r₁ is₁) (in-ours r₂ is₂) e i in
           let s = list.entry-solves basics consts ℕ-discrete r₁ r₂ lin₁ lin₂ e i in (
-            (subst IsCons (s .3) (cons-map (substitute (s .0 .left)) r₁ (is₁ .0 .0)), all-map (All (ConstantIn OurCon)) (All TermOk) terms-ok (e .fields) (c .0)),
+            (
+              subst IsCons (s .3) (cons-map (substitute (s .0 .left)) r₁ (is₁ .0 .0)),
+              all-map (All (ConstantIn OurCon)) (All TermOk) terms-ok (e .fields) (c .0),
+            ),
             bindings-writable (e .left) (c .1) (variables r₁),
             bindings-writable (e .right) (c .2) (variables r₂),
           )

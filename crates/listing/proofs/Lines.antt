@@ -14,7 +14,19 @@ use Rattle.text.specs.Terms.{OurTerm}
 use Rattle.text.specs.Plain.{rawField, fieldText, plain, TermOk, RuleOk}
 use Rattle.text.proofs.Numbers.{digits-number, number-digits}
 use Rattle.text.proofs.Plain.{plain-says, plain-one}
-use Rattle.listing.specs.Lines.{Binding, Line, nameText, bindingText, leftMark, rightMark, bindingsText, lineText, listText, WritableBinding, WritableLine}
+use Rattle.listing.specs.Lines.{
+  Binding,
+  Line,
+  nameText,
+  bindingText,
+  leftMark,
+  rightMark,
+  bindingsText,
+  lineText,
+  listText,
+  WritableBinding,
+  WritableLine,
+}
 use Rattle.listing.proofs.Cut.{Printable, letter-lower, Closed, grammar-closed, grammar-printable, closed-byte, Starts, closed-one}
 
 -- ---- the fields
@@ -53,7 +65,10 @@ abbrev InName : ℕ → Type 0
 InName b = (48 ≤ b) × (b ≤ 126) × (b ≢ 61)
 
 name-bytes : (k : Kind) (n : ℕ) → All InName (nameText k n)
-name-bytes k n = let l = letter-lower k in ((omega arith, omega arith, λ e. omega arith), all-map Digit InName (λ d h. (omega arith, omega arith, λ e. omega arith)) (digitsOf n) (number-digits (digitsOf n) (digits-number n) .1))
+name-bytes k n = let l = letter-lower k in (
+  (omega arith, omega arith, λ e. omega arith),
+  all-map Digit InName (λ d h. (omega arith, omega arith, λ e. omega arith)) (digitsOf n) (number-digits (digitsOf n) (digits-number n) .1),
+)
 
 name-closed : (s w : List ℕ) → All InName s → Closed w → Closed (s ++ w)
 name-closed [] w a h = h
@@ -89,7 +104,8 @@ body-closed mark b l h =
 
 body-one : (mark : ℕ) (b c : Binding) → WritableBinding b → WritableBinding c → body mark b ≡ body mark c → b ≡ c
 body-one mark b c p q e =
-    let d = name-cut (nameText (b .kind) (b .number)) (nameText (c .kind) (c .number)) (fieldText (b .value)) (fieldText (c .value)) (name-bytes (b .kind) (b .number)) (name-bytes (c .kind) (c .number)) (tail-eq-of-cons-eq e) in
+    let d = name-cut (nameText (b .kind) (b .number)) (nameText (c .kind) (c .number)) (fieldText (b .value)) (fieldText (c .value))
+    (name-bytes (b .kind) (b .number)) (name-bytes (c .kind) (c .number)) (tail-eq-of-cons-eq e) in
     let n = name-one (b .kind) (c .kind) (b .number) (c .number) (d .0) in
     let v = value-one (b .value) (c .value) p q (d .1) in
     λ i. record { kind = n .0 i; number = n .1 i; value = v i }
@@ -122,7 +138,8 @@ bindings-starts : (mark : ℕ) (bs : List Binding) (u : List ℕ) → Starts u �
 bindings-starts mark [] u h = h
 bindings-starts mark (b ∷ bs) u h = inl refl
 
-bindings-one : (mark : ℕ) (bs cs : List Binding) (u v : List ℕ) → 35 ≤ mark → All WritableBinding bs → All WritableBinding cs → Past mark u → Past mark v → bindingsText mark bs ++ u ≡ bindingsText mark cs ++ v → (bs ≡ cs) × (u ≡ v)
+bindings-one : (mark : ℕ) (bs cs : List Binding) (u v : List ℕ) → 35 ≤ mark → All WritableBinding bs → All WritableBinding cs
+    → Past mark u → Past mark v → bindingsText mark bs ++ u ≡ bindingsText mark cs ++ v → (bs ≡ cs) × (u ≡ v)
 bindings-one mark [] [] u v l p q h k e = (refl, e)
 bindings-one mark [] (c ∷ cs) u v l p q h k e = absurd (past-not mark u _ h e)
 bindings-one mark (b ∷ bs) [] u v l p q h k e = absurd (past-not mark v _ k (sym e))
@@ -154,8 +171,10 @@ tail-starts l u = bindings-starts leftMark (l .left) (bindingsText rightMark (l 
 -- A LINE is determined by any text that begins with it, and so is the rest
 pub line-one : (l m : Line) (u v : List ℕ) → WritableLine l → WritableLine m → lineText l ++ u ≡ lineText m ++ v → (l ≡ m) × (u ≡ v)
 line-one l m u v p q e =
-    let f = field-text (l .fields) (m .fields) (tailText l u) (tailText m v) (p .0) (q .0) (tail-starts l u) (tail-starts m v) (sym (line-parts l u) ∙ e ∙ line-parts m v) in
-    let g = bindings-one leftMark (l .left) (m .left) (bindingsText rightMark (l .right) ++ 10 ∷ u) (bindingsText rightMark (m .right) ++ 10 ∷ v) (omega arith) (p .1) (q .1) (right-past (l .right) u) (right-past (m .right) v) (f .1) in
+    let f = field-text (l .fields) (m .fields) (tailText l u) (tailText m v) (p .0) (q .0) (tail-starts l u) (tail-starts m v)
+    (sym (line-parts l u) ∙ e ∙ line-parts m v) in
+    let g = bindings-one leftMark (l .left) (m .left) (bindingsText rightMark (l .right) ++ 10 ∷ u)
+    (bindingsText rightMark (m .right) ++ 10 ∷ v) (omega arith) (p .1) (q .1) (right-past (l .right) u) (right-past (m .right) v) (f .1) in
     let h = bindings-one rightMark (l .right) (m .right) (10 ∷ u) (10 ∷ v) (omega arith) (p .2) (q .2) (past-end rightMark u) (past-end rightMark v) (g .1) in
     (λ i. record { fields = f .0 i; left = g .0 i; right = h .0 i }, tail-eq-of-cons-eq (h .1))
 
@@ -185,19 +204,24 @@ binding-printable mark b m h = (
   (
     m,
     all-append Printable (nameText (b .kind) (b .number)) (61 ∷ fieldText (b .value))
-        (all-map InName Printable (λ c i. (omega arith, omega arith)) (nameText (b .kind) (b .number)) (name-bytes (b .kind) (b .number)))
-        ((omega arith, omega arith), subst (All Printable) (value-plain (b .value)) (grammar-printable (plain (b .value ∷ [])) (plain-grammar (b .value ∷ []) (value-ok (b .value) h)))),
+        (all-map InName Printable (λ c i. (omega arith, omega arith)) (nameText (b .kind) (b .number)) (name-bytes (b .kind) (b .number))) (
+          (omega arith, omega arith),
+          subst (All Printable) (value-plain (b .value)) (grammar-printable (plain (b .value ∷ [])) (plain-grammar (b .value ∷ []) (value-ok (b .value) h))),
+        ),
   ),
 )
 
 bindings-printable : (mark : ℕ) (bs : List Binding) → Printable mark → All WritableBinding bs → All Printable (bindingsText mark bs)
 bindings-printable mark [] m h = tt
-bindings-printable mark (b ∷ bs) m h = all-append Printable (bindingText mark b) (bindingsText mark bs) (binding-printable mark b m (h .0)) (bindings-printable mark bs m (h .1))
+bindings-printable mark (b ∷ bs) m h =
+    all-append Printable (bindingText mark b) (bindingsText mark bs) (binding-printable mark b m (h .0)) (bindings-printable mark bs m (h .1))
 
 pub line-printable : (l : Line) → WritableLine l → (t : List ℕ) × (lineText l ≡ t ++ 10 ∷ []) × All Printable t
 line-printable l h = (
   plain (l .fields) ++ (bindingsText leftMark (l .left) ++ bindingsText rightMark (l .right)),
   sym (rw (append-assoc, append-assoc)),
-  all-append Printable (plain (l .fields)) (bindingsText leftMark (l .left) ++ bindingsText rightMark (l .right)) (grammar-printable (plain (l .fields)) (plain-grammar (l .fields) (h .0)))
-      (all-append Printable (bindingsText leftMark (l .left)) (bindingsText rightMark (l .right)) (bindings-printable leftMark (l .left) (omega arith, omega arith) (h .1)) (bindings-printable rightMark (l .right) (omega arith, omega arith) (h .2))),
+  all-append Printable (plain (l .fields)) (bindingsText leftMark (l .left) ++ bindingsText rightMark (l .right))
+      (grammar-printable (plain (l .fields)) (plain-grammar (l .fields) (h .0)))
+      (all-append Printable (bindingsText leftMark (l .left)) (bindingsText rightMark (l .right))
+      (bindings-printable leftMark (l .left) (omega arith, omega arith) (h .1)) (bindings-printable rightMark (l .right) (omega arith, omega arith) (h .2))),
 )

@@ -47,7 +47,8 @@ module _ {A : Type 0} where
   keep-mem p x [] = (λ m. absurd (List·Memᴰ·not-nil m), λ h. h .0)
   keep-mem p x (y ∷ xs) = go (p y) refl (keep-mem p x xs)
     where
-      go : (b : Bool) → p y ≡ b → (List·Memᴰ x (keep p xs) ↔ (List·Memᴰ x xs × (p x ≡ true))) → List·Memᴰ x (cond b (y ∷ keep p xs) (keep p xs)) ↔ (List·Memᴰ x (y ∷ xs) × (p x ≡ true))
+      go : (b : Bool) → p y ≡ b → (List·Memᴰ x (keep p xs) ↔ (List·Memᴰ x xs × (p x ≡ true)))
+          → List·Memᴰ x (cond b (y ∷ keep p xs) (keep p xs)) ↔ (List·Memᴰ x (y ∷ xs) × (p x ≡ true))
       go true e rec = (λ m. to (List·Memᴰ·cases-cons m), λ h. from (h .1) (List·Memᴰ·cases-cons (h .0)))
         where
           to : (x ≡ y) ⊎ List·Memᴰ x (keep p xs) → List·Memᴰ x (y ∷ xs) × (p x ≡ true)
@@ -68,7 +69,8 @@ module _ {A B : Type 0} where
   all-under P Q f g [] h = tt
   all-under P Q f g (x ∷ xs) h = (g x (h .0), all-under P Q f g xs (h .1))
 
-  pub rising-under : (R : A → A → Type 0) (S : B → B → Type 0) (f : A → B) → ((x y : A) → R x y → S (f x) (f y)) → (xs : List A) → Rising R xs → Rising S (map f xs)
+  pub rising-under : (R : A → A → Type 0) (S : B → B → Type 0) (f : A → B)
+      → ((x y : A) → R x y → S (f x) (f y)) → (xs : List A) → Rising R xs → Rising S (map f xs)
   rising-under R S f g [] h = tt
   rising-under R S f g (x ∷ xs) h = (all-under (R x) (S (f x)) f (g x) xs (h .0), rising-under R S f g xs (h .1))
 

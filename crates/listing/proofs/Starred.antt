@@ -38,6 +38,7 @@ starred-pairs =
     record { left = "a0:a0"; right = "i0:l0"; lines = "i0:i0 <a0=i0 >i0=i0 >l0=i0" ∷ [] } ∷
     record { left = "a0:a0"; right = "1:\"1\""; lines = [] } ∷ []
 
-pub starred : map (λ (c : Case). listed (readSide (ascii (c .left))) (readSide (ascii (c .right)))) starred-pairs ≡ map (λ (c : Case). printed (c .lines)) starred-pairs
+pub starred : map (λ (c : Case). listed (readSide (ascii (c .left))) (readSide (ascii (c .right)))) starred-pairs
+    ≡ map (λ (c : Case). printed (c .lines)) starred-pairs
 unfolding decLe decLt ℕ-discrete digit? begins follows first holds fifth? many? over? any? clash? clashOf?
 starred = refl

@@ -2,7 +2,23 @@
 use mathlib.Core.Path.{_≡_, refl, sym, ap, subst}
 use mathlib.Core.Logic.{_↔_, _⊎_, inl, inr}
 use mathlib.Core.Bool.{Bool, true, false, _||_, false≢true}
-use mathlib.Core.List.{List, [], _∷_, map, List·Memᴰ, List·Memᴰ·head, List·Memᴰ·tail, List·Memᴰ·not-nil, List·Memᴰ·cases-cons, List·Memᴰ·append-cases, Memᴰ·cast, Memᴰ·append-left, Memᴰ·append-right, Memᴰ·map, Memᴰ·of-map}
+use mathlib.Core.List.{
+  List,
+  [],
+  _∷_,
+  map,
+  List·Memᴰ,
+  List·Memᴰ·head,
+  List·Memᴰ·tail,
+  List·Memᴰ·not-nil,
+  List·Memᴰ·cases-cons,
+  List·Memᴰ·append-cases,
+  Memᴰ·cast,
+  Memᴰ·append-left,
+  Memᴰ·append-right,
+  Memᴰ·map,
+  Memᴰ·of-map,
+}
 use Prim.Native.Nat.{ℕ, zero, suc, _+_, _≤_, _<_}
 use native.Mathlib.Omega.{arith}
 use native.Mathlib.Decide.{ℕ-discrete}
@@ -83,7 +99,8 @@ of-rising (k ∷ ks) h = rising-append Before (ofKind k) (concat-map ofKind ks) 
   where
     each : (ns : List ℕ) → All (λ x. All (Before x) (concat-map ofKind ks)) (map (λ (n : ℕ). (k, n)) ns)
     each [] = tt
-    each (n ∷ ns) = (all-map (λ (v : Variable). rank k < rank (v .0)) (Before (k, n)) (λ v l. inl l) (concat-map ofKind ks) (below-all (rank k) ks (h .0)), each ns)
+    each (n ∷ ns) =
+        (all-map (λ (v : Variable). rank k < rank (v .0)) (Before (k, n)) (λ v l. inl l) (concat-map ofKind ks) (below-all (rank k) ks (h .0)), each ns)
 
 pub every-rising : Rising Before every
 every-rising = of-rising kinds kinds-rising
@@ -103,7 +120,8 @@ every-mem k n = (to kinds, λ h. from kinds (kinds-all k) (numbers-mem (suc larg
     to [] i = absurd (List·Memᴰ·not-nil i)
     to (j ∷ ks) i = go (λ m. to ks m) (List·Memᴰ·append-cases (ofKind j) i)
       where
-        go : (List·Memᴰ (k, n) (concat-map ofKind ks) → n ≤ largestNumber) → List·Memᴰ (k, n) (ofKind j) ⊎ List·Memᴰ (k, n) (concat-map ofKind ks) → n ≤ largestNumber
+        go : (List·Memᴰ (k, n) (concat-map ofKind ks) → n ≤ largestNumber)
+            → List·Memᴰ (k, n) (ofKind j) ⊎ List·Memᴰ (k, n) (concat-map ofKind ks) → n ≤ largestNumber
         go rec (inl m) = number-in j m
         go rec (inr m) = rec m
 

@@ -29,14 +29,16 @@ abbrev pub Fits : Line → List (List Con) → Type 0
 Fits l w = Matches (l .fields) w
 
 -- "That filling, put into the values that the entry's line shows, gives the fillings of the two rules": for the filling ψ of the line's
--- fields, the bindings name the rule's variables, each once and in order, and every filling of the rule that makes it w gives them those values
+-- fields, the bindings name the rule's variables, each once and in order,
+-- and every filling of the rule that makes it w gives them those values
 abbrev pub nameOf : Binding → Variable
 nameOf b = (b .kind, b .number)
 
 abbrev pub Shows : List (List OurTerm) → List Binding → Filling Con Kind ℕ → List (List Con) → Type 0
 Shows rule bs ψ w =
     (map nameOf bs ≡ variables rule)
-    × ((φ : Filling Con Kind ℕ) → Typed basics consts φ → map (fill φ) rule ≡ w → (b : Binding) → List·Memᴰ b bs → φ (b .kind) (b .number) ≡ fill ψ (b .value))
+    × ((φ : Filling Con Kind ℕ) → Typed basics consts φ → map (fill φ) rule ≡ w
+    → (b : Binding) → List·Memᴰ b bs → φ (b .kind) (b .number) ≡ fill ψ (b .value))
 
 -- ---- solutions of two of document 01's rules, over any names B
 

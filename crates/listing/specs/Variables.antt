@@ -63,7 +63,8 @@ module _ {A : Type 0} where
   keep p [] = []
   keep p (x ∷ xs) = cond (p x) (x ∷ keep p xs) (keep p xs)
 
--- THE VARIABLES of a rule: `in-variables`, `variables-distinct` and `variables-rising` of proofs/ say that they are those that occur, each once, in order
+-- THE VARIABLES of a rule: `in-variables`, `variables-distinct` and `variables-rising` of proofs/ say that they are those that occur,
+-- each once, in order
 abbrev pub variables : List (List OurTerm) → List Variable
 variables r = keep (λ v. occurs (v .0) (v .1) r) every
 

@@ -99,4 +99,5 @@ module _ {A : Type 0} where
 
   pub tabulate-same : (n : ℕ) (f g : ℕ → A) → ((i : ℕ) → i < n → f i ≡ g i) → tabulate n f ≡ tabulate n g
   tabulate-same zero f g h = refl
-  tabulate-same (suc n) f g h = ap₂ (λ a t. a ∷ t) (h 0 (omega arith)) (tabulate-same n (λ i. f (suc i)) (λ i. g (suc i)) (λ i p. h (suc i) (omega arith)))
+  tabulate-same (suc n) f g h =
+      ap₂ (λ a t. a ∷ t) (h 0 (omega arith)) (tabulate-same n (λ i. f (suc i)) (λ i. g (suc i)) (λ i p. h (suc i) (omega arith)))

@@ -59,5 +59,6 @@ unfolding lineText textsText indexAfter indexOf decLe decLt ℕ-discrete digit? 
 long-lines = refl
 
 pub two-lines : matchAnswer 12 (ascii "i0\t5") ≡ ascii "match 12" ++ newline ++ ascii "yes 1 i0=5" ++ newline
-unfolding matchAnswer lineText textsText indexAfter indexOf decLe decLt ℕ-discrete digit? begins follows first holds fifth? many? over? any? clash? clashOf? occurs? has?
+unfolding matchAnswer lineText textsText indexAfter indexOf decLe decLt ℕ-discrete digit?
+    begins follows first holds fifth? many? over? any? clash? clashOf? occurs? has?
 two-lines = refl

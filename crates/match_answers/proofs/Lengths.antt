@@ -59,7 +59,8 @@ slip-short (f ∷ y) h = (omega (arith, constants-short f, h .0), slip-short y (
 
 numbers-short : (g : ℕ → List ℕ) (b m n : ℕ) → ((i : ℕ) → i < n + m → length (g i) ≤ b) → length (concat-map g (numbersFrom m n)) ≤ m * b
 numbers-short g b zero n h = omega arith
-numbers-short g b (suc m) n h = omega (arith, length-append (g n) (concat-map g (numbersFrom m (suc n))), h n (omega arith), numbers-short g b m (suc n) (λ i l. h i (omega arith)))
+numbers-short g b (suc m) n h =
+    omega (arith, length-append (g n) (concat-map g (numbersFrom m (suc n))), h n (omega arith), numbers-short g b m (suc n) (λ i l. h i (omega arith)))
 
 module _ (x y : List (List OurTerm)) (is-rule : IsLeft x) (is-slip : IsSlip y) (φ : Filling Con Kind ℕ) (yes-φ : matcher x (map constants y) ≡ some φ) where
   field-short : (k : Kind) (n : ℕ) → Any (Occurs k n) x → 5 + length (fieldText (map con (φ k n))) ≤ most k
@@ -69,7 +70,11 @@ module _ (x y : List (List OurTerm)) (is-rule : IsLeft x) (is-slip : IsSlip y) (
       omega (arith, ap (λ (l : List Con). length (fieldText (map con l))) (v .1), length-append (termText (con (v .0))) [], spell-short (con (v .0)) (i .0))
   field-short list n o =
       let h = value-long x (is-rule .1) (map constants y) φ yes-φ 64 (slip-short y (is-slip .0 .2)) list n o in
-      omega (arith, field-length 63 (map con (φ list n)) (omega (arith, length-map {B = OurTerm} (φ list n) con)) (terms-in (φ list n) (value-in x y is-rule is-slip φ yes-φ list n o)))
+      omega (
+        arith,
+        field-length 63 (map con (φ list n)) (omega (arith, length-map {B = OurTerm} (φ list n) con))
+            (terms-in (φ list n) (value-in x y is-rule is-slip φ yes-φ list n o)),
+      )
 
   value-short : (k : Kind) (n : ℕ) → n ≤ 15 → Any (Occurs k n) x → length (valueText φ (k, n)) ≤ most k
   value-short k n h o =
@@ -94,7 +99,17 @@ module _ (x y : List (List OurTerm)) (is-rule : IsLeft x) (is-slip : IsSlip y) (
       let s = ofKindText x φ (basic string) in
       let a = ofKindText x φ (basic atom) in
       let l = ofKindText x φ list in
-      omega (arith, ap length (by-kind x φ), length-append i (s ++ (a ++ l)), length-append s (a ++ l), length-append a l, kind-short (basic integer), kind-short (basic string), kind-short (basic atom), kind-short list)
+      omega (
+        arith,
+        ap length (by-kind x φ),
+        length-append i (s ++ (a ++ l)),
+        length-append s (a ++ l),
+        length-append a l,
+        kind-short (basic integer),
+        kind-short (basic string),
+        kind-short (basic atom),
+        kind-short list,
+      )
 
 -- ---- answers
 
@@ -155,7 +170,14 @@ line-short t = go (ltb longestLine (length t))
 pub answer-short : (k : ℕ) (t : List ℕ) → k < 18446744073709551616 → length (matchAnswer k t) ≤ 19586
 unfolding matchAnswer
 answer-short k t h =
-    omega (arith, length-append (titleText k ++ lineText t) newline, length-append (titleText k) (lineText t), length-append (ascii "match " ++ digitsOf k) newline, line-short t, digits-64 k h)
+    omega (
+      arith,
+      length-append (titleText k ++ lineText t) newline,
+      length-append (titleText k) (lineText t),
+      length-append (ascii "match " ++ digitsOf k) newline,
+      line-short t,
+      digits-64 k h,
+    )
 
 -- ---- ONLY THE FIRST 12,290 BYTES of a line matter: a longer one is too long whatever it holds
 
@@ -168,5 +190,7 @@ unfolding matchAnswer
 cut-same n k t h = go (decLt n (length t))
   where
     go : Dec (n < length t) → matchAnswer k (take n t) ≡ matchAnswer k t
-    go (yes l) = ap (λ (s : List ℕ). titleText k ++ s ++ newline) (line-long (take n t) (omega (arith, length-take-le n t (omega arith))) ∙ sym (line-long t (omega arith)))
+    go (yes l) =
+        ap (λ (s : List ℕ). titleText k ++ s ++ newline)
+        (line-long (take n t) (omega (arith, length-take-le n t (omega arith))) ∙ sym (line-long t (omega arith)))
     go (no l) = ap (matchAnswer k) (take-all n t (omega arith))

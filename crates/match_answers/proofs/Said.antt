@@ -90,7 +90,8 @@ module _ (x y : List (List OurTerm)) (is-rule : IsLeft x) (is-slip : IsSlip y) (
   pub value-in : (k : Kind) (n : ℕ) → Any (Occurs k n) x → All ConIn (φ k n)
   value-in = value-all x (is-rule .1) ws φ yes-φ ConIn (slip-in y (is-slip .0 .3))
 
-  atom-said : (k : Basic) (n : ℕ) → n ≤ 15 → Any (Occurs (basic k) n) x → termText (viewTerm (atomOf (filling .values) (basic k) n)) ≡ fieldText (map con (φ (basic k) n))
+  atom-said : (k : Basic) (n : ℕ) → n ≤ 15 → Any (Occurs (basic k) n) x
+      → termText (viewTerm (atomOf (filling .values) (basic k) n)) ≡ fieldText (map con (φ (basic k) n))
   atom-said k n h o =
       let v = atom-value x (is-rule .1) ws φ yes-φ k n o in
       let i = subst (All ConIn) (v .1) (value-in (basic k) n o) in
@@ -143,11 +144,13 @@ module _ (x : List (List OurTerm)) (φ : Filling Con Kind ℕ) where
   over (k ∷ ks) = concat-map-append text (ofKind k) (concat-map ofKind ks) ∙ ap₂ (λ (a b : List ℕ). a ++ b) (mapped text (λ (n : ℕ). (k, n)) numbers) (over ks)
 
   -- kind by kind
-  pub by-kind : concat-map (valueText φ) (variables x) ≡ ofKindText x φ (basic integer) ++ (ofKindText x φ (basic string) ++ (ofKindText x φ (basic atom) ++ ofKindText x φ list))
+  pub by-kind : concat-map (valueText φ) (variables x)
+      ≡ ofKindText x φ (basic integer) ++ (ofKindText x φ (basic string) ++ (ofKindText x φ (basic atom) ++ ofKindText x φ list))
   by-kind =
       kept (λ (v : Variable). occurs (v .0) (v .1) x) (valueText φ) every
       ∙ over kinds
-      ∙ ap (λ (t : List ℕ). ofKindText x φ (basic integer) ++ (ofKindText x φ (basic string) ++ (ofKindText x φ (basic atom) ++ t))) (append-nil (ofKindText x φ list))
+      ∙ ap (λ (t : List ℕ). ofKindText x φ (basic integer) ++ (ofKindText x φ (basic string) ++ (ofKindText x φ (basic atom) ++ t)))
+      (append-nil (ofKindText x φ list))
 
 -- ---- the answer
 
@@ -161,7 +164,8 @@ module _ (x y : List (List OurTerm)) (is-rule : IsLeft x) (is-slip : IsSlip y) w
   values-said : (φ : Filling Con Kind ℕ) → matcher x (map constants y) ≡ some φ
       → saidValues fs gs (record { values = encodeValues φ; runs = runsOf x (map constants y) }) ≡ concat-map (valueText φ) (variables x)
   values-said φ e =
-      ap₂ (λ (a b : List ℕ). a ++ b) (one (basic integer)) (ap₂ (λ (a b : List ℕ). a ++ b) (one (basic string)) (ap₂ (λ (a b : List ℕ). a ++ b) (one (basic atom)) (one list)))
+      ap₂ (λ (a b : List ℕ). a ++ b) (one (basic integer))
+      (ap₂ (λ (a b : List ℕ). a ++ b) (one (basic string)) (ap₂ (λ (a b : List ℕ). a ++ b) (one (basic atom)) (one list)))
       ∙ sym (by-kind x φ)
     where
       one : (k : Kind) → saidKind fs gs (record { values = encodeValues φ; runs = runsOf x (map constants y) }) k ≡ ofKindText x φ k

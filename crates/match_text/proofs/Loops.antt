@@ -48,13 +48,16 @@ module _ {A : Type 0} (l : List A) (start count from end : ℕ) (is-from : from 
     where
       go : Dec (count ≤ length l - from) → take count (drop from l) ≡ take (min count (length l - from)) (drop from l)
       go (yes h) = ap (λ (i : ℕ). take i (drop from l)) (let e : count ≡ min count (length l - from) = omega arith in e)
-      go (no h) = take-all count (drop from l) (omega (arith, length-drop from l)) ∙ sym (take-all (min count (length l - from)) (drop from l) (omega (arith, length-drop from l)))
+      go (no h) =
+          take-all count (drop from l) (omega (arith, length-drop from l))
+          ∙ sym (take-all (min count (length l - from)) (drop from l) (omega (arith, length-drop from l)))
 
   part : take count (drop start l) ≡ drop from (take end l)
   part = ap (take count) first ∙ most ∙ sym (drop-front from (min count (length l - from)) l (omega arith)) ∙ ap (λ (i : ℕ). drop from (take i l)) (sym is-end)
 
 -- the run's items are those from `from` on before `end`
-module _ (f : SlipField) (start count n from end : ℕ) (long : length (f .terms) ≡ 64) (is-n : n ≡ min (f .n) 64) (is-from : from ≡ min start n) (is-end : end ≡ from + min count (n - from)) where
+module _ (f : SlipField) (start count n from end : ℕ) (long : length (f .terms) ≡ 64) (is-n : n ≡ min (f .n) 64)
+    (is-from : from ≡ min start n) (is-end : end ≡ from + min count (n - from)) where
   counted : n ≡ length (take (f .n) (f .terms))
   counted = omega (arith, length-take (f .n) (f .terms))
 
@@ -64,12 +67,16 @@ module _ (f : SlipField) (start count n from end : ℕ) (long : length (f .terms
       ∙ ap (drop from) (take-take end (f .n) (f .terms) (omega arith))
 
   pub no-items : end ≡ from → fieldText (map viewTerm (itemsFrom f start count)) ≡ fieldText []
-  no-items e = ap (λ (l : List Term). fieldText (map viewTerm l)) (items-are ∙ drop-of-length-le (take end (f .terms)) {i = from} (omega (arith, length-take end (f .terms))))
+  no-items e =
+      ap (λ (l : List Term). fieldText (map viewTerm l))
+      (items-are ∙ drop-of-length-le (take end (f .terms)) {i = from} (omega (arith, length-take end (f .terms))))
 
-  pub first-item : (d : Term) → from < end → fieldText (map viewTerm (itemsFrom f start count)) ≡ termText (viewTerm (getD (f .terms) from d)) ++ rowText (drop (from + 1) (take end (f .terms)))
+  pub first-item : (d : Term) → from < end
+      → fieldText (map viewTerm (itemsFrom f start count)) ≡ termText (viewTerm (getD (f .terms) from d)) ++ rowText (drop (from + 1) (take end (f .terms)))
   first-item d h = ap (λ (l : List Term). fieldText (map viewTerm l)) (items-are ∙ here end (f .terms) from d h (omega arith))
 
-pub next-item : (s : List Term) (end i : ℕ) (d : Term) → i < end → end ≤ length s → rowText (drop i (take end s)) ≡ (58 ∷ []) ++ (termText (viewTerm (getD s i d)) ++ rowText (drop (i + 1) (take end s)))
+pub next-item : (s : List Term) (end i : ℕ) (d : Term) → i < end → end ≤ length s
+    → rowText (drop i (take end s)) ≡ (58 ∷ []) ++ (termText (viewTerm (getD s i d)) ++ rowText (drop (i + 1) (take end s)))
 next-item s end i d h k = ap rowText (here end s i d h (omega arith))
 
 pub last-item : (s : List Term) (end i : ℕ) → end ≤ i → rowText (drop i (take end s)) ≡ []

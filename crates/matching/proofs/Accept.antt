@@ -91,7 +91,10 @@ module _ (rule : RuleSide) (slip : Slip) (a : acceptedLeft rule ≡ true) (b : a
   rule-fields = ap (λ (r : RuleSide). take (r .n) (r .fields)) (sym (accepted-rule rule a .1)) ∙ fields-of fs
 
   slip-fields : take (slip .n) (slip .fields) ≡ map encodeItems ws
-  slip-fields = ap (λ (s : Slip). take (s .n) (s .fields)) (sym (accepted-slip slip b .1)) ∙ slip-fields-of (viewSlip slip) ∙ fields-again (viewSlip slip) (accepted-slip slip b .0 .1)
+  slip-fields =
+      ap (λ (s : Slip). take (s .n) (s .fields)) (sym (accepted-slip slip b .1))
+      ∙ slip-fields-of (viewSlip slip)
+      ∙ fields-again (viewSlip slip) (accepted-slip slip b .0 .1)
 
   rule-count : rule .n ≡ length fs
   rule-count = ap (λ (r : RuleSide). r .n) (sym (accepted-rule rule a .1))

@@ -74,8 +74,11 @@ same-only (str s) (int n) e = absurd (false≢true e)
 same-only (str s) (str t) e = go (ℕ-discrete (length s) (length t)) e
   where
     go : Dec (length s ≡ length t) → (eqb (length s) (length t) && sameBytes (pad longestString 0 s) (pad longestString 0 t)) ≡ true → str t ≡ str s
-    go (yes q) e = ap str (sym (pad-once s t q (bytes-same (pad longestString 0 s) (pad longestString 0 t) (ap (λ (b : Bool). b && sameBytes (pad longestString 0 s) (pad longestString 0 t)) (sym (eq-eqb (length s) (length t) q)) ∙ e))))
-    go (no n) e = absurd (false≢true (ap (λ (b : Bool). b && sameBytes (pad longestString 0 s) (pad longestString 0 t)) (sym (ne-eqb (length s) (length t) n)) ∙ e))
+    go (yes q) e =
+        ap str (sym (pad-once s t q (bytes-same (pad longestString 0 s) (pad longestString 0 t)
+        (ap (λ (b : Bool). b && sameBytes (pad longestString 0 s) (pad longestString 0 t)) (sym (eq-eqb (length s) (length t) q)) ∙ e))))
+    go (no n) e =
+        absurd (false≢true (ap (λ (b : Bool). b && sameBytes (pad longestString 0 s) (pad longestString 0 t)) (sym (ne-eqb (length s) (length t) n)) ∙ e))
 
 -- ---- the values hold the filling so far
 
@@ -104,7 +107,8 @@ pub holds-none : Holds noValues blank
 holds-none = record {
   known-long = refl;
   terms-long = refl;
-  held = λ k n h. (getD-replicate 48 (slot (basic k) n) false false (slot-small k n h), getD-replicate 48 (slot (basic k) n) blankTerm blankTerm (slot-small k n h));
+  held = λ k n h.
+      (getD-replicate 48 (slot (basic k) n) false false (slot-small k n h), getD-replicate 48 (slot (basic k) n) blankTerm blankTerm (slot-small k n h));
 }
 
 kind-eq : Discrete Kind
@@ -124,16 +128,20 @@ module _ (v : Values) (φ : Filling Con Kind ℕ) (k : Basic) (n : ℕ) (c : Con
     held = λ j m q. here j m q (full-eq basic-eq (basic j) (basic k)) (ℕ-discrete m n);
   }
     where
-      other : (j : Basic) (m : ℕ) → m ≤ 15 → slot (basic j) m ≢ i → Held (φ (basic j) m) (getD (set (v .known) i true) (slot (basic j) m) false) (getD (set (v .terms) i (enc c)) (slot (basic j) m) blankTerm)
+      other : (j : Basic) (m : ℕ) → m ≤ 15 → slot (basic j) m ≢ i
+          → Held (φ (basic j) m) (getD (set (v .known) i true) (slot (basic j) m) false) (getD (set (v .terms) i (enc c)) (slot (basic j) m) blankTerm)
       other j m q ne =
-          subst (λ (t : TermValue). Held (φ (basic j) m) (getD (set (v .known) i true) (slot (basic j) m) false) t) (sym (getD-set-other (v .terms) i (slot (basic j) m) (enc c) blankTerm ne))
-          (subst (λ (b : Bool). Held (φ (basic j) m) b (getD (v .terms) (slot (basic j) m) blankTerm)) (sym (getD-set-other (v .known) i (slot (basic j) m) true false ne)) (h .held j m q))
+          subst (λ (t : TermValue). Held (φ (basic j) m) (getD (set (v .known) i true) (slot (basic j) m) false) t)
+          (sym (getD-set-other (v .terms) i (slot (basic j) m) (enc c) blankTerm ne))
+          (subst (λ (b : Bool). Held (φ (basic j) m) b (getD (v .terms) (slot (basic j) m) blankTerm))
+          (sym (getD-set-other (v .known) i (slot (basic j) m) true false ne)) (h .held j m q))
 
       apart : (j : Basic) (m : ℕ) → m ≤ 15 → slot (basic j) m ≡ i → (rank (basic j) ≡ rank (basic k)) × (m ≡ n)
       apart j m q e = (omega arith, omega arith)
 
       here : (j : Basic) (m : ℕ) → m ≤ 15 → (d : Dec (basic j ≡ basic k)) (e : Dec (m ≡ n))
-          → Held (ite (both? d e) (c ∷ []) (φ (basic j) m)) (getD (set (v .known) i true) (slot (basic j) m) false) (getD (set (v .terms) i (enc c)) (slot (basic j) m) blankTerm)
+          → Held (ite (both? d e) (c ∷ []) (φ (basic j) m)) (getD (set (v .known) i true) (slot (basic j) m) false)
+          (getD (set (v .terms) i (enc c)) (slot (basic j) m) blankTerm)
       here j m q (yes x) (yes y) =
           let s : slot (basic j) m ≡ i = ap₂ slot x y in
           let small = slot-small k n l in (
@@ -145,7 +153,8 @@ module _ (v : Values) (φ : Filling Con Kind ℕ) (k : Basic) (n : ℕ) (c : Con
 
 -- ---- one test
 
-same-agrees : (v : Values) (φ : Filling Con Kind ℕ) (d c : Con) (q : Dec (c ≡ d)) (b : Bool) → b ≡ sameTerm (enc d) (enc c) → Holds v φ → Agrees (record { ok = b; values = v }) (ite q (some φ) none)
+same-agrees : (v : Values) (φ : Filling Con Kind ℕ) (d c : Con) (q : Dec (c ≡ d)) (b : Bool)
+    → b ≡ sameTerm (enc d) (enc c) → Holds v φ → Agrees (record { ok = b; values = v }) (ite q (some φ) none)
 same-agrees v φ d c (yes e) b s h = (s ∙ ap (λ (x : Con). sameTerm (enc d) (enc x)) e ∙ same-self d, h)
 same-agrees v φ d c (no n) b s h = go b refl
   where
@@ -164,12 +173,16 @@ meets-agrees v φ k n c h l = go (φ (basic k) n) (h .held k n l)
     i : ℕ
     i = slot (basic k) n
 
-    go : (old : List Con) → Held old (getD (v .known) i false) (getD (v .terms) i blankTerm) → Agrees (met (getD (v .known) i false) (basic k) i (enc c) v) (meets basics consts ℕ-discrete k n old c φ)
+    go : (old : List Con) → Held old (getD (v .known) i false) (getD (v .terms) i blankTerm)
+        → Agrees (met (getD (v .known) i false) (basic k) i (enc c) v) (meets basics consts ℕ-discrete k n old c φ)
     go [] e =
         subst (λ (b : Bool). Agrees (met b (basic k) i (enc c) v) (meets basics consts ℕ-discrete k n [] c φ)) (sym (e .0))
-        (subst (λ (q : Kind). Agrees (cond (le q (basic k)) (record { ok = true; values = bound v i (enc c) }) (record { ok = false; values = v })) (meets basics consts ℕ-discrete k n [] c φ)) (sym (item-kind c)) (new (le (basic (kind-of c)) (basic k))))
+        (subst (λ (q : Kind). Agrees (cond (le q (basic k)) (record { ok = true; values = bound v i (enc c) }) (record { ok = false; values = v }))
+        (meets basics consts ℕ-discrete k n [] c φ)) (sym (item-kind c)) (new (le (basic (kind-of c)) (basic k))))
       where
-        new : (b : Bool) → Agrees (cond b (record { ok = true; values = bound v i (enc c) }) (record { ok = false; values = v })) (cond b (some (bind (full-eq basic-eq) ℕ-discrete (basic k) n (c ∷ []) φ)) none)
+        new : (b : Bool)
+            → Agrees (cond b (record { ok = true; values = bound v i (enc c) }) (record { ok = false; values = v }))
+            (cond b (some (bind (full-eq basic-eq) ℕ-discrete (basic k) n (c ∷ []) φ)) none)
         new true = (refl, holds-bind v φ k n c h l)
         new false = refl
     go (d ∷ old) e =
@@ -205,18 +218,22 @@ pub test-agrees : (gap : ℕ) (w : List Con) (p : ℕ) (u : OurTerm) (v : Values
 test-agrees gap w p (con (int m)) v φ i h l =
     let e = item-enc w p (int 0) (omega arith) in
     let q = item-at w p (int 0) (omega arith) in
-    subst (λ (o : Option Con). Agrees (record { ok = sameTerm (enc (int m)) (getD (map enc w) p blankTerm); values = v }) (andThen o (λ c. same basics consts ℕ-discrete (int m) c φ))) (sym q)
+    subst (λ (o : Option Con). Agrees (record { ok = sameTerm (enc (int m)) (getD (map enc w) p blankTerm); values = v })
+    (andThen o (λ c. same basics consts ℕ-discrete (int m) c φ))) (sym q)
     (same-agrees v φ (int m) (getD w p (int 0)) (con-eq (getD w p (int 0)) (int m)) _ (ap (sameTerm (enc (int m))) e) h)
 test-agrees gap w p (con (str s)) v φ i h l =
     let e = item-enc w p (int 0) (omega arith) in
     let q = item-at w p (int 0) (omega arith) in
-    subst (λ (o : Option Con). Agrees (record { ok = sameTerm (enc (str s)) (getD (map enc w) p blankTerm); values = v }) (andThen o (λ c. same basics consts ℕ-discrete (str s) c φ))) (sym q)
+    subst (λ (o : Option Con). Agrees (record { ok = sameTerm (enc (str s)) (getD (map enc w) p blankTerm); values = v })
+    (andThen o (λ c. same basics consts ℕ-discrete (str s) c φ))) (sym q)
     (same-agrees v φ (str s) (getD w p (int 0)) (con-eq (getD w p (int 0)) (str s)) _ (ap (sameTerm (enc (str s))) e) h)
 test-agrees gap w p (var (basic k) n) v φ i h l =
     let e = item-enc w p (int 0) (omega arith) in
     let q = item-at w p (int 0) (omega arith) in
-    subst (λ (o : Option Con). Agrees (testVar (kindOf (kindFrom (basic k))) n (getD (map enc w) p blankTerm) v) (andThen o (λ c. meets basics consts ℕ-discrete k n (φ (basic k) n) c φ))) (sym q)
-    (subst (λ (j : Kind). Agrees (testVar j n (getD (map enc w) p blankTerm) v) (meets basics consts ℕ-discrete k n (φ (basic k) n) (getD w p (int 0)) φ)) (sym (kindOf-from (basic k)))
+    subst (λ (o : Option Con). Agrees (testVar (kindOf (kindFrom (basic k))) n (getD (map enc w) p blankTerm) v)
+    (andThen o (λ c. meets basics consts ℕ-discrete k n (φ (basic k) n) c φ))) (sym q)
+    (subst (λ (j : Kind). Agrees (testVar j n (getD (map enc w) p blankTerm) v) (meets basics consts ℕ-discrete k n (φ (basic k) n) (getD w p (int 0)) φ))
+    (sym (kindOf-from (basic k)))
     (subst (λ (t : TermValue). Agrees (testVar (basic k) n t v) (meets basics consts ℕ-discrete k n (φ (basic k) n) (getD w p (int 0)) φ)) (sym e)
     (meets-agrees v φ k n (getD w p (int 0)) h i)))
 test-agrees gap w p (var list n) v φ i h l = (refl, holds-list v φ n (take gap (drop p w)) h)
@@ -228,7 +245,8 @@ walk-agrees gap w (u ∷ f) p v φ i h l =
     go-on (tested (encodeTerm u) (getD (map enc w) p blankTerm) v) (test basics consts ℕ-discrete gap w p u φ)
     (walked gap (map enc w) (map encodeTerm f) (p + widthOf gap (encodeTerm u))) (λ ψ. walk basics consts ℕ-discrete gap w f (p + width gap u) ψ)
     (test-agrees gap w p u v φ (i .0) h (omega arith))
-    (λ v′ ψ h′. subst (λ (k : ℕ). Agrees (walked gap (map enc w) (map encodeTerm f) (p + k) v′) (walk basics consts ℕ-discrete gap w f (p + width gap u) ψ)) (sym (width-enc gap u))
+    (λ v′ ψ h′. subst (λ (k : ℕ). Agrees (walked gap (map enc w) (map encodeTerm f) (p + k) v′) (walk basics consts ℕ-discrete gap w f (p + width gap u) ψ))
+    (sym (width-enc gap u))
     (walk-agrees gap w f (p + width gap u) v′ ψ (i .1) h′ (omega arith)))
 
 -- ---- a field
@@ -236,14 +254,18 @@ walk-agrees gap w (u ∷ f) p v φ i h l =
 pub field-agrees : (f : List OurTerm) (w : List Con) (v : Values) (φ : Filling Con Kind ℕ) → All TermIn f → OneList f → Holds v φ
     → Agrees (fieldTested (map encodeTerm f) (map enc w) v) (matchField basics consts ℕ-discrete f w φ)
 field-agrees f w v φ i o h =
-    subst (λ (b : Bool). Agrees (cond b (walked (length (map enc w) - (shapeOf (map encodeTerm f)) .atoms) (map enc w) (map encodeTerm f) 0 v) (record { ok = false; values = v })) (matchField basics consts ℕ-discrete f w φ)) (sym (fits-room f (length (map enc w)) ∙ ap (hasRoom f) long))
-    (subst (λ (gap : ℕ). Agrees (cond (hasRoom f (length w)) (walked gap (map enc w) (map encodeTerm f) 0 v) (record { ok = false; values = v })) (matchField basics consts ℕ-discrete f w φ)) (sym (gap-is f (length (map enc w)) ∙ ap (λ (n : ℕ). n - atoms f) long))
+    subst (λ (b : Bool). Agrees (cond b (walked (length (map enc w) - (shapeOf (map encodeTerm f)) .atoms) (map enc w) (map encodeTerm f) 0 v)
+    (record { ok = false; values = v })) (matchField basics consts ℕ-discrete f w φ)) (sym (fits-room f (length (map enc w)) ∙ ap (hasRoom f) long))
+    (subst (λ (gap : ℕ). Agrees (cond (hasRoom f (length w)) (walked gap (map enc w) (map encodeTerm f) 0 v) (record { ok = false; values = v }))
+    (matchField basics consts ℕ-discrete f w φ)) (sym (gap-is f (length (map enc w)) ∙ ap (λ (n : ℕ). n - atoms f) long))
     (go (hasRoom f (length w)) refl))
   where
     long : length (map enc w) ≡ length w
     long = length-map w enc
 
-    go : (b : Bool) → hasRoom f (length w) ≡ b → Agrees (cond b (walked (length w - atoms f) (map enc w) (map encodeTerm f) 0 v) (record { ok = false; values = v })) (cond b (walk basics consts ℕ-discrete (length w - atoms f) w f 0 φ) none)
+    go : (b : Bool) → hasRoom f (length w) ≡ b
+        → Agrees (cond b (walked (length w - atoms f) (map enc w) (map encodeTerm f) 0 v) (record { ok = false; values = v }))
+        (cond b (walk basics consts ℕ-discrete (length w - atoms f) w f 0 φ) none)
     go true e = walk-agrees (length w - atoms f) w f 0 v φ i h (omega (arith, room-span f o (length w) e))
     go false e = refl
 

@@ -59,10 +59,16 @@ module _ (v : Values) (φ : Filling Con Kind ℕ) (h : Holds v φ) where
   split i = omega arith
 
   known-at : (i : ℕ) → i < 48 → getD (v .known) i false ≡ isKnown (φ (kindAt (i / 16)) (i % 16))
-  known-at i p = ap (λ (j : ℕ). getD (v .known) j false) (split i) ∙ held-known (φ (kindAt (i / 16)) (i % 16)) (getD (v .known) (16 * (i / 16) + i % 16) false) (getD (v .terms) (16 * (i / 16) + i % 16) blankTerm) (held-at (i / 16) (i % 16) (omega arith) (omega arith))
+  known-at i p =
+      ap (λ (j : ℕ). getD (v .known) j false) (split i)
+      ∙ held-known (φ (kindAt (i / 16)) (i % 16)) (getD (v .known) (16 * (i / 16) + i % 16) false) (getD (v .terms) (16 * (i / 16) + i % 16) blankTerm)
+      (held-at (i / 16) (i % 16) (omega arith) (omega arith))
 
   term-at : (i : ℕ) → i < 48 → getD (v .terms) i blankTerm ≡ valueTerm (φ (kindAt (i / 16)) (i % 16))
-  term-at i p = ap (λ (j : ℕ). getD (v .terms) j blankTerm) (split i) ∙ held-term (φ (kindAt (i / 16)) (i % 16)) (getD (v .known) (16 * (i / 16) + i % 16) false) (getD (v .terms) (16 * (i / 16) + i % 16) blankTerm) (held-at (i / 16) (i % 16) (omega arith) (omega arith))
+  term-at i p =
+      ap (λ (j : ℕ). getD (v .terms) j blankTerm) (split i)
+      ∙ held-term (φ (kindAt (i / 16)) (i % 16)) (getD (v .known) (16 * (i / 16) + i % 16) false) (getD (v .terms) (16 * (i / 16) + i % 16) blankTerm)
+      (held-at (i / 16) (i % 16) (omega arith) (omega arith))
 
   pub values-are : v ≡ encodeValues φ
   values-are =
@@ -79,14 +85,16 @@ none-set j gap i (con c ∷ f) rs e = none-set j gap (i + 1) f rs e
 none-set j gap i (var (basic k) m ∷ f) rs e = none-set j gap (i + 1) f rs e
 none-set j gap i (var list m ∷ f) rs e = absurd (cons≢nil e)
 
-runs-over : (j gap i : ℕ) (f : List OurTerm) (x : FillingValue) → runsOver j gap i (map encodeTerm f) x ≡ record { values = x .values; runs = runsField j gap i f (x .runs) }
+runs-over : (j gap i : ℕ) (f : List OurTerm) (x : FillingValue)
+    → runsOver j gap i (map encodeTerm f) x ≡ record { values = x .values; runs = runsField j gap i f (x .runs) }
 runs-over j gap i [] x = refl
 runs-over j gap i (con (int n) ∷ f) x = runs-over j gap (i + 1) f x
 runs-over j gap i (con (str s) ∷ f) x = runs-over j gap (i + 1) f x
 runs-over j gap i (var (basic integer) n ∷ f) x = runs-over j gap (i + 1) f x
 runs-over j gap i (var (basic string) n ∷ f) x = runs-over j gap (i + 1) f x
 runs-over j gap i (var (basic atom) n ∷ f) x = runs-over j gap (i + 1) f x
-runs-over j gap i (var list n ∷ f) x = runs-over j gap (i + 1) f (record { values = x .values; runs = set (x .runs) n (record { field = j; start = i; count = gap }) })
+runs-over j gap i (var list n ∷ f) x =
+    runs-over j gap (i + 1) f (record { values = x .values; runs = set (x .runs) n (record { field = j; start = i; count = gap }) })
 
 -- the terms of a field are its atoms and its list variables
 atoms-lists : (f : List OurTerm) → length f ≡ atoms f + length (lists f)
@@ -126,7 +134,8 @@ runs-all j (f ∷ fs) (w ∷ ws) x o =
 pub answer-counts : (fs : List (List OurTerm)) (ws : List (List Con)) → length fs ≢ length ws → noMatch ≡ found fs ws (matcher fs ws)
 answer-counts fs ws n = sym (ap (λ (b : Bool). found fs ws (cond b (matchFields basics consts ℕ-discrete fs ws blank) none)) (ne-eqb (length fs) (length ws) n))
 
-module _ (fs : List (List OurTerm)) (ws : List (List Con)) (same : length fs ≡ length ws) (t : Tested) (is-t : t ≡ fieldsTested (map encodeField fs) (map encodeItems ws) noValues) (i : All (All TermIn) fs) (o : All OneList fs) where
+module _ (fs : List (List OurTerm)) (ws : List (List Con)) (same : length fs ≡ length ws) (t : Tested)
+    (is-t : t ≡ fieldsTested (map encodeField fs) (map encodeItems ws) noValues) (i : All (All TermIn) fs) (o : All OneList fs) where
   agrees : Agrees t (matcher fs ws)
   agrees = rw (is-t, eq-eqb (length fs) (length ws) same) (fields-agree fs ws noValues blank i o holds-none)
 
@@ -137,7 +146,8 @@ module _ (fs : List (List OurTerm)) (ws : List (List Con)) (same : length fs ≡
       go none a = refl
       go (some φ) a = absurd (false≢true (sym e ∙ a .0))
 
-  pub answer-yes : t .ok ≡ true → record { yes = true; filling = runsAll 0 (map encodeField fs) (map encodeItems ws) (fillingOf (t .values)) } ≡ found fs ws (matcher fs ws)
+  pub answer-yes : t .ok ≡ true
+      → record { yes = true; filling = runsAll 0 (map encodeField fs) (map encodeItems ws) (fillingOf (t .values)) } ≡ found fs ws (matcher fs ws)
   answer-yes e = ap (λ (x : FillingValue). record { yes = true; filling = x }) (runs-all 0 fs ws (fillingOf (t .values)) o) ∙ go (matcher fs ws) agrees
     where
       go : (m : Option (Filling Con Kind ℕ)) → Agrees t m → record { yes = true; filling = record { values = t .values; runs = runsOf fs ws } } ≡ found fs ws m

@@ -46,7 +46,8 @@ runs-long : (j gap i : ℕ) (f : List OurTerm) (rs : List Run) → length (runsF
 runs-long j gap i [] rs = refl
 runs-long j gap i (con c ∷ f) rs = runs-long j gap (i + 1) f rs
 runs-long j gap i (var (basic k) m ∷ f) rs = runs-long j gap (i + 1) f rs
-runs-long j gap i (var list m ∷ f) rs = runs-long j gap (i + 1) f (set rs m (record { field = j; start = i; count = gap })) ∙ length-set rs m (record { field = j; start = i; count = gap })
+runs-long j gap i (var list m ∷ f) rs =
+    runs-long j gap (i + 1) f (set rs m (record { field = j; start = i; count = gap })) ∙ length-set rs m (record { field = j; start = i; count = gap })
 
 no-more : {A : Type 0} (a : A) (l : List A) → length (a ∷ l) ≤ 1 → l ≡ []
 no-more a [] h = refl
@@ -96,13 +97,15 @@ module _ (slip : List (List Con)) (ψ : Filling Con Kind ℕ) (n : ℕ) where
           kept (inr (inr x)) = absurd (none-occurs n f (no-more a (lists f) o) x)
 
   module _ (one : (k : Basic) (a : ℕ) → length (ψ (basic k) a) ≡ 1) where
-    fields-good : (j : ℕ) (fs : List (List OurTerm)) (ws : List (List Con)) (rs : List Run) → map (fill ψ) fs ≡ ws → drop j slip ≡ ws → n < length rs → All OneList fs
+    fields-good : (j : ℕ) (fs : List (List OurTerm)) (ws : List (List Con)) (rs : List Run)
+        → map (fill ψ) fs ≡ ws → drop j slip ≡ ws → n < length rs → All OneList fs
         → Good rs ⊎ Any (Occurs list n) fs → Good (runsFrom j fs ws rs)
     fields-good j [] ws rs e d l o (inl g) = g
     fields-good j [] ws rs e d l o (inr x) = absurd x
     fields-good j (f ∷ fs) [] rs e d l o g = absurd (cons≢nil e)
     fields-good j (f ∷ fs) (w ∷ ws) rs e d l o g =
-        fields-good (j + 1) fs ws (runsField j gap 0 f rs) (tail-eq-of-cons-eq e) (sym (drop-drop 1 j slip) ∙ ap (drop 1) d) (omega (arith, runs-long j gap 0 f rs)) (o .1) (here g)
+        fields-good (j + 1) fs ws (runsField j gap 0 f rs) (tail-eq-of-cons-eq e) (sym (drop-drop 1 j slip) ∙ ap (drop 1) d)
+        (omega (arith, runs-long j gap 0 f rs)) (o .1) (here g)
       where
         gap : ℕ
         gap = length w - atoms f
@@ -155,7 +158,8 @@ module _ (ψ : Filling Con Kind ℕ) (k : Kind) (a : ℕ) where
   fill-all : (P : Con → Type 0) (f : List OurTerm) → Occurs k a f → All P (fill ψ f) → All P (ψ k a)
   fill-all P [] o h = absurd o
   fill-all P (con c ∷ f) o h = fill-all P f o (h .1)
-  fill-all P (var j b ∷ f) (inl p) h = subst (λ (i : Kind). All P (ψ i a)) (sym (p .0)) (subst (λ (i : ℕ). All P (ψ j i)) (sym (p .1)) (all-left P (ψ j b) (fill ψ f) h))
+  fill-all P (var j b ∷ f) (inl p) h =
+      subst (λ (i : Kind). All P (ψ i a)) (sym (p .0)) (subst (λ (i : ℕ). All P (ψ j i)) (sym (p .1)) (all-left P (ψ j b) (fill ψ f) h))
   fill-all P (var j b ∷ f) (inr o) h = fill-all P f o (all-right P (ψ j b) (fill ψ f) h)
 
   fill-long : (f : List OurTerm) → Occurs k a f → length (ψ k a) ≤ length (fill ψ f)

@@ -108,9 +108,14 @@ module _ (j gap n : ℕ) (s : List Term) (w : ℕ) (x₀ : Filling) where
   abbrev pub Put : ℕ → Filling → Type 0
   Put i x = (length s ≡ w) × (runsOver j gap 0 (take n s) x₀ ≡ runsOver j gap i (drop i (take n s)) x)
 
-  pub put-one : (i : ℕ) (x y : Filling) (d : Term) → Put i x → i < min n w → y ≡ withRun (getD s i d) (record { field = j; start = i; count = gap }) x → Put (i + 1) y
-  put-one i x y d p h e =
-      (p .0, p .1 ∙ ap (λ (f : List Term). runsOver j gap i f x) (here n s i d (omega arith) (omega (arith, p .0))) ∙ ap (runsOver j gap (i + 1) (drop (i + 1) (take n s))) (sym e))
+  pub put-one : (i : ℕ) (x y : Filling) (d : Term) → Put i x → i < min n w
+      → y ≡ withRun (getD s i d) (record { field = j; start = i; count = gap }) x → Put (i + 1) y
+  put-one i x y d p h e = (
+    p .0,
+    p .1
+        ∙ ap (λ (f : List Term). runsOver j gap i f x) (here n s i d (omega arith) (omega (arith, p .0)))
+        ∙ ap (runsOver j gap (i + 1) (drop (i + 1) (take n s))) (sym e),
+  )
 
   -- a term that is no list variable has no run
   pub put-none : (i : ℕ) (x y : Filling) (d : Term) (b : Bool) → Put i x → i < min n w → b ≡ isListTerm (getD s i d) → b ≡ false → y ≡ x → Put (i + 1) y

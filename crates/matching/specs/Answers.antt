@@ -44,7 +44,10 @@ valueTerm [] = blankTerm
 valueTerm (c ∷ w) = encodeTerm (con c)
 
 abbrev pub encodeValues : Filling Con Kind ℕ → Values
-encodeValues φ = record { known = tabulate 48 (λ i. isKnown (φ (kindAt (i / 16)) (i % 16))); terms = tabulate 48 (λ i. valueTerm (φ (kindAt (i / 16)) (i % 16))) }
+encodeValues φ = record {
+  known = tabulate 48 (λ i. isKnown (φ (kindAt (i / 16)) (i % 16)));
+  terms = tabulate 48 (λ i. valueTerm (φ (kindAt (i / 16)) (i % 16)));
+}
 
 -- ---- the list variables: the slip's field, the first item there, how many items
 

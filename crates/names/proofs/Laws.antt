@@ -88,7 +88,12 @@ variables-distinct (n ∷ u) = go (member n u) (variables-distinct u)
     go : Dec (List·Memᴰ n u) → ones (setOf u) ≡ length (firsts ℕ-discrete u)
         → ones (bitOr (setOf u) (2 ^ n)) ≡ suc (length (without ℕ-discrete n (firsts ℕ-discrete u)))
     go (yes i) rec =
-        omega (arith, ones-more n (setOf u), has-member n u i, without-member n (firsts ℕ-discrete u) (firsts-distinct ℕ-discrete u) (in-firsts ℕ-discrete n u i))
+        omega (
+          arith,
+          ones-more n (setOf u),
+          has-member n u i,
+          without-member n (firsts ℕ-discrete u) (firsts-distinct ℕ-discrete u) (in-firsts ℕ-discrete n u i),
+        )
     go (no h) rec = omega (arith, ones-more n (setOf u), lacks-other n u h, without-absent n (firsts ℕ-discrete u) (λ i. h (firsts-in ℕ-discrete n u i)))
 
 -- where a number that has a digit is absent, there are fewer than the digits

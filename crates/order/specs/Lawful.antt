@@ -58,22 +58,27 @@ module _ (entry : ℕ → ℕ → Bool) (n : ℕ) (t : T (lawful entry n)) where
       (all-below (λ x. allBelow (λ y. allBelow (λ z. lawful-at entry x y z) n) n) n t x hx) y hy) z hz
 
   left : (x y z : ℕ) → x < n → y < n → z < n → T (both (entry x x) (anti-at entry x y))
-  left x y z hx hy hz = both-left (both (entry x x) (anti-at entry x y)) (both (trans-at entry x y z) (meet-at entry x y z)) (at x y z hx hy hz)
+  left x y z hx hy hz =
+      both-left (both (entry x x) (anti-at entry x y)) (both (trans-at entry x y z) (meet-at entry x y z)) (at x y z hx hy hz)
 
   right : (x y z : ℕ) → x < n → y < n → z < n → T (both (trans-at entry x y z) (meet-at entry x y z))
-  right x y z hx hy hz = both-right (both (entry x x) (anti-at entry x y)) (both (trans-at entry x y z) (meet-at entry x y z)) (at x y z hx hy hz)
+  right x y z hx hy hz =
+      both-right (both (entry x x) (anti-at entry x y)) (both (trans-at entry x y z) (meet-at entry x y z)) (at x y z hx hy hz)
 
   pub entry-refl : (x : ℕ) → x < n → entry x x ≡ true
   entry-refl x h = is-true (entry x x) (both-left (entry x x) (anti-at entry x x) (left x x x h h h))
 
   pub entry-anti : (x y : ℕ) → x < n → y < n → entry x y ≡ true → entry y x ≡ true → x ≡ y
-  entry-anti x y hx hy p q = eqb→eq x y (follows (entry x y) (entry y x) (eqb x y) (both-right (entry x x) (anti-at entry x y) (left x y x hx hy hx)) p q)
+  entry-anti x y hx hy p q =
+      eqb→eq x y (follows (entry x y) (entry y x) (eqb x y) (both-right (entry x x) (anti-at entry x y) (left x y x hx hy hx)) p q)
 
   pub entry-trans : (x y z : ℕ) → x < n → y < n → z < n → entry x y ≡ true → entry y z ≡ true → entry x z ≡ true
   entry-trans x y z hx hy hz p q =
-      is-true (entry x z) (follows (entry x y) (entry y z) (entry x z) (both-left (trans-at entry x y z) (meet-at entry x y z) (right x y z hx hy hz)) p q)
+      is-true (entry x z)
+      (follows (entry x y) (entry y z) (entry x z) (both-left (trans-at entry x y z) (meet-at entry x y z) (right x y z hx hy hz)) p q)
 
   pub entry-meet : (x y z : ℕ) → x < n → y < n → z < n → entry x y ≡ true → entry x z ≡ true → (entry y z ≡ true) ⊎ (entry z y ≡ true)
   entry-meet x y z hx hy hz p q =
       one-of (entry y z) (entry z y)
-      (follows (entry x y) (entry x z) (either (entry y z) (entry z y)) (both-right (trans-at entry x y z) (meet-at entry x y z) (right x y z hx hy hz)) p q)
+      (follows (entry x y) (entry x z) (either (entry y z) (entry z y))
+      (both-right (trans-at entry x y z) (meet-at entry x y z) (right x y z hx hy hz)) p q)

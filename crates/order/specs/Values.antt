@@ -47,5 +47,7 @@ meetOf none = Nothing
 
 -- kinds are the same exactly where the code's values are
 pub same-kind-is : (j k : Kind) → (types.same (kindOf j) (kindOf k) ≡ true) ↔ (j ≡ k)
-same-kind-is j k =
-    (λ p. sym (kind-from-of j) ∙ ap kindFrom (types.same-is (kindOf j) (kindOf k) .0 p) ∙ kind-from-of k, λ e. types.same-is (kindOf j) (kindOf k) .1 (ap kindOf e))
+same-kind-is j k = (
+  λ p. sym (kind-from-of j) ∙ ap kindFrom (types.same-is (kindOf j) (kindOf k) .0 p) ∙ kind-from-of k,
+  λ e. types.same-is (kindOf j) (kindOf k) .1 (ap kindOf e),
+)

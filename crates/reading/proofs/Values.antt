@@ -147,8 +147,14 @@ module _ (t : List ℕ) where
         let e = sym is-s in
         let inside = sides t (short t fine) p e .inside in
         subst (λ (i : ℕ). JudgesLeft t (record { verdict = v; end = i })) (sym is-n)
-        (ends p (end-by (split.Two p) is-s q) (omega arith) (left-accepted t (short t fine) p e (both t fine p e)) (left-said (readRule t) _ _ (two-says t fine p e)))
+        (ends p (end-by (split.Two p) is-s q) (omega arith) (left-accepted t (short t fine) p e (both t fine p e))
+        (left-said (readRule t) _ _ (two-says t fine p e)))
 
     pub left-no : (k : _) (p : ℕ) → v ≡ Refused k p → JudgesLeft t (record { verdict = v; end = 0 })
     unfolding decLt
-    left-no k p q = record { verdict = is-v; ends = sym (ap (λ (w : Verdict). leftEnd w t) q); inside = omega arith; left = sym (refused-out (readRule t) (sym is-v ∙ q) .1) }
+    left-no k p q = record {
+      verdict = is-v;
+      ends = sym (ap (λ (w : Verdict). leftEnd w t) q);
+      inside = omega arith;
+      left = sym (refused-out (readRule t) (sym is-v ∙ q) .1);
+    }

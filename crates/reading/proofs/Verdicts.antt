@@ -58,7 +58,9 @@ module _ (s : Bool) (t : List ℕ) where
   read-long h = read-as ∙ ap (λ (p : Option ℕ). tell long p (tell grammar (place2 t) rest)) (if-pos (decLt (S .bytes) (length t)) h (some (S .bytes)) none)
 
   short : length t ≤ S .bytes → read S t ≡ tell grammar (place2 t) rest
-  short h = read-as ∙ ap (λ (p : Option ℕ). tell long p (tell grammar (place2 t) rest)) (if-neg (decLt (S .bytes) (length t)) (λ k. omega arith) (some (S .bytes)) none)
+  short h =
+      read-as
+      ∙ ap (λ (p : Option ℕ). tell long p (tell grammar (place2 t) rest)) (if-neg (decLt (S .bytes) (length t)) (λ k. omega arith) (some (S .bytes)) none)
 
   read-grammar : (p : ℕ) → length t ≤ S .bytes → place2 t ≡ some p → read S t ≡ refused grammar p
   read-grammar p h e = short h ∙ ap (λ (q : Option ℕ). tell grammar q rest) e
@@ -73,7 +75,9 @@ module _ (s : Bool) (t : List ℕ) where
       ∙ ap (λ (y : List (List Raw)). verdictOf (chain (λ (r : Reason). firstBad (S .width) r y) (reasons s) (fieldsOf (said t)))) (sym (said-is t x (g .1)))
       ∙ ap verdictOf (sym (short h ∙ ap (λ (q : Option ℕ). tell grammar q rest) e ∙ chained s))
     where
-      chained : (s : Bool) → chain (placeOf (sortOf s) t) (reasons s) (fieldsOf (said t)) ≡ chain (λ (r : Reason). firstBad ((sortOf s) .width) r (said t)) (reasons s) (fieldsOf (said t))
+      chained : (s : Bool)
+          → chain (placeOf (sortOf s) t) (reasons s) (fieldsOf (said t))
+          ≡ chain (λ (r : Reason). firstBad ((sortOf s) .width) r (said t)) (reasons s) (fieldsOf (said t))
       chained true = refl
       chained false = refl
 
@@ -96,7 +100,8 @@ slip-accepted t e =
     let g = in-grammar t (n .1 .0) in
     let b : Base slip t = (n .0, n .1 .0, n .1 .1 .0, n .1 .1 .1 .0, n .1 .1 .1 .1 .0) in
     let says = a .1 ∙ ap accepted (sym (r .1) ∙ ap fieldsOf (said-is t (g .0) (g .1))) in
-    ap (λ (v : Slip). record { verdict = Accepted; slip = v }) (ap builtSlip (walk-says t (g .0) (g .1)) ∙ slip-built (g .0) (g .1 .0) (fits slip t b (g .0) (g .1)))
+    ap (λ (v : Slip). record { verdict = Accepted; slip = v })
+    (ap builtSlip (walk-says t (g .0) (g .1)) ∙ slip-built (g .0) (g .1 .0) (fits slip t b (g .0) (g .1)))
     ∙ ap slipRead (sym says)
 
 -- ---- the steps of the code

@@ -102,7 +102,8 @@ stop-end (some q) = go (final? q)
 
 place-here : (i s : ℕ) → s < 9 → placeFrom i s [] ≡ cond (mayEnd s) none (some i)
 place-here i s h =
-    ap (Option·map (λ k. i + k)) (stop-end (stateOf s) ∙ ap (λ (f : Bool). cond f none (some 0)) (decided (Bool-discrete (isFinal (stateOf s)) (mayEnd s)) (all-below ends-same 9 ends-agree s h)))
+    ap (Option·map (λ k. i + k)) (stop-end (stateOf s)
+    ∙ ap (λ (f : Bool). cond f none (some 0)) (decided (Bool-discrete (isFinal (stateOf s)) (mayEnd s)) (all-below ends-same 9 ends-agree s h)))
     ∙ go (mayEnd s)
   where
     go : (f : Bool) → Option·map (λ k. i + k) (cond f none (some 0)) ≡ cond f none (some i)

@@ -81,7 +81,9 @@ module _ (t : List ℕ) (at : ℕ) where
       )
 
     end : leadingDigits (drop i t) ≡ [] → record { count = i - at; value = v } ≡ counted (leadingDigits (drop at t))
-    end e = ap₂ (λ (n m : ℕ). record { count = n; value = m }) (omega (arith, k .0, k .3, ap length e)) (sym (k .4 ∙ ap (λ (ds : List ℕ). capped (val v ds)) e ∙ (omega (arith, k .2))))
+    end e =
+        ap₂ (λ (n m : ℕ). record { count = n; value = m }) (omega (arith, k .0, k .3, ap length e))
+        (sym (k .4 ∙ ap (λ (ds : List ℕ). capped (val v ds)) e ∙ (omega (arith, k .2))))
 
     pub digits-past : length t ≤ i → record { count = i - at; value = v } ≡ counted (leadingDigits (drop at t))
     digits-past h = end (ap leadingDigits (drop-of-length-le t h))
@@ -116,11 +118,13 @@ module _ (t : List ℕ) (at : ℕ) where
   module _ (i : ℕ) (k : QuotedTo t at i) where
     pub quoted-more : i < length t → (getD t i 0 ≡ 34 → ⊥) → QuotedTo t at (i + 1)
     quoted-more h n =
-        let e : untilQuote (drop i t) ≡ getD t i 0 ∷ untilQuote (drop (i + 1) t) = rw (add-one, drop-cons t i 0 h) (quote-cons (getD t i 0) (drop (suc i) t) n) in
+        let e : untilQuote (drop i t) ≡ getD t i 0 ∷ untilQuote (drop (i + 1) t) =
+        rw (add-one, drop-cons t i 0 h) (quote-cons (getD t i 0) (drop (suc i) t) n) in
         (omega arith, omega arith, omega (arith, k .0, k .2, ap length e))
 
     pub quoted-past : length t ≤ i → i - at ≡ length (untilQuote (drop at t))
     quoted-past h = let e : untilQuote (drop i t) ≡ [] = ap untilQuote (drop-of-length-le t h) in omega (arith, k .2, ap length e)
 
     pub quoted-at : i < length t → getD t i 0 ≡ 34 → i - at ≡ length (untilQuote (drop at t))
-    quoted-at h q = let e : untilQuote (drop i t) ≡ [] = ap untilQuote (drop-cons t i 0 h) ∙ quote-stop (getD t i 0) (drop (suc i) t) q in omega (arith, k .2, ap length e)
+    quoted-at h q =
+        let e : untilQuote (drop i t) ≡ [] = ap untilQuote (drop-cons t i 0 h) ∙ quote-stop (getD t i 0) (drop (suc i) t) q in omega (arith, k .2, ap length e)

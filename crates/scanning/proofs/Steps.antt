@@ -91,7 +91,8 @@ table-is s b hs hb =
 
 pub next-small : (s b : ℕ) → s < 9 → b < 256 → next s (fineOf b) < 10
 next-small s b hs hb =
-    ltb→lt (next s (fineOf b)) 10 (both-left (ltb (next s (fineOf b)) 10) (sameL (code (stateOf (next s (fineOf b)))) (code (step (stateOf s) b))) (at s b hs hb))
+    ltb→lt (next s (fineOf b)) 10
+    (both-left (ltb (next s (fineOf b)) 10) (sameL (code (stateOf (next s (fineOf b)))) (code (step (stateOf s) b))) (at s b hs hb))
 
 -- within the list, an entry does not depend on what stands for the entries past it
 pub entry-any : (l : List ℕ) (i d e : ℕ) → i < length l → getD l i d ≡ getD l i e

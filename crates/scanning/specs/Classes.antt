@@ -1,5 +1,6 @@
 -- The classes of bytes. Document 01: "a table over all 256 byte values says what each byte may begin".
--- The document's five classes are read off the grammar. The code's table holds finer classes, for the five do not decide the machine's step:
+-- The document's five classes are read off the grammar. The code's table holds finer classes,
+-- for the five do not decide the machine's step:
 -- it tells `0` from the other digits, `:` from `|`, and the letters of `empty` from each other and from those of the types.
 --     classByGrammar    a byte's class among the five
 --     fineOf            a byte's finer class
@@ -17,7 +18,27 @@ use Rattle.lists.specs.Tables.{both, allBelow, all-below}
 use Rattle.order.specs.Order.{basic, list}
 use Rattle.order.specs.Types.{integer, string, atom}
 use Rattle.text.specs.Bytes as bytes
-use Rattle.text.specs.Bytes.{digit?, Begins, b-digit, b-quote, b-letter, b-e, b-none, begins, Follows, f-digit, f-colon, f-bar, f-none, follows, Holds, h-quote, h-in, h-none, holds}
+use Rattle.text.specs.Bytes.{
+  digit?,
+  Begins,
+  b-digit,
+  b-quote,
+  b-letter,
+  b-e,
+  b-none,
+  begins,
+  Follows,
+  f-digit,
+  f-colon,
+  f-bar,
+  f-none,
+  follows,
+  Holds,
+  h-quote,
+  h-in,
+  h-none,
+  holds,
+}
 use Rattle.text.specs.Grammar.{raw-empty, spell}
 
 -- ---- the five classes
@@ -27,7 +48,8 @@ pub data Class : Type 0 where
   digit letter quote separator inString nowhere : Class
   deriving Discrete as class-eq
 
--- A string may hold any of these bytes but the quote. So a byte is classed by what it may be outside a string, and as `inString` where it is nothing there.
+-- A string may hold any of these bytes but the quote. So a byte is classed by what it may be outside a string,
+-- and as `inString` where it is nothing there.
 -- The letters are those that begin a variable, and those of `empty`.
 module _ {b : ℕ} where
   abbrev pub inside : Holds b → Class
@@ -54,7 +76,8 @@ module _ {b : ℕ} where
 
 -- by the grammar's own decisions: what the byte may begin, what it may follow, whether `empty` has it, whether a string holds it
 abbrev pub classByGrammar : ℕ → Class
-classByGrammar b = orBegins (begins b) (orFollows (follows b) (orLetter (any? (λ c. b ≡ c) (ℕ-discrete b) (spell raw-empty)) (inside (holds b))))
+classByGrammar b =
+    orBegins (begins b) (orFollows (follows b) (orLetter (any? (λ c. b ≡ c) (ℕ-discrete b) (spell raw-empty)) (inside (holds b))))
 
 -- ---- the finer classes
 

@@ -14,7 +14,8 @@ use Rattle.scanning.specs.declared.Piece.{Piece}
 use Rattle.scanning.specs.declared.Spelled.{Spelled}
 use Rattle.scanning.specs.declared.Spelled.the-variants.{Int, Str, Var, Empty}
 
--- A value is exact up to the largest integer, and stops one above it: it never overflows, and one that is too large is still told from those that are not.
+-- A value is exact up to the largest integer, and stops one above it:
+-- it never overflows, and one that is too large is still told from those that are not.
 abbrev pub capped : ℕ → ℕ
 capped n = min n (suc largestInteger)
 

@@ -57,7 +57,8 @@ pub fn class_of(b: u8) -> u8
     CLASSES[b as usize]
 }
 
-// The place of refusal 2. Document 01: "the first byte that no text of the grammar could have there, or the length where the text stops early".
+// The place of refusal 2. Document 01: "the first byte that no text of the grammar could have there,
+// or the length where the text stops early".
 pub fn grammar_place(text: &[u8]) -> Found
     ensures { λ r. ⌜ r ≡ foundOf (place2 (now (text .entry))) ⌝ }
 {

@@ -10,11 +10,52 @@ use Rattle.order.specs.Order.{Order}
 use Rattle.theory.specs.Seqs.{concat-map}
 use Rattle.unifiers.specs.Shapes.{fixed, free, Vars}
 use Rattle.searching.specs.Problems.{Names, Setting, atomic, listvar, At, Tm, Field, at-eq, kindOf, put, Rest, solved, equation}
-use Rattle.searching.specs.Rules.{Rule, Remove, Decomp1, Decomp1′, Decomp2, Decomp2′, Decomp3, Decomp4, Subst1, Subst2, Subst3, Orient1, Orient2, Orient3, Orient4, occurs, bind, decomp1, bindAtom, decomp1′, decomp2, decomp2′, decomp4, subst1, subst2, subst3, rule}
+use Rattle.searching.specs.Rules.{
+  Rule,
+  Remove,
+  Decomp1,
+  Decomp1′,
+  Decomp2,
+  Decomp2′,
+  Decomp3,
+  Decomp4,
+  Subst1,
+  Subst2,
+  Subst3,
+  Orient1,
+  Orient2,
+  Orient3,
+  Orient4,
+  occurs,
+  bind,
+  decomp1,
+  bindAtom,
+  decomp1′,
+  decomp2,
+  decomp2′,
+  decomp4,
+  subst1,
+  subst2,
+  subst3,
+  rule,
+}
 use Rattle.searching.specs.Answers.{listvars, isName, countOf, Linear, Fits}
 use Rattle.searching.proofs.Seqs.{all-both}
 use Rattle.searching.proofs.Terms.{atomic-once, listvar-once, atomic≢listvar}
-use Rattle.searching.proofs.Counts.{same-le, same-self, count-le, same-count, Other, put-fill-all, all-put-in, put-length, put-lists, put-count, not-occurs, without}
+use Rattle.searching.proofs.Counts.{
+  same-le,
+  same-self,
+  count-le,
+  same-count,
+  Other,
+  put-fill-all,
+  all-put-in,
+  put-length,
+  put-lists,
+  put-count,
+  not-occurs,
+  without,
+}
 use Rattle.searching.proofs.Effects.{Bind, Does, fewer}
 use Rattle.searching.proofs.Kept.{remove-does, decomp3-does, lin-swap, orient1-does, orient2-does, orient3-does, orient4-does}
 
@@ -65,7 +106,8 @@ module _ (E : Setting) where
         ((r .0, tt), (without E P x (t ∷ L) (rest-left x (t ∷ L) (s ∷ M) l x) (h .1), r .1));
     new = tt;
     fits = tt;
-    lin = λ l p q. record { left = omega (arith, l .left); right = omega (arith, l .right, lists-cons s M); once = λ n. omega (arith, l .once n, count-cons n s M) };
+    lin = λ l p q.
+        record { left = omega (arith, l .left); right = omega (arith, l .right, lists-cons s M); once = λ n. omega (arith, l .once n, count-cons n s M) };
     falls = fewer E (listvar x ∷ (t ∷ L)) (s ∷ M) (t ∷ L) M (omega arith);
     room = omega arith;
   }
@@ -92,19 +134,29 @@ module _ (E : Setting) where
   subst3-does (listvar x ∷ []) M f = tt
   subst3-does (listvar x ∷ (t ∷ L)) [] f = tt
   subst3-does (listvar x ∷ (t ∷ L)) (atomic a ∷ M) f = record {
-    eqv = λ {B} θ h. (λ e. append-cancel-left (θ (atomic a)) (θ (listvar f) ++ concat-map θ (t ∷ L)) (concat-map θ M) (sym (grow B θ h) ∙ e), λ e. grow B θ h ∙ ap (λ (k : List B). θ (atomic a) ++ k) e);
+    eqv = λ {B} θ h. (
+      λ e. append-cancel-left (θ (atomic a)) (θ (listvar f) ++ concat-map θ (t ∷ L)) (concat-map θ M) (sym (grow B θ h) ∙ e),
+      λ e. grow B θ h ∙ ap (λ (k : List B). θ (atomic a) ++ k) e,
+    );
     here = λ P h k. h .0;
     from = λ l P h k v. let r = without E P x (atomic a ∷ M) (rest-right x (t ∷ L) (atomic a ∷ M) l) k in
         ((r .0, (v .0, tt)), ((v .0, without E P x (t ∷ L) (rest-left x (t ∷ L) (atomic a ∷ M) l x) (h .1)), r .1));
     new = (refl, tt);
     fits = tt;
-    lin = λ l p q. record { left = omega (arith, l .left); right = l .right; once = λ n. omega (arith, same-count E f M (l .right) q n, rest-left x (t ∷ L) (atomic a ∷ M) l n) };
+    lin = λ l p q. record {
+      left = omega (arith, l .left);
+      right = l .right;
+      once = λ n. omega (arith, same-count E f M (l .right) q n, rest-left x (t ∷ L) (atomic a ∷ M) l n);
+    };
     falls = fewer E (listvar x ∷ (t ∷ L)) (atomic a ∷ M) (listvar f ∷ (t ∷ L)) M (omega arith);
     room = omega arith;
   }
     where
-      grow : (B : Type 0) (θ : Tm E → List B) → θ (listvar x) ≡ θ (atomic a) ++ (θ (listvar f) ++ []) → θ (listvar x) ++ concat-map θ (t ∷ L) ≡ θ (atomic a) ++ (θ (listvar f) ++ concat-map θ (t ∷ L))
-      grow B θ h = ap (λ (k : List B). k ++ concat-map θ (t ∷ L)) (h ∙ ap (λ (k : List B). θ (atomic a) ++ k) (append-nil (θ (listvar f)))) ∙ append-assoc (θ (atomic a)) (θ (listvar f)) (concat-map θ (t ∷ L))
+      grow : (B : Type 0) (θ : Tm E → List B) → θ (listvar x) ≡ θ (atomic a) ++ (θ (listvar f) ++ [])
+          → θ (listvar x) ++ concat-map θ (t ∷ L) ≡ θ (atomic a) ++ (θ (listvar f) ++ concat-map θ (t ∷ L))
+      grow B θ h =
+          ap (λ (k : List B). k ++ concat-map θ (t ∷ L)) (h ∙ ap (λ (k : List B). θ (atomic a) ++ k) (append-nil (θ (listvar f))))
+          ∙ append-assoc (θ (atomic a)) (θ (listvar f)) (concat-map θ (t ∷ L))
   subst3-does (listvar x ∷ (t ∷ L)) (listvar y ∷ M) f = tt
 
   decomp2-does : (L M : Field E) (f : Name) → Does E L M f (decomp2 E L M f)
@@ -114,19 +166,29 @@ module _ (E : Setting) where
   decomp2-does (listvar x ∷ (t ∷ L)) [] f = tt
   decomp2-does (listvar x ∷ (t ∷ L)) (atomic a ∷ M) f = tt
   decomp2-does (listvar x ∷ (t ∷ L)) (listvar y ∷ M) f = record {
-    eqv = λ {B} θ h. (λ e. append-cancel-left (θ (listvar y)) (θ (listvar f) ++ concat-map θ (t ∷ L)) (concat-map θ M) (sym (grow B θ h) ∙ e), λ e. grow B θ h ∙ ap (λ (k : List B). θ (listvar y) ++ k) e);
+    eqv = λ {B} θ h. (
+      λ e. append-cancel-left (θ (listvar y)) (θ (listvar f) ++ concat-map θ (t ∷ L)) (concat-map θ M) (sym (grow B θ h) ∙ e),
+      λ e. grow B θ h ∙ ap (λ (k : List B). θ (listvar y) ++ k) e,
+    );
     here = λ P h k. h .0;
     from = λ l P h k v. let r = without E P x (listvar y ∷ M) (rest-right x (t ∷ L) (listvar y ∷ M) l) k in
         ((r .0, (v .0, tt)), ((v .0, without E P x (t ∷ L) (rest-left x (t ∷ L) (listvar y ∷ M) l x) (h .1)), r .1));
     new = (refl, tt);
     fits = tt;
-    lin = λ l p q. record { left = omega (arith, l .left); right = omega (arith, l .right); once = λ n. omega (arith, same-le E n f, rest-both x y (t ∷ L) M l n, rest-left x (t ∷ L) (listvar y ∷ M) l n) };
+    lin = λ l p q. record {
+      left = omega (arith, l .left);
+      right = omega (arith, l .right);
+      once = λ n. omega (arith, same-le E n f, rest-both x y (t ∷ L) M l n, rest-left x (t ∷ L) (listvar y ∷ M) l n);
+    };
     falls = fewer E (listvar x ∷ (t ∷ L)) (listvar y ∷ M) (listvar f ∷ (t ∷ L)) M (omega arith);
     room = omega arith;
   }
     where
-      grow : (B : Type 0) (θ : Tm E → List B) → θ (listvar x) ≡ θ (listvar y) ++ (θ (listvar f) ++ []) → θ (listvar x) ++ concat-map θ (t ∷ L) ≡ θ (listvar y) ++ (θ (listvar f) ++ concat-map θ (t ∷ L))
-      grow B θ h = ap (λ (k : List B). k ++ concat-map θ (t ∷ L)) (h ∙ ap (λ (k : List B). θ (listvar y) ++ k) (append-nil (θ (listvar f)))) ∙ append-assoc (θ (listvar y)) (θ (listvar f)) (concat-map θ (t ∷ L))
+      grow : (B : Type 0) (θ : Tm E → List B) → θ (listvar x) ≡ θ (listvar y) ++ (θ (listvar f) ++ [])
+          → θ (listvar x) ++ concat-map θ (t ∷ L) ≡ θ (listvar y) ++ (θ (listvar f) ++ concat-map θ (t ∷ L))
+      grow B θ h =
+          ap (λ (k : List B). k ++ concat-map θ (t ∷ L)) (h ∙ ap (λ (k : List B). θ (listvar y) ++ k) (append-nil (θ (listvar f))))
+          ∙ append-assoc (θ (listvar y)) (θ (listvar f)) (concat-map θ (t ∷ L))
 
   decomp2′-does : (L M : Field E) (f : Name) → Does E L M f (decomp2′ E L M f)
   decomp2′-does [] M f = tt
@@ -135,19 +197,30 @@ module _ (E : Setting) where
   decomp2′-does (listvar x ∷ (t ∷ L)) [] f = tt
   decomp2′-does (listvar x ∷ (t ∷ L)) (atomic a ∷ M) f = tt
   decomp2′-does (listvar x ∷ (t ∷ L)) (listvar y ∷ M) f = record {
-    eqv = λ {B} θ h. (λ e. append-cancel-left (θ (listvar x)) (concat-map θ (t ∷ L)) (θ (listvar f) ++ concat-map θ M) (e ∙ grow B θ h), λ e. ap (λ (k : List B). θ (listvar x) ++ k) e ∙ sym (grow B θ h));
+    eqv = λ {B} θ h. (
+      λ e. append-cancel-left (θ (listvar x)) (concat-map θ (t ∷ L)) (θ (listvar f) ++ concat-map θ M) (e ∙ grow B θ h),
+      λ e. ap (λ (k : List B). θ (listvar x) ++ k) e ∙ sym (grow B θ h),
+    );
     here = λ P h k. k .0;
-    from = λ l P h k v. let r = without E P y (listvar x ∷ (t ∷ L)) (rest-right y M (listvar x ∷ (t ∷ L)) (lin-swap E (listvar x ∷ (t ∷ L)) (listvar y ∷ M) l)) h in
+    from = λ l P h k v.
+        let r = without E P y (listvar x ∷ (t ∷ L)) (rest-right y M (listvar x ∷ (t ∷ L)) (lin-swap E (listvar x ∷ (t ∷ L)) (listvar y ∷ M) l)) h in
         ((r .0, (v .0, tt)), (r .1, (v .0, without E P y M (rest-both x y (t ∷ L) M l y) (k .1))));
     new = (refl, tt);
     fits = tt;
-    lin = λ l p q. record { left = omega (arith, l .left); right = omega (arith, l .right); once = λ n. omega (arith, same-le E n f, rest-both x y (t ∷ L) M l n, rest-left x (t ∷ L) (listvar y ∷ M) l n) };
+    lin = λ l p q. record {
+      left = omega (arith, l .left);
+      right = omega (arith, l .right);
+      once = λ n. omega (arith, same-le E n f, rest-both x y (t ∷ L) M l n, rest-left x (t ∷ L) (listvar y ∷ M) l n);
+    };
     falls = fewer E (listvar x ∷ (t ∷ L)) (listvar y ∷ M) (t ∷ L) (listvar f ∷ M) (omega arith);
     room = omega arith;
   }
     where
-      grow : (B : Type 0) (θ : Tm E → List B) → θ (listvar y) ≡ θ (listvar x) ++ (θ (listvar f) ++ []) → θ (listvar y) ++ concat-map θ M ≡ θ (listvar x) ++ (θ (listvar f) ++ concat-map θ M)
-      grow B θ h = ap (λ (k : List B). k ++ concat-map θ M) (h ∙ ap (λ (k : List B). θ (listvar x) ++ k) (append-nil (θ (listvar f)))) ∙ append-assoc (θ (listvar x)) (θ (listvar f)) (concat-map θ M)
+      grow : (B : Type 0) (θ : Tm E → List B) → θ (listvar y) ≡ θ (listvar x) ++ (θ (listvar f) ++ [])
+          → θ (listvar y) ++ concat-map θ M ≡ θ (listvar x) ++ (θ (listvar f) ++ concat-map θ M)
+      grow B θ h =
+          ap (λ (k : List B). k ++ concat-map θ M) (h ∙ ap (λ (k : List B). θ (listvar x) ++ k) (append-nil (θ (listvar f))))
+          ∙ append-assoc (θ (listvar x)) (θ (listvar f)) (concat-map θ M)
 
   -- an atom variable x is bound to an atom a that is not x, of a kind below
   bindAtom-does : (L M : Field E) (f : Name) (x : Var) (a : At E) (n : Rest E)
@@ -168,20 +241,33 @@ module _ (E : Setting) where
   decomp1′-does (atomic (fixed c) ∷ L) M f = tt
   decomp1′-does (atomic (free x) ∷ []) M f = tt
   decomp1′-does (atomic (free x) ∷ (t ∷ L)) [] f = tt
-  decomp1′-does (atomic (free x) ∷ (t ∷ L)) (atomic a ∷ M) f = bindAtom-does (atomic (free x) ∷ (t ∷ L)) (atomic a ∷ M) f x a (equation (ins (t ∷ L)) (ins M)) (λ d q. record {
-    eqv = λ {B} θ h. (
-      λ e. put-fill-all E θ (atomic (free x)) (atomic a ∷ []) h (t ∷ L) ∙ append-cancel-left (θ (atomic a)) (concat-map θ (t ∷ L)) (concat-map θ M) (ap (λ (k : List B). k ++ concat-map θ (t ∷ L)) (sym (h ∙ append-nil (θ (atomic a)))) ∙ e) ∙ sym (put-fill-all E θ (atomic (free x)) (atomic a ∷ []) h M),
-      λ e. ap₂ (λ (k l : List B). k ++ l) (h ∙ append-nil (θ (atomic a))) (sym (put-fill-all E θ (atomic (free x)) (atomic a ∷ []) h (t ∷ L)) ∙ e ∙ put-fill-all E θ (atomic (free x)) (atomic a ∷ []) h M),
-    );
-    here = λ P h k. h .0;
-    from = λ l P h k v. let pa : P (atomic a) = k .0 (λ p. d (atomic-once p)) in
-        ((pa, tt), (all-put-in E P (atomic (free x)) (atomic a ∷ []) (pa, tt) (t ∷ L) (h .1), all-put-in E P (atomic (free x)) (atomic a ∷ []) (pa, tt) M (k .1)));
-    new = tt;
-    fits = (a, refl, q);
-    lin = λ l p q. record { left = rw (put-lists E (free x) a (t ∷ L)) (l .left); right = rw (put-lists E (free x) a M) (l .right); once = λ n. rw (put-count E n (free x) a (t ∷ L), put-count E n (free x) a M) (l .once n) };
-    falls = fewer E (atomic (free x) ∷ (t ∷ L)) (atomic a ∷ M) (ins (t ∷ L)) (ins M) (omega (arith, put-length E (free x) a (t ∷ L), put-length E (free x) a M));
-    room = omega (arith, put-length E (free x) a (t ∷ L), put-length E (free x) a M);
-  })
+  decomp1′-does (atomic (free x) ∷ (t ∷ L)) (atomic a ∷ M) f =
+      bindAtom-does (atomic (free x) ∷ (t ∷ L)) (atomic a ∷ M) f x a (equation (ins (t ∷ L)) (ins M)) (λ d q. record {
+        eqv = λ {B} θ h. (
+          λ e. put-fill-all E θ (atomic (free x)) (atomic a ∷ []) h (t ∷ L)
+              ∙ append-cancel-left (θ (atomic a)) (concat-map θ (t ∷ L)) (concat-map θ M)
+              (ap (λ (k : List B). k ++ concat-map θ (t ∷ L)) (sym (h ∙ append-nil (θ (atomic a)))) ∙ e)
+              ∙ sym (put-fill-all E θ (atomic (free x)) (atomic a ∷ []) h M),
+          λ e. ap₂ (λ (k l : List B). k ++ l) (h ∙ append-nil (θ (atomic a)))
+              (sym (put-fill-all E θ (atomic (free x)) (atomic a ∷ []) h (t ∷ L)) ∙ e ∙ put-fill-all E θ (atomic (free x)) (atomic a ∷ []) h M),
+        );
+        here = λ P h k. h .0;
+        from = λ l P h k v. let pa : P (atomic a) = k .0 (λ p. d (atomic-once p)) in (
+          (pa, tt),
+          (all-put-in E P (atomic (free x)) (atomic a ∷ []) (pa, tt) (t ∷ L) (h .1), all-put-in E P (atomic (free x)) (atomic a ∷ []) (pa, tt) M (k .1)),
+        );
+        new = tt;
+        fits = (a, refl, q);
+        lin = λ l p q. record {
+          left = rw (put-lists E (free x) a (t ∷ L)) (l .left);
+          right = rw (put-lists E (free x) a M) (l .right);
+          once = λ n. rw (put-count E n (free x) a (t ∷ L), put-count E n (free x) a M) (l .once n);
+        };
+        falls =
+            fewer E (atomic (free x) ∷ (t ∷ L)) (atomic a ∷ M) (ins (t ∷ L)) (ins M)
+            (omega (arith, put-length E (free x) a (t ∷ L), put-length E (free x) a M));
+        room = omega (arith, put-length E (free x) a (t ∷ L), put-length E (free x) a M);
+      })
     where
       ins : Field E → Field E
       ins K = concat-map (put E (atomic (free x)) (atomic a ∷ [])) K
@@ -194,19 +280,20 @@ module _ (E : Setting) where
   decomp4-does (atomic (free x) ∷ []) [] f = tt
   decomp4-does (atomic (free x) ∷ []) (atomic a ∷ []) f = tt
   decomp4-does (atomic (free x) ∷ []) (atomic a ∷ (atomic b ∷ M)) f = tt
-  decomp4-does (atomic (free x) ∷ []) (atomic a ∷ (listvar y ∷ [])) f = bindAtom-does (atomic (free x) ∷ []) (atomic a ∷ (listvar y ∷ [])) f x a (equation [] (listvar y ∷ [])) (λ d q. record {
-    eqv = λ {B} θ h. (
-      λ e. append-cancel-left (θ (atomic a)) [] (θ (listvar y) ++ []) (sym h ∙ sym (append-nil (θ (atomic (free x)))) ∙ e),
-      λ e. ap₂ (λ (k l : List B). k ++ l) (h ∙ append-nil (θ (atomic a))) e,
-    );
-    here = λ P h k. h .0;
-    from = λ l P h k v. ((k .0 (λ p. d (atomic-once p)), tt), (tt, (k .1 .0 (λ p. atomic≢listvar (sym p)), tt)));
-    new = tt;
-    fits = (a, refl, q);
-    lin = λ l p q. record { left = omega arith; right = l .right; once = λ n. l .once n };
-    falls = fewer E (atomic (free x) ∷ []) (atomic a ∷ (listvar y ∷ [])) [] (listvar y ∷ []) (omega arith);
-    room = omega arith;
-  })
+  decomp4-does (atomic (free x) ∷ []) (atomic a ∷ (listvar y ∷ [])) f =
+      bindAtom-does (atomic (free x) ∷ []) (atomic a ∷ (listvar y ∷ [])) f x a (equation [] (listvar y ∷ [])) (λ d q. record {
+        eqv = λ {B} θ h. (
+          λ e. append-cancel-left (θ (atomic a)) [] (θ (listvar y) ++ []) (sym h ∙ sym (append-nil (θ (atomic (free x)))) ∙ e),
+          λ e. ap₂ (λ (k l : List B). k ++ l) (h ∙ append-nil (θ (atomic a))) e,
+        );
+        here = λ P h k. h .0;
+        from = λ l P h k v. ((k .0 (λ p. d (atomic-once p)), tt), (tt, (k .1 .0 (λ p. atomic≢listvar (sym p)), tt)));
+        new = tt;
+        fits = (a, refl, q);
+        lin = λ l p q. record { left = omega arith; right = l .right; once = λ n. l .once n };
+        falls = fewer E (atomic (free x) ∷ []) (atomic a ∷ (listvar y ∷ [])) [] (listvar y ∷ []) (omega arith);
+        room = omega arith;
+      })
   decomp4-does (atomic (free x) ∷ []) (atomic a ∷ (listvar y ∷ (t ∷ M))) f = tt
   decomp4-does (atomic (free x) ∷ []) (listvar y ∷ M) f = tt
   decomp4-does (atomic (free x) ∷ (t ∷ L)) M f = tt
@@ -235,7 +322,9 @@ module _ (E : Setting) where
   subst1-does (atomic (free x) ∷ []) [] f = tt
   subst1-does (atomic (free x) ∷ []) (atomic a ∷ []) f = go (le (kindOf E a) (sort x)) refl
     where
-      go : (b : Bool) → le (kindOf E a) (sort x) ≡ b → Does E (atomic (free x) ∷ []) (atomic a ∷ []) f (cond b (cond (occurs E (atomic (free x)) (atomic a ∷ [])) none (some (bind (atomic (free x)) (atomic a ∷ []) [] solved))) none)
+      go : (b : Bool) → le (kindOf E a) (sort x) ≡ b
+          → Does E (atomic (free x) ∷ []) (atomic a ∷ []) f
+          (cond b (cond (occurs E (atomic (free x)) (atomic a ∷ [])) none (some (bind (atomic (free x)) (atomic a ∷ []) [] solved))) none)
       go true h = solve-does (atomic a ∷ []) f (atomic (free x)) (a, refl, h)
       go false h = tt
   subst1-does (atomic (free x) ∷ []) (listvar y ∷ []) f = tt

@@ -12,14 +12,55 @@ use Rattle.theory.specs.Constants.{Consts}
 use Rattle.theory.specs.Seqs.{concat-map}
 use Rattle.unifiers.specs.Shapes.{Vars}
 use Rattle.searching.specs.Problems.{Names, Setting, atomic, listvar, Tm, Field, Bindings, Rest, equation, Problem, problem, rest, used}
-use Rattle.searching.specs.Rules.{Rule, Remove, Decomp1, Decomp1′, Decomp2, Decomp2′, Decomp3, Decomp4, Subst1, Subst2, Subst3, Orient1, Orient2, Orient3, Orient4, ruleOrder, Move, keep, bind, fails, rule, add, collect, moves, apply, childrenOf, children}
+use Rattle.searching.specs.Rules.{
+  Rule,
+  Remove,
+  Decomp1,
+  Decomp1′,
+  Decomp2,
+  Decomp2′,
+  Decomp3,
+  Decomp4,
+  Subst1,
+  Subst2,
+  Subst3,
+  Orient1,
+  Orient2,
+  Orient3,
+  Orient4,
+  ruleOrder,
+  Move,
+  keep,
+  bind,
+  fails,
+  rule,
+  add,
+  collect,
+  moves,
+  apply,
+  childrenOf,
+  children,
+}
 use Rattle.searching.specs.Queue.{termsIn}
 use Rattle.searching.specs.Answers.{ground, WellTyped}
 use Rattle.searching.proofs.Seqs.{all-mapped}
 use Rattle.searching.proofs.Counts.{Other}
 use Rattle.searching.proofs.Effects.{Falls, termsLeft, Does}
 use Rattle.searching.proofs.Bound.{rule-does}
-use Rattle.searching.proofs.Invariant.{Respects, Unifies, Fixed, compose-iff, sound-move, Known, Unbound, Invariant, mem-dec, old-atom, old-mem, inv-move}
+use Rattle.searching.proofs.Invariant.{
+  Respects,
+  Unifies,
+  Fixed,
+  compose-iff,
+  sound-move,
+  Known,
+  Unbound,
+  Invariant,
+  mem-dec,
+  old-atom,
+  old-mem,
+  inv-move,
+}
 use Rattle.searching.proofs.Choice.{extend, extend-term, extend-field, no-fail, Agrees, Choice, choose}
 
 module _ (E : Setting) where
@@ -37,12 +78,24 @@ module _ (E : Setting) where
   all-rules Decomp3 = List·Memᴰ·tail (List·Memᴰ·tail (List·Memᴰ·tail (List·Memᴰ·tail (List·Memᴰ·tail (List·Memᴰ·head refl)))))
   all-rules Decomp4 = List·Memᴰ·tail (List·Memᴰ·tail (List·Memᴰ·tail (List·Memᴰ·tail (List·Memᴰ·tail (List·Memᴰ·tail (List·Memᴰ·head refl))))))
   all-rules Subst1 = List·Memᴰ·tail (List·Memᴰ·tail (List·Memᴰ·tail (List·Memᴰ·tail (List·Memᴰ·tail (List·Memᴰ·tail (List·Memᴰ·tail (List·Memᴰ·head refl)))))))
-  all-rules Subst2 = List·Memᴰ·tail (List·Memᴰ·tail (List·Memᴰ·tail (List·Memᴰ·tail (List·Memᴰ·tail (List·Memᴰ·tail (List·Memᴰ·tail (List·Memᴰ·tail (List·Memᴰ·head refl))))))))
-  all-rules Subst3 = List·Memᴰ·tail (List·Memᴰ·tail (List·Memᴰ·tail (List·Memᴰ·tail (List·Memᴰ·tail (List·Memᴰ·tail (List·Memᴰ·tail (List·Memᴰ·tail (List·Memᴰ·tail (List·Memᴰ·head refl)))))))))
-  all-rules Orient1 = List·Memᴰ·tail (List·Memᴰ·tail (List·Memᴰ·tail (List·Memᴰ·tail (List·Memᴰ·tail (List·Memᴰ·tail (List·Memᴰ·tail (List·Memᴰ·tail (List·Memᴰ·tail (List·Memᴰ·tail (List·Memᴰ·head refl))))))))))
-  all-rules Orient2 = List·Memᴰ·tail (List·Memᴰ·tail (List·Memᴰ·tail (List·Memᴰ·tail (List·Memᴰ·tail (List·Memᴰ·tail (List·Memᴰ·tail (List·Memᴰ·tail (List·Memᴰ·tail (List·Memᴰ·tail (List·Memᴰ·tail (List·Memᴰ·head refl)))))))))))
-  all-rules Orient3 = List·Memᴰ·tail (List·Memᴰ·tail (List·Memᴰ·tail (List·Memᴰ·tail (List·Memᴰ·tail (List·Memᴰ·tail (List·Memᴰ·tail (List·Memᴰ·tail (List·Memᴰ·tail (List·Memᴰ·tail (List·Memᴰ·tail (List·Memᴰ·tail (List·Memᴰ·head refl))))))))))))
-  all-rules Orient4 = List·Memᴰ·tail (List·Memᴰ·tail (List·Memᴰ·tail (List·Memᴰ·tail (List·Memᴰ·tail (List·Memᴰ·tail (List·Memᴰ·tail (List·Memᴰ·tail (List·Memᴰ·tail (List·Memᴰ·tail (List·Memᴰ·tail (List·Memᴰ·tail (List·Memᴰ·tail (List·Memᴰ·head refl)))))))))))))
+  all-rules Subst2 =
+      List·Memᴰ·tail
+      (List·Memᴰ·tail (List·Memᴰ·tail (List·Memᴰ·tail (List·Memᴰ·tail (List·Memᴰ·tail (List·Memᴰ·tail (List·Memᴰ·tail (List·Memᴰ·head refl))))))))
+  all-rules Subst3 =
+      List·Memᴰ·tail (List·Memᴰ·tail
+      (List·Memᴰ·tail (List·Memᴰ·tail (List·Memᴰ·tail (List·Memᴰ·tail (List·Memᴰ·tail (List·Memᴰ·tail (List·Memᴰ·tail (List·Memᴰ·head refl)))))))))
+  all-rules Orient1 =
+      List·Memᴰ·tail (List·Memᴰ·tail (List·Memᴰ·tail
+      (List·Memᴰ·tail (List·Memᴰ·tail (List·Memᴰ·tail (List·Memᴰ·tail (List·Memᴰ·tail (List·Memᴰ·tail (List·Memᴰ·tail (List·Memᴰ·head refl))))))))))
+  all-rules Orient2 =
+      List·Memᴰ·tail (List·Memᴰ·tail (List·Memᴰ·tail (List·Memᴰ·tail
+      (List·Memᴰ·tail (List·Memᴰ·tail (List·Memᴰ·tail (List·Memᴰ·tail (List·Memᴰ·tail (List·Memᴰ·tail (List·Memᴰ·tail (List·Memᴰ·head refl)))))))))))
+  all-rules Orient3 =
+      List·Memᴰ·tail (List·Memᴰ·tail (List·Memᴰ·tail (List·Memᴰ·tail (List·Memᴰ·tail
+      (List·Memᴰ·tail (List·Memᴰ·tail (List·Memᴰ·tail (List·Memᴰ·tail (List·Memᴰ·tail (List·Memᴰ·tail (List·Memᴰ·tail (List·Memᴰ·head refl))))))))))))
+  all-rules Orient4 =
+      List·Memᴰ·tail (List·Memᴰ·tail (List·Memᴰ·tail (List·Memᴰ·tail (List·Memᴰ·tail (List·Memᴰ·tail
+      (List·Memᴰ·tail (List·Memᴰ·tail (List·Memᴰ·tail (List·Memᴰ·tail (List·Memᴰ·tail (List·Memᴰ·tail (List·Memᴰ·tail (List·Memᴰ·head refl)))))))))))))
 
   abbrev pub Is : Field E → Field E → Name → Rule × Move E → Type 0
   Is L M f q = rule E (q .0) L M f ≡ some (q .1)
@@ -55,7 +108,8 @@ module _ (E : Setting) where
       go none e h = h
       go (some m) e h = (e, h)
 
-  collect-has : (L M : Field E) (f : Name) (rs : List Rule) (r : Rule) → List·Memᴰ r rs → (m : Move E) → rule E r L M f ≡ some m → List·Memᴰ (r, m) (collect E L M f rs)
+  collect-has : (L M : Field E) (f : Name) (rs : List Rule) (r : Rule) → List·Memᴰ r rs
+      → (m : Move E) → rule E r L M f ≡ some m → List·Memᴰ (r, m) (collect E L M f rs)
   collect-has L M f [] r i m e = absurd (List·Memᴰ·not-nil i)
   collect-has L M f (s ∷ rs) r i m e = go (λ j. collect-has L M f rs r j m e) (List·Memᴰ·cases-cons i)
     where
@@ -63,8 +117,11 @@ module _ (E : Setting) where
       later none j = j
       later (some k) j = List·Memᴰ·tail j
 
-      go : (List·Memᴰ r rs → List·Memᴰ (r, m) (collect E L M f rs)) → (r ≡ s) ⊎ List·Memᴰ r rs → List·Memᴰ (r, m) (add E s (rule E s L M f) (collect E L M f rs))
-      go rec (inl p) = subst (λ (o : Option (Move E)). List·Memᴰ (r, m) (add E s o (collect E L M f rs))) (sym e ∙ ap (λ (n : Rule). rule E n L M f) p) (List·Memᴰ·head (ap (λ (n : Rule). (n, m)) p))
+      go : (List·Memᴰ r rs → List·Memᴰ (r, m) (collect E L M f rs)) → (r ≡ s) ⊎ List·Memᴰ r rs
+          → List·Memᴰ (r, m) (add E s (rule E s L M f) (collect E L M f rs))
+      go rec (inl p) =
+          subst (λ (o : Option (Move E)). List·Memᴰ (r, m) (add E s o (collect E L M f rs))) (sym e ∙ ap (λ (n : Rule). rule E n L M f) p)
+          (List·Memᴰ·head (ap (λ (n : Rule). (n, m)) p))
       go rec (inr j) = later (rule E s L M f) (rec j)
 
   collect-length : (L M : Field E) (f : Name) (rs : List Rule) → length (collect E L M f rs) ≤ length rs
@@ -99,7 +156,8 @@ module _ (E : Setting) where
       (subst (λ (b : Bool). List·Memᴰ (r, m) (cond b [] (collect E L M (pick u) ruleOrder))) (sym nf) (collect-has L M (pick u) ruleOrder r (all-rules r) m e))
 
   -- what holds of every move's problem holds of every child
-  pub all-children : (P : Problem E → Type 0) (L M : Field E) (σ : Bindings E) (u : List Name) → ((m : Move E) → Does E L M (pick u) (some m) → P (apply E σ u m)) → All (λ c. P (c .1)) (childrenOf E (equation L M) σ u)
+  pub all-children : (P : Problem E → Type 0) (L M : Field E) (σ : Bindings E) (u : List Name)
+      → ((m : Move E) → Does E L M (pick u) (some m) → P (apply E σ u m)) → All (λ c. P (c .1)) (childrenOf E (equation L M) σ u)
   all-children P L M σ u h = all-mapped (λ c. P (c .1)) (λ q. (q .0, apply E σ u (q .1))) (moves E L M (pick u))
       (all-map (Is L M (pick u)) (λ q. P (apply E σ u (q .1))) (λ q e. h (q .1) (move-does L M (pick u) q e)) (moves E L M (pick u)) (moves-is L M (pick u)))
 
@@ -112,7 +170,8 @@ module _ (E : Setting) where
       go (bind x s v n) d = d .falls
 
   -- names used and terms left: their sum never grows
-  pub children-room : (L M : Field E) (σ : Bindings E) (u : List Name) → All (λ c. length (used E (c .1)) + termsLeft E (rest E (c .1)) ≤ length u + termsIn E L M) (children E (problem (equation L M) σ u))
+  pub children-room : (L M : Field E) (σ : Bindings E) (u : List Name)
+      → All (λ c. length (used E (c .1)) + termsLeft E (rest E (c .1)) ≤ length u + termsIn E L M) (children E (problem (equation L M) σ u))
   children-room L M σ u = all-children (λ p. length (used E p) + termsLeft E (rest E p) ≤ length u + termsIn E L M) L M σ u go
     where
       go : (m : Move E) → Does E L M (pick u) (some m) → length (used E (apply E σ u m)) + termsLeft E (rest E (apply E σ u m)) ≤ length u + termsIn E L M
@@ -120,21 +179,27 @@ module _ (E : Setting) where
       go (bind x s v n) d = omega (arith, d .room, length-append v u)
 
   -- the invariant is kept
-  pub children-inv : (L M : Field E) (σ : Bindings E) (u : List Name) → Invariant E (problem (equation L M) σ u) → All (λ c. Invariant E (c .1)) (children E (problem (equation L M) σ u))
+  pub children-inv : (L M : Field E) (σ : Bindings E) (u : List Name) → Invariant E (problem (equation L M) σ u)
+      → All (λ c. Invariant E (c .1)) (children E (problem (equation L M) σ u))
   children-inv L M σ u i = all-children (Invariant E) L M σ u (λ m d. inv-move E L M (pick u) σ u m (pick-new u) d i)
 
   -- LEMMA 4: a unifier of a child is a unifier of the parent
   pub children-sound : {B : Type 0} (L M : Field E) (σ : Bindings E) (u : List Name) → Invariant E (problem (equation L M) σ u) → (θ : Tm E → List B)
       → All (λ c. Unifies E θ (c .1) → Unifies E θ (problem (equation L M) σ u)) (children E (problem (equation L M) σ u))
   children-sound L M σ u i θ = all-children (λ p. Unifies E θ p → Unifies E θ (problem (equation L M) σ u)) L M σ u
-      (λ m d h. sound-move E L M (pick u) σ u m d (all-map (Unbound E σ u) (Fixed E σ) (λ t o. o .0) L (i .ok .0)) (all-map (Unbound E σ u) (Fixed E σ) (λ t o. o .0) M (i .ok .1)) θ h)
+      (λ m d h. sound-move E L M (pick u) σ u m d (all-map (Unbound E σ u) (Fixed E σ) (λ t o. o .0) L (i .ok .0))
+      (all-map (Unbound E σ u) (Fixed E σ) (λ t o. o .0) M (i .ok .1)) θ h)
 
   -- A value for the fresh name keeps the bindings respected
-  extend-respects : (σ : Bindings E) (u : List Name) (n : Rest E) → Invariant E (problem n σ u) → (f : Name) → (List·Memᴰ f u → ⊥) → (ρ : Var → Con) (m : Name → List Con) (w : List Con) → Respects E (ground E ρ m) σ → Respects E (ground E ρ (extend E m f w)) σ
+  extend-respects : (σ : Bindings E) (u : List Name) (n : Rest E) → Invariant E (problem n σ u) → (f : Name) → (List·Memᴰ f u → ⊥)
+      → (ρ : Var → Con) (m : Name → List Con) (w : List Con) → Respects E (ground E ρ m) σ → Respects E (ground E ρ (extend E m f w)) σ
   extend-respects σ u n i f fr ρ m w r = go
     where
       old : (t : Tm E) → Known E u t → ground E ρ (extend E m f w) t ≡ concat-map (ground E ρ (extend E m f w)) (σ t)
-      old t o = extend-term E ρ m f w t (o f fr) ∙ r t ∙ sym (extend-field E ρ m f w (σ t) (all-map (Unbound E σ u) (Other E (listvar f)) (λ s k. k .1 f fr) (σ t) (i .vals t o)))
+      old t o =
+          extend-term E ρ m f w t (o f fr)
+          ∙ r t
+          ∙ sym (extend-field E ρ m f w (σ t) (all-map (Unbound E σ u) (Other E (listvar f)) (λ s k. k .1 f fr) (σ t) (i .vals t o)))
 
       at : (k : Name) → Dec (List·Memᴰ k u) → extend E m f w k ≡ concat-map (ground E ρ (extend E m f w)) (σ (listvar k))
       at k (yes j) = old (listvar k) (old-mem E u k j)
@@ -145,10 +210,19 @@ module _ (E : Setting) where
       go (listvar k) = at k (mem-dec E k u)
 
   -- COMPLETE AT A STEP: a ground unifier of an open problem, extended at the fresh name, is one of some child
-  pub step-complete : (L M : Field E) (σ : Bindings E) (u : List Name) → Invariant E (problem (equation L M) σ u) → (ρ : Var → Con) (m : Name → List Con) → WellTyped E ρ → Unifies E (ground E ρ m) (problem (equation L M) σ u)
-      → (fails E L M ≡ false) × ((c : Rule × Problem E) × List·Memᴰ c (children E (problem (equation L M) σ u)) × ((w : List Con) × Unifies E (ground E ρ (extend E m (pick u) w)) (c .1)))
-  step-complete L M σ u i ρ m ty h =
-      (nf, ((ch .name, apply E σ u (ch .move)), Memᴰ·map (λ q. (q .0, apply E σ u (q .1))) has, (ch .value, uni (ch .move) (move-does L M f (ch .name, ch .move) (ch .is)) (ch .agrees))))
+  pub step-complete : (L M : Field E) (σ : Bindings E) (u : List Name) → Invariant E (problem (equation L M) σ u)
+      → (ρ : Var → Con) (m : Name → List Con) → WellTyped E ρ → Unifies E (ground E ρ m) (problem (equation L M) σ u)
+      → (fails E L M ≡ false)
+      × ((c : Rule × Problem E) × List·Memᴰ c (children E (problem (equation L M) σ u))
+      × ((w : List Con) × Unifies E (ground E ρ (extend E m (pick u) w)) (c .1)))
+  step-complete L M σ u i ρ m ty h = (
+    nf,
+    (
+      (ch .name, apply E σ u (ch .move)),
+      Memᴰ·map (λ q. (q .0, apply E σ u (q .1))) has,
+      (ch .value, uni (ch .move) (move-does L M f (ch .name, ch .move) (ch .is)) (ch .agrees)),
+    ),
+  )
     where
       f : Name
       f = pick u
@@ -166,7 +240,9 @@ module _ (E : Setting) where
       ch = choose E L M (pick u) ρ m ty (i .lin) nL nM (h .0)
 
       has : List·Memᴰ (ch .name, ch .move) (moves E L M (pick u))
-      has = subst (λ (b : Bool). List·Memᴰ (ch .name, ch .move) (cond b [] (collect E L M (pick u) ruleOrder))) (sym nf) (collect-has L M (pick u) ruleOrder (ch .name) (all-rules (ch .name)) (ch .move) (ch .is))
+      has =
+          subst (λ (b : Bool). List·Memᴰ (ch .name, ch .move) (cond b [] (collect E L M (pick u) ruleOrder))) (sym nf)
+          (collect-has L M (pick u) ruleOrder (ch .name) (all-rules (ch .name)) (ch .move) (ch .is))
 
       eq : concat-map (ground E ρ (extend E m (pick u) (ch .value))) L ≡ concat-map (ground E ρ (extend E m (pick u) (ch .value))) M
       eq = extend-field E ρ m (pick u) (ch .value) L nL ∙ h .0 ∙ sym (extend-field E ρ m (pick u) (ch .value) M nM)
@@ -174,6 +250,8 @@ module _ (E : Setting) where
       res : Respects E (ground E ρ (extend E m (pick u) (ch .value))) σ
       res = extend-respects σ u (equation L M) i (pick u) (pick-new u) ρ m (ch .value) (h .1)
 
-      uni : (k : Move E) → Does E L M (pick u) (some k) → Agrees E (ground E ρ (extend E m (pick u) (ch .value))) k → Unifies E (ground E ρ (extend E m (pick u) (ch .value))) (apply E σ u k)
+      uni : (k : Move E) → Does E L M (pick u) (some k) → Agrees E (ground E ρ (extend E m (pick u) (ch .value))) k
+          → Unifies E (ground E ρ (extend E m (pick u) (ch .value))) (apply E σ u k)
       uni (keep n) d a = ((d .eqv (ground E ρ (extend E m (pick u) (ch .value)))) .0 eq, res)
-      uni (bind x s v n) d a = ((d .eqv (ground E ρ (extend E m (pick u) (ch .value))) a) .0 eq, (compose-iff E (ground E ρ (extend E m (pick u) (ch .value))) σ x s a) .1 res)
+      uni (bind x s v n) d a =
+          ((d .eqv (ground E ρ (extend E m (pick u) (ch .value))) a) .0 eq, (compose-iff E (ground E ρ (extend E m (pick u) (ch .value))) σ x s a) .1 res)

@@ -1,7 +1,21 @@
 -- The search is complete: a solution by constants of a problem that waits is an instance of an answer.
 use mathlib.Core.Path.{_≡_, refl, sym, _∙_, ap, subst}
 use mathlib.Core.Logic.{_⊎_, inl, inr}
-use mathlib.Core.List.{List, [], _∷_, _++_, append-nil, List·Memᴰ, List·Memᴰ·head, List·Memᴰ·tail, List·Memᴰ·not-nil, List·Memᴰ·cases-cons, Memᴰ·map, Memᴰ·append-left, Memᴰ·append-right}
+use mathlib.Core.List.{
+  List,
+  [],
+  _∷_,
+  _++_,
+  append-nil,
+  List·Memᴰ,
+  List·Memᴰ·head,
+  List·Memᴰ·tail,
+  List·Memᴰ·not-nil,
+  List·Memᴰ·cases-cons,
+  Memᴰ·map,
+  Memᴰ·append-left,
+  Memᴰ·append-right,
+}
 use Prim.Native.Nat.{ℕ, zero, suc}
 use Rattle.lists.specs.Seqs.{All, all-append, all-map}
 use Rattle.order.specs.Order.{Order}
@@ -52,16 +66,22 @@ module _ (E : Setting) where
   abbrev Waits : Field E → Field E → (Var → Con) → (Name → List Con) → Problem E → Type 0
   Waits A B ρ m p = (m′ : Name → List Con) × Unifies E (ground E ρ m′) p × ((t : Tm E) → StandsIn E A B t → ground E ρ m t ≡ ground E ρ m′ t)
 
-  waits-child : (A B : Field E) (ρ : Var → Con) (m : Name → List Con) → WellTyped E ρ → (L M : Field E) (σ : Bindings E) (u : List Name) → Fine E A B (problem (equation L M) σ u) → Waits A B ρ m (problem (equation L M) σ u)
+  waits-child : (A B : Field E) (ρ : Var → Con) (m : Name → List Con) → WellTyped E ρ → (L M : Field E) (σ : Bindings E) (u : List Name)
+      → Fine E A B (problem (equation L M) σ u) → Waits A B ρ m (problem (equation L M) σ u)
       → (c : Problem E) × List·Memᴰ c (offspring E (problem (equation L M) σ u)) × Waits A B ρ m c
   waits-child A B ρ m ty L M σ u h w =
       let s = step-complete E L M σ u (h .inv) ρ (w .0) ty (w .1) in (
         s .1 .0 .1,
         Memᴰ·map (λ (c : Rule × Problem E). c .1) (s .1 .1),
-        (extend E (w .0) (pick u) (s .1 .2 .0), s .1 .2 .1, λ t r. w .2 t r ∙ sym (extend-term E ρ (w .0) (pick u) (s .1 .2 .0) t (fine-known E A B (problem (equation L M) σ u) h t r (pick u) (pick-new u)))),
+        (
+          extend E (w .0) (pick u) (s .1 .2 .0),
+          s .1 .2 .1,
+          λ t r. w .2 t r ∙ sym (extend-term E ρ (w .0) (pick u) (s .1 .2 .0) t (fine-known E A B (problem (equation L M) σ u) h t r (pick u) (pick-new u))),
+        ),
       )
 
-  pub run-complete : (A B : Field E) (ρ : Var → Con) (m : Name → List Con) → WellTyped E ρ → (k room : ℕ) (q : List (Problem E)) (xs : List (Bindings E)) → All (Fine E A B) q → run E k room q ≡ answers xs
+  pub run-complete : (A B : Field E) (ρ : Var → Con) (m : Name → List Con) → WellTyped E ρ
+      → (k room : ℕ) (q : List (Problem E)) (xs : List (Bindings E)) → All (Fine E A B) q → run E k room q ≡ answers xs
       → (p : Problem E) → List·Memᴰ p q → Waits A B ρ m p → (σ : Bindings E) × List·Memᴰ σ xs × Covers E (StandsIn E A B) ρ m σ
   run-complete A B ρ m ty zero room [] xs h e p i w = absurd (List·Memᴰ·not-nil i)
   run-complete A B ρ m ty zero room (p₀ ∷ q) xs h e p i w = absurd (subst (IsAnswers E) (sym e) tt)
@@ -70,17 +90,21 @@ module _ (E : Setting) where
       go (answered E σ (run E k room q) xs e) (List·Memᴰ·cases-cons i) (λ bs g j. run-complete A B ρ m ty k room q bs (h .1) g p j w)
     where
       go : ((bs : List (Bindings E)) × (run E k room q ≡ answers bs) × (xs ≡ σ ∷ bs)) → (p ≡ problem solved σ u) ⊎ List·Memᴰ p q
-          → ((bs : List (Bindings E)) → run E k room q ≡ answers bs → List·Memᴰ p q → (τ : Bindings E) × List·Memᴰ τ bs × Covers E (StandsIn E A B) ρ m τ) → (τ : Bindings E) × List·Memᴰ τ xs × Covers E (StandsIn E A B) ρ m τ
+          → ((bs : List (Bindings E)) → run E k room q ≡ answers bs → List·Memᴰ p q → (τ : Bindings E) × List·Memᴰ τ bs × Covers E (StandsIn E A B) ρ m τ)
+          → (τ : Bindings E) × List·Memᴰ τ xs × Covers E (StandsIn E A B) ρ m τ
       go r (inl x) rec = let w′ : Waits A B ρ m (problem solved σ u) = subst (Waits A B ρ m) x w in
           (σ, subst (λ (l : List (Bindings E)). List·Memᴰ σ l) (sym (r .2)) (List·Memᴰ·head refl), (w′ .0, λ t g. w′ .2 t g ∙ w′ .1 .1 t))
       go r (inr j) rec = let a = rec (r .0) (r .1) j in (a .0, subst (λ (l : List (Bindings E)). List·Memᴰ (a .0) l) (sym (r .2)) (List·Memᴰ·tail (a .1)), a .2)
   run-complete A B ρ m ty (suc k) room (problem (equation L M) σ u ∷ q) xs h e p i w = go (List·Memᴰ·cases-cons i)
       (λ p′ j w′. run-complete A B ρ m ty k room (q ++ offspring E (problem (equation L M) σ u)) xs
-      (all-append (Fine E A B) q (offspring E (problem (equation L M) σ u)) (h .1) (all-offspring E (Fine E A B) (problem (equation L M) σ u) (child-fine E A B L M σ u (h .0))))
+      (all-append (Fine E A B) q (offspring E (problem (equation L M) σ u)) (h .1)
+      (all-offspring E (Fine E A B) (problem (equation L M) σ u) (child-fine E A B L M σ u (h .0))))
       (step-answers E k room (problem (equation L M) σ u) q xs e) p′ j w′)
     where
       go : (p ≡ problem (equation L M) σ u) ⊎ List·Memᴰ p q
-          → ((p′ : Problem E) → List·Memᴰ p′ (q ++ offspring E (problem (equation L M) σ u)) → Waits A B ρ m p′ → (τ : Bindings E) × List·Memᴰ τ xs × Covers E (StandsIn E A B) ρ m τ) → (τ : Bindings E) × List·Memᴰ τ xs × Covers E (StandsIn E A B) ρ m τ
+          → ((p′ : Problem E) → List·Memᴰ p′ (q ++ offspring E (problem (equation L M) σ u))
+          → Waits A B ρ m p′ → (τ : Bindings E) × List·Memᴰ τ xs × Covers E (StandsIn E A B) ρ m τ)
+          → (τ : Bindings E) × List·Memᴰ τ xs × Covers E (StandsIn E A B) ρ m τ
       go (inl x) rec = let c = waits-child A B ρ m ty L M σ u (h .0) (subst (Waits A B ρ m) x w) in rec (c .0) (Memᴰ·append-right q (c .1)) (c .2)
       go (inr j) rec = rec p (Memᴰ·append-left (offspring E (problem (equation L M) σ u)) j) w
 
@@ -92,11 +116,13 @@ module _ (E : Setting) where
   through σ g ρ m ty = (
     λ x. atomValue E ρ (g (atomic (free x)) .0),
     λ n. concat-map (ground E ρ m) (σ (listvar n)),
-    λ x. le-trans (kind-of (atomValue E ρ (g (atomic (free x)) .0))) (kindOf E (g (atomic (free x)) .0)) (sort x) (atom-typed E ρ ty (g (atomic (free x)) .0)) (g (atomic (free x)) .2),
+    λ x. le-trans (kind-of (atomValue E ρ (g (atomic (free x)) .0))) (kindOf E (g (atomic (free x)) .0)) (sort x)
+        (atom-typed E ρ ty (g (atomic (free x)) .0)) (g (atomic (free x)) .2),
     at,
   )
     where
-      at : (t : Tm E) → ground E (λ x. atomValue E ρ (g (atomic (free x)) .0)) (λ n. concat-map (ground E ρ m) (σ (listvar n))) t ≡ concat-map (ground E ρ m) (σ t)
+      at : (t : Tm E)
+          → ground E (λ x. atomValue E ρ (g (atomic (free x)) .0)) (λ n. concat-map (ground E ρ m) (σ (listvar n))) t ≡ concat-map (ground E ρ m) (σ t)
       at (atomic (fixed c)) = sym (ap (λ (K : Field E). concat-map (ground E ρ m) K) (g (atomic (fixed c))))
       at (atomic (free x)) = sym (ap (λ (K : Field E). concat-map (ground E ρ m) K) (g (atomic (free x)) .1))
       at (listvar n) = refl

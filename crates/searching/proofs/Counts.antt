@@ -65,8 +65,11 @@ module _ (E : Setting) where
       go (yes e) = sym h ∙ ap θ (sym e)
       go (no n) = append-nil (θ t)
 
-  pub put-fill-all : {B : Type 0} (θ : Tm E → List B) (x : Tm E) (s : Field E) → θ x ≡ concat-map θ s → (L : Field E) → concat-map θ (concat-map (put E x s) L) ≡ concat-map θ L
-  put-fill-all θ x s h L = concat-map-twice θ (put E x s) L ∙ concat-map-agree (λ t. concat-map θ (put E x s t)) θ L (all-every (λ t. concat-map θ (put E x s t) ≡ θ t) L (put-fill θ x s h))
+  pub put-fill-all : {B : Type 0} (θ : Tm E → List B) (x : Tm E) (s : Field E) → θ x ≡ concat-map θ s
+      → (L : Field E) → concat-map θ (concat-map (put E x s) L) ≡ concat-map θ L
+  put-fill-all θ x s h L =
+      concat-map-twice θ (put E x s) L
+      ∙ concat-map-agree (λ t. concat-map θ (put E x s t)) θ L (all-every (λ t. concat-map θ (put E x s t) ≡ θ t) L (put-fill θ x s h))
 
   pub put-all : (P : Tm E → Type 0) (x : Tm E) (s : Field E) → All P s → (t : Tm E) → (Other x t → P t) → All P (put E x s t)
   put-all P x s h t k = go (tm-eq E t x)
@@ -83,7 +86,8 @@ module _ (E : Setting) where
   put-length x a [] = refl
   put-length x a (t ∷ L) = go (tm-eq E t (atomic x)) (put-length x a L)
     where
-      go : (d : Dec (t ≡ atomic x)) → length (concat-map (put E (atomic x) (atomic a ∷ [])) L) ≡ length L → length (ite d (atomic a ∷ []) (t ∷ []) ++ concat-map (put E (atomic x) (atomic a ∷ [])) L) ≡ suc (length L)
+      go : (d : Dec (t ≡ atomic x)) → length (concat-map (put E (atomic x) (atomic a ∷ [])) L) ≡ length L
+          → length (ite d (atomic a ∷ []) (t ∷ []) ++ concat-map (put E (atomic x) (atomic a ∷ [])) L) ≡ suc (length L)
       go (yes e) h = ap suc h
       go (no n) h = ap suc h
 
@@ -92,7 +96,8 @@ module _ (E : Setting) where
   put-lists x a (listvar n ∷ L) = ap suc (put-lists x a L)
   put-lists x a (atomic b ∷ L) = go (tm-eq E (atomic b) (atomic x)) (put-lists x a L)
     where
-      go : (d : Dec (_≡_ {A = Tm E} (atomic b) (atomic x))) → listvars E (concat-map (put E (atomic x) (atomic a ∷ [])) L) ≡ listvars E L → listvars E (ite d (atomic a ∷ []) (atomic b ∷ []) ++ concat-map (put E (atomic x) (atomic a ∷ [])) L) ≡ listvars E L
+      go : (d : Dec (_≡_ {A = Tm E} (atomic b) (atomic x))) → listvars E (concat-map (put E (atomic x) (atomic a ∷ [])) L) ≡ listvars E L
+          → listvars E (ite d (atomic a ∷ []) (atomic b ∷ []) ++ concat-map (put E (atomic x) (atomic a ∷ [])) L) ≡ listvars E L
       go (yes e) h = h
       go (no n) h = h
 
@@ -101,7 +106,8 @@ module _ (E : Setting) where
   put-count m x a (listvar n ∷ L) = ap (λ (k : ℕ). isName E m n + k) (put-count m x a L)
   put-count m x a (atomic b ∷ L) = go (tm-eq E (atomic b) (atomic x)) (put-count m x a L)
     where
-      go : (d : Dec (_≡_ {A = Tm E} (atomic b) (atomic x))) → countOf E m (concat-map (put E (atomic x) (atomic a ∷ [])) L) ≡ countOf E m L → countOf E m (ite d (atomic a ∷ []) (atomic b ∷ []) ++ concat-map (put E (atomic x) (atomic a ∷ [])) L) ≡ countOf E m L
+      go : (d : Dec (_≡_ {A = Tm E} (atomic b) (atomic x))) → countOf E m (concat-map (put E (atomic x) (atomic a ∷ [])) L) ≡ countOf E m L
+          → countOf E m (ite d (atomic a ∷ []) (atomic b ∷ []) ++ concat-map (put E (atomic x) (atomic a ∷ [])) L) ≡ countOf E m L
       go (yes e) h = h
       go (no n) h = h
 
@@ -118,7 +124,8 @@ module _ (E : Setting) where
   pub count-absent : (n : Name) (L : Field E) → All (Other (listvar n)) L → countOf E n L ≡ 0
   count-absent n [] h = refl
   count-absent n (atomic a ∷ L) h = count-absent n L (h .1)
-  count-absent n (listvar m ∷ L) h = let q : isName E n m ≡ 0 = if-neg (name-eq m n) (λ e. h .0 (ap {B = Tm E} listvar e)) 1 0 in omega (arith, count-absent n L (h .1))
+  count-absent n (listvar m ∷ L) h =
+      let q : isName E n m ≡ 0 = if-neg (name-eq m n) (λ e. h .0 (ap {B = Tm E} listvar e)) 1 0 in omega (arith, count-absent n L (h .1))
 
   pub not-occurs : (x : Tm E) (L : Field E) → occurs E x L ≡ false → All (Other x) L
   not-occurs x [] h = tt

@@ -11,8 +11,62 @@ use Rattle.lists.specs.Seqs.{All, all-map}
 use Rattle.order.specs.Order.{Order, basic, list, full-le}
 use Rattle.theory.specs.Seqs.{concat-map}
 use Rattle.unifiers.specs.Shapes.{fixed, free, Vars}
-use Rattle.searching.specs.Problems.{Names, Setting, atomic, listvar, At, Tm, Field, at-eq, tm-eq, field-eq, kindOf, fieldType, put, Rest, solved, equation}
-use Rattle.searching.specs.Rules.{Rule, Remove, Decomp1, Decomp1′, Decomp2, Decomp2′, Decomp3, Decomp4, Subst1, Subst2, Subst3, Orient1, Orient2, Orient3, Orient4, below, occurs, Move, keep, bind, remove, decomp1, bindAtom, decomp1′, decomp2, decomp2′, decomp3, decomp4, subst1, subst2, subst3, orient1, orient2, orient3, orient4, rule}
+use Rattle.searching.specs.Problems.{
+  Names,
+  Setting,
+  atomic,
+  listvar,
+  At,
+  Tm,
+  Field,
+  at-eq,
+  tm-eq,
+  field-eq,
+  kindOf,
+  fieldType,
+  put,
+  Rest,
+  solved,
+  equation,
+}
+use Rattle.searching.specs.Rules.{
+  Rule,
+  Remove,
+  Decomp1,
+  Decomp1′,
+  Decomp2,
+  Decomp2′,
+  Decomp3,
+  Decomp4,
+  Subst1,
+  Subst2,
+  Subst3,
+  Orient1,
+  Orient2,
+  Orient3,
+  Orient4,
+  below,
+  occurs,
+  Move,
+  keep,
+  bind,
+  remove,
+  decomp1,
+  bindAtom,
+  decomp1′,
+  decomp2,
+  decomp2′,
+  decomp3,
+  decomp4,
+  subst1,
+  subst2,
+  subst3,
+  orient1,
+  orient2,
+  orient3,
+  orient4,
+  rule,
+}
 use Rattle.searching.specs.Queue.{termsIn}
 use Rattle.searching.specs.Answers.{isName, countOf, Linear}
 use Rattle.searching.proofs.Seqs.{concat-map-self}
@@ -79,7 +133,12 @@ module _ (E : Setting) where
   decomp3-cuts (s ∷ L) (t ∷ M) l = go (tm-eq E s t)
     where
       go : (d : Dec (s ≡ t)) → Cuts (s ∷ L) (t ∷ M) (ite d (some (keep (equation L M))) none)
-      go (yes e) = record { pre = s ∷ []; same-as = inl (refl, ap (λ (u : Tm E). u ∷ M) (sym e)); few = omega arith; away = λ k h. twice s L M (subst (λ (u : Tm E). Linear E (s ∷ L) (u ∷ M)) (sym e) l) k }
+      go (yes e) = record {
+        pre = s ∷ [];
+        same-as = inl (refl, ap (λ (u : Tm E). u ∷ M) (sym e));
+        few = omega arith;
+        away = λ k h. twice s L M (subst (λ (u : Tm E). Linear E (s ∷ L) (u ∷ M)) (sym e) l) k;
+      }
       go (no n) = tt
 
   swap-cuts : (L M : Field E) → Cut L M (termsIn E L M) (equation M L)
@@ -136,7 +195,10 @@ module _ (E : Setting) where
   decomp1-cuts (listvar x ∷ (t ∷ L)) [] l = tt
   decomp1-cuts (listvar x ∷ (t ∷ L)) (s ∷ M) l = record {
     pre = s ∷ [];
-    same-as = inl (put-head (listvar x) (s ∷ []) (t ∷ L) (t ∷ L) (put-away-name x (s ∷ []) (t ∷ L) (rest-left E x (t ∷ L) (s ∷ M) l x)), put-away-name x (s ∷ []) (s ∷ M) (rest-right E x (t ∷ L) (s ∷ M) l));
+    same-as = inl (
+      put-head (listvar x) (s ∷ []) (t ∷ L) (t ∷ L) (put-away-name x (s ∷ []) (t ∷ L) (rest-left E x (t ∷ L) (s ∷ M) l x)),
+      put-away-name x (s ∷ []) (s ∷ M) (rest-right E x (t ∷ L) (s ∷ M) l),
+    );
     few = omega arith;
     away = far s l;
   }
@@ -151,7 +213,10 @@ module _ (E : Setting) where
   subst2-cuts (listvar x ∷ []) M l = tt
   subst2-cuts (listvar x ∷ (t ∷ L)) M l = record {
     pre = [];
-    same-as = inl (put-head (listvar x) [] (t ∷ L) (t ∷ L) (put-away-name x [] (t ∷ L) (rest-left E x (t ∷ L) M l x)), put-away-name x [] M (rest-right E x (t ∷ L) M l));
+    same-as = inl (
+      put-head (listvar x) [] (t ∷ L) (t ∷ L) (put-away-name x [] (t ∷ L) (rest-left E x (t ∷ L) M l x)),
+      put-away-name x [] M (rest-right E x (t ∷ L) M l),
+    );
     few = omega arith;
     away = λ k h. refl;
   }
@@ -163,7 +228,11 @@ module _ (E : Setting) where
   subst3-cuts (listvar x ∷ (t ∷ L)) [] f l = tt
   subst3-cuts (listvar x ∷ (t ∷ L)) (atomic a ∷ M) f l = record {
     pre = atomic a ∷ [];
-    same-as = inl (put-head (listvar x) (atomic a ∷ (listvar f ∷ [])) (t ∷ L) (t ∷ L) (put-away-name x (atomic a ∷ (listvar f ∷ [])) (t ∷ L) (rest-left E x (t ∷ L) (atomic a ∷ M) l x)), put-away-name x (atomic a ∷ (listvar f ∷ [])) (atomic a ∷ M) (rest-right E x (t ∷ L) (atomic a ∷ M) l));
+    same-as = inl (
+      put-head (listvar x) (atomic a ∷ (listvar f ∷ [])) (t ∷ L) (t ∷ L)
+          (put-away-name x (atomic a ∷ (listvar f ∷ [])) (t ∷ L) (rest-left E x (t ∷ L) (atomic a ∷ M) l x)),
+      put-away-name x (atomic a ∷ (listvar f ∷ [])) (atomic a ∷ M) (rest-right E x (t ∷ L) (atomic a ∷ M) l),
+    );
     few = omega arith;
     away = λ k h. refl;
   }
@@ -185,7 +254,11 @@ module _ (E : Setting) where
   decomp2-cuts (listvar x ∷ (t ∷ L)) (atomic a ∷ M) f l q = tt
   decomp2-cuts (listvar x ∷ (t ∷ L)) (listvar y ∷ M) f l q = record {
     pre = listvar y ∷ [];
-    same-as = inl (put-head (listvar x) (listvar y ∷ (listvar f ∷ [])) (t ∷ L) (t ∷ L) (put-away-name x (listvar y ∷ (listvar f ∷ [])) (t ∷ L) (rest-left E x (t ∷ L) (listvar y ∷ M) l x)), put-away-name x (listvar y ∷ (listvar f ∷ [])) (listvar y ∷ M) (rest-right E x (t ∷ L) (listvar y ∷ M) l));
+    same-as = inl (
+      put-head (listvar x) (listvar y ∷ (listvar f ∷ [])) (t ∷ L) (t ∷ L)
+          (put-away-name x (listvar y ∷ (listvar f ∷ [])) (t ∷ L) (rest-left E x (t ∷ L) (listvar y ∷ M) l x)),
+      put-away-name x (listvar y ∷ (listvar f ∷ [])) (listvar y ∷ M) (rest-right E x (t ∷ L) (listvar y ∷ M) l),
+    );
     few = omega arith;
     away = λ k h. far-fresh f y M q k (omega (arith, rest-left E x (t ∷ L) (listvar y ∷ M) l k, rest-both E x y (t ∷ L) M l k));
   }
@@ -198,12 +271,19 @@ module _ (E : Setting) where
   decomp2′-cuts (listvar x ∷ (t ∷ L)) (atomic a ∷ M) f l p = tt
   decomp2′-cuts (listvar x ∷ (t ∷ L)) (listvar y ∷ M) f l p = record {
     pre = listvar x ∷ [];
-    same-as = inl (put-away-name y (listvar x ∷ (listvar f ∷ [])) (listvar x ∷ (t ∷ L)) (rest-right E y M (listvar x ∷ (t ∷ L)) (lin-swap E (listvar x ∷ (t ∷ L)) (listvar y ∷ M) l)), put-head (listvar y) (listvar x ∷ (listvar f ∷ [])) M M (put-away-name y (listvar x ∷ (listvar f ∷ [])) M (rest-both E x y (t ∷ L) M l y)));
+    same-as = inl (
+      put-away-name y (listvar x ∷ (listvar f ∷ [])) (listvar x ∷ (t ∷ L))
+          (rest-right E y M (listvar x ∷ (t ∷ L)) (lin-swap E (listvar x ∷ (t ∷ L)) (listvar y ∷ M) l)),
+      put-head (listvar y) (listvar x ∷ (listvar f ∷ [])) M M (put-away-name y (listvar x ∷ (listvar f ∷ [])) M (rest-both E x y (t ∷ L) M l y)),
+    );
     few = omega arith;
     away = λ k h. far-fresh f x (t ∷ L) p k (omega (arith, rest-left E x (t ∷ L) (listvar y ∷ M) l k, rest-both E x y (t ∷ L) M l k));
   }
 
-  bindAtom-cuts : (L M : Field E) (x : Var) (a : At E) (n : Rest E) → ((a ≡ free x → ⊥) → Cut (concat-map (put E (atomic (free x)) (atomic a ∷ [])) L) (concat-map (put E (atomic (free x)) (atomic a ∷ [])) M) (termsIn E L M) n) → Cuts L M (bindAtom E x a n)
+  bindAtom-cuts : (L M : Field E) (x : Var) (a : At E) (n : Rest E)
+      → ((a ≡ free x → ⊥)
+      → Cut (concat-map (put E (atomic (free x)) (atomic a ∷ [])) L) (concat-map (put E (atomic (free x)) (atomic a ∷ [])) M) (termsIn E L M) n)
+      → Cuts L M (bindAtom E x a n)
   bindAtom-cuts L M x a n k = go (at-eq E a (free x))
     where
       go₂ : (a ≡ free x → ⊥) → (b : Bool) → Cuts L M (cond b (some (bind (atomic (free x)) (atomic a ∷ []) [] n)) none)
@@ -219,12 +299,18 @@ module _ (E : Setting) where
   decomp1′-cuts (atomic (fixed c) ∷ L) M = tt
   decomp1′-cuts (atomic (free x) ∷ []) M = tt
   decomp1′-cuts (atomic (free x) ∷ (t ∷ L)) [] = tt
-  decomp1′-cuts (atomic (free x) ∷ (t ∷ L)) (atomic a ∷ M) = bindAtom-cuts (atomic (free x) ∷ (t ∷ L)) (atomic a ∷ M) x a (equation (concat-map (put E (atomic (free x)) (atomic a ∷ [])) (t ∷ L)) (concat-map (put E (atomic (free x)) (atomic a ∷ [])) M)) (λ d. record {
-    pre = atomic a ∷ [];
-    same-as = inl (put-head (atomic (free x)) (atomic a ∷ []) (t ∷ L) (concat-map (put E (atomic (free x)) (atomic a ∷ [])) (t ∷ L)) refl, ap (λ (K : Field E). K ++ concat-map (put E (atomic (free x)) (atomic a ∷ [])) M) (put-ne E (atomic (free x)) (atomic a ∷ []) (atomic a) (λ p. d (atomic-once p))));
-    few = omega (arith, put-length E (free x) a (t ∷ L), put-length E (free x) a M);
-    away = λ k h. refl;
-  })
+  decomp1′-cuts (atomic (free x) ∷ (t ∷ L)) (atomic a ∷ M) =
+      bindAtom-cuts (atomic (free x) ∷ (t ∷ L)) (atomic a ∷ M) x a
+      (equation (concat-map (put E (atomic (free x)) (atomic a ∷ [])) (t ∷ L)) (concat-map (put E (atomic (free x)) (atomic a ∷ [])) M)) (λ d. record {
+        pre = atomic a ∷ [];
+        same-as = inl (
+          put-head (atomic (free x)) (atomic a ∷ []) (t ∷ L) (concat-map (put E (atomic (free x)) (atomic a ∷ [])) (t ∷ L)) refl,
+          ap (λ (K : Field E). K ++ concat-map (put E (atomic (free x)) (atomic a ∷ [])) M)
+              (put-ne E (atomic (free x)) (atomic a ∷ []) (atomic a) (λ p. d (atomic-once p))),
+        );
+        few = omega (arith, put-length E (free x) a (t ∷ L), put-length E (free x) a M);
+        away = λ k h. refl;
+      })
   decomp1′-cuts (atomic (free x) ∷ (t ∷ L)) (listvar y ∷ M) = tt
   decomp1′-cuts (listvar x ∷ L) M = tt
 
@@ -234,12 +320,16 @@ module _ (E : Setting) where
   decomp4-cuts (atomic (free x) ∷ []) [] = tt
   decomp4-cuts (atomic (free x) ∷ []) (atomic a ∷ []) = tt
   decomp4-cuts (atomic (free x) ∷ []) (atomic a ∷ (atomic b ∷ M)) = tt
-  decomp4-cuts (atomic (free x) ∷ []) (atomic a ∷ (listvar y ∷ [])) = bindAtom-cuts (atomic (free x) ∷ []) (atomic a ∷ (listvar y ∷ [])) x a (equation [] (listvar y ∷ [])) (λ d. record {
-    pre = atomic a ∷ [];
-    same-as = inl (put-head (atomic (free x)) (atomic a ∷ []) [] [] refl, ap (λ (K : Field E). K ++ (listvar y ∷ [])) (put-ne E (atomic (free x)) (atomic a ∷ []) (atomic a) (λ p. d (atomic-once p))));
-    few = omega arith;
-    away = λ k h. refl;
-  })
+  decomp4-cuts (atomic (free x) ∷ []) (atomic a ∷ (listvar y ∷ [])) =
+      bindAtom-cuts (atomic (free x) ∷ []) (atomic a ∷ (listvar y ∷ [])) x a (equation [] (listvar y ∷ [])) (λ d. record {
+        pre = atomic a ∷ [];
+        same-as = inl (
+          put-head (atomic (free x)) (atomic a ∷ []) [] [] refl,
+          ap (λ (K : Field E). K ++ (listvar y ∷ [])) (put-ne E (atomic (free x)) (atomic a ∷ []) (atomic a) (λ p. d (atomic-once p))),
+        );
+        few = omega arith;
+        away = λ k h. refl;
+      })
   decomp4-cuts (atomic (free x) ∷ []) (atomic a ∷ (listvar y ∷ (t ∷ M))) = tt
   decomp4-cuts (atomic (free x) ∷ []) (listvar y ∷ M) = tt
   decomp4-cuts (atomic (free x) ∷ (t ∷ L)) M = tt
@@ -251,7 +341,12 @@ module _ (E : Setting) where
     where
       go : (b : Bool) → occurs E x M ≡ b → Cuts (x ∷ []) M (cond b none (some (bind x M [] solved)))
       go true h = tt
-      go false h = record { pre = M; same-as = inl (put-head x M [] [] refl, put-away x M M (not-occurs E x M h) ∙ sym (append-nil M)); few = omega arith; away = λ k g. absurd (omega arith) }
+      go false h = record {
+        pre = M;
+        same-as = inl (put-head x M [] [] refl, put-away x M M (not-occurs E x M h) ∙ sym (append-nil M));
+        few = omega arith;
+        away = λ k g. absurd (omega arith);
+      }
 
   subst1-cuts : (L M : Field E) → Cuts L M (subst1 E L M)
   subst1-cuts [] M = tt

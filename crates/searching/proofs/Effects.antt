@@ -55,7 +55,8 @@ module _ (E : Setting) where
   pub record Bind (L M : Field E) (f : Name) (x : Tm E) (s : Field E) (v : List Name) (n : Rest E) : Type 1 where
     pub eqv : {B : Type 0} (θ : Tm E → List B) → θ x ≡ concat-map θ s → (concat-map θ L ≡ concat-map θ M) ↔ Holds θ n
     pub here : (P : Tm E → Type 0) → All P L → All P M → P x
-    pub from : Linear E L M → (P : Tm E → Type 0) → All (λ t. Other E x t → P t) L → All (λ t. Other E x t → P t) M → All (λ k. P (listvar k)) v → All P s × AllRest P n
+    pub from : Linear E L M → (P : Tm E → Type 0) → All (λ t. Other E x t → P t) L
+        → All (λ t. Other E x t → P t) M → All (λ k. P (listvar k)) v → All P s × AllRest P n
     pub new : All (λ k. k ≡ f) v
     pub fits : Fits E x s
     pub lin : Linear E L M → countOf E f L ≡ 0 → countOf E f M ≡ 0 → LinearRest E n

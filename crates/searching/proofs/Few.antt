@@ -12,8 +12,52 @@ use lib.ListN.{length}
 use Rattle.lists.specs.Seqs.{All, all-append}
 use Rattle.order.specs.Order.{Order, basic, full-le}
 use Rattle.unifiers.specs.Shapes.{fixed, free, Vars}
-use Rattle.searching.specs.Problems.{Names, Setting, atomic, listvar, At, Tm, Field, at-eq, tm-eq, field-eq, kindOf, fieldType, termType, Bindings, putIn, Rest, solved, equation, Problem, problem, rest, root}
-use Rattle.searching.specs.Rules.{Rule, ruleOrder, below, occurs, Move, keep, bind, fails, remove, bindAtom, decomp1′, decomp3, decomp4, solveBy, orient2, orient3, rule, add, collect, apply}
+use Rattle.searching.specs.Problems.{
+  Names,
+  Setting,
+  atomic,
+  listvar,
+  At,
+  Tm,
+  Field,
+  at-eq,
+  tm-eq,
+  field-eq,
+  kindOf,
+  fieldType,
+  termType,
+  Bindings,
+  putIn,
+  Rest,
+  solved,
+  equation,
+  Problem,
+  problem,
+  rest,
+  root,
+}
+use Rattle.searching.specs.Rules.{
+  Rule,
+  ruleOrder,
+  below,
+  occurs,
+  Move,
+  keep,
+  bind,
+  fails,
+  remove,
+  bindAtom,
+  decomp1′,
+  decomp3,
+  decomp4,
+  solveBy,
+  orient2,
+  orient3,
+  rule,
+  add,
+  collect,
+  apply,
+}
 use Rattle.searching.specs.Queue.{total, Result, answers, offspring, run, searching}
 use Rattle.searching.specs.Answers.{listvars, Linear}
 use Rattle.searching.proofs.Terms.{atomic-once, atomic≢listvar}
@@ -162,7 +206,9 @@ module _ (E : Setting) where
       sum a b c d a′ b′ c′ d′ p q r s = omega arith
 
       same : full (putIn E (atomic (free x)) (atomic a ∷ []) (t ∷ L)) (putIn E (atomic (free x)) (atomic a ∷ []) M) ≡ full (t ∷ L) M
-      same = ap (λ (k : ℕ). 2 ^ k) (sum (length (ins (t ∷ L))) (length (ins M)) (listvars E (ins (t ∷ L))) (listvars E (ins M)) (length (t ∷ L)) (length M) (listvars E (t ∷ L)) (listvars E M)
+      same =
+          ap (λ (k : ℕ). 2 ^ k) (sum (length (ins (t ∷ L))) (length (ins M)) (listvars E (ins (t ∷ L))) (listvars E (ins M)) (length (t ∷ L)) (length M)
+          (listvars E (t ∷ L)) (listvars E M)
           (put-length E (free x) a (t ∷ L)) (put-length E (free x) a M) (put-lists E (free x) a (t ∷ L)) (put-lists E (free x) a M))
 
   decomp1′-one : (x : Var) (t : Tm E) (L : Field E) (a : At E) → worth (decomp1′ E (atomic (free x) ∷ (t ∷ L)) (atomic a ∷ [])) ≤ 1
@@ -188,13 +234,16 @@ module _ (E : Setting) where
       none-below false q h k = absurd (false≢true h)
 
       go : (d : Dec (sort x ≡ sort y)) → worth (ite d (some (keep (equation (atomic (free y) ∷ []) (atomic (free x) ∷ (t ∷ L))))) none) ≤ 4
-      go (yes e) = none-below (le (sort y) (sort x)) (le (sort x) (sort y)) (subst (λ (k : Kind). le k (sort x) ≡ true) e (le-refl (sort x))) (subst (λ (k : Kind). le (sort x) k ≡ true) e (le-refl (sort x)))
+      go (yes e) =
+          none-below (le (sort y) (sort x)) (le (sort x) (sort y)) (subst (λ (k : Kind). le k (sort x) ≡ true) e (le-refl (sort x)))
+          (subst (λ (k : Kind). le (sort x) k ≡ true) e (le-refl (sort x)))
       go (no n) = omega arith
 
   -- ---- two atom variables
 
   -- the left's kind is below the right's: only Orient3
-  higher : (x y : Var) (L M : Field E) (f : Name) → le (sort x) (sort y) ≡ true → le (sort y) (sort x) ≡ false → worths (atomic (free x) ∷ L) (atomic (free y) ∷ M) f ruleOrder ≤ full (atomic (free x) ∷ L) (atomic (free y) ∷ M)
+  higher : (x y : Var) (L M : Field E) (f : Name) → le (sort x) (sort y) ≡ true → le (sort y) (sort x) ≡ false
+      → worths (atomic (free x) ∷ L) (atomic (free y) ∷ M) f ruleOrder ≤ full (atomic (free x) ∷ L) (atomic (free y) ∷ M)
   higher x y L M f h k = by L M
     where
       differ : _≡_ {A = Tm E} (atomic (free x)) (atomic (free y)) → ⊥
@@ -206,12 +255,16 @@ module _ (E : Setting) where
       turned : (K N : Field E) → worth (orient3 E (atomic (free x) ∷ K) (atomic (free y) ∷ N)) ≤ full (atomic (free x) ∷ K) (atomic (free y) ∷ N)
       turned K N = go (below E (basic (sort x)) (basic (sort y)))
         where
-          go : (b : Bool) → worth (cond b (some (keep (equation (atomic (free y) ∷ N) (atomic (free x) ∷ K)))) none) ≤ full (atomic (free x) ∷ K) (atomic (free y) ∷ N)
+          go : (b : Bool)
+              → worth (cond b (some (keep (equation (atomic (free y) ∷ N) (atomic (free x) ∷ K)))) none) ≤ full (atomic (free x) ∷ K) (atomic (free y) ∷ N)
           go true = swapped (atomic (free x) ∷ K) (atomic (free y) ∷ N)
           go false = omega arith
 
       no-subst : worth (solveBy E (atomic (free x)) (atomic (free y) ∷ [])) ≡ 0
-      no-subst = ap (λ (b : Bool). worth (cond b (cond (occurs E (atomic (free x)) (atomic (free y) ∷ [])) none (some (bind (atomic (free x)) (atomic (free y) ∷ []) [] solved))) none)) k
+      no-subst =
+          ap (λ (b : Bool).
+          worth (cond b (cond (occurs E (atomic (free x)) (atomic (free y) ∷ [])) none (some (bind (atomic (free x)) (atomic (free y) ∷ []) [] solved))) none))
+          k
 
       no-orient2 : (t : Tm E) (K : Field E) → worth (orient2 E (atomic (free x) ∷ (t ∷ K)) (atomic (free y) ∷ [])) ≡ 0
       no-orient2 t K = ap worth (if-neg (kind-eq (sort x) (sort y)) kinds (some (keep (equation (atomic (free y) ∷ []) (atomic (free x) ∷ (t ∷ K))))) none)
@@ -223,13 +276,40 @@ module _ (E : Setting) where
       no-decomp4 (listvar z ∷ (t ∷ N)) = refl
 
       by : (K N : Field E) → worths (atomic (free x) ∷ K) (atomic (free y) ∷ N) f ruleOrder ≤ full (atomic (free x) ∷ K) (atomic (free y) ∷ N)
-      by [] [] = omega (arith, heads-apart (atomic (free x)) (atomic (free y)) [] [] differ .0, heads-apart (atomic (free x)) (atomic (free y)) [] [] differ .1, no-subst, turned [] [])
-      by [] (v ∷ N) = omega (arith, heads-apart (atomic (free x)) (atomic (free y)) [] (v ∷ N) differ .0, heads-apart (atomic (free x)) (atomic (free y)) [] (v ∷ N) differ .1, no-decomp4 (v ∷ N), turned [] (v ∷ N))
-      by (t ∷ K) [] = omega (arith, heads-apart (atomic (free x)) (atomic (free y)) (t ∷ K) [] differ .0, heads-apart (atomic (free x)) (atomic (free y)) (t ∷ K) [] differ .1, bound-none x (free y) (equation (putIn E (atomic (free x)) (atomic (free y) ∷ []) (t ∷ K)) (putIn E (atomic (free x)) (atomic (free y) ∷ []) [])) k, no-orient2 t K, turned (t ∷ K) [])
-      by (t ∷ K) (v ∷ N) = omega (arith, heads-apart (atomic (free x)) (atomic (free y)) (t ∷ K) (v ∷ N) differ .0, heads-apart (atomic (free x)) (atomic (free y)) (t ∷ K) (v ∷ N) differ .1, bound-none x (free y) (equation (putIn E (atomic (free x)) (atomic (free y) ∷ []) (t ∷ K)) (putIn E (atomic (free x)) (atomic (free y) ∷ []) (v ∷ N))) k, turned (t ∷ K) (v ∷ N))
+      by [] [] = omega (
+        arith,
+        heads-apart (atomic (free x)) (atomic (free y)) [] [] differ .0,
+        heads-apart (atomic (free x)) (atomic (free y)) [] [] differ .1,
+        no-subst,
+        turned [] [],
+      )
+      by [] (v ∷ N) = omega (
+        arith,
+        heads-apart (atomic (free x)) (atomic (free y)) [] (v ∷ N) differ .0,
+        heads-apart (atomic (free x)) (atomic (free y)) [] (v ∷ N) differ .1,
+        no-decomp4 (v ∷ N),
+        turned [] (v ∷ N),
+      )
+      by (t ∷ K) [] = omega (
+        arith,
+        heads-apart (atomic (free x)) (atomic (free y)) (t ∷ K) [] differ .0,
+        heads-apart (atomic (free x)) (atomic (free y)) (t ∷ K) [] differ .1,
+        bound-none x (free y) (equation (putIn E (atomic (free x)) (atomic (free y) ∷ []) (t ∷ K)) (putIn E (atomic (free x)) (atomic (free y) ∷ []) [])) k,
+        no-orient2 t K,
+        turned (t ∷ K) [],
+      )
+      by (t ∷ K) (v ∷ N) = omega (
+        arith,
+        heads-apart (atomic (free x)) (atomic (free y)) (t ∷ K) (v ∷ N) differ .0,
+        heads-apart (atomic (free x)) (atomic (free y)) (t ∷ K) (v ∷ N) differ .1,
+        bound-none x (free y)
+            (equation (putIn E (atomic (free x)) (atomic (free y) ∷ []) (t ∷ K)) (putIn E (atomic (free x)) (atomic (free y) ∷ []) (v ∷ N))) k,
+        turned (t ∷ K) (v ∷ N),
+      )
 
   -- else not Orient3
-  level : (x y : Var) (L M : Field E) (f : Name) → below E (basic (sort x)) (basic (sort y)) ≡ false → worths (atomic (free x) ∷ L) (atomic (free y) ∷ M) f ruleOrder ≤ most (equation (atomic (free x) ∷ L) (atomic (free y) ∷ M))
+  level : (x y : Var) (L M : Field E) (f : Name) → below E (basic (sort x)) (basic (sort y)) ≡ false
+      → worths (atomic (free x) ∷ L) (atomic (free y) ∷ M) f ruleOrder ≤ most (equation (atomic (free x) ∷ L) (atomic (free y) ∷ M))
   level x y L M f h = by L M
     where
       no-turn : (K N : Field E) → worth (orient3 E (atomic (free x) ∷ K) (atomic (free y) ∷ N)) ≡ 0
@@ -239,8 +319,22 @@ module _ (E : Setting) where
       four N = ap (λ (b : Bool). cond b (full (atomic (free x) ∷ []) (atomic (free y) ∷ N)) 4) h
 
       by : (K N : Field E) → worths (atomic (free x) ∷ K) (atomic (free y) ∷ N) f ruleOrder ≤ most (equation (atomic (free x) ∷ K) (atomic (free y) ∷ N))
-      by [] [] = omega (arith, four [], no-turn [] [], remove-one (atomic (free x) ∷ []) (atomic (free y) ∷ []), decomp3-most (atomic (free x)) (atomic (free y)) [] [], solved-one (atomic (free x)) (atomic (free y) ∷ []))
-      by [] (v ∷ N) = omega (arith, four (v ∷ N), no-turn [] (v ∷ N), remove-one (atomic (free x) ∷ []) (atomic (free y) ∷ (v ∷ N)), decomp3-most (atomic (free x)) (atomic (free y)) [] (v ∷ N), decomp4-one x (free y) (v ∷ N))
+      by [] [] = omega (
+        arith,
+        four [],
+        no-turn [] [],
+        remove-one (atomic (free x) ∷ []) (atomic (free y) ∷ []),
+        decomp3-most (atomic (free x)) (atomic (free y)) [] [],
+        solved-one (atomic (free x)) (atomic (free y) ∷ []),
+      )
+      by [] (v ∷ N) = omega (
+        arith,
+        four (v ∷ N),
+        no-turn [] (v ∷ N),
+        remove-one (atomic (free x) ∷ []) (atomic (free y) ∷ (v ∷ N)),
+        decomp3-most (atomic (free x)) (atomic (free y)) [] (v ∷ N),
+        decomp4-one x (free y) (v ∷ N),
+      )
       by (t ∷ K) [] = omega (
         arith,
         no-turn (t ∷ K) [],
@@ -262,14 +356,17 @@ module _ (E : Setting) where
         two-pos (size (t ∷ K) (v ∷ N)),
       )
 
-  free-few : (x y : Var) (L M : Field E) (f : Name) → worths (atomic (free x) ∷ L) (atomic (free y) ∷ M) f ruleOrder ≤ most (equation (atomic (free x) ∷ L) (atomic (free y) ∷ M))
+  free-few : (x y : Var) (L M : Field E) (f : Name)
+      → worths (atomic (free x) ∷ L) (atomic (free y) ∷ M) f ruleOrder ≤ most (equation (atomic (free x) ∷ L) (atomic (free y) ∷ M))
   free-few x y L M f = go (le (sort x) (sort y)) (le (sort y) (sort x)) refl refl
     where
-      all : (K N : Field E) → below E (basic (sort x)) (basic (sort y)) ≡ true → most (equation (atomic (free x) ∷ K) (atomic (free y) ∷ N)) ≡ full (atomic (free x) ∷ K) (atomic (free y) ∷ N)
+      all : (K N : Field E) → below E (basic (sort x)) (basic (sort y)) ≡ true
+          → most (equation (atomic (free x) ∷ K) (atomic (free y) ∷ N)) ≡ full (atomic (free x) ∷ K) (atomic (free y) ∷ N)
       all [] N h = ap (λ (b : Bool). cond b (full (atomic (free x) ∷ []) (atomic (free y) ∷ N)) 4) h
       all (t ∷ K) N h = refl
 
-      go : (p q : Bool) → le (sort x) (sort y) ≡ p → le (sort y) (sort x) ≡ q → worths (atomic (free x) ∷ L) (atomic (free y) ∷ M) f ruleOrder ≤ most (equation (atomic (free x) ∷ L) (atomic (free y) ∷ M))
+      go : (p q : Bool) → le (sort x) (sort y) ≡ p → le (sort y) (sort x) ≡ q
+          → worths (atomic (free x) ∷ L) (atomic (free y) ∷ M) f ruleOrder ≤ most (equation (atomic (free x) ∷ L) (atomic (free y) ∷ M))
       go true false h k = omega (arith, higher x y L M f h k, all L M (ap₂ (λ (p q : Bool). p && not q) h k))
       go true true h k = level x y L M f (ap₂ (λ (p q : Bool). p && not q) h k)
       go false q h k = level x y L M f (ap (λ (p : Bool). p && not (le (sort y) (sort x))) h)
@@ -285,7 +382,8 @@ module _ (E : Setting) where
   mixed a n e = atomic≢listvar e
 
   -- a list variable before other terms on the left
-  long-few : (x : Name) (t : Tm E) (L : Field E) (u : Tm E) (M : Field E) (f : Name) → Linear E (listvar x ∷ (t ∷ L)) (u ∷ M) → worths (listvar x ∷ (t ∷ L)) (u ∷ M) f ruleOrder ≤ full (listvar x ∷ (t ∷ L)) (u ∷ M)
+  long-few : (x : Name) (t : Tm E) (L : Field E) (u : Tm E) (M : Field E) (f : Name) → Linear E (listvar x ∷ (t ∷ L)) (u ∷ M)
+      → worths (listvar x ∷ (t ∷ L)) (u ∷ M) f ruleOrder ≤ full (listvar x ∷ (t ∷ L)) (u ∷ M)
   long-few x t L (atomic a) M f l = by M
     where
       apart : (N : Field E) → (worth (remove E (listvar x ∷ (t ∷ L)) (atomic a ∷ N)) ≡ 0) × (worth (decomp3 E (listvar x ∷ (t ∷ L)) (atomic a ∷ N)) ≡ 0)
@@ -364,17 +462,32 @@ module _ (E : Setting) where
   rules-few (atomic (fixed c) ∷ L) (listvar y ∷ M) f l = by L M
     where
       by : (K N : Field E) → worths (atomic (fixed c) ∷ K) (listvar y ∷ N) f ruleOrder ≤ full (atomic (fixed c) ∷ K) (listvar y ∷ N)
-      by [] N = let h = heads-apart (atomic (fixed c)) (listvar y) [] N (mixed (fixed c) y) in omega (arith, h .0, h .1, swapped (atomic (fixed c) ∷ []) (listvar y ∷ N))
-      by (t ∷ K) [] = let h = heads-apart (atomic (fixed c)) (listvar y) (t ∷ K) [] (mixed (fixed c) y) in omega (arith, h .0, h .1, swapped (atomic (fixed c) ∷ (t ∷ K)) (listvar y ∷ []))
-      by (t ∷ K) (v ∷ N) = let h = heads-apart (atomic (fixed c)) (listvar y) (t ∷ K) (v ∷ N) (mixed (fixed c) y) in omega (arith, h .0, h .1, swapped (atomic (fixed c) ∷ (t ∷ K)) (listvar y ∷ (v ∷ N)))
+      by [] N =
+          let h = heads-apart (atomic (fixed c)) (listvar y) [] N (mixed (fixed c) y) in
+          omega (arith, h .0, h .1, swapped (atomic (fixed c) ∷ []) (listvar y ∷ N))
+      by (t ∷ K) [] =
+          let h = heads-apart (atomic (fixed c)) (listvar y) (t ∷ K) [] (mixed (fixed c) y) in
+          omega (arith, h .0, h .1, swapped (atomic (fixed c) ∷ (t ∷ K)) (listvar y ∷ []))
+      by (t ∷ K) (v ∷ N) =
+          let h = heads-apart (atomic (fixed c)) (listvar y) (t ∷ K) (v ∷ N) (mixed (fixed c) y) in
+          omega (arith, h .0, h .1, swapped (atomic (fixed c) ∷ (t ∷ K)) (listvar y ∷ (v ∷ N)))
   rules-few (atomic (free x) ∷ L) (listvar y ∷ M) f l = by L M
     where
       by : (K N : Field E) → worths (atomic (free x) ∷ K) (listvar y ∷ N) f ruleOrder ≤ full (atomic (free x) ∷ K) (listvar y ∷ N)
-      by [] [] = let h = heads-apart (atomic (free x)) (listvar y) [] [] (mixed (free x) y) in omega (arith, h .0, h .1, swapped (atomic (free x) ∷ []) (listvar y ∷ []))
-      by [] (v ∷ N) = let h = heads-apart (atomic (free x)) (listvar y) [] (v ∷ N) (mixed (free x) y) in omega (arith, h .0, h .1, swapped (atomic (free x) ∷ []) (listvar y ∷ (v ∷ N)))
-      by (t ∷ K) [] = let h = heads-apart (atomic (free x)) (listvar y) (t ∷ K) [] (mixed (free x) y) in omega (arith, h .0, h .1, swapped (atomic (free x) ∷ (t ∷ K)) (listvar y ∷ []))
-      by (t ∷ K) (v ∷ N) = let h = heads-apart (atomic (free x)) (listvar y) (t ∷ K) (v ∷ N) (mixed (free x) y) in omega (arith, h .0, h .1, swapped (atomic (free x) ∷ (t ∷ K)) (listvar y ∷ (v ∷ N)))
-  rules-few (atomic (fixed c) ∷ []) (atomic (fixed d) ∷ M) f l = omega (arith, remove-one (atomic (fixed c) ∷ []) (atomic (fixed d) ∷ M), decomp3-most (atomic (fixed c)) (atomic (fixed d)) [] M)
+      by [] [] =
+          let h = heads-apart (atomic (free x)) (listvar y) [] [] (mixed (free x) y) in
+          omega (arith, h .0, h .1, swapped (atomic (free x) ∷ []) (listvar y ∷ []))
+      by [] (v ∷ N) =
+          let h = heads-apart (atomic (free x)) (listvar y) [] (v ∷ N) (mixed (free x) y) in
+          omega (arith, h .0, h .1, swapped (atomic (free x) ∷ []) (listvar y ∷ (v ∷ N)))
+      by (t ∷ K) [] =
+          let h = heads-apart (atomic (free x)) (listvar y) (t ∷ K) [] (mixed (free x) y) in
+          omega (arith, h .0, h .1, swapped (atomic (free x) ∷ (t ∷ K)) (listvar y ∷ []))
+      by (t ∷ K) (v ∷ N) =
+          let h = heads-apart (atomic (free x)) (listvar y) (t ∷ K) (v ∷ N) (mixed (free x) y) in
+          omega (arith, h .0, h .1, swapped (atomic (free x) ∷ (t ∷ K)) (listvar y ∷ (v ∷ N)))
+  rules-few (atomic (fixed c) ∷ []) (atomic (fixed d) ∷ M) f l =
+      omega (arith, remove-one (atomic (fixed c) ∷ []) (atomic (fixed d) ∷ M), decomp3-most (atomic (fixed c)) (atomic (fixed d)) [] M)
   rules-few (atomic (fixed c) ∷ (t ∷ L)) (atomic (fixed d) ∷ M) f l = by M
     where
       by : (N : Field E) → worths (atomic (fixed c) ∷ (t ∷ L)) (atomic (fixed d) ∷ N) f ruleOrder ≤ full (atomic (fixed c) ∷ (t ∷ L)) (atomic (fixed d) ∷ N)
@@ -400,16 +513,24 @@ module _ (E : Setting) where
       differ e = subst Constant e tt
 
       by : (K N : Field E) → worths (atomic (fixed c) ∷ K) (atomic (free y) ∷ N) f ruleOrder ≤ most (equation (atomic (fixed c) ∷ K) (atomic (free y) ∷ N))
-      by [] N = let h = heads-apart (atomic (fixed c)) (atomic (free y)) [] N differ in omega (arith, h .0, h .1, swapped (atomic (fixed c) ∷ []) (atomic (free y) ∷ N))
-      by (t ∷ K) [] = let h = heads-apart (atomic (fixed c)) (atomic (free y)) (t ∷ K) [] differ in omega (arith, h .0, h .1, swapped (atomic (fixed c) ∷ (t ∷ K)) (atomic (free y) ∷ []))
-      by (t ∷ K) (v ∷ N) = let h = heads-apart (atomic (fixed c)) (atomic (free y)) (t ∷ K) (v ∷ N) differ in omega (arith, h .0, h .1, swapped (atomic (fixed c) ∷ (t ∷ K)) (atomic (free y) ∷ (v ∷ N)))
+      by [] N =
+          let h = heads-apart (atomic (fixed c)) (atomic (free y)) [] N differ in
+          omega (arith, h .0, h .1, swapped (atomic (fixed c) ∷ []) (atomic (free y) ∷ N))
+      by (t ∷ K) [] =
+          let h = heads-apart (atomic (fixed c)) (atomic (free y)) (t ∷ K) [] differ in
+          omega (arith, h .0, h .1, swapped (atomic (fixed c) ∷ (t ∷ K)) (atomic (free y) ∷ []))
+      by (t ∷ K) (v ∷ N) =
+          let h = heads-apart (atomic (fixed c)) (atomic (free y)) (t ∷ K) (v ∷ N) differ in
+          omega (arith, h .0, h .1, swapped (atomic (fixed c) ∷ (t ∷ K)) (atomic (free y) ∷ (v ∷ N)))
   rules-few (atomic (free x) ∷ L) (atomic (fixed d) ∷ M) f l = by L M
     where
       differ : _≡_ {A = Tm E} (atomic (free x)) (atomic (fixed d)) → ⊥
       differ e = subst Constant (sym e) tt
 
       by : (K N : Field E) → worths (atomic (free x) ∷ K) (atomic (fixed d) ∷ N) f ruleOrder ≤ most (equation (atomic (free x) ∷ K) (atomic (fixed d) ∷ N))
-      by [] [] = let h = heads-apart (atomic (free x)) (atomic (fixed d)) [] [] differ in omega (arith, h .0, h .1, solved-one (atomic (free x)) (atomic (fixed d) ∷ []))
+      by [] [] =
+          let h = heads-apart (atomic (free x)) (atomic (fixed d)) [] [] differ in
+          omega (arith, h .0, h .1, solved-one (atomic (free x)) (atomic (fixed d) ∷ []))
       by [] (v ∷ N) = let h = heads-apart (atomic (free x)) (atomic (fixed d)) [] (v ∷ N) differ in omega (arith, h .0, h .1, decomp4-one x (fixed d) (v ∷ N))
       by (t ∷ K) [] = let h = heads-apart (atomic (free x)) (atomic (fixed d)) (t ∷ K) [] differ in omega (
         arith,
@@ -448,7 +569,8 @@ module _ (E : Setting) where
   collected L M f σ u [] = refl
   collected L M f σ u (r ∷ rs) = go (rule E r L M f) (collected L M f σ u rs)
     where
-      go : (o : Option (Move E)) → summed (problems σ u (collect E L M f rs)) ≡ worths L M f rs → summed (problems σ u (add E r o (collect E L M f rs))) ≡ worth o + worths L M f rs
+      go : (o : Option (Move E)) → summed (problems σ u (collect E L M f rs)) ≡ worths L M f rs
+          → summed (problems σ u (add E r o (collect E L M f rs))) ≡ worth o + worths L M f rs
       go none h = omega arith
       go (some m) h = omega (arith, left-rest σ u m)
 
@@ -470,16 +592,24 @@ module _ (E : Setting) where
       omega (
         arith,
         run-few k room (q ++ offspring E (problem (equation L M) σ u)) xs
-            (all-append (Invariant E) q (offspring E (problem (equation L M) σ u)) (h .1) (all-offspring E (Invariant E) (problem (equation L M) σ u) (children-inv E L M σ u (h .0))))
+            (all-append (Invariant E) q (offspring E (problem (equation L M) σ u)) (h .1)
+            (all-offspring E (Invariant E) (problem (equation L M) σ u) (children-inv E L M σ u (h .0))))
             (step-answers E k room (problem (equation L M) σ u) q xs e),
         summed-append q (offspring E (problem (equation L M) σ u)),
         children-few L M σ u (h .0 .lin),
       )
 
-  pub answers-few : (room : ℕ) (L M : Field E) (xs : List (Bindings E)) → Linear E L M → searching E room L M ≡ answers xs → length xs ≤ 2 ^ ((length L + length M) + (listvars E L + listvars E M))
-  answers-few room L M xs l e = omega (arith, run-few (total E (root E L M ∷ [])) room (root E L M ∷ []) xs (root-inv E L M l, tt) (began-answers E room L M xs e), most-full L M)
+  pub answers-few : (room : ℕ) (L M : Field E) (xs : List (Bindings E)) → Linear E L M
+      → searching E room L M ≡ answers xs → length xs ≤ 2 ^ ((length L + length M) + (listvars E L + listvars E M))
+  answers-few room L M xs l e =
+      omega (arith, run-few (total E (root E L M ∷ [])) room (root E L M ∷ []) xs (root-inv E L M l, tt) (began-answers E room L M xs e), most-full L M)
 
   -- with 16 terms a field: 2 ^ 34
-  pub answers-34 : (room : ℕ) (L M : Field E) (xs : List (Bindings E)) → Linear E L M → length L ≤ 16 → length M ≤ 16 → searching E room L M ≡ answers xs → length xs ≤ 2 ^ 34
+  pub answers-34 : (room : ℕ) (L M : Field E) (xs : List (Bindings E)) → Linear E L M
+      → length L ≤ 16 → length M ≤ 16 → searching E room L M ≡ answers xs → length xs ≤ 2 ^ 34
   answers-34 room L M xs l a b e =
-      omega (arith, answers-few room L M xs l e, pow-le-pow-right {n = 2} (omega arith) {i = (length L + length M) + (listvars E L + listvars E M)} {j = 34} (omega (arith, l .left, l .right)))
+      omega (
+        arith,
+        answers-few room L M xs l e,
+        pow-le-pow-right {n = 2} (omega arith) {i = (length L + length M) + (listvars E L + listvars E M)} {j = 34} (omega (arith, l .left, l .right)),
+      )

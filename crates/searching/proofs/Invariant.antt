@@ -4,12 +4,45 @@ use mathlib.Core.Path.{_≡_, refl, sym, _∙_, ap, subst}
 use mathlib.Core.Logic.{_↔_, _⊎_, inl, inr, ite}
 use mathlib.Core.Bool.{true}
 use mathlib.Core.Option.{some}
-use mathlib.Core.List.{List, [], _∷_, _++_, append-nil, List·Memᴰ, List·Memᴰ·head, List·Memᴰ·tail, List·Memᴰ·not-nil, List·Memᴰ·cases-cons, Memᴰ·cast, Memᴰ·append-left, Memᴰ·append-right}
+use mathlib.Core.List.{
+  List,
+  [],
+  _∷_,
+  _++_,
+  append-nil,
+  List·Memᴰ,
+  List·Memᴰ·head,
+  List·Memᴰ·tail,
+  List·Memᴰ·not-nil,
+  List·Memᴰ·cases-cons,
+  Memᴰ·cast,
+  Memᴰ·append-left,
+  Memᴰ·append-right,
+}
 use Rattle.lists.specs.Seqs.{All, all-map}
 use Rattle.order.specs.Order.{Order}
 use Rattle.theory.specs.Seqs.{concat-map}
 use Rattle.unifiers.specs.Shapes.{fixed, free, Vars}
-use Rattle.searching.specs.Problems.{Names, Setting, atomic, listvar, At, Tm, Field, tm-eq, kindOf, Bindings, put, compose, equation, Problem, problem, rest, bindings, used}
+use Rattle.searching.specs.Problems.{
+  Names,
+  Setting,
+  atomic,
+  listvar,
+  At,
+  Tm,
+  Field,
+  tm-eq,
+  kindOf,
+  Bindings,
+  put,
+  compose,
+  equation,
+  Problem,
+  problem,
+  rest,
+  bindings,
+  used,
+}
 use Rattle.searching.specs.Rules.{Move, keep, bind, apply}
 use Rattle.searching.specs.Answers.{Fits}
 use Rattle.searching.proofs.Seqs.{all-mem, all-from, all-concat-map}
@@ -38,12 +71,15 @@ module _ (E : Setting) where
   Fixed σ t = σ t ≡ t ∷ []
 
   compose-at : {B : Type 0} (θ : Tm E → List B) (σ : Bindings E) (x : Tm E) (s : Field E) → Fixed σ x → Respects θ (compose E σ x s) → θ x ≡ concat-map θ s
-  compose-at θ σ x s e r = r x ∙ ap (λ (K : Field E). concat-map θ (concat-map (put E x s) K)) e ∙ ap (λ (K : Field E). concat-map θ K) (append-nil (put E x s x) ∙ put-self E x s)
+  compose-at θ σ x s e r =
+      r x ∙ ap (λ (K : Field E). concat-map θ (concat-map (put E x s) K)) e ∙ ap (λ (K : Field E). concat-map θ K) (append-nil (put E x s x) ∙ put-self E x s)
 
-  pub compose-iff : {B : Type 0} (θ : Tm E → List B) (σ : Bindings E) (x : Tm E) (s : Field E) → θ x ≡ concat-map θ s → Respects θ (compose E σ x s) ↔ Respects θ σ
+  pub compose-iff : {B : Type 0} (θ : Tm E → List B) (σ : Bindings E) (x : Tm E) (s : Field E)
+      → θ x ≡ concat-map θ s → Respects θ (compose E σ x s) ↔ Respects θ σ
   compose-iff θ σ x s h = (λ r t. r t ∙ put-fill-all E θ x s h (σ t), λ r t. r t ∙ sym (put-fill-all E θ x s h (σ t)))
 
-  pub sound-move : {B : Type 0} (L M : Field E) (f : Name) (σ : Bindings E) (u : List Name) (m : Move E) → Does E L M f (some m) → All (Fixed σ) L → All (Fixed σ) M
+  pub sound-move : {B : Type 0} (L M : Field E) (f : Name) (σ : Bindings E) (u : List Name) (m : Move E)
+      → Does E L M f (some m) → All (Fixed σ) L → All (Fixed σ) M
       → (θ : Tm E → List B) → Unifies θ (apply E σ u m) → Unifies θ (problem (equation L M) σ u)
   sound-move L M f σ u (keep n) d a b θ h = ((d .eqv θ) .1 (h .0), h .1)
   sound-move L M f σ u (bind x s v n) d a b θ h =
@@ -106,9 +142,12 @@ module _ (E : Setting) where
 
   pub inv-move : (L M : Field E) (f : Name) (σ : Bindings E) (u : List Name) (m : Move E) → (List·Memᴰ f u → ⊥) → Does E L M f (some m)
       → Invariant (problem (equation L M) σ u) → Invariant (apply E σ u m)
-  inv-move L M f σ u (keep n) fr d i = record { lin = d .lin (i .lin); ok = d .from (Unbound σ u) (i .ok .0) (i .ok .1); vals = i .vals; alone = i .alone; kinds = i .kinds }
+  inv-move L M f σ u (keep n) fr d i =
+      record { lin = d .lin (i .lin); ok = d .from (Unbound σ u) (i .ok .0) (i .ok .1); vals = i .vals; alone = i .alone; kinds = i .kinds }
   inv-move L M f σ u (bind x s v n) fr d i = record {
-    lin = d .lin (i .lin) (count-absent E f L (all-map (Unbound σ u) (Other E (listvar f)) (λ t o. o .1 f fr) L (i .ok .0))) (count-absent E f M (all-map (Unbound σ u) (Other E (listvar f)) (λ t o. o .1 f fr) M (i .ok .1)));
+    lin =
+        d .lin (i .lin) (count-absent E f L (all-map (Unbound σ u) (Other E (listvar f)) (λ t o. o .1 f fr) L (i .ok .0)))
+        (count-absent E f M (all-map (Unbound σ u) (Other E (listvar f)) (λ t o. o .1 f fr) M (i .ok .1)));
     ok = both .1;
     vals = vals′;
     alone = λ k h. at-new k (λ j. h (Memᴰ·append-right v j));
@@ -137,13 +176,19 @@ module _ (E : Setting) where
       at-new k h = moved-at (listvar k) (i .alone k h) (λ e. okx .1 k h (sym e))
 
       fresh : All (λ k. Unbound′ (listvar k)) v
-      fresh = all-from (λ k. Unbound′ (listvar k)) v (λ k j. (at-new k (λ j′. fr (Memᴰ·cast (sym (all-mem (λ k. k ≡ f) v (d .new) k j)) j′)), old-mem (v ++ u) k (Memᴰ·append-left u j)))
+      fresh =
+          all-from (λ k. Unbound′ (listvar k)) v
+          (λ k j. (at-new k (λ j′. fr (Memᴰ·cast (sym (all-mem (λ k. k ≡ f) v (d .new) k j)) j′)), old-mem (v ++ u) k (Memᴰ·append-left u j)))
 
       both : All Unbound′ s × AllRest E Unbound′ n
-      both = d .from (i .lin) Unbound′ (all-map (Unbound σ u) (λ t. Other E x t → Unbound′ t) (λ t o ne. moved t o ne) L (i .ok .0)) (all-map (Unbound σ u) (λ t. Other E x t → Unbound′ t) (λ t o ne. moved t o ne) M (i .ok .1)) fresh
+      both =
+          d .from (i .lin) Unbound′ (all-map (Unbound σ u) (λ t. Other E x t → Unbound′ t) (λ t o ne. moved t o ne) L (i .ok .0))
+          (all-map (Unbound σ u) (λ t. Other E x t → Unbound′ t) (λ t o ne. moved t o ne) M (i .ok .1)) fresh
 
       vals-old : (t : Tm E) → Known u t → All Unbound′ (compose E σ x s t)
-      vals-old t o = all-concat-map Unbound′ (put E x s) (σ t) (all-map (Unbound σ u) (λ w. All Unbound′ (put E x s w)) (λ w q. put-all E Unbound′ x s (both .0) w (moved w q)) (σ t) (i .vals t o))
+      vals-old t o =
+          all-concat-map Unbound′ (put E x s) (σ t)
+          (all-map (Unbound σ u) (λ w. All Unbound′ (put E x s w)) (λ w q. put-all E Unbound′ x s (both .0) w (moved w q)) (σ t) (i .vals t o))
 
       vals-lst : (k : Name) → Dec (List·Memᴰ k u) → Known (v ++ u) (listvar k) → All Unbound′ (compose E σ x s (listvar k))
       vals-lst k (yes j) o = vals-old (listvar k) (old-mem u k j)

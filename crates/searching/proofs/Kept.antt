@@ -25,7 +25,13 @@ module _ (E : Setting) where
   remove-does L M f = go (field-eq E L M)
     where
       go : (d : Dec (L ≡ M)) → Does E L M f (ite d (some (keep solved)) none)
-      go (yes e) = record { eqv = λ θ. (λ _. tt, λ _. ap (λ (K : Field E). concat-map θ K) e); from = λ P h k. tt; lin = λ l. tt; falls = (omega arith, tt); room = omega arith }
+      go (yes e) = record {
+        eqv = λ θ. (λ _. tt, λ _. ap (λ (K : Field E). concat-map θ K) e);
+        from = λ P h k. tt;
+        lin = λ l. tt;
+        falls = (omega arith, tt);
+        room = omega arith;
+      }
       go (no n) = tt
 
   pub decomp3-does : (L M : Field E) (f : Name) → Does E L M f (decomp3 E L M)
@@ -43,9 +49,16 @@ module _ (E : Setting) where
 
       go : (d : Dec (s ≡ t)) → Does E (s ∷ L) (t ∷ M) f (ite d (some (keep (equation L M))) none)
       go (yes e) = record {
-        eqv = λ {B} θ. (λ h. append-cancel-left (θ s) (concat-map θ L) (concat-map θ M) (h ∙ ap (λ (u : Tm E). θ u ++ concat-map θ M) (sym e)), λ h. ap₂ (λ (u : Tm E) (k : List B). θ u ++ k) e h);
+        eqv = λ {B} θ. (
+          λ h. append-cancel-left (θ s) (concat-map θ L) (concat-map θ M) (h ∙ ap (λ (u : Tm E). θ u ++ concat-map θ M) (sym e)),
+          λ h. ap₂ (λ (u : Tm E) (k : List B). θ u ++ k) e h,
+        );
         from = λ P h k. (h .1, k .1);
-        lin = λ l. record { left = omega (arith, l .left, shorter L s); right = omega (arith, l .right, shorter M t); once = λ n. omega (arith, l .once n, rarer n L s, rarer n M t) };
+        lin = λ l. record {
+          left = omega (arith, l .left, shorter L s);
+          right = omega (arith, l .right, shorter M t);
+          once = λ n. omega (arith, l .once n, rarer n L s, rarer n M t);
+        };
         falls = fewer E (s ∷ L) (t ∷ M) L M (omega arith);
         room = omega arith;
       }
@@ -62,8 +75,12 @@ module _ (E : Setting) where
   orient1-does [] M f = tt
   orient1-does (atomic (fixed c) ∷ L) [] f = tt
   orient1-does (atomic (fixed c) ∷ L) (atomic (fixed d) ∷ M) f = tt
-  orient1-does (atomic (fixed c) ∷ L) (atomic (free y) ∷ M) f = swap (atomic (fixed c) ∷ L) (atomic (free y) ∷ M) (omega (arith, type-le E (atomic (free y) ∷ M) (atomic (fixed c) ∷ L), long-le E (atomic (free y) ∷ M)), second (omega arith) (omega arith))
-  orient1-does (atomic (fixed c) ∷ L) (listvar y ∷ M) f = swap (atomic (fixed c) ∷ L) (listvar y ∷ M) (omega (arith, type-le E (listvar y ∷ M) (atomic (fixed c) ∷ L), long-le E (listvar y ∷ M)), second (omega arith) (omega arith))
+  orient1-does (atomic (fixed c) ∷ L) (atomic (free y) ∷ M) f =
+      swap (atomic (fixed c) ∷ L) (atomic (free y) ∷ M)
+      (omega (arith, type-le E (atomic (free y) ∷ M) (atomic (fixed c) ∷ L), long-le E (atomic (free y) ∷ M)), second (omega arith) (omega arith))
+  orient1-does (atomic (fixed c) ∷ L) (listvar y ∷ M) f =
+      swap (atomic (fixed c) ∷ L) (listvar y ∷ M)
+      (omega (arith, type-le E (listvar y ∷ M) (atomic (fixed c) ∷ L), long-le E (listvar y ∷ M)), second (omega arith) (omega arith))
   orient1-does (atomic (free x) ∷ L) M f = tt
   orient1-does (listvar x ∷ L) M f = tt
 
@@ -75,7 +92,8 @@ module _ (E : Setting) where
   orient2-does (atomic (free x) ∷ (u ∷ L)) (atomic (fixed d) ∷ []) f = tt
   orient2-does (atomic (free x) ∷ (u ∷ L)) (atomic (free y) ∷ []) f = go (kind-eq (sort x) (sort y))
     where
-      go : (d : Dec (sort x ≡ sort y)) → Does E (atomic (free x) ∷ (u ∷ L)) (atomic (free y) ∷ []) f (ite d (some (keep (equation (atomic (free y) ∷ []) (atomic (free x) ∷ (u ∷ L))))) none)
+      go : (d : Dec (sort x ≡ sort y))
+          → Does E (atomic (free x) ∷ (u ∷ L)) (atomic (free y) ∷ []) f (ite d (some (keep (equation (atomic (free y) ∷ []) (atomic (free x) ∷ (u ∷ L))))) none)
       go (yes e) =
           let h : le (sort x) (sort y) ≡ true = subst (λ (k : Kind). le (sort x) k ≡ true) e (le-refl (sort x)) in
           let k : le (sort y) (sort x) ≡ true = subst (λ (k : Kind). le k (sort x) ≡ true) e (le-refl (sort x)) in
@@ -83,7 +101,8 @@ module _ (E : Setting) where
       go (no n) = tt
   orient2-does (atomic (free x) ∷ (u ∷ L)) (listvar y ∷ []) f = tt
   orient2-does (listvar x ∷ (u ∷ L)) (atomic b ∷ []) f = tt
-  orient2-does (listvar x ∷ (u ∷ L)) (listvar y ∷ []) f = swap (listvar x ∷ (u ∷ L)) (listvar y ∷ []) (omega arith, fourth (omega arith) refl refl (omega arith))
+  orient2-does (listvar x ∷ (u ∷ L)) (listvar y ∷ []) f =
+      swap (listvar x ∷ (u ∷ L)) (listvar y ∷ []) (omega arith, fourth (omega arith) refl refl (omega arith))
   orient2-does (t ∷ (u ∷ L)) (s ∷ (v ∷ M)) f = tt
 
   pub orient3-does : (L M : Field E) (f : Name) → Does E L M f (orient3 E L M)
@@ -95,10 +114,12 @@ module _ (E : Setting) where
     where
       go : (p q : Bool) → le (sort x) (sort y) ≡ p → le (sort y) (sort x) ≡ q
           → Does E (atomic (free x) ∷ L) (atomic (free y) ∷ M) f (cond (p && not q) (some (keep (equation (atomic (free y) ∷ M) (atomic (free x) ∷ L)))) none)
-      go true false h k = swap (atomic (free x) ∷ L) (atomic (free y) ∷ M) (rw (h, k) (omega (arith, long-le E (atomic (free y) ∷ M)), third (omega arith) refl (omega arith)))
+      go true false h k =
+          swap (atomic (free x) ∷ L) (atomic (free y) ∷ M) (rw (h, k) (omega (arith, long-le E (atomic (free y) ∷ M)), third (omega arith) refl (omega arith)))
       go true true h k = tt
       go false q h k = tt
-  orient3-does (atomic (free x) ∷ L) (listvar y ∷ M) f = swap (atomic (free x) ∷ L) (listvar y ∷ M) (omega (arith, long-le E (listvar y ∷ M)), third (omega arith) refl (omega arith))
+  orient3-does (atomic (free x) ∷ L) (listvar y ∷ M) f =
+      swap (atomic (free x) ∷ L) (listvar y ∷ M) (omega (arith, long-le E (listvar y ∷ M)), third (omega arith) refl (omega arith))
   orient3-does (listvar x ∷ L) M f = tt
 
   pub orient4-does : (L M : Field E) (f : Name) → Does E L M f (orient4 E L M)

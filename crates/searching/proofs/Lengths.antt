@@ -45,7 +45,8 @@ module _ (E : Setting) where
   same-more k L M Q n (inl a) = omega (arith, ap (countOf E k) (a .0), ap (countOf E k) (a .1), count-append k Q (leftOf E n), count-append k Q (rightOf E n))
   same-more k L M Q n (inr a) = omega (arith, ap (countOf E k) (a .0), ap (countOf E k) (a .1), count-append k Q (leftOf E n), count-append k Q (rightOf E n))
 
-  same-map : (g : Field E → Field E) → ((s t : Field E) → g (s ++ t) ≡ g s ++ g t) → (A B P L M : Field E) → Same E A B P (equation L M) → Same E (g A) (g B) (g P) (equation (g L) (g M))
+  same-map : (g : Field E → Field E) → ((s t : Field E) → g (s ++ t) ≡ g s ++ g t) → (A B P L M : Field E)
+      → Same E A B P (equation L M) → Same E (g A) (g B) (g P) (equation (g L) (g M))
   same-map g h A B P L M (inl a) = inl (ap g (a .0) ∙ h P L, ap g (a .1) ∙ h P M)
   same-map g h A B P L M (inr a) = inr (ap g (a .0) ∙ h P M, ap g (a .1) ∙ h P L)
 
@@ -58,10 +59,15 @@ module _ (E : Setting) where
   Plain (atomic a) P = Unit {0}
   Plain (listvar j) P = countOf E j P ≡ 0
 
-  plain-put : (x : Tm E) (s P : Field E) → Fits E x s → Plain x P → (length (concat-map (put E x s) P) ≡ length P) × ((k : Name) → countOf E k (concat-map (put E x s) P) ≡ countOf E k P)
-  plain-put (atomic (fixed c)) s P g h = subst (λ (s : Field E). (length (concat-map (put E (atomic (fixed c)) s) P) ≡ length P) × ((k : Name) → countOf E k (concat-map (put E (atomic (fixed c)) s) P) ≡ countOf E k P)) (sym g)
+  plain-put : (x : Tm E) (s P : Field E) → Fits E x s → Plain x P
+      → (length (concat-map (put E x s) P) ≡ length P) × ((k : Name) → countOf E k (concat-map (put E x s) P) ≡ countOf E k P)
+  plain-put (atomic (fixed c)) s P g h =
+      subst (λ (s : Field E). (length (concat-map (put E (atomic (fixed c)) s) P) ≡ length P)
+      × ((k : Name) → countOf E k (concat-map (put E (atomic (fixed c)) s) P) ≡ countOf E k P)) (sym g)
       (put-length E (fixed c) (fixed c) P, λ k. put-count E k (fixed c) (fixed c) P)
-  plain-put (atomic (free x)) s P g h = subst (λ (s : Field E). (length (concat-map (put E (atomic (free x)) s) P) ≡ length P) × ((k : Name) → countOf E k (concat-map (put E (atomic (free x)) s) P) ≡ countOf E k P)) (sym (g .1))
+  plain-put (atomic (free x)) s P g h =
+      subst (λ (s : Field E). (length (concat-map (put E (atomic (free x)) s) P) ≡ length P)
+      × ((k : Name) → countOf E k (concat-map (put E (atomic (free x)) s) P) ≡ countOf E k P)) (sym (g .1))
       (put-length E (free x) (g .0) P, λ k. put-count E k (free x) (g .0) P)
   plain-put (listvar j) s P g h = (ap (λ (K : Field E). length K) (put-away-name E j s P h), λ k. ap (countOf E k) (put-away-name E j s P h))
 
@@ -77,13 +83,18 @@ module _ (E : Setting) where
 
   occ-all : (k : Name) (K : Field E) → All (λ t. t ≡ listvar k → 1 ≤ countOf E k K) K
   occ-all k [] = tt
-  occ-all k (t ∷ K) = (λ e. head t e, all-map (λ u. u ≡ listvar k → 1 ≤ countOf E k K) (λ u. u ≡ listvar k → 1 ≤ countOf E k (t ∷ K)) (λ u h e. omega (arith, h e, count-cons E k t K)) K (occ-all k K))
+  occ-all k (t ∷ K) = (
+    λ e. head t e,
+    all-map (λ u. u ≡ listvar k → 1 ≤ countOf E k K) (λ u. u ≡ listvar k → 1 ≤ countOf E k (t ∷ K))
+        (λ u h e. omega (arith, h e, count-cons E k t K)) K (occ-all k K),
+  )
     where
       head : (t : Tm E) → t ≡ listvar k → 1 ≤ countOf E k (t ∷ K)
       head (atomic a) e = absurd (atomic≢listvar e)
       head (listvar j) e = let q : isName E k j ≡ 1 = if-pos (name-eq j k) (listvar-once e) 1 0 in omega arith
 
-  cut-move : (A B L M : Field E) (bnd : ℕ) (f : Name) (σ : Bindings E) (u : List Name) (m : Move E) → (List·Memᴰ f u → ⊥) → Does E L M f (some m) → Cuts E L M (some m)
+  cut-move : (A B L M : Field E) (bnd : ℕ) (f : Name) (σ : Bindings E) (u : List Name) (m : Move E)
+      → (List·Memᴰ f u → ⊥) → Does E L M f (some m) → Cuts E L M (some m)
       → Invariant E (problem (equation L M) σ u) → All (Known E u) A → Cut E (concat-map σ A) (concat-map σ B) bnd (equation L M)
       → Cut E (concat-map (bindings E (apply E σ u m)) A) (concat-map (bindings E (apply E σ u m)) B) bnd (rest E (apply E σ u m))
   cut-move A B L M bnd f σ u (keep n) fr d q i o c = record {
@@ -94,8 +105,11 @@ module _ (E : Setting) where
   }
   cut-move A B L M bnd f σ u (bind x s v n) fr d q i o c = record {
     pre = concat-map (put E x s) (c .pre) ++ q .pre;
-    same-as = subst₂ (λ (a b : Field E). Same E a b (concat-map (put E x s) (c .pre) ++ q .pre) n) (concat-map-twice (put E x s) σ A) (concat-map-twice (put E x s) σ B)
-        (same-step (concat-map (put E x s) (concat-map σ A)) (concat-map (put E x s) (concat-map σ B)) (concat-map (put E x s) (c .pre)) (concat-map (put E x s) L) (concat-map (put E x s) M) (q .pre) n
+    same-as =
+        subst₂ (λ (a b : Field E). Same E a b (concat-map (put E x s) (c .pre) ++ q .pre) n) (concat-map-twice (put E x s) σ A)
+        (concat-map-twice (put E x s) σ B)
+        (same-step (concat-map (put E x s) (concat-map σ A)) (concat-map (put E x s) (concat-map σ B)) (concat-map (put E x s) (c .pre))
+        (concat-map (put E x s) L) (concat-map (put E x s) M) (q .pre) n
         (same-map (λ K. concat-map (put E x s) K) (concat-map-append (put E x s)) (concat-map σ A) (concat-map σ B) (c .pre) L M (c .same-as)) (q .same-as));
     few = omega (arith, c .few, q .few, length-append (concat-map (put E x s) (c .pre)) (q .pre), kept-as .0);
     away = λ k h. omega (arith, count-append k (concat-map (put E x s) (c .pre)) (q .pre), q .away k h, kept-as .1 k, gone k h);
@@ -103,7 +117,8 @@ module _ (E : Setting) where
     where
       old-pre : All (Known E u) (c .pre)
       old-pre = same-all (Known E u) (concat-map σ A) (concat-map σ B) (c .pre) (equation L M) (c .same-as)
-          (all-concat-map (Known E u) σ A (all-map (Known E u) (λ t. All (Known E u) (σ t)) (λ t p. all-map (Unbound E σ u) (Known E u) (λ w r. r .1) (σ t) (i .vals t p)) A o))
+          (all-concat-map (Known E u) σ A
+          (all-map (Known E u) (λ t. All (Known E u) (σ t)) (λ t p. all-map (Unbound E σ u) (Known E u) (λ w r. r .1) (σ t) (i .vals t p)) A o))
 
       plain : (y : Tm E) → x ≡ y → Plain y (c .pre)
       plain (atomic a) e = tt
@@ -113,7 +128,8 @@ module _ (E : Setting) where
           go (inl z) = absurd (d .here (Other E (listvar j)) (absent E j L (omega arith)) (absent E j M (omega arith)) e)
           go (inr z) = c .away j z
 
-      kept-as : (length (concat-map (put E x s) (c .pre)) ≡ length (c .pre)) × ((k : Name) → countOf E k (concat-map (put E x s) (c .pre)) ≡ countOf E k (c .pre))
+      kept-as : (length (concat-map (put E x s) (c .pre)) ≡ length (c .pre))
+          × ((k : Name) → countOf E k (concat-map (put E x s) (c .pre)) ≡ countOf E k (c .pre))
       kept-as = plain-put x s (c .pre) (d .fits) (plain x refl)
 
       gone : (k : Name) → 1 ≤ countOf E k (leftOf E n) + countOf E k (rightOf E n) → countOf E k (c .pre) ≡ 0
@@ -138,10 +154,16 @@ module _ (E : Setting) where
               go (inr z) = occ G k L′ (a .0) z
 
   -- at every child the two sides of the root are still a common beginning and what is left, within the same bound
-  pub children-cut : (A B : Field E) (bnd : ℕ) (L M : Field E) (σ : Bindings E) (u : List Name) → Invariant E (problem (equation L M) σ u) → All (Known E u) A → Cut E (concat-map σ A) (concat-map σ B) bnd (equation L M)
+  pub children-cut : (A B : Field E) (bnd : ℕ) (L M : Field E) (σ : Bindings E) (u : List Name)
+      → Invariant E (problem (equation L M) σ u) → All (Known E u) A → Cut E (concat-map σ A) (concat-map σ B) bnd (equation L M)
       → All (λ c. Cut E (concat-map (bindings E (c .1)) A) (concat-map (bindings E (c .1)) B) bnd (rest E (c .1))) (children E (problem (equation L M) σ u))
-  children-cut A B bnd L M σ u i o c = all-mapped (λ c. Cut E (concat-map (bindings E (c .1)) A) (concat-map (bindings E (c .1)) B) bnd (rest E (c .1))) (λ q. (q .0, apply E σ u (q .1))) (moves E L M (pick u))
-      (all-map (Is E L M (pick u)) (λ q. Cut E (concat-map (bindings E (apply E σ u (q .1))) A) (concat-map (bindings E (apply E σ u (q .1))) B) bnd (rest E (apply E σ u (q .1)))) (λ q e. cut-move A B L M bnd (pick u) σ u (q .1) (pick-new u) (move-does E L M (pick u) q e) (subst (λ (o : Option (Move E)). Cuts E L M o) e (rule-cuts E (q .0) L M (pick u) (i .lin) nL nM)) i o c) (moves E L M (pick u)) (moves-is E L M (pick u)))
+  children-cut A B bnd L M σ u i o c =
+      all-mapped (λ c. Cut E (concat-map (bindings E (c .1)) A) (concat-map (bindings E (c .1)) B) bnd (rest E (c .1)))
+      (λ q. (q .0, apply E σ u (q .1))) (moves E L M (pick u))
+      (all-map (Is E L M (pick u))
+      (λ q. Cut E (concat-map (bindings E (apply E σ u (q .1))) A) (concat-map (bindings E (apply E σ u (q .1))) B) bnd (rest E (apply E σ u (q .1))))
+      (λ q e. cut-move A B L M bnd (pick u) σ u (q .1) (pick-new u) (move-does E L M (pick u) q e) (subst (λ (o : Option (Move E)). Cuts E L M o) e
+      (rule-cuts E (q .0) L M (pick u) (i .lin) nL nM)) i o c) (moves E L M (pick u)) (moves-is E L M (pick u)))
     where
       nL : countOf E (pick u) L ≡ 0
       nL = count-absent E (pick u) L (all-map (Unbound E σ u) (Other E (listvar (pick u))) (λ t o. o .1 (pick u) (pick-new u)) L (i .ok .0))
@@ -158,8 +180,14 @@ module _ (E : Setting) where
       sizes (equation L M) = (omega arith, omega arith)
 
       go : Same E A B (c .pre) n → (length A ≤ bnd) × (length B ≤ bnd)
-      go (inl a) = (omega (arith, ap (λ (K : Field E). length K) (a .0), length-append (c .pre) (leftOf E n), c .few, sizes n .0), omega (arith, ap (λ (K : Field E). length K) (a .1), length-append (c .pre) (rightOf E n), c .few, sizes n .1))
-      go (inr a) = (omega (arith, ap (λ (K : Field E). length K) (a .0), length-append (c .pre) (rightOf E n), c .few, sizes n .1), omega (arith, ap (λ (K : Field E). length K) (a .1), length-append (c .pre) (leftOf E n), c .few, sizes n .0))
+      go (inl a) = (
+        omega (arith, ap (λ (K : Field E). length K) (a .0), length-append (c .pre) (leftOf E n), c .few, sizes n .0),
+        omega (arith, ap (λ (K : Field E). length K) (a .1), length-append (c .pre) (rightOf E n), c .few, sizes n .1),
+      )
+      go (inr a) = (
+        omega (arith, ap (λ (K : Field E). length K) (a .0), length-append (c .pre) (rightOf E n), c .few, sizes n .1),
+        omega (arith, ap (λ (K : Field E). length K) (a .1), length-append (c .pre) (leftOf E n), c .few, sizes n .0),
+      )
 
   part-long : (σ : Bindings E) (A : Field E) (t : Tm E) → List·Memᴰ t A → length (σ t) ≤ length (concat-map σ A)
   part-long σ [] t i = absurd (List·Memᴰ·not-nil i)
@@ -169,9 +197,18 @@ module _ (E : Setting) where
       go rec (inl e) = omega (arith, length-append (σ x) (concat-map σ A), ap (λ (y : Tm E). length (σ y)) e)
       go rec (inr j) = omega (arith, length-append (σ x) (concat-map σ A), rec j)
 
-  pub value-long : (A B : Field E) (bnd : ℕ) (n : Rest E) (σ : Bindings E) → Cut E (concat-map σ A) (concat-map σ B) bnd n → (t : Tm E) → StandsIn E A B t → length (σ t) ≤ bnd
+  pub value-long : (A B : Field E) (bnd : ℕ) (n : Rest E) (σ : Bindings E)
+      → Cut E (concat-map σ A) (concat-map σ B) bnd n → (t : Tm E) → StandsIn E A B t → length (σ t) ≤ bnd
   value-long A B bnd n σ c t (inl i) = omega (arith, part-long σ A t i, cut-long (concat-map σ A) (concat-map σ B) bnd n c .0)
   value-long A B bnd n σ c t (inr i) = omega (arith, part-long σ B t i, cut-long (concat-map σ A) (concat-map σ B) bnd n c .1)
 
   pub root-cut : (L M : Field E) → Cut E (concat-map (bindings E (root E L M)) L) (concat-map (bindings E (root E L M)) M) (termsIn E L M) (equation L M)
-  root-cut L M = record { pre = []; same-as = inl (concat-map-self (λ t. t ∷ []) L (all-every (λ t. t ∷ [] ≡ t ∷ []) L (λ t. refl)), concat-map-self (λ t. t ∷ []) M (all-every (λ t. t ∷ [] ≡ t ∷ []) M (λ t. refl))); few = omega arith; away = λ k h. refl }
+  root-cut L M = record {
+    pre = [];
+    same-as = inl (
+      concat-map-self (λ t. t ∷ []) L (all-every (λ t. t ∷ [] ≡ t ∷ []) L (λ t. refl)),
+      concat-map-self (λ t. t ∷ []) M (all-every (λ t. t ∷ [] ≡ t ∷ []) M (λ t. refl)),
+    );
+    few = omega arith;
+    away = λ k h. refl;
+  }

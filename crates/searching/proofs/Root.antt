@@ -26,10 +26,12 @@ module _ (E : Setting) where
   named (listvar n ∷ L) u h = (old-mem E u n (h .0), named L u (h .1))
 
   pub old-left : (L M : Field E) → All (Known E (namesIn E L ++ namesIn E M)) L
-  old-left L M = named L (namesIn E L ++ namesIn E M) (all-from (λ n. List·Memᴰ n (namesIn E L ++ namesIn E M)) (namesIn E L) (λ n i. Memᴰ·append-left (namesIn E M) i))
+  old-left L M =
+      named L (namesIn E L ++ namesIn E M) (all-from (λ n. List·Memᴰ n (namesIn E L ++ namesIn E M)) (namesIn E L) (λ n i. Memᴰ·append-left (namesIn E M) i))
 
   pub old-right : (L M : Field E) → All (Known E (namesIn E L ++ namesIn E M)) M
-  old-right L M = named M (namesIn E L ++ namesIn E M) (all-from (λ n. List·Memᴰ n (namesIn E L ++ namesIn E M)) (namesIn E M) (λ n i. Memᴰ·append-right (namesIn E L) i))
+  old-right L M =
+      named M (namesIn E L ++ namesIn E M) (all-from (λ n. List·Memᴰ n (namesIn E L ++ namesIn E M)) (namesIn E M) (λ n i. Memᴰ·append-right (namesIn E L) i))
 
   self-fits : (t : Tm E) → Fits E t (t ∷ [])
   self-fits (atomic (fixed c)) = refl

@@ -58,11 +58,15 @@ module _ (E : Setting) where
 
   -- ---- the answers (Theorems 2 and 3 of document 001)
 
-  answers-fine : (room : ℕ) (L M : Field E) (xs : List (Bindings E)) → Linear E L M → searching E room L M ≡ answers xs → All (λ σ. (u : List Name) × Fine E L M (problem solved σ u)) xs
-  answers-fine room L M xs l e = run-keeps E (Fine E L M) (child-fine E L M) (total E (root E L M ∷ [])) room (root E L M ∷ []) xs (root-fine E L M l, tt) (began-answers E room L M xs e)
+  answers-fine : (room : ℕ) (L M : Field E) (xs : List (Bindings E)) → Linear E L M
+      → searching E room L M ≡ answers xs → All (λ σ. (u : List Name) × Fine E L M (problem solved σ u)) xs
+  answers-fine room L M xs l e =
+      run-keeps E (Fine E L M) (child-fine E L M) (total E (root E L M ∷ [])) room (root E L M ∷ []) xs (root-fine E L M l, tt) (began-answers E room L M xs e)
 
   pub searching-sound : (room : ℕ) (L M : Field E) (xs : List (Bindings E)) → Linear E L M → searching E room L M ≡ answers xs → All (Solves E L M) xs
-  searching-sound room L M xs l e = all-map (λ σ. (u : List Name) × Fine E L M (problem solved σ u)) (Solves E L M) (λ σ h. fine-solves E L M σ (h .0) (h .1)) xs (answers-fine room L M xs l e)
+  searching-sound room L M xs l e =
+      all-map (λ σ. (u : List Name) × Fine E L M (problem solved σ u)) (Solves E L M) (λ σ h. fine-solves E L M σ (h .0) (h .1)) xs
+      (answers-fine room L M xs l e)
 
   pub searching-complete : (room : ℕ) (L M : Field E) (xs : List (Bindings E)) → Linear E L M → searching E room L M ≡ answers xs
       → (ρ : Var → Con) (m : Name → List Con) → WellTyped E ρ → concat-map (ground E ρ m) L ≡ concat-map (ground E ρ m) M
@@ -77,24 +81,32 @@ module _ (E : Setting) where
 
   -- values of their types for an answer's variables, put into it, are values of their types for the equation's, and solve it
   pub instances : (L M : Field E) (σ : Bindings E) → Solves E L M σ → (ρ : Var → Con) (m : Name → List Con) → WellTyped E ρ
-      → (ρ′ : Var → Con) × (m′ : Name → List Con) × WellTyped E ρ′ × ((t : Tm E) → ground E ρ′ m′ t ≡ concat-map (ground E ρ m) (σ t)) × (concat-map (ground E ρ′ m′) L ≡ concat-map (ground E ρ′ m′) M)
+      → (ρ′ : Var → Con) × (m′ : Name → List Con) × WellTyped E ρ′ × ((t : Tm E) → ground E ρ′ m′ t ≡ concat-map (ground E ρ m) (σ t))
+      × (concat-map (ground E ρ′ m′) L ≡ concat-map (ground E ρ′ m′) M)
   instances L M σ h ρ m ty =
       let r = through E σ (h .1) ρ m ty in
       (r .0, r .1, r .2, r .3, along (r .0) (r .1) (r .3) L ∙ ap (concat-map (ground E ρ m)) (h .0) ∙ sym (along (r .0) (r .1) (r .3) M))
     where
-      along : (ρ′ : Var → Con) (m′ : Name → List Con) → ((t : Tm E) → ground E ρ′ m′ t ≡ concat-map (ground E ρ m) (σ t)) → (K : Field E) → concat-map (ground E ρ′ m′) K ≡ concat-map (ground E ρ m) (concat-map σ K)
-      along ρ′ m′ g K = concat-map-agree (ground E ρ′ m′) (λ t. concat-map (ground E ρ m) (σ t)) K (all-every (λ t. ground E ρ′ m′ t ≡ concat-map (ground E ρ m) (σ t)) K g) ∙ sym (concat-map-twice (ground E ρ m) σ K)
+      along : (ρ′ : Var → Con) (m′ : Name → List Con) → ((t : Tm E) → ground E ρ′ m′ t ≡ concat-map (ground E ρ m) (σ t))
+          → (K : Field E) → concat-map (ground E ρ′ m′) K ≡ concat-map (ground E ρ m) (concat-map σ K)
+      along ρ′ m′ g K =
+          concat-map-agree (ground E ρ′ m′) (λ t. concat-map (ground E ρ m) (σ t)) K (all-every (λ t. ground E ρ′ m′ t ≡ concat-map (ground E ρ m) (σ t)) K g)
+          ∙ sym (concat-map-twice (ground E ρ m) σ K)
 
   -- ---- termination (Theorem 1 of document 001, amended)
 
   pub steps-fall : (L M : Field E) (σ : Bindings E) (u : List Name) → All (λ c. Lower E (rest E (c .1)) L M) (children E (problem (equation L M) σ u))
-  steps-fall L M σ u = all-map (λ c. Falls E (rest E (c .1)) L M) (λ c. Lower E (rest E (c .1)) L M) (λ c h. h .1) (children E (problem (equation L M) σ u)) (children-fall E L M σ u)
+  steps-fall L M σ u =
+      all-map (λ c. Falls E (rest E (c .1)) L M) (λ c. Lower E (rest E (c .1)) L M) (λ c h. h .1)
+      (children E (problem (equation L M) σ u)) (children-fall E L M σ u)
 
   -- ---- the fresh list variable
 
   pub fresh-new : (A B L M : Field E) (σ : Bindings E) (u : List Name) → Linear E A B → Met E A B (problem (equation L M) σ u)
-      → (occurs E (listvar (pick u)) L ≡ false) × (occurs E (listvar (pick u)) M ≡ false) × ((t : Tm E) → StandsIn E A B t → occurs E (listvar (pick u)) (σ t) ≡ false)
-  fresh-new A B L M σ u l m = (absent-in L (h .inv .ok .0), absent-in M (h .inv .ok .1), λ t r. absent-in (σ t) (h .inv .vals t (fine-known E A B (problem (equation L M) σ u) h t r)))
+      → (occurs E (listvar (pick u)) L ≡ false) × (occurs E (listvar (pick u)) M ≡ false)
+      × ((t : Tm E) → StandsIn E A B t → occurs E (listvar (pick u)) (σ t) ≡ false)
+  fresh-new A B L M σ u l m =
+      (absent-in L (h .inv .ok .0), absent-in M (h .inv .ok .1), λ t r. absent-in (σ t) (h .inv .vals t (fine-known E A B (problem (equation L M) σ u) h t r)))
     where
       h : Fine E A B (problem (equation L M) σ u)
       h = met-fine E A B l (problem (equation L M) σ u) m
@@ -104,27 +116,34 @@ module _ (E : Setting) where
 
   -- ---- room: refusal 9
 
-  pub searching-more : (room room′ : ℕ) → room ≤ room′ → (L M : Field E) (xs : List (Bindings E)) → searching E room L M ≡ answers xs → searching E room′ L M ≡ answers xs
-  searching-more room room′ h L M xs e = begins E room′ L M some-room ∙ run-more E (total E (root E L M ∷ [])) room room′ h (root E L M ∷ []) xs (began-answers E room L M xs e)
+  pub searching-more : (room room′ : ℕ) → room ≤ room′ → (L M : Field E) (xs : List (Bindings E))
+      → searching E room L M ≡ answers xs → searching E room′ L M ≡ answers xs
+  searching-more room room′ h L M xs e =
+      begins E room′ L M some-room ∙ run-more E (total E (root E L M ∷ [])) room room′ h (root E L M ∷ []) xs (began-answers E room L M xs e)
     where
       some-room : 1 ≤ room′
       some-room = omega (arith, answers-room E room L M xs e)
 
-  pub same-answers : (room room′ : ℕ) (L M : Field E) (xs ys : List (Bindings E)) → searching E room L M ≡ answers xs → searching E room′ L M ≡ answers ys → xs ≡ ys
+  pub same-answers : (room room′ : ℕ) (L M : Field E) (xs ys : List (Bindings E))
+      → searching E room L M ≡ answers xs → searching E room′ L M ≡ answers ys → xs ≡ ys
   same-answers room room′ L M xs ys e f =
       ap (given E) (sym (searching-more room (room + room′) (omega arith) L M xs e) ∙ searching-more room′ (room + room′) (omega arith) L M ys f)
 
   pub searching-room : (room : ℕ) (L M : Field E) → total E (root E L M ∷ []) ≤ room → searching E room L M ≡ refused → ⊥
-  searching-room room L M h e = run-room E (total E (root E L M ∷ [])) room (root E L M ∷ []) h (sym (begins E room L M (omega (arith, weight-pos E (rank E (rest E (root E L M)))))) ∙ e)
+  searching-room room L M h e =
+      run-room E (total E (root E L M ∷ [])) room (root E L M ∷ []) h (sym (begins E room L M (omega (arith, weight-pos E (rank E (rest E (root E L M)))))) ∙ e)
 
   -- ---- sizes
 
-  pub answers-short : (room : ℕ) (L M : Field E) (xs : List (Bindings E)) → Linear E L M → searching E room L M ≡ answers xs → All (λ σ. (t : Tm E) → StandsIn E L M t → length (σ t) ≤ length L + length M) xs
+  pub answers-short : (room : ℕ) (L M : Field E) (xs : List (Bindings E)) → Linear E L M → searching E room L M ≡ answers xs
+      → All (λ σ. (t : Tm E) → StandsIn E L M t → length (σ t) ≤ length L + length M) xs
   answers-short room L M xs l e =
-      all-map (λ σ. (u : List Name) × Fine E L M (problem solved σ u)) (λ σ. (t : Tm E) → StandsIn E L M t → length (σ t) ≤ length L + length M) (λ σ h t i. fine-values E L M (problem solved σ (h .0)) (h .1) t i) xs (answers-fine room L M xs l e)
+      all-map (λ σ. (u : List Name) × Fine E L M (problem solved σ u)) (λ σ. (t : Tm E) → StandsIn E L M t → length (σ t) ≤ length L + length M)
+      (λ σ h t i. fine-values E L M (problem solved σ (h .0)) (h .1) t i) xs (answers-fine room L M xs l e)
 
   -- the same of every problem that is met: with 16 terms a field, 32
-  pub values-short : (A B : Field E) → Linear E A B → length A ≤ 16 → length B ≤ 16 → (p : Problem E) → Met E A B p → (t : Tm E) → StandsIn E A B t → length (bindings E p t) ≤ 32
+  pub values-short : (A B : Field E) → Linear E A B → length A ≤ 16 → length B ≤ 16
+      → (p : Problem E) → Met E A B p → (t : Tm E) → StandsIn E A B t → length (bindings E p t) ≤ 32
   values-short A B l a b p m t i = omega (arith, fine-values E A B p (met-fine E A B l p m) t i)
 
   -- and 34 list variables
@@ -147,5 +166,6 @@ module _ (O : Order) (C : Consts O) (N : Vars O) where
   abbrev Numbered : Setting
   Numbered = record { order = O; constants = C; variables = N; names = numbers }
 
-  pub fresh-small : (A B : Field Numbered) → Linear Numbered A B → length A ≤ 16 → length B ≤ 16 → (p : Problem Numbered) → Met Numbered A B p → lowest (used Numbered p) < 64
+  pub fresh-small : (A B : Field Numbered) → Linear Numbered A B → length A ≤ 16 → length B ≤ 16
+      → (p : Problem Numbered) → Met Numbered A B p → lowest (used Numbered p) < 64
   fresh-small A B l a b p m = omega (arith, lowest-small (used Numbered p), names-few Numbered A B l a b p m)

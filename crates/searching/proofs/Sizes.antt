@@ -16,9 +16,64 @@ use Rattle.order.specs.Order.{Order, basic, full-le}
 use Rattle.theory.specs.Constants.{Consts}
 use Rattle.theory.specs.Seqs.{concat-map}
 use Rattle.unifiers.specs.Shapes.{fixed, free, Vars}
-use Rattle.searching.specs.Problems.{Names, Setting, atomic, listvar, At, Tm, Field, at-eq, tm-eq, field-eq, kindOf, fieldType, termType, Bindings, putIn, Rest, solved, equation, Problem, problem, rest, bindings, used, namesIn}
+use Rattle.searching.specs.Problems.{
+  Names,
+  Setting,
+  atomic,
+  listvar,
+  At,
+  Tm,
+  Field,
+  at-eq,
+  tm-eq,
+  field-eq,
+  kindOf,
+  fieldType,
+  termType,
+  Bindings,
+  putIn,
+  Rest,
+  solved,
+  equation,
+  Problem,
+  problem,
+  rest,
+  bindings,
+  used,
+  namesIn,
+}
 use Rattle.searching.specs.Fresh.{lowest, numbers}
-use Rattle.searching.specs.Rules.{Rule, Remove, Decomp1, Decomp1′, Decomp2, Decomp2′, Decomp3, Decomp4, Subst1, Subst2, Subst3, Orient1, Orient2, Orient3, Orient4, below, occurs, Move, keep, bind, bindAtom, solveBy, rule, moves, apply, children, Met, start, step}
+use Rattle.searching.specs.Rules.{
+  Rule,
+  Remove,
+  Decomp1,
+  Decomp1′,
+  Decomp2,
+  Decomp2′,
+  Decomp3,
+  Decomp4,
+  Subst1,
+  Subst2,
+  Subst3,
+  Orient1,
+  Orient2,
+  Orient3,
+  Orient4,
+  below,
+  occurs,
+  Move,
+  keep,
+  bind,
+  bindAtom,
+  solveBy,
+  rule,
+  moves,
+  apply,
+  children,
+  Met,
+  start,
+  step,
+}
 use Rattle.searching.specs.Queue.{termsIn}
 use Rattle.searching.specs.Answers.{listvars, Linear, Fits}
 use Rattle.searching.proofs.Seqs.{all-mem, all-mapped}
@@ -99,7 +154,9 @@ module _ (E : Setting) where
   decomp1′-sized k (atomic (fixed c) ∷ L) M f p q = tt
   decomp1′-sized k (atomic (free x) ∷ []) M f p q = tt
   decomp1′-sized k (atomic (free x) ∷ (t ∷ L)) [] f p q = tt
-  decomp1′-sized k (atomic (free x) ∷ (t ∷ L)) (atomic a ∷ M) f p q = bound k (atomic (free x) ∷ (t ∷ L)) (atomic a ∷ M) x a (equation (ins (t ∷ L)) (ins M)) (omega arith) (omega arith) (omega (arith, put-length E (free x) a (t ∷ L)), omega (arith, put-length E (free x) a M))
+  decomp1′-sized k (atomic (free x) ∷ (t ∷ L)) (atomic a ∷ M) f p q =
+      bound k (atomic (free x) ∷ (t ∷ L)) (atomic a ∷ M) x a (equation (ins (t ∷ L)) (ins M)) (omega arith) (omega arith)
+      (omega (arith, put-length E (free x) a (t ∷ L)), omega (arith, put-length E (free x) a M))
     where
       ins : Field E → Field E
       ins K = putIn E (atomic (free x)) (atomic a ∷ []) K
@@ -137,7 +194,8 @@ module _ (E : Setting) where
   decomp4-sized k (atomic (free x) ∷ []) [] f p q = tt
   decomp4-sized k (atomic (free x) ∷ []) (atomic a ∷ []) f p q = tt
   decomp4-sized k (atomic (free x) ∷ []) (atomic a ∷ (atomic b ∷ M)) f p q = tt
-  decomp4-sized k (atomic (free x) ∷ []) (atomic a ∷ (listvar y ∷ [])) f p q = bound k (atomic (free x) ∷ []) (atomic a ∷ (listvar y ∷ [])) x a (equation [] (listvar y ∷ [])) (omega arith) (omega arith) (omega arith, omega arith)
+  decomp4-sized k (atomic (free x) ∷ []) (atomic a ∷ (listvar y ∷ [])) f p q =
+      bound k (atomic (free x) ∷ []) (atomic a ∷ (listvar y ∷ [])) x a (equation [] (listvar y ∷ [])) (omega arith) (omega arith) (omega arith, omega arith)
   decomp4-sized k (atomic (free x) ∷ []) (atomic a ∷ (listvar y ∷ (t ∷ M))) f p q = tt
   decomp4-sized k (atomic (free x) ∷ []) (listvar y ∷ M) f p q = tt
   decomp4-sized k (atomic (free x) ∷ (t ∷ L)) M f p q = tt
@@ -180,7 +238,8 @@ module _ (E : Setting) where
   orient2-sized k (t ∷ (u ∷ L)) [] f p q = tt
   orient2-sized k (atomic (fixed c) ∷ (u ∷ L)) (s ∷ []) f p q = tt
   orient2-sized k (atomic (free x) ∷ (u ∷ L)) (atomic (fixed d) ∷ []) f p q = tt
-  orient2-sized k (atomic (free x) ∷ (u ∷ L)) (atomic (free y) ∷ []) f p q = swap-if k (atomic (free x) ∷ (u ∷ L)) (atomic (free y) ∷ []) (kind-eq (sort x) (sort y)) p q
+  orient2-sized k (atomic (free x) ∷ (u ∷ L)) (atomic (free y) ∷ []) f p q =
+      swap-if k (atomic (free x) ∷ (u ∷ L)) (atomic (free y) ∷ []) (kind-eq (sort x) (sort y)) p q
   orient2-sized k (atomic (free x) ∷ (u ∷ L)) (listvar y ∷ []) f p q = tt
   orient2-sized k (listvar x ∷ (u ∷ L)) (atomic b ∷ []) f p q = tt
   orient2-sized k (listvar x ∷ (u ∷ L)) (listvar y ∷ []) f p q = (q, p)
@@ -191,7 +250,8 @@ module _ (E : Setting) where
   orient3-sized k (atomic (fixed c) ∷ L) M f p q = tt
   orient3-sized k (atomic (free x) ∷ L) [] f p q = tt
   orient3-sized k (atomic (free x) ∷ L) (atomic (fixed d) ∷ M) f p q = tt
-  orient3-sized k (atomic (free x) ∷ L) (atomic (free y) ∷ M) f p q = swap-when k (atomic (free x) ∷ L) (atomic (free y) ∷ M) (below E (basic (sort x)) (basic (sort y))) p q
+  orient3-sized k (atomic (free x) ∷ L) (atomic (free y) ∷ M) f p q =
+      swap-when k (atomic (free x) ∷ L) (atomic (free y) ∷ M) (below E (basic (sort x)) (basic (sort y))) p q
   orient3-sized k (atomic (free x) ∷ L) (listvar y ∷ M) f p q = (q, p)
   orient3-sized k (listvar x ∷ L) M f p q = tt
 
@@ -224,7 +284,8 @@ module _ (E : Setting) where
   children-within : (k : ℕ) (p : Problem E) → Within k (rest E p) → All (λ c. Within k (rest E (c .1))) (children E p)
   children-within k (problem solved σ u) w = tt
   children-within k (problem (equation L M) σ u) w = all-mapped (λ c. Within k (rest E (c .1))) (λ q. (q .0, apply E σ u (q .1))) (moves E L M (pick u))
-      (all-map (Is E L M (pick u)) (λ q. Within k (rest E (apply E σ u (q .1)))) (λ q e. move-within k L M σ u (q .1) (subst (λ (o : Option (Move E)). Sized k L M o) e (rule-sized k (q .0) L M (pick u) (w .0) (w .1))))
+      (all-map (Is E L M (pick u)) (λ q. Within k (rest E (apply E σ u (q .1))))
+      (λ q e. move-within k L M σ u (q .1) (subst (λ (o : Option (Move E)). Sized k L M o) e (rule-sized k (q .0) L M (pick u) (w .0) (w .1))))
       (moves E L M (pick u)) (moves-is E L M (pick u)))
 
   -- no side ever has more terms than the larger side of the equation
@@ -245,11 +306,13 @@ module _ (E : Setting) where
   atoms-one σ g (listvar n ∷ A) h = absurd (omega arith)
 
   -- beside the only list variable stand atoms
-  rest-one : (σ : Bindings E) → ((t : Tm E) → Fits E t (σ t)) → (A : Field E) → listvars E A ≤ 1 → (n : Name) → List·Memᴰ (listvar n) A → length (σ (listvar n)) + length A ≡ length (concat-map σ A) + 1
+  rest-one : (σ : Bindings E) → ((t : Tm E) → Fits E t (σ t)) → (A : Field E) → listvars E A ≤ 1 → (n : Name)
+      → List·Memᴰ (listvar n) A → length (σ (listvar n)) + length A ≡ length (concat-map σ A) + 1
   rest-one σ g [] h n i = absurd (List·Memᴰ·not-nil i)
   rest-one σ g (atomic a ∷ A) h n i = go (List·Memᴰ·cases-cons i) (λ j. rest-one σ g A h n j)
     where
-      go : (_≡_ {A = Tm E} (listvar n) (atomic a)) ⊎ List·Memᴰ (listvar n) A → (List·Memᴰ (listvar n) A → length (σ (listvar n)) + length A ≡ length (concat-map σ A) + 1)
+      go : (_≡_ {A = Tm E} (listvar n) (atomic a)) ⊎ List·Memᴰ (listvar n) A
+          → (List·Memᴰ (listvar n) A → length (σ (listvar n)) + length A ≡ length (concat-map σ A) + 1)
           → length (σ (listvar n)) + suc (length A) ≡ length (σ (atomic a) ++ concat-map σ A) + 1
       go (inl e) rec = absurd (atomic≢listvar (sym e))
       go (inr j) rec = omega (arith, rec j, length-append (σ (atomic a)) (concat-map σ A), atom-one a (σ (atomic a)) (g (atomic a)))
@@ -264,14 +327,16 @@ module _ (E : Setting) where
           later (inr j) rec = rec j
       none-left (listvar m ∷ K) h j = omega arith
 
-      go : (_≡_ {A = Tm E} (listvar n) (listvar k)) ⊎ List·Memᴰ (listvar n) A → (List·Memᴰ (listvar n) A → length (σ (listvar n)) + length A ≡ length (concat-map σ A) + 1)
+      go : (_≡_ {A = Tm E} (listvar n) (listvar k)) ⊎ List·Memᴰ (listvar n) A
+          → (List·Memᴰ (listvar n) A → length (σ (listvar n)) + length A ≡ length (concat-map σ A) + 1)
           → length (σ (listvar n)) + suc (length A) ≡ length (σ (listvar k) ++ concat-map σ A) + 1
       go (inl e) rec = omega (arith, length-append (σ (listvar k)) (concat-map σ A), atoms-one σ g A (omega arith), ap (λ (t : Tm E). length (σ t)) e)
       go (inr j) rec = absurd (none-left A (omega arith) j)
 
   -- the value of a list variable of one side has at most one term more than the other side of the equation
   pub list-values-short : (A B : Field E) → Linear E A B → (p : Problem E) → Met E A B p → (n : Name)
-      → (List·Memᴰ (listvar n) A → length (bindings E p (listvar n)) ≤ length B + 1) × (List·Memᴰ (listvar n) B → length (bindings E p (listvar n)) ≤ length A + 1)
+      → (List·Memᴰ (listvar n) A → length (bindings E p (listvar n)) ≤ length B + 1)
+      × (List·Memᴰ (listvar n) B → length (bindings E p (listvar n)) ≤ length A + 1)
   list-values-short A B l (problem r σ u) m n = (
     λ i. omega (arith, rest-one σ (h .inv .kinds) A (l .left) n i, cut-long E (concat-map σ A) (concat-map σ B) (termsIn E A B) r (h .cut) .0),
     λ i. omega (arith, rest-one σ (h .inv .kinds) B (l .right) n i, cut-long E (concat-map σ A) (concat-map σ B) (termsIn E A B) r (h .cut) .1),
@@ -283,8 +348,10 @@ module _ (E : Setting) where
   -- ---- list variables brought in
 
   -- a rule that brings some in has at least three terms before it
-  pub brings-three : (L M : Field E) (f : Name) (r : Rule) (x : Tm E) (s : Field E) (v : List Name) (n : Rest E) → rule E r L M f ≡ some (bind x s v n) → (v ≡ []) ⊎ (3 ≤ termsIn E L M)
-  brings-three L M f r x s v n e = subst (λ (o : Option (Move E)). Sized (length L + length M) L M o) e (rule-sized (length L + length M) r L M f (omega arith) (omega arith)) .1
+  pub brings-three : (L M : Field E) (f : Name) (r : Rule) (x : Tm E) (s : Field E) (v : List Name) (n : Rest E)
+      → rule E r L M f ≡ some (bind x s v n) → (v ≡ []) ⊎ (3 ≤ termsIn E L M)
+  brings-three L M f r x s v n e =
+      subst (λ (o : Option (Move E)). Sized (length L + length M) L M o) e (rule-sized (length L + length M) r L M f (omega arith) (omega arith)) .1
 
   -- a value that a rule binds has no more terms than the larger side
   pub value-short : (k : ℕ) (L M : Field E) (f : Name) → length L ≤ k → length M ≤ k
@@ -296,8 +363,10 @@ module _ (O : Order) (C : Consts O) (N : Vars O) where
   Numbered = record { order = O; constants = C; variables = N; names = numbers }
 
   -- a rule that brings in a list variable finds one below 32
-  pub fresh-below : (A B : Field Numbered) → Linear Numbered A B → length A ≤ 16 → length B ≤ 16 → (L M : Field Numbered) (σ : Bindings Numbered) (u : List ℕ) → Met Numbered A B (problem (equation L M) σ u)
-      → (r : Rule) (x : Tm Numbered) (s : Field Numbered) (v : List ℕ) (n : Rest Numbered) → rule Numbered r L M (lowest u) ≡ some (bind x s v n) → (v ≡ []) ⊎ (lowest u < 32)
+  pub fresh-below : (A B : Field Numbered) → Linear Numbered A B → length A ≤ 16 → length B ≤ 16
+      → (L M : Field Numbered) (σ : Bindings Numbered) (u : List ℕ) → Met Numbered A B (problem (equation L M) σ u)
+      → (r : Rule) (x : Tm Numbered) (s : Field Numbered) (v : List ℕ) (n : Rest Numbered)
+      → rule Numbered r L M (lowest u) ≡ some (bind x s v n) → (v ≡ []) ⊎ (lowest u < 32)
   fresh-below A B l a b L M σ u m r x s v n e = go (brings-three Numbered L M (lowest u) r x s v n e)
     where
       go : (v ≡ []) ⊎ (3 ≤ termsIn Numbered L M) → (v ≡ []) ⊎ (lowest u < 32)
@@ -305,16 +374,19 @@ module _ (O : Order) (C : Consts O) (N : Vars O) where
       go (inr h) = inr (omega (arith, lowest-small u, met-fine Numbered A B l (problem (equation L M) σ u) m .names-few))
 
   -- and so all list variables used are below 32, where those of the equation are
-  pub names-below : (A B : Field Numbered) → Linear Numbered A B → length A ≤ 16 → length B ≤ 16 → All (λ n. n < 32) (namesIn Numbered A) → All (λ n. n < 32) (namesIn Numbered B)
+  pub names-below : (A B : Field Numbered) → Linear Numbered A B → length A ≤ 16 → length B ≤ 16
+      → All (λ n. n < 32) (namesIn Numbered A) → All (λ n. n < 32) (namesIn Numbered B)
       → (p : Problem Numbered) → Met Numbered A B p → All (λ n. n < 32) (used Numbered p)
   names-below A B l a b na nb p start = all-append (λ n. n < 32) (namesIn Numbered A) (namesIn Numbered B) na nb
   names-below A B l a b na nb p (step {p = q} m c i) = child-of q m (names-below A B l a b na nb q m) c i
     where
-      child-of : (q : Problem Numbered) → Met Numbered A B q → All (λ n. n < 32) (used Numbered q) → (c : Rule × Problem Numbered) → List·Memᴰ c (children Numbered q) → All (λ n. n < 32) (used Numbered (c .1))
+      child-of : (q : Problem Numbered) → Met Numbered A B q → All (λ n. n < 32) (used Numbered q)
+          → (c : Rule × Problem Numbered) → List·Memᴰ c (children Numbered q) → All (λ n. n < 32) (used Numbered (c .1))
       child-of (problem solved σ u) m h c i = absurd (List·Memᴰ·not-nil i)
       child-of (problem (equation L M) σ u) m h c i = all-mem (λ c. All (λ n. n < 32) (used Numbered (c .1))) (children Numbered (problem (equation L M) σ u))
           (all-mapped (λ c. All (λ n. n < 32) (used Numbered (c .1))) (λ q. (q .0, apply Numbered σ u (q .1))) (moves Numbered L M (lowest u))
-          (all-map (Is Numbered L M (lowest u)) (λ q. All (λ n. n < 32) (used Numbered (apply Numbered σ u (q .1)))) (λ q e. by (q .0) (q .1) e) (moves Numbered L M (lowest u)) (moves-is Numbered L M (lowest u)))) c i
+          (all-map (Is Numbered L M (lowest u)) (λ q. All (λ n. n < 32) (used Numbered (apply Numbered σ u (q .1)))) (λ q e. by (q .0) (q .1) e)
+          (moves Numbered L M (lowest u)) (moves-is Numbered L M (lowest u)))) c i
         where
           new : (v : List ℕ) → All (λ k. k ≡ lowest u) v → (v ≡ []) ⊎ (lowest u < 32) → All (λ n. n < 32) v
           new v w (inl z) = subst (λ (v : List ℕ). All (λ n. n < 32) v) (sym z) tt
@@ -322,4 +394,5 @@ module _ (O : Order) (C : Consts O) (N : Vars O) where
 
           by : (r : Rule) (k : Move Numbered) → rule Numbered r L M (lowest u) ≡ some k → All (λ n. n < 32) (used Numbered (apply Numbered σ u k))
           by r (keep n) e = h
-          by r (bind x s v n) e = all-append (λ n. n < 32) v u (new v (move-does Numbered L M (lowest u) (r, bind x s v n) e .new) (fresh-below A B l a b L M σ u m r x s v n e)) h
+          by r (bind x s v n) e =
+              all-append (λ n. n < 32) v u (new v (move-does Numbered L M (lowest u) (r, bind x s v n) e .new) (fresh-below A B l a b L M σ u m r x s v n e)) h

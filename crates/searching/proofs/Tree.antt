@@ -34,19 +34,38 @@ module _ (E : Setting) where
     pub solves : (θ : Tm E → Field E) → Unifies E θ p → concat-map θ A ≡ concat-map θ B
 
   pub root-fine : (A B : Field E) → Linear E A B → Fine A B (root E A B)
-  root-fine A B l = record { inv = root-inv E A B l; old-A = old-left E A B; old-B = old-right E A B; cut = root-cut E A B; names-few = root-room E A B l; solves = λ θ h. h .0 }
+  root-fine A B l = record {
+    inv = root-inv E A B l;
+    old-A = old-left E A B;
+    old-B = old-right E A B;
+    cut = root-cut E A B;
+    names-few = root-room E A B l;
+    solves = λ θ h. h .0;
+  }
 
-  all-old : (A : Field E) (L M : Field E) (σ : Bindings E) (u : List Name) (m : Move E) → Does E L M (pick u) (some m) → All (Known E u) A → All (Known E (used E (apply E σ u m))) A
+  all-old : (A : Field E) (L M : Field E) (σ : Bindings E) (u : List Name) (m : Move E)
+      → Does E L M (pick u) (some m) → All (Known E u) A → All (Known E (used E (apply E σ u m))) A
   all-old A L M σ u (keep n) d o = o
   all-old A L M σ u (bind x s v n) d o = all-map (Known E u) (Known E (v ++ u)) (λ t h k g. h k (λ j. g (Memᴰ·append-right v j))) A o
 
-  pub child-fine : (A B L M : Field E) (σ : Bindings E) (u : List Name) → Fine A B (problem (equation L M) σ u) → All (λ c. Fine A B (c .1)) (children E (problem (equation L M) σ u))
+  pub child-fine : (A B L M : Field E) (σ : Bindings E) (u : List Name) → Fine A B (problem (equation L M) σ u)
+      → All (λ c. Fine A B (c .1)) (children E (problem (equation L M) σ u))
   child-fine A B L M σ u h = all-from (λ c. Fine A B (c .1)) (children E (problem (equation L M) σ u)) (λ c i. record {
     inv = all-mem (λ c. Invariant E (c .1)) cs (children-inv E L M σ u (h .inv)) c i;
-    old-A = all-mem (λ c. All (Known E (used E (c .1))) A) cs (all-children E (λ p. All (Known E (used E p)) A) L M σ u (λ m d. all-old A L M σ u m d (h .old-A))) c i;
-    old-B = all-mem (λ c. All (Known E (used E (c .1))) B) cs (all-children E (λ p. All (Known E (used E p)) B) L M σ u (λ m d. all-old B L M σ u m d (h .old-B))) c i;
-    cut = all-mem (λ c. Cut E (concat-map (bindings E (c .1)) A) (concat-map (bindings E (c .1)) B) (termsIn E A B) (rest E (c .1))) cs (children-cut E A B (termsIn E A B) L M σ u (h .inv) (h .old-A) (h .cut)) c i;
-    names-few = omega (arith, h .names-few, all-mem (λ c. length (used E (c .1)) + termsLeft E (rest E (c .1)) ≤ length u + termsIn E L M) cs (children-room E L M σ u) c i);
+    old-A =
+        all-mem (λ c. All (Known E (used E (c .1))) A) cs
+        (all-children E (λ p. All (Known E (used E p)) A) L M σ u (λ m d. all-old A L M σ u m d (h .old-A))) c i;
+    old-B =
+        all-mem (λ c. All (Known E (used E (c .1))) B) cs
+        (all-children E (λ p. All (Known E (used E p)) B) L M σ u (λ m d. all-old B L M σ u m d (h .old-B))) c i;
+    cut =
+        all-mem (λ c. Cut E (concat-map (bindings E (c .1)) A) (concat-map (bindings E (c .1)) B) (termsIn E A B) (rest E (c .1))) cs
+        (children-cut E A B (termsIn E A B) L M σ u (h .inv) (h .old-A) (h .cut)) c i;
+    names-few = omega (
+      arith,
+      h .names-few,
+      all-mem (λ c. length (used E (c .1)) + termsLeft E (rest E (c .1)) ≤ length u + termsIn E L M) cs (children-room E L M σ u) c i,
+    );
     solves = λ θ k. h .solves θ (all-mem (λ c. Unifies E θ (c .1) → Unifies E θ (problem (equation L M) σ u)) cs (children-sound E L M σ u (h .inv) θ) c i k);
   })
     where

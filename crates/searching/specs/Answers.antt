@@ -9,7 +9,24 @@ use Rattle.theory.specs.Constants.{Consts}
 use Rattle.theory.specs.Seqs.{concat-map}
 use Rattle.unifiers.specs.Shapes.{Vars, fixed, free, val}
 use Rattle.unifiers.specs.Overlaps.{firsts}
-use Rattle.searching.specs.Problems.{Names, Setting, atomic, listvar, At, Tm, Field, tm-eq, kindOf, Bindings, Rest, solved, equation, Problem, rest, bindings}
+use Rattle.searching.specs.Problems.{
+  Names,
+  Setting,
+  atomic,
+  listvar,
+  At,
+  Tm,
+  Field,
+  tm-eq,
+  kindOf,
+  Bindings,
+  Rest,
+  solved,
+  equation,
+  Problem,
+  rest,
+  bindings,
+}
 
 module _ (E : Setting) where
   open Setting E using (order, constants, variables, names)
@@ -71,7 +88,8 @@ module _ (E : Setting) where
 
   -- ---- solving
 
-  -- a value of the term's type: of an atom variable one atom at or below its type, of a list variable any field; a constant stands for itself
+  -- a value of the term's type: of an atom variable one atom at or below its type, of a list variable any field;
+  -- a constant stands for itself
   abbrev pub Fits : Tm E → Field E → Type 0
   Fits (atomic (fixed c)) s = s ≡ atomic (fixed c) ∷ []
   Fits (atomic (free x)) s = (a : At E) × (s ≡ atomic a ∷ []) × (le (kindOf E a) (sort x) ≡ true)

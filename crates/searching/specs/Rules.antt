@@ -9,7 +9,33 @@ use mathlib.Core.List.{List, [], _∷_, _++_, map, List·Memᴰ}
 use Rattle.order.specs.Order.{Order, Full, basic, list, full-le}
 use Rattle.theory.specs.Constants.{Consts}
 use Rattle.unifiers.specs.Shapes.{Vars, fixed, free}
-use Rattle.searching.specs.Problems.{Names, Setting, atomic, listvar, At, Tm, Field, at-eq, tm-eq, field-eq, kindOf, termType, fieldType, Bindings, putIn, compose, Rest, solved, equation, Problem, problem, rest, bindings, used, root}
+use Rattle.searching.specs.Problems.{
+  Names,
+  Setting,
+  atomic,
+  listvar,
+  At,
+  Tm,
+  Field,
+  at-eq,
+  tm-eq,
+  field-eq,
+  kindOf,
+  termType,
+  fieldType,
+  Bindings,
+  putIn,
+  compose,
+  Rest,
+  solved,
+  equation,
+  Problem,
+  problem,
+  rest,
+  bindings,
+  used,
+  root,
+}
 
 -- the transformation rules' names
 pub data Rule : Type 0 where
@@ -18,7 +44,8 @@ pub data Rule : Type 0 where
 -- document 01: "in this order: Remove, Decomp1, Decomp1', Decomp2, Decomp2', Decomp3, Decomp4, Subst1, Subst2, Subst3, Orient1 to Orient4"
 abbrev pub ruleOrder : List Rule
 ruleOrder =
-    Remove ∷ Decomp1 ∷ Decomp1′ ∷ Decomp2 ∷ Decomp2′ ∷ Decomp3 ∷ Decomp4 ∷ Subst1 ∷ Subst2 ∷ Subst3 ∷ Orient1 ∷ Orient2 ∷ Orient3 ∷ Orient4 ∷ []
+    Remove ∷ Decomp1 ∷ Decomp1′ ∷ Decomp2 ∷ Decomp2′ ∷ Decomp3 ∷ Decomp4
+    ∷ Subst1 ∷ Subst2 ∷ Subst3 ∷ Orient1 ∷ Orient2 ∷ Orient3 ∷ Orient4 ∷ []
 
 module _ (E : Setting) where
   open Setting E using (order, constants, variables, names)
@@ -127,7 +154,8 @@ module _ (E : Setting) where
   decomp2 (listvar x ∷ []) M f = none
   decomp2 (listvar x ∷ (t ∷ L)) [] f = none
   decomp2 (listvar x ∷ (t ∷ L)) (atomic a ∷ M) f = none
-  decomp2 (listvar x ∷ (t ∷ L)) (listvar y ∷ M) f = some (bind (listvar x) (listvar y ∷ (listvar f ∷ [])) (f ∷ []) (equation (listvar f ∷ (t ∷ L)) M))
+  decomp2 (listvar x ∷ (t ∷ L)) (listvar y ∷ M) f =
+      some (bind (listvar x) (listvar y ∷ (listvar f ∷ [])) (f ∷ []) (equation (listvar f ∷ (t ∷ L)) M))
 
   -- ⟨x : L = y : M⟩ ⇒ ⟨L = f : M, {y ↦ x : f}⟩, L ≠ empty, type(x) = type(y) = list
   abbrev pub decomp2′ : Field E → Field E → Name → Option Move
@@ -204,7 +232,8 @@ module _ (E : Setting) where
   orient2 (t ∷ (u ∷ L)) [] = none
   orient2 (atomic (fixed c) ∷ (u ∷ L)) (s ∷ []) = none
   orient2 (atomic (free x) ∷ (u ∷ L)) (atomic (fixed d) ∷ []) = none
-  orient2 (atomic (free x) ∷ (u ∷ L)) (atomic (free y) ∷ []) = ite (kind-eq (sort x) (sort y)) (some (keep (equation (atomic (free y) ∷ []) (atomic (free x) ∷ (u ∷ L))))) none
+  orient2 (atomic (free x) ∷ (u ∷ L)) (atomic (free y) ∷ []) =
+      ite (kind-eq (sort x) (sort y)) (some (keep (equation (atomic (free y) ∷ []) (atomic (free x) ∷ (u ∷ L))))) none
   orient2 (atomic (free x) ∷ (u ∷ L)) (listvar y ∷ []) = none
   orient2 (listvar x ∷ (u ∷ L)) (atomic b ∷ []) = none
   orient2 (listvar x ∷ (u ∷ L)) (listvar y ∷ []) = some (keep (equation (listvar y ∷ []) (listvar x ∷ (u ∷ L))))
@@ -216,7 +245,8 @@ module _ (E : Setting) where
   orient3 (atomic (fixed c) ∷ L) M = none
   orient3 (atomic (free x) ∷ L) [] = none
   orient3 (atomic (free x) ∷ L) (atomic (fixed d) ∷ M) = none
-  orient3 (atomic (free x) ∷ L) (atomic (free y) ∷ M) = cond (below (basic (sort x)) (basic (sort y))) (some (keep (equation (atomic (free y) ∷ M) (atomic (free x) ∷ L)))) none
+  orient3 (atomic (free x) ∷ L) (atomic (free y) ∷ M) =
+      cond (below (basic (sort x)) (basic (sort y))) (some (keep (equation (atomic (free y) ∷ M) (atomic (free x) ∷ L)))) none
   orient3 (atomic (free x) ∷ L) (listvar y ∷ M) = some (keep (equation (listvar y ∷ M) (atomic (free x) ∷ L)))
   orient3 (listvar x ∷ L) M = none
 

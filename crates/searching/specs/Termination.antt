@@ -41,4 +41,5 @@ module _ (E : Setting) where
   -- What is left is lower than L = M. n4 is the left side's size. "A solved problem stands below all others."
   abbrev pub Lower : Rest E → Field E → Field E → Type 0
   Lower solved L M = Unit {0}
-  Lower (equation L′ M′) L M = Less (sizePart L′ M′) (headPart L′) (typePart L′ M′) (size L′) (sizePart L M) (headPart L) (typePart L M) (size L)
+  Lower (equation L′ M′) L M =
+      Less (sizePart L′ M′) (headPart L′) (typePart L′ M′) (size L′) (sizePart L M) (headPart L) (typePart L M) (size L)

@@ -53,10 +53,14 @@ module _ (most : ℕ) (s : List ℕ) where
     here = let e : drop i s ≡ getD s i 0 ∷ drop (i + 1) s = drop-cons s i 0 h ∙ rw add-one in r .1 ∙ ap (decimalFrom most n) e
 
     next : isDigit (getD s i 0) ≡ true → decimal most s ≡ decimalFrom most (n * 10 + (getD s i 0 - 48)) (drop (i + 1) s)
-    next e = here ∙ ap (λ (x : Bool). cond ((x && areDigits (drop (i + 1) s)) && leb (val n (getD s i 0 ∷ drop (i + 1) s)) most) (some (val n (getD s i 0 ∷ drop (i + 1) s))) none) e
+    next e =
+        here ∙ ap (λ (x : Bool).
+        cond ((x && areDigits (drop (i + 1) s)) && leb (val n (getD s i 0 ∷ drop (i + 1) s)) most) (some (val n (getD s i 0 ∷ drop (i + 1) s))) none) e
 
     pub no-digit : isDigit (getD s i 0) ≡ false → decimal most s ≡ none
-    no-digit e = here ∙ ap (λ (x : Bool). cond ((x && areDigits (drop (i + 1) s)) && leb (val n (getD s i 0 ∷ drop (i + 1) s)) most) (some (val n (getD s i 0 ∷ drop (i + 1) s))) none) e
+    no-digit e =
+        here ∙ ap (λ (x : Bool).
+        cond ((x && areDigits (drop (i + 1) s)) && leb (val n (getD s i 0 ∷ drop (i + 1) s)) most) (some (val n (getD s i 0 ∷ drop (i + 1) s))) none) e
 
     pub digit-read : isDigit (getD s i 0) ≡ true → n * 10 + (getD s i 0 - 48) ≤ most → Read (i + 1) (n * 10 + (getD s i 0 - 48))
     digit-read e k = (k, next e)

@@ -1,4 +1,5 @@
-// Shows for each line of standard input, two field texts, a row and a room with tabs between them, the lines of the search for the two fields.
+// Shows for each line of standard input, two field texts, a row and a room with tabs between them,
+// the lines of the search for the two fields.
 use lines::Output;
 use lines::State;
 use writing::Written;

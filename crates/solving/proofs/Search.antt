@@ -69,7 +69,9 @@ module _ (f g : List OurTerm) (is-f : IsLeft (f ∷ [])) (is-g : IsLeft (g ∷ [
         → (σ : Bindings setting) × List·Memᴰ σ xs × Covers setting (StandsIn setting (fieldOn left f) (fieldOn right g)) ρ m σ
     answers-complete = searching-complete setting room (fieldOn left f) (fieldOn right g) xs equation-linear is
 
-    pub same-slips : (w : List Con) → ((σ : Bindings setting) × List·Memᴰ σ xs × Instance f σ w) ↔ ((e : OurEntry) × List·Memᴰ e (entriesOf (f ∷ []) (g ∷ [])) × Matches (e .fields) (w ∷ []))
+    pub same-slips : (w : List Con)
+        → ((σ : Bindings setting) × List·Memᴰ σ xs × Instance f σ w)
+        ↔ ((e : OurEntry) × List·Memᴰ e (entriesOf (f ∷ []) (g ∷ [])) × Matches (e .fields) (w ∷ []))
     same-slips = slips.same-slips basics consts ℕ-discrete numbers sixteenAbove f g linear-f linear-g sides-apart room xs is
 
   pub answers-none : (room : ℕ) → found room f g ≡ answers [] → (ρ : Variable Basic ℕ → Con) (m : ℕ → List Con) → WellTyped setting ρ

@@ -83,7 +83,8 @@ module _ {C K B : Type 0} (kind-eq : Discrete K) (k : K) where
 
   all-names-most : (fs : List (List (Term C K B))) → All (λ f. length f ≤ 17) fs → length (concat-map (namesOf kind-eq k) fs) ≤ 17 * length fs
   all-names-most [] h = omega arith
-  all-names-most (f ∷ fs) h = omega (arith, length-append (namesOf kind-eq k f) (concat-map (namesOf kind-eq k) fs), names-most f, h .0, all-names-most fs (h .1))
+  all-names-most (f ∷ fs) h =
+      omega (arith, length-append (namesOf kind-eq k f) (concat-map (namesOf kind-eq k) fs), names-most f, h .0, all-names-most fs (h .1))
 
 -- ---- the text of a value, under numbers that have at most ten digits
 
@@ -120,7 +121,8 @@ module _ (mark : ℕ) (θ : Kind → ℕ → List OurTerm) where
   bindingOf v = record { kind = v .0; number = v .1; value = θ (v .0) (v .1) }
 
   binding-short : (v : Variable) → Short θ v → length (bindingText mark (bindingOf v)) ≤ 319
-  binding-short v h = omega (arith, length-append (termText (var (v .0) (v .1))) (61 ∷ fieldText (θ (v .0) (v .1))), digits-ten (v .1) (omega (arith, h .0)), h .1)
+  binding-short v h =
+      omega (arith, length-append (termText (var (v .0) (v .1))) (61 ∷ fieldText (θ (v .0) (v .1))), digits-ten (v .1) (omega (arith, h .0)), h .1)
 
   bindings-short : (vs : List Variable) → ((v : Variable) → List·Memᴰ v vs → Short θ v)
       → length (bindingsText mark (map bindingOf vs)) ≤ 319 * length vs
@@ -199,7 +201,8 @@ line-short : (l : AnswerLine) (n : ℕ) → 1 ≤ n → length (bindingsText lef
     → length (lineText l) ≤ n + n
 line-short l n some p q = simp (length-append, length-drop) (omega arith)
 
-module _ (f g : List OurTerm) (σ : Bindings setting) (h : (t : Tm setting) → StandsIn setting (fieldOn left f) (fieldOn right g) t → (length (σ t) ≤ 17) × All Ours (σ t)) where
+module _ (f g : List OurTerm) (σ : Bindings setting)
+    (h : (t : Tm setting) → StandsIn setting (fieldOn left f) (fieldOn right g) t → (length (σ t) ≤ 17) × All Ours (σ t)) where
   values-short : All (λ (w : Marked). length w ≤ 17) (valuesOf f g σ)
   values-short =
       let l = side-few left f σ (λ t i. h t (inl i)) in
@@ -216,7 +219,13 @@ module _ (f g : List OurTerm) (σ : Bindings setting) (h : (t : Tm setting) → 
   number-few k b =
       let eq = mark-eq side-eq ℕ-discrete ℕ-discrete in
       let names = concat-map (namesOf (full-eq (basics .kind-eq)) k) (valuesOf f g σ) in
-      omega (arith, place-most eq b (firsts eq names), firsts-most eq names, all-names-most (full-eq (basics .kind-eq)) k (valuesOf f g σ) values-short, values-most)
+      omega (
+        arith,
+        place-most eq b (firsts eq names),
+        firsts-most eq names,
+        all-names-most (full-eq (basics .kind-eq)) k (valuesOf f g σ) values-short,
+        values-most,
+      )
 
   -- 319 bytes for each of at most 128 bindings
   pub answer-short : length (answerText f g σ) ≤ 40832

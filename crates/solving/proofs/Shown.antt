@@ -6,7 +6,24 @@
 use mathlib.Core.Path.{_≡_, refl, sym, _∙_, ap, ap₂, subst}
 use mathlib.Core.Logic.{_⊎_, inl, inr, _↔_}
 use mathlib.Core.Bool.{Bool, cond}
-use mathlib.Core.List.{List, [], _∷_, _++_, map, map-append, head-eq-of-cons-eq, tail-eq-of-cons-eq, List·Memᴰ, List·Memᴰ·head, List·Memᴰ·tail, List·Memᴰ·not-nil, List·Memᴰ·cases-cons, Memᴰ·append-left, Memᴰ·append-right, Memᴰ·map}
+use mathlib.Core.List.{
+  List,
+  [],
+  _∷_,
+  _++_,
+  map,
+  map-append,
+  head-eq-of-cons-eq,
+  tail-eq-of-cons-eq,
+  List·Memᴰ,
+  List·Memᴰ·head,
+  List·Memᴰ·tail,
+  List·Memᴰ·not-nil,
+  List·Memᴰ·cases-cons,
+  Memᴰ·append-left,
+  Memᴰ·append-right,
+  Memᴰ·map,
+}
 use Prim.Native.Nat.{ℕ, _+_, _-_, _<_}
 use native.Mathlib.Omega.{arith}
 use native.Mathlib.Decide.{ℕ-discrete}
@@ -41,7 +58,23 @@ use Rattle.searching.specs.Pairs as pairs
 use Rattle.searching.specs.Fresh.{numbers}
 use Rattle.searching.proofs.Seqs.{all-mem}
 use Rattle.searching.proofs.Peak.{refused-peak, refused-queued}
-use Rattle.solving.specs.Answers.{setting, fieldOn, found, markOf, valueOf, valuesOn, valuesOf, numberIn, shownOn, answerText, Lines, lines, nine, linesIn, linesOf}
+use Rattle.solving.specs.Answers.{
+  setting,
+  fieldOn,
+  found,
+  markOf,
+  valueOf,
+  valuesOn,
+  valuesOf,
+  numberIn,
+  shownOn,
+  answerText,
+  Lines,
+  lines,
+  nine,
+  linesIn,
+  linesOf,
+}
 use Rattle.solving.proofs.Search.{found-ends, answers-solve, answers-complete}
 
 -- ---- the lines and the answers
@@ -57,7 +90,8 @@ pub lines-answers : (room : ℕ) (f g : List OurTerm) (ls : List (List ℕ)) →
     → (xs : List (Bindings setting)) × (found room f g ≡ answers xs) × (ls ≡ map (answerText f g) xs)
 lines-answers room f g ls e = go (found room f g) refl e
   where
-    go : (r : Result setting) → found room f g ≡ r → linesIn f g r ≡ lines ls → (xs : List (Bindings setting)) × (found room f g ≡ answers xs) × (ls ≡ map (answerText f g) xs)
+    go : (r : Result setting) → found room f g ≡ r → linesIn f g r ≡ lines ls
+        → (xs : List (Bindings setting)) × (found room f g ≡ answers xs) × (ls ≡ map (answerText f g) xs)
     go (answers xs) q e = (xs, q, sym (lines-once e))
     go refused q e = absurd (subst IsLines (sym e) tt)
     go unfinished q e = absurd (subst IsLines (sym e) tt)
@@ -114,7 +148,10 @@ module _ (f g : List OurTerm) (σ : Bindings setting) (h : Solves setting (field
         right = shownOn right f g σ;
         typed-left = rename-typed basics consts (valueOf left σ) (value-typed left) (numberIn f g σ);
         typed-right = rename-typed basics consts (valueOf right σ) (value-typed right) (numberIn f g σ);
-        same = sym (rename-substs (numberIn f g σ) (valueOf left σ) (f ∷ [])) ∙ ap (map (map (rename (numberIn f g σ)))) equal ∙ rename-substs (numberIn f g σ) (valueOf right σ) (g ∷ []);
+        same =
+            sym (rename-substs (numberIn f g σ) (valueOf left σ) (f ∷ []))
+            ∙ ap (map (map (rename (numberIn f g σ)))) equal
+            ∙ rename-substs (numberIn f g σ) (valueOf right σ) (g ∷ []);
       }
     where
       equal : map (substitute (valueOf left σ)) (f ∷ []) ≡ map (substitute (valueOf right σ)) (g ∷ [])
@@ -143,7 +180,9 @@ module _ (φ ψ : Filling Con Kind ℕ) (t : Typed basics consts φ) (u : Typed 
   right-term : (e : OurTerm) → ground setting constantOf listOf (pairs.sideTerm basics consts ℕ-discrete numbers sixteenAbove right e) ≡ value ψ e
   right-term (con c) = refl
   right-term (var (basic k) n) = sym (u (basic k) n .1)
-  right-term (var list n) = ap (λ (b : Bool). cond b (φ list (16 + n)) (ψ list (16 + n - 16))) (le-ltb (16 + n) 16 (omega arith)) ∙ ap (ψ list) (let z : 16 + n - 16 ≡ n = omega arith in z)
+  right-term (var list n) =
+      ap (λ (b : Bool). cond b (φ list (16 + n)) (ψ list (16 + n - 16))) (le-ltb (16 + n) 16 (omega arith))
+      ∙ ap (ψ list) (let z : 16 + n - 16 ≡ n = omega arith in z)
 
   filled-left : (e : List OurTerm) → All TermIn e → concat-map (ground setting constantOf listOf) (fieldOn left e) ≡ fill φ e
   filled-left [] i = refl
@@ -211,7 +250,8 @@ InstanceOf f g σ φ ψ =
     × ((k : Kind) (n : ℕ) → Occurs k n f → φ k n ≡ fill χ (shownOn left f g σ k n))
     × ((k : Kind) (n : ℕ) → Occurs k n g → ψ k n ≡ fill χ (shownOn right f g σ k n))
 
-module _ (f g : List OurTerm) (is-f : IsLeft (f ∷ [])) (is-g : IsLeft (g ∷ [])) (room : ℕ) (xs : List (Bindings setting)) (is : found room f g ≡ answers xs) where
+module _ (f g : List OurTerm) (is-f : IsLeft (f ∷ [])) (is-g : IsLeft (g ∷ []))
+    (room : ℕ) (xs : List (Bindings setting)) (is : found room f g ≡ answers xs) where
   -- EVERY LINE'S VALUES solve the equation
   pub shown-solves : (σ : Bindings setting) → List·Memᴰ σ xs → Solution (f ∷ []) (g ∷ []) ℕ
   shown-solves σ i = shown-solution f g σ (all-mem (Solves setting (fieldOn left f) (fieldOn right g)) xs (answers-solve f g is-f is-g room xs is) σ i)
@@ -231,29 +271,41 @@ module _ (f g : List OurTerm) (is-f : IsLeft (f ∷ [])) (is-g : IsLeft (g ∷ [
   shown-complete φ ψ t u e = (c .0, c .1, (r .0, r .1, lefts, rights))
     where
       c : (σ : Bindings setting) × List·Memᴰ σ xs × Covers setting (StandsIn setting (fieldOn left f) (fieldOn right g)) (constantOf φ ψ t u) (listOf φ ψ t u) σ
-      c = answers-complete f g is-f is-g room xs is (constantOf φ ψ t u) (listOf φ ψ t u) (constant-typed φ ψ t u) (filled-left φ ψ t u f (is-f .0 .3 .0) ∙ e ∙ sym (filled-right φ ψ t u g))
+      c =
+          answers-complete f g is-f is-g room xs is (constantOf φ ψ t u) (listOf φ ψ t u) (constant-typed φ ψ t u)
+          (filled-left φ ψ t u f (is-f .0 .3 .0) ∙ e ∙ sym (filled-right φ ψ t u g))
 
-      r : Matches basics consts (map (map (rename (numberIn f g (c .0)))) (valuesOf f g (c .0))) (map (fill (byMarks (constantOf φ ψ t u) (c .2 .0))) (valuesOf f g (c .0)))
-      r = renumbered-to basics consts (mark-eq side-eq ℕ-discrete ℕ-discrete) (valuesOf f g (c .0)) (map (fill (byMarks (constantOf φ ψ t u) (c .2 .0))) (valuesOf f g (c .0))) (byMarks (constantOf φ ψ t u) (c .2 .0), marks-typed (constantOf φ ψ t u) (c .2 .0) (constant-typed φ ψ t u), refl)
+      r : Matches basics consts (map (map (rename (numberIn f g (c .0)))) (valuesOf f g (c .0)))
+          (map (fill (byMarks (constantOf φ ψ t u) (c .2 .0))) (valuesOf f g (c .0)))
+      r =
+          renumbered-to basics consts (mark-eq side-eq ℕ-discrete ℕ-discrete) (valuesOf f g (c .0))
+          (map (fill (byMarks (constantOf φ ψ t u) (c .2 .0))) (valuesOf f g (c .0)))
+          (byMarks (constantOf φ ψ t u) (c .2 .0), marks-typed (constantOf φ ψ t u) (c .2 .0) (constant-typed φ ψ t u), refl)
 
       -- a value of the line, filled
-      shown-at : (d : Side) (k : Kind) (n : ℕ) → List·Memᴰ (valueOf d (c .0) k n) (valuesOf f g (c .0)) → StandsIn setting (fieldOn left f) (fieldOn right g) (termOn d (var k n))
+      shown-at : (d : Side) (k : Kind) (n : ℕ) → List·Memᴰ (valueOf d (c .0) k n) (valuesOf f g (c .0))
+          → StandsIn setting (fieldOn left f) (fieldOn right g) (termOn d (var k n))
           → ground setting (constantOf φ ψ t u) (listOf φ ψ t u) (termOn d (var k n)) ≡ fill (r .0) (shownOn d f g (c .0) k n)
       shown-at d k n i s =
           c .2 .1 (termOn d (var k n)) s
           ∙ sym (fill-marks (constantOf φ ψ t u) (c .2 .0) ((c .0) (termOn d (var k n))))
           ∙ ap (fill (byMarks (constantOf φ ψ t u) (c .2 .0))) (sym (value-on d (c .0) k n))
-          ∙ sym (maps-at (fill (r .0)) (map (rename (numberIn f g (c .0)))) (fill (byMarks (constantOf φ ψ t u) (c .2 .0))) (valuesOf f g (c .0)) (r .2) (valueOf d (c .0) k n) i)
+          ∙ sym (maps-at (fill (r .0)) (map (rename (numberIn f g (c .0))))
+          (fill (byMarks (constantOf φ ψ t u) (c .2 .0))) (valuesOf f g (c .0)) (r .2) (valueOf d (c .0) k n) i)
 
       lefts : (k : Kind) (n : ℕ) → Occurs k n f → φ k n ≡ fill (r .0) (shownOn left f g (c .0) k n)
       lefts k n o =
           sym (left-term φ ψ t u (var k n) (number-in k n f (is-f .0 .3 .0) o))
-          ∙ shown-at left k n (Memᴰ·append-left (valuesOn right g (c .0)) (Memᴰ·map (λ (v : listed.Variable). valueOf left (c .0) (v .0) (v .1)) (in-variables (f ∷ []) (is-f .0 .3) k n .1 (inl o)))) (inl (stands-on left k n f o))
+          ∙ shown-at left k n (Memᴰ·append-left (valuesOn right g (c .0))
+          (Memᴰ·map (λ (v : listed.Variable). valueOf left (c .0) (v .0) (v .1)) (in-variables (f ∷ []) (is-f .0 .3) k n .1 (inl o))))
+          (inl (stands-on left k n f o))
 
       rights : (k : Kind) (n : ℕ) → Occurs k n g → ψ k n ≡ fill (r .0) (shownOn right f g (c .0) k n)
       rights k n o =
           sym (right-term φ ψ t u (var k n))
-          ∙ shown-at right k n (Memᴰ·append-right (valuesOn left f (c .0)) (Memᴰ·map (λ (v : listed.Variable). valueOf right (c .0) (v .0) (v .1)) (in-variables (g ∷ []) (is-g .0 .3) k n .1 (inl o)))) (inr (stands-on right k n g o))
+          ∙ shown-at right k n (Memᴰ·append-right (valuesOn left f (c .0))
+          (Memᴰ·map (λ (v : listed.Variable). valueOf right (c .0) (v .0) (v .1)) (in-variables (g ∷ []) (is-g .0 .3) k n .1 (inl o))))
+          (inr (stands-on right k n g o))
 
 -- NO ANSWER, no solution
 pub shown-none : (f g : List OurTerm) → IsLeft (f ∷ []) → IsLeft (g ∷ []) → (room : ℕ) → found room f g ≡ answers []

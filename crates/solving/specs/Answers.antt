@@ -31,7 +31,8 @@ use Rattle.listing.specs.Overlaps.{bindingsOf}
 abbrev pub setting : Setting
 setting = pairSetting basics consts ℕ-discrete numbers
 
--- a field as it stands on a side of the equation: "variables are distinct by side even if spelled alike", "a right-side variable counting 16 above its number"
+-- a field as it stands on a side of the equation: "variables are distinct by side even if spelled alike",
+-- "a right-side variable counting 16 above its number"
 abbrev pub fieldOn : Side → List OurTerm → Field setting
 fieldOn d f = sideField basics consts ℕ-discrete numbers sixteenAbove d f
 
@@ -77,7 +78,8 @@ pub record AnswerLine : Type 0 where
 abbrev pub bindingsPart : AnswerLine → List ℕ
 bindingsPart l = bindingsText leftMark (l .left) ++ bindingsText rightMark (l .right)
 
--- "A line is the bindings part of an overlap line, without the field text and the blank after it"; "An equation without variables gives empty lines"
+-- "A line is the bindings part of an overlap line, without the field text and the blank after it";
+-- "An equation without variables gives empty lines"
 abbrev pub lineText : AnswerLine → List ℕ
 lineText l = drop 1 (bindingsPart l) ++ newline
 

@@ -3,7 +3,8 @@ ghost use mathlib.Core.Path.{_≡_};
 ghost use Rattle.terms.specs.Values.{blankTerm, blankField, blankSide, blankRule, blankSlipField, blankSlip, oneField};
 use order::Kind;
 
-// What a term is: an integer's value, a string's length (its bytes stand beside, since an enum holds no array), or a variable's type and number.
+// What a term is: an integer's value, a string's length (its bytes stand beside, since an enum holds no array),
+// or a variable's type and number.
 pub enum Form {
     Int(u32),
     Str(u8),

@@ -16,7 +16,29 @@ use Rattle.text.specs.Numbers.{value}
 use Rattle.text.specs.Leftmost.{NoneOf, leftmost, LeftmostAt}
 use Rattle.text.specs.Marks.{Mark, marks, FifthField, TooMany, Over, MarkOver, IsVar, MarkVar}
 use Rattle.text.specs.Terms.{OurTerm, int, str, termOf, fieldOf, fieldsOf}
-use Rattle.text.specs.Read.{Reason, long, grammar, fields, terms, limits, linear, variable, Sort, rule, slip, Bad, bad?, placeOfMark, FirstBad, Refuses, said, Never, accepted, readSide, readSlip}
+use Rattle.text.specs.Read.{
+  Reason,
+  long,
+  grammar,
+  fields,
+  terms,
+  limits,
+  linear,
+  variable,
+  Sort,
+  rule,
+  slip,
+  Bad,
+  bad?,
+  placeOfMark,
+  FirstBad,
+  Refuses,
+  said,
+  Never,
+  accepted,
+  readSide,
+  readSlip,
+}
 use Rattle.text.specs.Plain.{rawOf, rawField, plain, TermOk, RuleOk}
 use Rattle.text.specs.Limits.{TermIn, Within, Linear, IsCon, IsLeft, IsSlip}
 use Rattle.text.proofs.Parse.{parse-complete, says-one}
@@ -86,7 +108,8 @@ widths-in : (w : ℕ) (x : List (List Raw)) → All (λ f. length f ≤ w) x →
 widths-in w [] a = tt
 widths-in w (f ∷ fs) a = (omega (arith, field-short f, a .0), widths-in w fs (a .1))
 
-pub within-to : (w : ℕ) (x : List (List Raw)) → TextOk x → NoneOf (Bad w fields) [] (marks x) → NoneOf (Bad w terms) [] (marks x) → NoneOf (Bad w limits) [] (marks x) → Within w (fieldsOf x)
+pub within-to : (w : ℕ) (x : List (List Raw)) → TextOk x → NoneOf (Bad w fields) [] (marks x)
+    → NoneOf (Bad w terms) [] (marks x) → NoneOf (Bad w limits) [] (marks x) → Within w (fieldsOf x)
 within-to w [] ok a b c = absurd (ok .0)
 within-to w (f ∷ fs) ok a b c =
     let x = f ∷ fs in (
@@ -158,7 +181,8 @@ field-length w (t ∷ ts) l h = omega (arith, length-append (spell (rawOf t)) (c
 
 bars-length : (w : ℕ) (r : List (List OurTerm)) → All (λ f. length f ≤ suc w) r → All (All TermIn) r → length (bars (map rawField r)) ≤ length r * (18 * suc w)
 bars-length w [] l h = omega arith
-bars-length w (f ∷ fs) l h = omega (arith, length-append (spellF (rawField f)) (bars (map rawField fs)), field-length w f (l .0) (h .0), bars-length w fs (l .1) (h .1))
+bars-length w (f ∷ fs) l h =
+    omega (arith, length-append (spellF (rawField f)) (bars (map rawField fs)), field-length w f (l .0) (h .0), bars-length w fs (l .1) (h .1))
 
 -- the longest plain text of a rule has 1,151 bytes at most, of a slip 4,607
 pub rule-length : (r : List (List OurTerm)) → Within 16 r → length (plain r) ≤ 1151
@@ -183,8 +207,12 @@ module _ (S : Sort) (t : List ℕ) where
 
   base-to : Base → (x : List (List Raw)) × Says t x × Within (S .width) (fieldsOf x)
   base-to h =
-      let g = in-grammar t (h .1) in
-      (g .0, g .1, within-to (S .width) (g .0) (g .1 .0) (clean-to (S .width) fields t (g .0) (g .1) (h .2)) (clean-to (S .width) terms t (g .0) (g .1) (h .3)) (clean-to (S .width) limits t (g .0) (g .1) (h .4)))
+      let g = in-grammar t (h .1) in (
+        g .0,
+        g .1,
+        within-to (S .width) (g .0) (g .1 .0) (clean-to (S .width) fields t (g .0) (g .1) (h .2)) (clean-to (S .width) terms t (g .0) (g .1) (h .3))
+            (clean-to (S .width) limits t (g .0) (g .1) (h .4)),
+      )
 
 module _ (S : Sort) (w : ℕ) (same : S .width ≡ suc w) (r : List (List OurTerm)) (h : Within (suc w) r) (short : length (plain r) ≤ S .bytes) where
   says : Says (plain r) (map rawField r)
@@ -195,9 +223,12 @@ module _ (S : Sort) (w : ℕ) (same : S .width ≡ suc w) (r : List (List OurTer
   plain-base = (
     λ p k. omega (arith, k .0),
     grammar-never (plain r) (map rawField r, says),
-    clean-from (S .width) fields (plain r) (map rawField r) says (all-none FifthField (marks (map rawField r)) [] (few-from (map rawField r) 0 1 (omega (arith, length-map r rawField, h .1)))),
-    clean-from (S .width) terms (plain r) (map rawField r) says (all-none (TooMany (S .width)) (marks (map rawField r)) [] (width-from (S .width) (map rawField r) 0 1 (subst (λ (n : ℕ). All (λ f. length f ≤ n) (map rawField r)) (sym same) (raw-widths w r (h .2))))),
-    clean-from (S .width) limits (plain r) (map rawField r) says (all-none MarkOver (marks (map rawField r)) [] (each (λ u. Over u → ⊥) (map rawField r) 0 1 .1 (not-over-fields r (h .3)))),
+    clean-from (S .width) fields (plain r) (map rawField r) says
+        (all-none FifthField (marks (map rawField r)) [] (few-from (map rawField r) 0 1 (omega (arith, length-map r rawField, h .1)))),
+    clean-from (S .width) terms (plain r) (map rawField r) says (all-none (TooMany (S .width)) (marks (map rawField r)) []
+        (width-from (S .width) (map rawField r) 0 1 (subst (λ (n : ℕ). All (λ f. length f ≤ n) (map rawField r)) (sym same) (raw-widths w r (h .2))))),
+    clean-from (S .width) limits (plain r) (map rawField r) says
+        (all-none MarkOver (marks (map rawField r)) [] (each (λ u. Over u → ⊥) (map rawField r) 0 1 .1 (not-over-fields r (h .3)))),
   )
 
 -- a rule that is read is within the limits
@@ -229,7 +260,8 @@ pub slip-plain : (r : List (List OurTerm)) → IsSlip r → readSlip (plain r) �
 slip-plain r h =
     let b = plain-base slip 63 refl r (h .0) (omega (arith, slip-length r (h .0))) in
     let s = plain-says r (rule-ok 64 r (h .0)) in
-    let l = clean-from 64 variable (plain r) (map rawField r) s (names-marks (map rawField r) .1 (subst (λ (q : List (List OurTerm)). All (All IsCon) q) (sym (back r)) (h .1))) in
+    let l = clean-from 64 variable (plain r) (map rawField r) s
+    (names-marks (map rawField r) .1 (subst (λ (q : List (List OurTerm)). All (All IsCon) q) (sym (back r)) (h .1))) in
     read-accepted slip (plain r) r .1 ((b .0, (b .1, (b .2, (b .3, (b .4, (l, tt)))))), plain-said r (rule-ok 64 r (h .0)))
 
 -- ACCEPTED is within the limits

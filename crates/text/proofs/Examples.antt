@@ -71,7 +71,8 @@ pub rules :
     ∷ refused limits 4
     ∷ accepted ((con (int 7) ∷ []) ∷ (con (int 7) ∷ []) ∷ [])
     ∷ refused fields 8
-    ∷ accepted ((con (int 0) ∷ con (int 1) ∷ con (int 2) ∷ con (int 3) ∷ con (int 4) ∷ con (int 5) ∷ con (int 6) ∷ con (int 7) ∷ con (int 8) ∷ con (int 9) ∷ con (int 0) ∷ con (int 1) ∷ con (int 2) ∷ con (int 3) ∷ con (int 4) ∷ con (int 5) ∷ []) ∷ [])
+    ∷ accepted ((con (int 0) ∷ con (int 1) ∷ con (int 2) ∷ con (int 3) ∷ con (int 4) ∷ con (int 5) ∷ con (int 6) ∷ con (int 7)
+    ∷ con (int 8) ∷ con (int 9) ∷ con (int 0) ∷ con (int 1) ∷ con (int 2) ∷ con (int 3) ∷ con (int 4) ∷ con (int 5) ∷ []) ∷ [])
     ∷ refused terms 32
     ∷ accepted ([] ∷ [])
     ∷ refused grammar 1
@@ -85,12 +86,14 @@ rules = refl
 
 pub slips :
     map (λ (t : String). readSlip (bytes t)) ("i16" ∷ "i0" ∷ "l0:l0" ∷ "1:\"i0\":i0" ∷ "empty:1|\"\"" ∷ "l1|l1:2147483648" ∷ "1::i0" ∷ [])
-    ≡ refused limits 0 ∷ refused variable 0 ∷ refused variable 0 ∷ refused variable 7 ∷ accepted ((con (int 1) ∷ []) ∷ (con (str []) ∷ []) ∷ []) ∷ refused limits 6 ∷ refused grammar 2 ∷ []
+    ≡ refused limits 0 ∷ refused variable 0 ∷ refused variable 0 ∷ refused variable 7
+    ∷ accepted ((con (int 1) ∷ []) ∷ (con (str []) ∷ []) ∷ []) ∷ refused limits 6 ∷ refused grammar 2 ∷ []
 unfolding bytes decLe decLt ℕ-discrete digit? begins follows first holds fifth? many? over? any? clash? clashOf?
 slips = refl
 
 -- refusal 1 comes before 2; a text of 4096 bytes is not refused by it
-pub long-texts : readSide (replicate 4097 32) ∷ readSide (replicate 4096 48) ∷ readSide (replicate 4096 32) ∷ [] ≡ refused long 4096 ∷ refused limits 0 ∷ refused grammar 0 ∷ []
+pub long-texts : readSide (replicate 4097 32) ∷ readSide (replicate 4096 48) ∷ readSide (replicate 4096 32) ∷ []
+    ≡ refused long 4096 ∷ refused limits 0 ∷ refused grammar 0 ∷ []
 unfolding bytes decLe decLt ℕ-discrete digit? begins follows first holds fifth? many? over? any? clash? clashOf?
 long-texts = refl
 
@@ -108,5 +111,7 @@ unfolding bytes decLt
 plains = refl
 
 -- the longest texts that are read
-pub longest : length (plain (replicate 4 (replicate 16 (con (str (replicate 15 97)))))) ∷ length (plain (replicate 4 (replicate 64 (con (str (replicate 15 97)))))) ∷ [] ≡ 1151 ∷ 4607 ∷ []
+pub longest : length (plain (replicate 4 (replicate 16 (con (str (replicate 15 97))))))
+    ∷ length (plain (replicate 4 (replicate 64 (con (str (replicate 15 97)))))) ∷ []
+    ≡ 1151 ∷ 4607 ∷ []
 longest = refl

@@ -23,7 +23,8 @@ few-to [] p n g h a = omega arith
 few-to ([] ∷ fs) p n g h a = absurd (g .0 .0)
 few-to ((r ∷ rs) ∷ fs) p n g h a =
     let here : n < 5 = low n (a .0) in
-    let rest = few-to fs (suc (p + length (spellF (r ∷ rs)))) (suc n) (g .1) (omega arith) (all-right (λ m. FifthField m → ⊥) (marksF p n 1 (r ∷ rs)) (marksT (suc (p + length (spellF (r ∷ rs)))) (suc n) fs) a) in
+    let rest = few-to fs (suc (p + length (spellF (r ∷ rs)))) (suc n) (g .1) (omega arith)
+    (all-right (λ m. FifthField m → ⊥) (marksF p n 1 (r ∷ rs)) (marksT (suc (p + length (spellF (r ∷ rs)))) (suc n) fs) a) in
     omega arith
   where
     low : (n : ℕ) → (mostFields < n → ⊥) → n < 5
@@ -39,7 +40,9 @@ few-f (r ∷ rs) p n i h = (λ k. omega arith, few-f rs (suc (p + length (spell 
 
 pub few-from : (x : List (List Raw)) (p n : ℕ) → n + length x ≤ 5 → All (λ m. FifthField m → ⊥) (marksT p n x)
 few-from [] p n h = tt
-few-from (f ∷ fs) p n h = all-append (λ m. FifthField m → ⊥) (marksF p n 1 f) (marksT (suc (p + length (spellF f))) (suc n) fs) (few-f f p n 1 (omega arith)) (few-from fs (suc (p + length (spellF f))) (suc n) (omega arith))
+few-from (f ∷ fs) p n h =
+    all-append (λ m. FifthField m → ⊥) (marksF p n 1 f) (marksT (suc (p + length (spellF f))) (suc n) fs) (few-f f p n 1 (omega arith))
+    (few-from fs (suc (p + length (spellF f))) (suc n) (omega arith))
 
 -- 4
 width-f : (w : ℕ) (rs : List Raw) (p n i : ℕ) → i ≤ suc w → All (λ m. TooMany w m → ⊥) (marksF p n i rs) → i + length rs ≤ suc w
@@ -59,8 +62,11 @@ width-f w (r ∷ rs) p n i h a =
 pub width-to : (w : ℕ) (x : List (List Raw)) (p n : ℕ) → All (λ m. TooMany w m → ⊥) (marksT p n x) → All (λ f. length f ≤ w) x
 width-to w [] p n a = tt
 width-to w (f ∷ fs) p n a =
-    let h = width-f w f p n 1 (omega arith) (all-left (λ m. TooMany w m → ⊥) (marksF p n 1 f) (marksT (suc (p + length (spellF f))) (suc n) fs) a) in
-    (omega arith, width-to w fs (suc (p + length (spellF f))) (suc n) (all-right (λ m. TooMany w m → ⊥) (marksF p n 1 f) (marksT (suc (p + length (spellF f))) (suc n) fs) a))
+    let h = width-f w f p n 1 (omega arith) (all-left (λ m. TooMany w m → ⊥) (marksF p n 1 f) (marksT (suc (p + length (spellF f))) (suc n) fs) a) in (
+      omega arith,
+      width-to w fs (suc (p + length (spellF f))) (suc n)
+          (all-right (λ m. TooMany w m → ⊥) (marksF p n 1 f) (marksT (suc (p + length (spellF f))) (suc n) fs) a),
+    )
 
 width-back : (w : ℕ) (rs : List Raw) (p n i : ℕ) → i + length rs ≤ suc w → All (λ m. TooMany w m → ⊥) (marksF p n i rs)
 width-back w [] p n i h = tt
@@ -68,7 +74,9 @@ width-back w (r ∷ rs) p n i h = (λ k. omega arith, width-back w rs (suc (p + 
 
 pub width-from : (w : ℕ) (x : List (List Raw)) (p n : ℕ) → All (λ f. length f ≤ w) x → All (λ m. TooMany w m → ⊥) (marksT p n x)
 width-from w [] p n a = tt
-width-from w (f ∷ fs) p n a = all-append (λ m. TooMany w m → ⊥) (marksF p n 1 f) (marksT (suc (p + length (spellF f))) (suc n) fs) (width-back w f p n 1 (omega (arith, a .0))) (width-from w fs (suc (p + length (spellF f))) (suc n) (a .1))
+width-from w (f ∷ fs) p n a =
+    all-append (λ m. TooMany w m → ⊥) (marksF p n 1 f) (marksT (suc (p + length (spellF f))) (suc n) fs) (width-back w f p n 1 (omega (arith, a .0)))
+    (width-from w fs (suc (p + length (spellF f))) (suc n) (a .1))
 
 -- 5 and 7: a property of the term alone
 module _ (Q : Raw → Type 0) where
@@ -81,14 +89,19 @@ module _ (Q : Raw → Type 0) where
   each (f ∷ fs) p n =
       let q = suc (p + length (spellF f)) in
       let e = each fs q (suc n) in (
-        λ h. (each-f f p n 1 .0 (all-left (λ m. Q (m .raw)) (marksF p n 1 f) (marksT q (suc n) fs) h), e .0 (all-right (λ m. Q (m .raw)) (marksF p n 1 f) (marksT q (suc n) fs) h)),
+        λ h. (
+          each-f f p n 1 .0 (all-left (λ m. Q (m .raw)) (marksF p n 1 f) (marksT q (suc n) fs) h),
+          e .0 (all-right (λ m. Q (m .raw)) (marksF p n 1 f) (marksT q (suc n) fs) h),
+        ),
         λ h. all-append (λ m. Q (m .raw)) (marksF p n 1 f) (marksT q (suc n) fs) (each-f f p n 1 .1 (h .0)) (e .1 (h .1)),
       )
 
 -- 6
 pub occs-append : (ms ns : List Mark) → occs (ms ++ ns) ≡ occs ms ++ occs ns
 occs-append [] ns = refl
-occs-append (m ∷ ms) ns = ap (λ (l : List Occ). occ (m .inField) (listNo (m .raw)) ++ l) (occs-append ms ns) ∙ sym (append-assoc (occ (m .inField) (listNo (m .raw))) (occs ms) (occs ns))
+occs-append (m ∷ ms) ns =
+    ap (λ (l : List Occ). occ (m .inField) (listNo (m .raw)) ++ l) (occs-append ms ns)
+    ∙ sym (append-assoc (occ (m .inField) (listNo (m .raw))) (occs ms) (occs ns))
 
 occF-append : (n : ℕ) (s t : List OurTerm) → occF n (s ++ t) ≡ occF n s ++ occF n t
 occF-append n [] t = refl
@@ -103,7 +116,8 @@ occ-term n raw-empty = refl
 
 occ-field : (rs : List Raw) (p n i : ℕ) → occs (marksF p n i rs) ≡ occF n (fieldOf rs)
 occ-field [] p n i = refl
-occ-field (r ∷ rs) p n i = ap₂ (λ (a b : List Occ). a ++ b) (occ-term n r) (occ-field rs (suc (p + length (spell r))) n (suc i)) ∙ sym (occF-append n (termOf r) (fieldOf rs))
+occ-field (r ∷ rs) p n i =
+    ap₂ (λ (a b : List Occ). a ++ b) (occ-term n r) (occ-field rs (suc (p + length (spell r))) n (suc i)) ∙ sym (occF-append n (termOf r) (fieldOf rs))
 
 occ-text : (x : List (List Raw)) (p n : ℕ) → occs (marksT p n x) ≡ occR n (fieldsOf x)
 occ-text [] p n = refl
@@ -116,7 +130,8 @@ Apart before os = NoneOf (λ b o. Any (Clash o) b) before os
 
 lin : (ms before : List Mark) → NoneOf NotLinear before ms ↔ Apart (occs before) (occs ms)
 lin [] before = (λ h. tt, λ h. tt)
-lin (m ∷ ms) before = go (listNo (m .raw)) (subst (λ (b : List Occ). NoneOf NotLinear (before ++ m ∷ []) ms ↔ Apart b (occs ms)) next (lin ms (before ++ m ∷ [])))
+lin (m ∷ ms) before =
+    go (listNo (m .raw)) (subst (λ (b : List Occ). NoneOf NotLinear (before ++ m ∷ []) ms ↔ Apart b (occs ms)) next (lin ms (before ++ m ∷ [])))
   where
     next : occs (before ++ m ∷ []) ≡ occs before ++ occ (m .inField) (listNo (m .raw))
     next = occs-append before (m ∷ []) ∙ ap (λ (l : List Occ). occs before ++ l) (append-nil (occ (m .inField) (listNo (m .raw))))

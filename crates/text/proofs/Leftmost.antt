@@ -13,10 +13,13 @@ module _ {A : Type 0} (P : List A → A → Type 0) (d : (before : List A) (x : 
   pub first-one : (before xs : List A) (x y : A) → FirstOf P before xs x → FirstOf P before xs y → x ≡ y
   first-one before xs x y f g = go before xs (f .0) (f .1) (g .0) (g .1) (f .2) (f .3) (f .4) (g .2) (g .3) (g .4)
     where
-      go : (before xs ys zs us vs : List A) → xs ≡ ys ++ x ∷ zs → P (before ++ ys) x → NoneOf P before ys → xs ≡ us ++ y ∷ vs → P (before ++ us) y → NoneOf P before us → x ≡ y
+      go : (before xs ys zs us vs : List A) → xs ≡ ys ++ x ∷ zs → P (before ++ ys) x
+          → NoneOf P before ys → xs ≡ us ++ y ∷ vs → P (before ++ us) y → NoneOf P before us → x ≡ y
       go before xs [] zs [] vs e p n e′ p′ n′ = head-eq-of-cons-eq (sym e ∙ e′)
-      go before xs [] zs (u ∷ us) vs e p n e′ p′ n′ = absurd (n′ .0 (subst (P before) (head-eq-of-cons-eq (sym e ∙ e′)) (subst (λ (l : List A). P l x) (append-nil before) p)))
-      go before xs (w ∷ ys) zs [] vs e p n e′ p′ n′ = absurd (n .0 (subst (P before) (head-eq-of-cons-eq (sym e′ ∙ e)) (subst (λ (l : List A). P l y) (append-nil before) p′)))
+      go before xs [] zs (u ∷ us) vs e p n e′ p′ n′ =
+          absurd (n′ .0 (subst (P before) (head-eq-of-cons-eq (sym e ∙ e′)) (subst (λ (l : List A). P l x) (append-nil before) p)))
+      go before xs (w ∷ ys) zs [] vs e p n e′ p′ n′ =
+          absurd (n .0 (subst (P before) (head-eq-of-cons-eq (sym e′ ∙ e)) (subst (λ (l : List A). P l y) (append-nil before) p′)))
       go before xs (w ∷ ys) zs (u ∷ us) vs e p n e′ p′ n′ =
           let same : w ≡ u = head-eq-of-cons-eq (sym e ∙ e′) in
           go (before ++ w ∷ []) (ys ++ x ∷ zs) ys zs us vs refl
@@ -34,13 +37,15 @@ module _ {A : Type 0} (P : List A → A → Type 0) (d : (before : List A) (x : 
   leftmost-is [] before = tt
   leftmost-is (x ∷ xs) before = go (d before x) (λ b. leftmost-is xs b)
     where
-      go : (c : Dec (P before x)) → ((b : List A) → Found b xs (leftmost P d b xs)) → Found before (x ∷ xs) (ite c (some x) (leftmost P d (before ++ x ∷ []) xs))
+      go : (c : Dec (P before x)) → ((b : List A) → Found b xs (leftmost P d b xs))
+          → Found before (x ∷ xs) (ite c (some x) (leftmost P d (before ++ x ∷ []) xs))
       go (yes p) rec = ([], xs, refl, subst (λ (l : List A). P l x) (sym (append-nil before)) p, tt)
       go (no n) rec = on (leftmost P d (before ++ x ∷ []) xs) (rec (before ++ x ∷ []))
         where
           on : (a : Option A) → Found (before ++ x ∷ []) xs a → Found before (x ∷ xs) a
           on none h = (n, h)
-          on (some y) h = (x ∷ h .0, h .1, ap (λ (l : List A). x ∷ l) (h .2), subst (λ (l : List A). P l y) (append-assoc before (x ∷ []) (h .0)) (h .3), (n, h .4))
+          on (some y) h =
+              (x ∷ h .0, h .1, ap (λ (l : List A). x ∷ l) (h .2), subst (λ (l : List A). P l y) (append-assoc before (x ∷ []) (h .0)) (h .3), (n, h .4))
 
   pub none-not : (xs before : List A) (x : A) → NoneOf P before xs → FirstOf P before xs x → ⊥
   none-not xs before x n f = go (f .0) xs before n (f .2) (f .3)

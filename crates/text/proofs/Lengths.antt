@@ -37,22 +37,28 @@ raw-field : (w : ℕ) (f : List Raw) → length f ≤ w → FieldOk f → All (�
 raw-field w [] l p n = absurd (p .0)
 raw-field w (r ∷ rs) l p n = omega (arith, length-append (spell r) (colons rs), raw-short r (p .1 .0) (n .0), raws-short rs (p .1 .1) (n .1))
 
-raw-bars : (w : ℕ) (fs : List (List Raw)) → All (λ f. length f ≤ w) fs → All FieldOk fs → All (All (λ r. Over r → ⊥)) fs → length (bars fs) ≤ length fs * (18 * w)
+raw-bars : (w : ℕ) (fs : List (List Raw)) → All (λ f. length f ≤ w) fs → All FieldOk fs
+    → All (All (λ r. Over r → ⊥)) fs → length (bars fs) ≤ length fs * (18 * w)
 raw-bars w [] l p n = omega arith
 raw-bars w (f ∷ fs) l p n = omega (arith, length-append (spellF f) (bars fs), raw-field w f (l .0) (p .0) (n .0), raw-bars w fs (l .1) (p .1) (n .1))
 
-pub raw-text : (w : ℕ) (x : List (List Raw)) → TextOk x → NoneOf (Bad w fields) [] (marks x) → NoneOf (Bad w terms) [] (marks x) → NoneOf (Bad w limits) [] (marks x) → (n : ℕ) × (n ≤ 3) × (suc (length (spellT x)) ≤ 18 * w + n * (18 * w))
+pub raw-text : (w : ℕ) (x : List (List Raw)) → TextOk x → NoneOf (Bad w fields) [] (marks x) → NoneOf (Bad w terms) [] (marks x)
+    → NoneOf (Bad w limits) [] (marks x) → (n : ℕ) × (n ≤ 3) × (suc (length (spellT x)) ≤ 18 * w + n * (18 * w))
 raw-text w [] ok a b c = absurd (ok .0)
 raw-text w (f ∷ fs) ok a b c =
     let x = f ∷ fs in
     let l = width-to w x 0 1 (none-all (TooMany w) (marks x) [] b) in
-    let o = each (λ r. Over r → ⊥) x 0 1 .0 (none-all MarkOver (marks x) [] c) in
-    (length fs, omega (arith, few-to x 0 1 (ok .1) (omega arith) (none-all FifthField (marks x) [] a)), omega (arith, length-append (spellF f) (bars fs), raw-field w f (l .0) (ok .1 .0) (o .0), raw-bars w fs (l .1) (ok .1 .1) (o .1)))
+    let o = each (λ r. Over r → ⊥) x 0 1 .0 (none-all MarkOver (marks x) [] c) in (
+      length fs,
+      omega (arith, few-to x 0 1 (ok .1) (omega arith) (none-all FifthField (marks x) [] a)),
+      omega (arith, length-append (spellF f) (bars fs), raw-field w f (l .0) (ok .1 .0) (o .0), raw-bars w fs (l .1) (ok .1 .1) (o .1)),
+    )
 
 base-length : (S : Sort) (t : List ℕ) → Base S t → (n : ℕ) × (n ≤ 3) × (suc (length t) ≤ 18 * S .width + n * (18 * S .width))
 base-length S t h =
     let g = in-grammar t (h .1) in
-    let r = raw-text (S .width) (g .0) (g .1 .0) (clean-to (S .width) fields t (g .0) (g .1) (h .2)) (clean-to (S .width) terms t (g .0) (g .1) (h .3)) (clean-to (S .width) limits t (g .0) (g .1) (h .4)) in
+    let r = raw-text (S .width) (g .0) (g .1 .0) (clean-to (S .width) fields t (g .0) (g .1) (h .2)) (clean-to (S .width) terms t (g .0) (g .1) (h .3))
+    (clean-to (S .width) limits t (g .0) (g .1) (h .4)) in
     (r .0, r .1, subst (λ (l : List ℕ). suc (length l) ≤ 18 * S .width + r .0 * (18 * S .width)) (sym (g .1 .1)) (r .2))
 
 pub rule-bytes : (t : List ℕ) (r : List (List OurTerm)) → readSide t ≡ accepted r → length t ≤ 1151

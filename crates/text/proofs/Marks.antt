@@ -33,7 +33,8 @@ stands-t t [] p n pre e l = tt
 stands-t t (f ∷ []) p n pre e l = all-append (Stands t) (marksF p n 1 f) [] (stands-f t f p n 1 pre [] e l) tt
 stands-t t (f ∷ (g ∷ fs)) p n pre e l =
     all-append (Stands t) (marksF p n 1 f) (marksT (suc (p + length (spellF f))) (suc n) (g ∷ fs)) (stands-f t f p n 1 pre (bars (g ∷ fs)) e l)
-    (stands-t t (g ∷ fs) (suc (p + length (spellF f))) (suc n) (pre ++ (spellF f ++ 124 ∷ [])) (e ∙ shift-eq pre (spellF f) (spellT (g ∷ fs)) 124) (shift-length pre (spellF f) 124 p l))
+    (stands-t t (g ∷ fs) (suc (p + length (spellF f))) (suc n) (pre ++ (spellF f ++ 124 ∷ [])) (e ∙ shift-eq pre (spellF f) (spellT (g ∷ fs)) 124)
+    (shift-length pre (spellF f) 124 p l))
 
 pub stands-in : (t : List ℕ) (x : List (List Raw)) → t ≡ spellT x → All (Stands t) (marks x)
 stands-in t x e = stands-t t x 0 1 [] e refl
@@ -52,7 +53,9 @@ from-f (r ∷ rs) p q n i h = (h, from-f rs (suc (p + length (spell r))) q n (su
 
 pub from-t : (x : List (List Raw)) (p q n : ℕ) → q ≤ p → All (From q) (marksT p n x)
 from-t [] p q n h = tt
-from-t (f ∷ fs) p q n h = all-append (From q) (marksF p n 1 f) (marksT (suc (p + length (spellF f))) (suc n) fs) (from-f f p q n 1 h) (from-t fs (suc (p + length (spellF f))) q (suc n) (omega arith))
+from-t (f ∷ fs) p q n h =
+    all-append (From q) (marksF p n 1 f) (marksT (suc (p + length (spellF f))) (suc n) fs) (from-f f p q n 1 h)
+    (from-t fs (suc (p + length (spellF f))) q (suc n) (omega arith))
 
 abbrev pub Below : ℕ → Mark → Type 0
 Below q m = m .place < q
@@ -70,13 +73,17 @@ rising-f (r ∷ rs) p n i = (from-f rs (suc (p + length (spell r))) (suc p) n (s
 
 pub rising-append : (q : ℕ) (ms ns : List Mark) → Rising ms → Rising ns → All (Below q) ms → All (From q) ns → Rising (ms ++ ns)
 rising-append q [] ns a b c d = b
-rising-append q (m ∷ ms) ns a b c d = (all-append (From (suc (m .place))) ms ns (a .0) (all-map (From q) (From (suc (m .place))) (λ k h. omega (arith, c .0)) ns d), rising-append q ms ns (a .1) b (c .1) d)
+rising-append q (m ∷ ms) ns a b c d = (
+  all-append (From (suc (m .place))) ms ns (a .0) (all-map (From q) (From (suc (m .place))) (λ k h. omega (arith, c .0)) ns d),
+  rising-append q ms ns (a .1) b (c .1) d,
+)
 
 pub rising-t : (x : List (List Raw)) (p n : ℕ) → Rising (marksT p n x)
 rising-t [] p n = tt
 rising-t (f ∷ fs) p n =
     let q = suc (p + length (spellF f)) in
-    rising-append q (marksF p n 1 f) (marksT q (suc n) fs) (rising-f f p n 1) (rising-t fs q (suc n)) (below-f f p q n 1 (omega arith)) (from-t fs q q (suc n) (omega arith))
+    rising-append q (marksF p n 1 f) (marksT q (suc n) fs) (rising-f f p n 1) (rising-t fs q (suc n)) (below-f f p q n 1 (omega arith))
+    (from-t fs q q (suc n) (omega arith))
 
 pub rising : (x : List (List Raw)) → Rising (marks x)
 rising x = rising-t x 0 1

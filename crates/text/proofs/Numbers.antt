@@ -61,7 +61,10 @@ dec-number (suc k) n h = go (decLt n 10)
   where
     go : (d : Dec (n < 10)) → Number (decC n d (dec k))
     go (yes p) = (omega arith, omega arith)
-    go (no p) = lead-number (dec k (n / 10) ++ (48 + n % 10) ∷ []) (all-append Digit (dec k (n / 10)) ((48 + n % 10) ∷ []) (dec-digits k (n / 10)) ((omega arith, omega arith), tt)) (lead-append (dec k (n / 10)) ((48 + n % 10) ∷ []) (dec-lead k (n / 10) (omega arith) (omega arith)))
+    go (no p) =
+        lead-number (dec k (n / 10) ++ (48 + n % 10) ∷ [])
+        (all-append Digit (dec k (n / 10)) ((48 + n % 10) ∷ []) (dec-digits k (n / 10)) ((omega arith, omega arith), tt))
+        (lead-append (dec k (n / 10)) ((48 + n % 10) ∷ []) (dec-lead k (n / 10) (omega arith) (omega arith)))
 
 dec-length : (k n j : ℕ) → n < 10 ^ suc j → length (dec k n) ≤ suc j
 dec-length zero n j h = omega arith
@@ -114,7 +117,8 @@ dec-more (d ∷ s) k j n a l h g =
       where
         go : (c : Dec (m < 10)) → dec k n ++ (d ∷ []) ≡ decC m c (dec m)
         go (yes p) = absurd (omega arith)
-        go (no p) = ap₂ (λ (x : List ℕ) (y : ℕ). x ++ y ∷ []) (dec-fuel k m n h (omega arith) ∙ ap (dec m) (let z : n ≡ m / 10 = omega arith in z)) (omega arith)
+        go (no p) =
+            ap₂ (λ (x : List ℕ) (y : ℕ). x ++ y ∷ []) (dec-fuel k m n h (omega arith) ∙ ap (dec m) (let z : n ≡ m / 10 = omega arith in z)) (omega arith)
 
 dec-one : (n : ℕ) → n < 10 → dec (suc n) n ≡ (48 + n) ∷ []
 dec-one n h = go (decLt n 10)

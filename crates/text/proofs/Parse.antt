@@ -9,9 +9,81 @@ use native.Mathlib.Decide.{ℕ-discrete, decLe}
 use Rattle.lists.specs.Seqs.{All, IsNil, IsCons}
 use Rattle.order.specs.Order.{basic, list}
 use Rattle.order.specs.Types.{integer, string, atom, Kind}
-use Rattle.text.specs.Bytes.{Digit, Inside, letter, digit?, Begins, b-digit, b-quote, b-letter, b-e, b-none, begins, Follows, f-digit, f-colon, f-bar, f-none, follows, First, n-zero, n-more, n-none, first, Holds, h-quote, h-in, h-none, holds}
-use Rattle.text.specs.Grammar.{Raw, raw-int, raw-str, raw-var, raw-empty, spell, Number, Proper, colons, spellF, bars, FieldOk, spellT, TextOk, Says, Grammar}
-use Rattle.text.specs.Machine.{State, after, digits, number, done, quoted, must, Rest, Move, push, turn, term, goA, goD, goE, goN, goQ, goM, then, move, Final, final?, thenScan, scan, whole, parse}
+use Rattle.text.specs.Bytes.{
+  Digit,
+  Inside,
+  letter,
+  digit?,
+  Begins,
+  b-digit,
+  b-quote,
+  b-letter,
+  b-e,
+  b-none,
+  begins,
+  Follows,
+  f-digit,
+  f-colon,
+  f-bar,
+  f-none,
+  follows,
+  First,
+  n-zero,
+  n-more,
+  n-none,
+  first,
+  Holds,
+  h-quote,
+  h-in,
+  h-none,
+  holds,
+}
+use Rattle.text.specs.Grammar.{
+  Raw,
+  raw-int,
+  raw-str,
+  raw-var,
+  raw-empty,
+  spell,
+  Number,
+  Proper,
+  colons,
+  spellF,
+  bars,
+  FieldOk,
+  spellT,
+  TextOk,
+  Says,
+  Grammar,
+}
+use Rattle.text.specs.Machine.{
+  State,
+  after,
+  digits,
+  number,
+  done,
+  quoted,
+  must,
+  Rest,
+  Move,
+  push,
+  turn,
+  term,
+  goA,
+  goD,
+  goE,
+  goN,
+  goQ,
+  goM,
+  then,
+  move,
+  Final,
+  final?,
+  thenScan,
+  scan,
+  whole,
+  parse,
+}
 
 -- what the rest may be in each state, and how it is spelled
 abbrev pub FitsW : State → List ℕ → List Raw → Type 0
@@ -41,7 +113,8 @@ abbrev pub Right : State → ℕ → Move → Type 0
 Right q b none = Unit {0}
 Right q b (some m) = (o : Rest) → Fits (m .0) o → Fits q (m .1 o) × (b ∷ say (m .0) o ≡ say q (m .1 o))
 
-colon-eq : (b : ℕ) → b ≡ 58 → (w : List ℕ) (rs : List Raw) (fs : List (List Raw)) → IsNil w → IsCons rs → b ∷ (spellF rs ++ bars fs) ≡ w ++ (colons rs ++ bars fs)
+colon-eq : (b : ℕ) → b ≡ 58 → (w : List ℕ) (rs : List Raw) (fs : List (List Raw))
+    → IsNil w → IsCons rs → b ∷ (spellF rs ++ bars fs) ≡ w ++ (colons rs ++ bars fs)
 colon-eq b e [] [] fs n c = absurd c
 colon-eq b e [] (r ∷ rs) fs n c = ap (λ (x : ℕ). x ∷ ((spell r ++ colons rs) ++ bars fs)) e
 colon-eq b e (x ∷ w) rs fs n c = absurd n
@@ -189,7 +262,8 @@ goM-same c cs (no n) = absurd (n refl)
 
 unfold-a : (r : Raw) (rs : List Raw) (fs : List (List Raw)) → Proper r → All Proper rs → All FieldOk fs → Unfold after ([], r ∷ rs, fs)
 unfold-a (raw-int []) rs fs p a g = absurd (p .0)
-unfold-a (raw-int (d ∷ ds)) rs fs p a g = goes d (digits, term (λ w. raw-int (d ∷ w))) (ds, rs, fs) (goA-digit d (begins d) (p .1 .0)) (p .1 .1, a, g) refl (simp append-assoc)
+unfold-a (raw-int (d ∷ ds)) rs fs p a g =
+    goes d (digits, term (λ w. raw-int (d ∷ w))) (ds, rs, fs) (goA-digit d (begins d) (p .1 .0)) (p .1 .1, a, g) refl (simp append-assoc)
 unfold-a (raw-str s) rs fs p a g = goes 34 (quoted, term raw-str) (s, rs, fs) goA-quote (p, a, g) refl (simp append-assoc)
 unfold-a (raw-var k ds) rs fs p a g = goes (letter k) (number, term (raw-var k)) (ds, rs, fs) (goA-letter k) (p, a, g) refl (simp append-assoc)
 unfold-a raw-empty rs fs p a g = goes 101 (must 109 (112 ∷ 116 ∷ 121 ∷ []), term (λ w. raw-empty)) ([], rs, fs) goA-e (tt, a, g) refl refl

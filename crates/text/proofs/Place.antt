@@ -11,7 +11,28 @@ use lib.Seq.{take-take}
 use Rattle.text.specs.Bytes.{digit?, begins, first, holds}
 use Rattle.text.specs.Grammar.{Raw, Grammar}
 use Rattle.text.specs.Place.{Viable, Stops, Answers}
-use Rattle.text.specs.Machine.{State, after, digits, number, done, quoted, must, Rest, Move, goM, then, move, Final, final?, thenScan, scan, whole, thenStop, stop, place2}
+use Rattle.text.specs.Machine.{
+  State,
+  after,
+  digits,
+  number,
+  done,
+  quoted,
+  must,
+  Rest,
+  Move,
+  goM,
+  then,
+  move,
+  Final,
+  final?,
+  thenScan,
+  scan,
+  whole,
+  thenStop,
+  stop,
+  place2,
+}
 use Rattle.text.proofs.Parse.{Parsed, parsed, parse-complete}
 
 -- THE MACHINE: the states alone
@@ -114,7 +135,11 @@ viable-run p = (to, λ h. back (run p after) refl h)
 
     back : (a : Option State) → run p after ≡ a → IsSome a → Viable p
     back none e h = absurd h
-    back (some q) e h = (finish q, grammar-run (p ++ finish q) .1 (subst Accepts (sym (run-append p (finish q) after ∙ ap (λ (a : Option State). onward a (run (finish q))) e)) (finishes q)))
+    back (some q) e h = (
+      finish q,
+      grammar-run (p ++ finish q) .1
+          (subst Accepts (sym (run-append p (finish q) after ∙ ap (λ (a : Option State). onward a (run (finish q))) e)) (finishes q)),
+    )
 
 -- the same by the machine, from a state
 abbrev pub StopsAt : List ℕ → State → ℕ → Type 0
@@ -150,14 +175,17 @@ module _ (b : ℕ) (t : List ℕ) (q : State) where
       unique zero h = refl
       unique (suc p) h = absurd (dead (take p t) (h .0))
 
-  stop-some : (q′ : State) → ((x : List ℕ) → run (b ∷ x) q ≡ run x q′) → (a : Option ℕ) → Answers (StopsAt t q′) a → Answers (StopsAt (b ∷ t) q) (Option·map suc a)
+  stop-some : (q′ : State) → ((x : List ℕ) → run (b ∷ x) q ≡ run x q′) → (a : Option ℕ)
+      → Answers (StopsAt t q′) a → Answers (StopsAt (b ∷ t) q) (Option·map suc a)
   stop-some q′ step = go
     where
-      to-or : (p : ℕ) → ((suc p ≡ suc (length t)) × (Accepts (run (b ∷ t) q) → ⊥)) ⊎ ((suc p < suc (length t)) × (IsSome (run (b ∷ take (suc p) t) q) → ⊥)) → ((p ≡ length t) × (Accepts (run t q′) → ⊥)) ⊎ ((p < length t) × (IsSome (run (take (suc p) t) q′) → ⊥))
+      to-or : (p : ℕ) → ((suc p ≡ suc (length t)) × (Accepts (run (b ∷ t) q) → ⊥)) ⊎ ((suc p < suc (length t)) × (IsSome (run (b ∷ take (suc p) t) q) → ⊥))
+          → ((p ≡ length t) × (Accepts (run t q′) → ⊥)) ⊎ ((p < length t) × (IsSome (run (take (suc p) t) q′) → ⊥))
       to-or p (inl h) = inl (omega arith, λ a. h .1 (subst Accepts (sym (step t)) a))
       to-or p (inr h) = inr (omega arith, λ a. h .1 (subst IsSome (sym (step (take (suc p) t))) a))
 
-      from-or : (p : ℕ) → ((p ≡ length t) × (Accepts (run t q′) → ⊥)) ⊎ ((p < length t) × (IsSome (run (take (suc p) t) q′) → ⊥)) → ((suc p ≡ suc (length t)) × (Accepts (run (b ∷ t) q) → ⊥)) ⊎ ((suc p < suc (length t)) × (IsSome (run (b ∷ take (suc p) t) q) → ⊥))
+      from-or : (p : ℕ) → ((p ≡ length t) × (Accepts (run t q′) → ⊥)) ⊎ ((p < length t) × (IsSome (run (take (suc p) t) q′) → ⊥))
+          → ((suc p ≡ suc (length t)) × (Accepts (run (b ∷ t) q) → ⊥)) ⊎ ((suc p < suc (length t)) × (IsSome (run (b ∷ take (suc p) t) q) → ⊥))
       from-or p (inl h) = inl (omega arith, λ a. h .1 (subst Accepts (step t) a))
       from-or p (inr h) = inr (omega arith, λ a. h .1 (subst IsSome (step (take (suc p) t)) a))
 
@@ -198,14 +226,16 @@ place2-is t = answers-iff (StopsAt t after) (Stops t) same (place2 t) (stops t a
     to : (p : ℕ) → StopsAt t after p → Stops t p
     to p h = (viable-run (take p t) .1 (h .0), go (h .1))
       where
-        go : ((p ≡ length t) × (Accepts (run t after) → ⊥)) ⊎ ((p < length t) × (IsSome (run (take (suc p) t) after) → ⊥)) → ((p ≡ length t) × (Grammar t → ⊥)) ⊎ ((p < length t) × (Viable (take (suc p) t) → ⊥))
+        go : ((p ≡ length t) × (Accepts (run t after) → ⊥)) ⊎ ((p < length t) × (IsSome (run (take (suc p) t) after) → ⊥))
+            → ((p ≡ length t) × (Grammar t → ⊥)) ⊎ ((p < length t) × (Viable (take (suc p) t) → ⊥))
         go (inl x) = inl (x .0, λ g. x .1 (grammar-run t .0 g))
         go (inr x) = inr (x .0, λ v. x .1 (viable-run (take (suc p) t) .0 v))
 
     from : (p : ℕ) → Stops t p → StopsAt t after p
     from p h = (viable-run (take p t) .0 (h .0), go (h .1))
       where
-        go : ((p ≡ length t) × (Grammar t → ⊥)) ⊎ ((p < length t) × (Viable (take (suc p) t) → ⊥)) → ((p ≡ length t) × (Accepts (run t after) → ⊥)) ⊎ ((p < length t) × (IsSome (run (take (suc p) t) after) → ⊥))
+        go : ((p ≡ length t) × (Grammar t → ⊥)) ⊎ ((p < length t) × (Viable (take (suc p) t) → ⊥))
+            → ((p ≡ length t) × (Accepts (run t after) → ⊥)) ⊎ ((p < length t) × (IsSome (run (take (suc p) t) after) → ⊥))
         go (inl x) = inl (x .0, λ g. x .1 (grammar-run t .1 g))
         go (inr x) = inr (x .0, λ v. x .1 (viable-run (take (suc p) t) .1 v))
 
@@ -237,7 +267,8 @@ pub viable-prefix : (p r : List ℕ) → Viable (p ++ r) → Viable p
 viable-prefix p r v = (r ++ v .0, subst Grammar (append-assoc p r (v .0)) (v .1))
 
 pub viable-shorter : (t : List ℕ) (k p : ℕ) → k ≤ p → Viable (take p t) → Viable (take k t)
-viable-shorter t k p h v = subst Viable (take-take k p t h) (viable-prefix (take k (take p t)) (drop k (take p t)) (subst Viable (sym (take-append-drop k (take p t))) v))
+viable-shorter t k p h v =
+    subst Viable (take-take k p t h) (viable-prefix (take k (take p t)) (drop k (take p t)) (subst Viable (sym (take-append-drop k (take p t))) v))
 
 pub stops-first : (t : List ℕ) (p k : ℕ) → Stops t p → k ≤ p → Viable (take k t)
 stops-first t p k s h = viable-shorter t k p h (s .0)

@@ -13,7 +13,34 @@ use Rattle.text.specs.Machine.{parse}
 use Rattle.text.specs.Leftmost.{LeftmostAt}
 use Rattle.text.specs.Marks.{marks}
 use Rattle.text.specs.Terms.{OurTerm, fieldsOf}
-use Rattle.text.specs.Read.{Reason, long, grammar, fields, terms, limits, linear, variable, unknown, Sort, Bad, bad?, placeOfMark, FirstBad, Refuses, said, firstBad, placeOf, OutcomeOf, refused, accepted, tell, chain, NoReason, FirstReason, read}
+use Rattle.text.specs.Read.{
+  Reason,
+  long,
+  grammar,
+  fields,
+  terms,
+  limits,
+  linear,
+  variable,
+  unknown,
+  Sort,
+  Bad,
+  bad?,
+  placeOfMark,
+  FirstBad,
+  Refuses,
+  said,
+  firstBad,
+  placeOf,
+  OutcomeOf,
+  refused,
+  accepted,
+  tell,
+  chain,
+  NoReason,
+  FirstReason,
+  read,
+}
 use Rattle.text.proofs.Parse.{Parsed, parsed, says-one}
 use Rattle.text.proofs.Place.{place2-is}
 use Rattle.text.proofs.Leftmost.{leftmost-answers}
@@ -26,7 +53,8 @@ bad-answers w r t = go (parse t) (parsed t)
 
     wrap : (x : List (List Raw)) → Says t x → (a : Option ℕ) → Answers (LeftmostAt (Bad w r) placeOfMark (marks x)) a → Answers (FirstBad w r t) a
     wrap x s none h = λ p f. h p (subst (λ (y : List (List Raw)). LeftmostAt (Bad w r) placeOfMark (marks y) p) (says-one t (f .0) x (f .1) s) (f .2))
-    wrap x s (some q) h = ((x, s, h .0), λ p f. h .1 p (subst (λ (y : List (List Raw)). LeftmostAt (Bad w r) placeOfMark (marks y) p) (says-one t (f .0) x (f .1) s) (f .2)))
+    wrap x s (some q) h =
+        ((x, s, h .0), λ p f. h .1 p (subst (λ (y : List (List Raw)). LeftmostAt (Bad w r) placeOfMark (marks y) p) (says-one t (f .0) x (f .1) s) (f .2)))
 
     go : (a : Option (List (List Raw))) → Parsed t a → Answers (FirstBad w r t) (firstBad w r (Option·getD a []))
     go none h = λ p f. h (f .0) (f .1)
@@ -51,7 +79,8 @@ module _ {X : Type 0} (R : Reason → ℕ → Type 0) (f : Reason → Option ℕ
   chain-refused [] s p = (λ e. let z : _≡_ {A = ℕ} 0 1 = cc in absurd (omega arith), λ h. absurd h)
   chain-refused (r ∷ rs) s p = go (f r) (law r) (chain-refused rs s p)
     where
-      go : (o : Option ℕ) → Answers (R r) o → ((chain f rs a ≡ refused s p) ↔ FirstReason R rs s p) → (tell r o (chain f rs a) ≡ refused s p) ↔ FirstReason R (r ∷ rs) s p
+      go : (o : Option ℕ) → Answers (R r) o → ((chain f rs a ≡ refused s p) ↔ FirstReason R rs s p)
+          → (tell r o (chain f rs a) ≡ refused s p) ↔ FirstReason R (r ∷ rs) s p
       go none h rec = (λ e. inr (h, rec .0 e), from)
         where
           from : FirstReason R (r ∷ rs) s p → chain f rs a ≡ refused s p
@@ -70,7 +99,8 @@ module _ {X : Type 0} (R : Reason → ℕ → Type 0) (f : Reason → Option ℕ
   chain-accepted [] b = (λ e. let e₁ : a ≡ b = cc in (tt, e₁), λ h. ap accepted (h .1))
   chain-accepted (r ∷ rs) b = go (f r) (law r) (chain-accepted rs b)
     where
-      go : (o : Option ℕ) → Answers (R r) o → ((chain f rs a ≡ accepted b) ↔ (NoReason R rs × (a ≡ b))) → (tell r o (chain f rs a) ≡ accepted b) ↔ (NoReason R (r ∷ rs) × (a ≡ b))
+      go : (o : Option ℕ) → Answers (R r) o → ((chain f rs a ≡ accepted b) ↔ (NoReason R rs × (a ≡ b)))
+          → (tell r o (chain f rs a) ≡ accepted b) ↔ (NoReason R (r ∷ rs) × (a ≡ b))
       go none h rec = (λ e. ((h, rec .0 e .0), rec .0 e .1), λ x. rec .1 (x .0 .1, x .1))
       go (some q) h rec = (λ e. let z : _≡_ {A = ℕ} 0 1 = cc in absurd (omega arith), λ x. absurd (x .0 .0 q (h .0)))
 

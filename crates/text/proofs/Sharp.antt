@@ -30,10 +30,12 @@ rising-later (y ∷ ys) zs m k r i = rising-later ys zs m k (r .1) i
 
 -- LEFTMOST: no mark with the property has a smaller place
 module _ (P : List Mark → Mark → Type 0) where
-  pub first-least : (xs before : List Mark) (m k : Mark) → Rising xs → FirstOf P before xs m → (us vs : List Mark) → xs ≡ us ++ k ∷ vs → P (before ++ us) k → m .place ≤ k .place
+  pub first-least : (xs before : List Mark) (m k : Mark) → Rising xs → FirstOf P before xs m
+      → (us vs : List Mark) → xs ≡ us ++ k ∷ vs → P (before ++ us) k → m .place ≤ k .place
   first-least xs before m k r f us vs e p = go (f .0) xs before r (f .2) (f .4) us e p
     where
-      go : (ys xs before : List Mark) → Rising xs → xs ≡ ys ++ m ∷ f .1 → NoneOf P before ys → (us : List Mark) → xs ≡ us ++ k ∷ vs → P (before ++ us) k → m .place ≤ k .place
+      go : (ys xs before : List Mark) → Rising xs → xs ≡ ys ++ m ∷ f .1 → NoneOf P before ys
+          → (us : List Mark) → xs ≡ us ++ k ∷ vs → P (before ++ us) k → m .place ≤ k .place
       go [] xs before r e₁ n [] e₂ p = let e : m ≡ k = head-eq-of-cons-eq (sym e₁ ∙ e₂) in subst (λ (u : Mark). m .place ≤ u .place) e (omega arith)
       go [] xs before r e₁ n (u ∷ us) e₂ p =
           let t : f .1 ≡ us ++ k ∷ vs = tail-eq-of-cons-eq (sym e₁ ∙ e₂) in
@@ -43,7 +45,8 @@ module _ (P : List Mark → Mark → Type 0) where
           in-middle : (us : List Mark) → List·Memᴰ k (us ++ k ∷ vs)
           in-middle [] = List·Memᴰ·head refl
           in-middle (w ∷ ws) = List·Memᴰ·tail (in-middle ws)
-      go (y ∷ ys) xs before r e₁ n [] e₂ p = absurd (n .0 (subst (P before) (head-eq-of-cons-eq (sym e₂ ∙ e₁)) (subst (λ (l : List Mark). P l k) (nil before) p)))
+      go (y ∷ ys) xs before r e₁ n [] e₂ p =
+          absurd (n .0 (subst (P before) (head-eq-of-cons-eq (sym e₂ ∙ e₁)) (subst (λ (l : List Mark). P l k) (nil before) p)))
         where
           nil : (l : List Mark) → l ++ [] ≡ l
           nil [] = refl
@@ -70,11 +73,15 @@ steps-f (r ∷ rs) p n i later h = (inl (refl, refl), steps-f rs (suc (p + lengt
 pub steps-t : (x : List (List Raw)) (p n i : ℕ) → All FieldOk x → Steps n i (marksT p (suc n) x)
 steps-t [] p n i g = tt
 steps-t ([] ∷ fs) p n i g = absurd (g .0 .0)
-steps-t ((r ∷ rs) ∷ fs) p n i g =
-    (inr (refl, refl), steps-f rs (suc (p + length (spell r))) (suc n) 1 (marksT (suc (p + length (spellF (r ∷ rs)))) (suc (suc n)) fs) (λ j. steps-t fs (suc (p + length (spellF (r ∷ rs)))) (suc n) j (g .1)))
+steps-t ((r ∷ rs) ∷ fs) p n i g = (
+  inr (refl, refl),
+  steps-f rs (suc (p + length (spell r))) (suc n) 1 (marksT (suc (p + length (spellF (r ∷ rs)))) (suc (suc n)) fs)
+      (λ j. steps-t fs (suc (p + length (spellF (r ∷ rs)))) (suc n) j (g .1)),
+)
 
 -- the first mark of a fifth field is its first term
-pub five : (ys zs : List Mark) (before : List Mark) (n i : ℕ) (m : Mark) → n ≤ 4 → Steps n i (ys ++ m ∷ zs) → NoneOf (λ b k. FifthField k) before ys → FifthField m → (m .inField ≡ 5) × (m .index ≡ 1)
+pub five : (ys zs : List Mark) (before : List Mark) (n i : ℕ) (m : Mark) → n ≤ 4 → Steps n i (ys ++ m ∷ zs)
+    → NoneOf (λ b k. FifthField k) before ys → FifthField m → (m .inField ≡ 5) × (m .index ≡ 1)
 five [] zs before n i m h s k b = go (s .0)
   where
     go : Next n i m → (m .inField ≡ 5) × (m .index ≡ 1)

@@ -8,7 +8,30 @@ use native.Mathlib.Omega.{arith}
 use Rattle.lists.specs.Seqs.{All}
 use Rattle.text.specs.Grammar.{Raw, Says}
 use Rattle.text.specs.Terms.{OurTerm, fieldsOf}
-use Rattle.text.specs.Read.{Reason, long, grammar, fields, terms, limits, linear, variable, unknown, number, Sort, rule, slip, Refuses, NoReason, FirstReason, refused, accepted, read, readSide, readSlip, earlier}
+use Rattle.text.specs.Read.{
+  Reason,
+  long,
+  grammar,
+  fields,
+  terms,
+  limits,
+  linear,
+  variable,
+  unknown,
+  number,
+  Sort,
+  rule,
+  slip,
+  Refuses,
+  NoReason,
+  FirstReason,
+  refused,
+  accepted,
+  read,
+  readSide,
+  readSlip,
+  earlier,
+}
 use Rattle.text.specs.Plain.{plain}
 use Rattle.text.specs.Limits.{IsLeft}
 use Rattle.text.proofs.Read.{read-refused, read-accepted}
@@ -38,25 +61,49 @@ module _ (R : Reason → ℕ → Type 0) (r : Reason) (p : ℕ) where
       to rec (inr h) = ((h .0, rec (h .1) .0), rec (h .1) .1)
 
 -- REFUSED for r at p exactly when r applies at p and none that is tried before it applies anywhere
-pub rule-refused : (r : Reason) → r ≢ variable → (t : List ℕ) (p : ℕ) → (readSide t ≡ refused r p) ↔ (NoReason (Refuses rule t) (earlier r) × Refuses rule t r p)
-rule-refused long n t p = Iff·trans (read-refused rule t long p) (reason-iff (Refuses rule t) long p [] (grammar ∷ fields ∷ terms ∷ limits ∷ linear ∷ []) (omega arith) (omega arith))
-rule-refused grammar n t p = Iff·trans (read-refused rule t grammar p) (reason-iff (Refuses rule t) grammar p (long ∷ []) (fields ∷ terms ∷ limits ∷ linear ∷ []) (omega arith) (omega arith))
-rule-refused fields n t p = Iff·trans (read-refused rule t fields p) (reason-iff (Refuses rule t) fields p (long ∷ grammar ∷ []) (terms ∷ limits ∷ linear ∷ []) (omega arith) (omega arith))
-rule-refused terms n t p = Iff·trans (read-refused rule t terms p) (reason-iff (Refuses rule t) terms p (long ∷ grammar ∷ fields ∷ []) (limits ∷ linear ∷ []) (omega arith) (omega arith))
-rule-refused limits n t p = Iff·trans (read-refused rule t limits p) (reason-iff (Refuses rule t) limits p (long ∷ grammar ∷ fields ∷ terms ∷ []) (linear ∷ []) (omega arith) (omega arith))
-rule-refused linear n t p = Iff·trans (read-refused rule t linear p) (reason-iff (Refuses rule t) linear p (long ∷ grammar ∷ fields ∷ terms ∷ limits ∷ []) [] (omega arith) (omega arith))
+pub rule-refused : (r : Reason) → r ≢ variable → (t : List ℕ) (p : ℕ)
+    → (readSide t ≡ refused r p) ↔ (NoReason (Refuses rule t) (earlier r) × Refuses rule t r p)
+rule-refused long n t p =
+    Iff·trans (read-refused rule t long p) (reason-iff (Refuses rule t) long p [] (grammar ∷ fields ∷ terms ∷ limits ∷ linear ∷ []) (omega arith) (omega arith))
+rule-refused grammar n t p =
+    Iff·trans (read-refused rule t grammar p)
+    (reason-iff (Refuses rule t) grammar p (long ∷ []) (fields ∷ terms ∷ limits ∷ linear ∷ []) (omega arith) (omega arith))
+rule-refused fields n t p =
+    Iff·trans (read-refused rule t fields p)
+    (reason-iff (Refuses rule t) fields p (long ∷ grammar ∷ []) (terms ∷ limits ∷ linear ∷ []) (omega arith) (omega arith))
+rule-refused terms n t p =
+    Iff·trans (read-refused rule t terms p)
+    (reason-iff (Refuses rule t) terms p (long ∷ grammar ∷ fields ∷ []) (limits ∷ linear ∷ []) (omega arith) (omega arith))
+rule-refused limits n t p =
+    Iff·trans (read-refused rule t limits p)
+    (reason-iff (Refuses rule t) limits p (long ∷ grammar ∷ fields ∷ terms ∷ []) (linear ∷ []) (omega arith) (omega arith))
+rule-refused linear n t p =
+    Iff·trans (read-refused rule t linear p)
+    (reason-iff (Refuses rule t) linear p (long ∷ grammar ∷ fields ∷ terms ∷ limits ∷ []) [] (omega arith) (omega arith))
 rule-refused variable n t p = absurd (n refl)
 rule-refused unknown n t p =
     (λ e. absurd (not-tried (Refuses rule t) unknown p (rule .order) (omega arith) (read-refused rule t unknown p .0 e)), λ h. absurd (h .1 .2 .1 .3))
 
 pub slip-refused : (r : Reason) → r ≢ linear → (t : List ℕ) (p : ℕ) → (readSlip t ≡ refused r p) ↔ (NoReason (Refuses slip t) (earlier r) × Refuses slip t r p)
-slip-refused long n t p = Iff·trans (read-refused slip t long p) (reason-iff (Refuses slip t) long p [] (grammar ∷ fields ∷ terms ∷ limits ∷ variable ∷ []) (omega arith) (omega arith))
-slip-refused grammar n t p = Iff·trans (read-refused slip t grammar p) (reason-iff (Refuses slip t) grammar p (long ∷ []) (fields ∷ terms ∷ limits ∷ variable ∷ []) (omega arith) (omega arith))
-slip-refused fields n t p = Iff·trans (read-refused slip t fields p) (reason-iff (Refuses slip t) fields p (long ∷ grammar ∷ []) (terms ∷ limits ∷ variable ∷ []) (omega arith) (omega arith))
-slip-refused terms n t p = Iff·trans (read-refused slip t terms p) (reason-iff (Refuses slip t) terms p (long ∷ grammar ∷ fields ∷ []) (limits ∷ variable ∷ []) (omega arith) (omega arith))
-slip-refused limits n t p = Iff·trans (read-refused slip t limits p) (reason-iff (Refuses slip t) limits p (long ∷ grammar ∷ fields ∷ terms ∷ []) (variable ∷ []) (omega arith) (omega arith))
+slip-refused long n t p =
+    Iff·trans (read-refused slip t long p)
+    (reason-iff (Refuses slip t) long p [] (grammar ∷ fields ∷ terms ∷ limits ∷ variable ∷ []) (omega arith) (omega arith))
+slip-refused grammar n t p =
+    Iff·trans (read-refused slip t grammar p)
+    (reason-iff (Refuses slip t) grammar p (long ∷ []) (fields ∷ terms ∷ limits ∷ variable ∷ []) (omega arith) (omega arith))
+slip-refused fields n t p =
+    Iff·trans (read-refused slip t fields p)
+    (reason-iff (Refuses slip t) fields p (long ∷ grammar ∷ []) (terms ∷ limits ∷ variable ∷ []) (omega arith) (omega arith))
+slip-refused terms n t p =
+    Iff·trans (read-refused slip t terms p)
+    (reason-iff (Refuses slip t) terms p (long ∷ grammar ∷ fields ∷ []) (limits ∷ variable ∷ []) (omega arith) (omega arith))
+slip-refused limits n t p =
+    Iff·trans (read-refused slip t limits p)
+    (reason-iff (Refuses slip t) limits p (long ∷ grammar ∷ fields ∷ terms ∷ []) (variable ∷ []) (omega arith) (omega arith))
 slip-refused linear n t p = absurd (n refl)
-slip-refused variable n t p = Iff·trans (read-refused slip t variable p) (reason-iff (Refuses slip t) variable p (long ∷ grammar ∷ fields ∷ terms ∷ limits ∷ []) [] (omega arith) (omega arith))
+slip-refused variable n t p =
+    Iff·trans (read-refused slip t variable p)
+    (reason-iff (Refuses slip t) variable p (long ∷ grammar ∷ fields ∷ terms ∷ limits ∷ []) [] (omega arith) (omega arith))
 slip-refused unknown n t p =
     (λ e. absurd (not-tried (Refuses slip t) unknown p (slip .order) (omega arith) (read-refused slip t unknown p .0 e)), λ h. absurd (h .1 .2 .1 .3))
 
@@ -69,7 +116,8 @@ slip-never t p e = not-tried (Refuses slip t) linear p (slip .order) (omega arit
 
 -- ACCEPTED: none applies, and the rule is what the text says
 module _ (S : Sort) (others : List Reason) (is : S .order ≡ long ∷ grammar ∷ others) where
-  accepted-says : (t : List ℕ) (r : List (List OurTerm)) → (read S t ≡ accepted r) ↔ (NoReason (Refuses S t) (S .order) × ((x : List (List Raw)) × Says t x × (fieldsOf x ≡ r)))
+  accepted-says : (t : List ℕ) (r : List (List OurTerm))
+      → (read S t ≡ accepted r) ↔ (NoReason (Refuses S t) (S .order) × ((x : List (List Raw)) × Says t x × (fieldsOf x ≡ r)))
   accepted-says t r = (to, λ h. read-accepted S t r .1 (h .0, ap fieldsOf (said-is t (h .1 .0) (h .1 .1)) ∙ h .1 .2))
     where
       to : read S t ≡ accepted r → NoReason (Refuses S t) (S .order) × ((x : List (List Raw)) × Says t x × (fieldsOf x ≡ r))
@@ -78,10 +126,12 @@ module _ (S : Sort) (others : List Reason) (is : S .order ≡ long ∷ grammar �
           let g = in-grammar t ((subst (NoReason (Refuses S t)) is (a .0)) .1 .0) in
           (a .0, (g .0, g .1, ap fieldsOf (sym (said-is t (g .0) (g .1))) ∙ a .1))
 
-pub rule-accepted : (t : List ℕ) (r : List (List OurTerm)) → (readSide t ≡ accepted r) ↔ (NoReason (Refuses rule t) (rule .order) × ((x : List (List Raw)) × Says t x × (fieldsOf x ≡ r)))
+pub rule-accepted : (t : List ℕ) (r : List (List OurTerm))
+    → (readSide t ≡ accepted r) ↔ (NoReason (Refuses rule t) (rule .order) × ((x : List (List Raw)) × Says t x × (fieldsOf x ≡ r)))
 rule-accepted = accepted-says rule (fields ∷ terms ∷ limits ∷ linear ∷ []) refl
 
-pub slip-accepted : (t : List ℕ) (r : List (List OurTerm)) → (readSlip t ≡ accepted r) ↔ (NoReason (Refuses slip t) (slip .order) × ((x : List (List Raw)) × Says t x × (fieldsOf x ≡ r)))
+pub slip-accepted : (t : List ℕ) (r : List (List OurTerm))
+    → (readSlip t ≡ accepted r) ↔ (NoReason (Refuses slip t) (slip .order) × ((x : List (List Raw)) × Says t x × (fieldsOf x ≡ r)))
 slip-accepted = accepted-says slip (fields ∷ terms ∷ limits ∷ variable ∷ []) refl
 
 -- THE ONE PLAIN TEXT: of all texts that are read as r, the plain text is the only one without needless `empty` and leading zeros

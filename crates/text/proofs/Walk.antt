@@ -108,34 +108,41 @@ pub walk-term : (room : ℕ) (r : Raw) (z : List ℕ) (p n i : ℕ) → Proper r
 walk-term room r z p n i h d =
     walk-step room (spell r ++ z) p n i (spell-cons r z h)
     ∙ ap (next room (spell r ++ z) p n i) (front-is r z h d)
-    ∙ ap (λ (l : List ℕ). record { place = p; inField = n; index = i; raw = r } ∷ walkOn (walk room) (p + length (spell r)) n i l) (drop-at (spell r) z (length (spell r)) refl)
+    ∙ ap (λ (l : List ℕ). record { place = p; inField = n; index = i; raw = r } ∷ walkOn (walk room) (p + length (spell r)) n i l)
+    (drop-at (spell r) z (length (spell r)) refl)
 
 abbrev pub total : List (List Raw) → ℕ
 total [] = 0
 total (f ∷ fs) = length f + total fs
 
-walk-from : (room : ℕ) (r : Raw) (rs : List Raw) (fs : List (List Raw)) (p n i : ℕ) → Proper r → All Proper rs → All FieldOk fs → suc (length rs) + total fs ≤ room
+walk-from : (room : ℕ) (r : Raw) (rs : List Raw) (fs : List (List Raw)) (p n i : ℕ)
+    → Proper r → All Proper rs → All FieldOk fs → suc (length rs) + total fs ≤ room
     → walk room (spellF (r ∷ rs) ++ bars fs) p n i ≡ marksF p n i (r ∷ rs) ++ marksT (suc (p + length (spellF (r ∷ rs)))) (suc n) fs
 walk-from zero r rs fs p n i a b c h = absurd (omega arith)
 walk-from (suc room) r rs fs p n i a b c h =
     ap (λ (z : List ℕ). walk (suc room) z p n i) (append-assoc (spell r) (colons rs) (bars fs))
     ∙ walk-term room r (colons rs ++ bars fs) p n i a (no-digit rs fs)
-    ∙ ap (λ (l : List Mark). record { place = p; inField = n; index = i; raw = r } ∷ l) (go rs fs b c h (λ r′ rs′ fs′ p′ n′ i′ a′ b′ c′ h′. walk-from room r′ rs′ fs′ p′ n′ i′ a′ b′ c′ h′))
+    ∙ ap (λ (l : List Mark). record { place = p; inField = n; index = i; raw = r } ∷ l)
+    (go rs fs b c h (λ r′ rs′ fs′ p′ n′ i′ a′ b′ c′ h′. walk-from room r′ rs′ fs′ p′ n′ i′ a′ b′ c′ h′))
   where
     go : (rs : List Raw) (fs : List (List Raw)) → All Proper rs → All FieldOk fs → suc (length rs) + total fs ≤ suc room
         → ((r : Raw) (rs : List Raw) (fs : List (List Raw)) (p n i : ℕ) → Proper r → All Proper rs → All FieldOk fs → suc (length rs) + total fs ≤ room
         → walk room (spellF (r ∷ rs) ++ bars fs) p n i ≡ marksF p n i (r ∷ rs) ++ marksT (suc (p + length (spellF (r ∷ rs)))) (suc n) fs)
-        → walkOn (walk room) (p + length (spell r)) n i (colons rs ++ bars fs) ≡ marksF (suc (p + length (spell r))) n (suc i) rs ++ marksT (suc (p + length (spellF (r ∷ rs)))) (suc n) fs
+        → walkOn (walk room) (p + length (spell r)) n i (colons rs ++ bars fs)
+        ≡ marksF (suc (p + length (spell r))) n (suc i) rs ++ marksT (suc (p + length (spellF (r ∷ rs)))) (suc n) fs
     go [] [] b c h rec = refl
     go [] ([] ∷ fs) b c h rec = absurd (c .0 .0)
     go [] ((s ∷ ss) ∷ fs) b c h rec =
-        if-neg (ℕ-discrete 124 58) (λ e. omega arith) (walk room (spellF (s ∷ ss) ++ bars fs) (suc (p + length (spell r))) n (suc i)) (walk room (spellF (s ∷ ss) ++ bars fs) (suc (p + length (spell r))) (suc n) 1)
+        if-neg (ℕ-discrete 124 58) (λ e. omega arith) (walk room (spellF (s ∷ ss) ++ bars fs) (suc (p + length (spell r))) n (suc i))
+        (walk room (spellF (s ∷ ss) ++ bars fs) (suc (p + length (spell r))) (suc n) 1)
         ∙ rec s ss fs (suc (p + length (spell r))) (suc n) 1 (c .0 .1 .0) (c .0 .1 .1) (c .1) (omega arith)
         ∙ ap (λ (l : List ℕ). marksT (suc (p + length l)) (suc n) ((s ∷ ss) ∷ fs)) (sym (append-nil (spell r)))
     go (s ∷ ss) fs b c h rec =
-        if-pos (ℕ-discrete 58 58) refl (walk room (spellF (s ∷ ss) ++ bars fs) (suc (p + length (spell r))) n (suc i)) (walk room (spellF (s ∷ ss) ++ bars fs) (suc (p + length (spell r))) (suc n) 1)
+        if-pos (ℕ-discrete 58 58) refl (walk room (spellF (s ∷ ss) ++ bars fs) (suc (p + length (spell r))) n (suc i))
+        (walk room (spellF (s ∷ ss) ++ bars fs) (suc (p + length (spell r))) (suc n) 1)
         ∙ rec s ss fs (suc (p + length (spell r))) n (suc i) (b .0) (b .1) c (omega arith)
-        ∙ ap (λ (m : ℕ). marksF (suc (p + length (spell r))) n (suc i) (s ∷ ss) ++ marksT (suc m) (suc n) fs) (omega (arith, length-append (spell r) (colons (s ∷ ss))))
+        ∙ ap (λ (m : ℕ). marksF (suc (p + length (spell r))) n (suc i) (s ∷ ss) ++ marksT (suc m) (suc n) fs)
+        (omega (arith, length-append (spell r) (colons (s ∷ ss))))
 
 pub walk-is : (x : List (List Raw)) (room : ℕ) → TextOk x → total x ≤ room → walk room (spellT x) 0 1 1 ≡ marks x
 walk-is [] room ok h = absurd (ok .0)

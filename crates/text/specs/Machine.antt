@@ -1,14 +1,40 @@
--- The grammar as a state machine that parses: what each byte does to the state and to the answer. Executable; `parse-iff` and `place2-is` of proofs/ say that it is right.
+-- The grammar as a state machine that parses: what each byte does to the state and to the answer.
+-- Executable; `parse-iff` and `place2-is` of proofs/ say that it is right.
 use mathlib.Core.Path.{_≡_}
 use mathlib.Core.Logic.{ite}
 use mathlib.Core.Option.{Option, none, some, Option·map}
 use mathlib.Core.List.{List, [], _∷_}
 use Prim.Native.Nat.{ℕ, suc}
 use native.Mathlib.Decide.{ℕ-discrete}
-use Rattle.text.specs.Bytes.{Begins, b-digit, b-quote, b-letter, b-e, b-none, begins, Follows, f-digit, f-colon, f-bar, f-none, follows, First, n-zero, n-more, n-none, first, Holds, h-quote, h-in, h-none, holds}
+use Rattle.text.specs.Bytes.{
+  Begins,
+  b-digit,
+  b-quote,
+  b-letter,
+  b-e,
+  b-none,
+  begins,
+  Follows,
+  f-digit,
+  f-colon,
+  f-bar,
+  f-none,
+  follows,
+  First,
+  n-zero,
+  n-more,
+  n-none,
+  first,
+  Holds,
+  h-quote,
+  h-in,
+  h-none,
+  holds,
+}
 use Rattle.text.specs.Grammar.{Raw, raw-int, raw-str, raw-var, raw-empty}
 
--- before a term; in an integer's or a variable's digits; before a variable's number; behind a term; in a string; in `empty`, with the bytes that must come
+-- before a term; in an integer's or a variable's digits; before a variable's number; behind a term; in a string;
+-- in `empty`, with the bytes that must come
 pub data State : Type 0 where
   after : State
   digits : State

@@ -1,4 +1,5 @@
--- Plain text: document 01, "Writing a rule gives its one plain text: no `empty` unless the field has no terms, integers without leading zeros".
+-- Plain text: document 01, "Writing a rule gives its one plain text: no `empty` unless the field has no terms,
+-- integers without leading zeros".
 use mathlib.Core.List.{List, [], _∷_, map}
 use Prim.Native.Nat.{ℕ}
 use Rattle.lists.specs.Seqs.{All, IsCons}

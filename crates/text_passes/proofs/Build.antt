@@ -80,7 +80,8 @@ module _ {F R : Type 0} (encF : List OurTerm → F) (encR : List (List OurTerm) 
   more : (rs : List Raw) (p n i : ℕ) (b : R × F) → foldl (put blank add push) b (marksF p n (suc (suc i)) rs) ≡ (b .0, foldl add (b .1) rs)
   more [] p n i b = refl
   more (r ∷ rs) p n i b =
-      ap (λ (c : Bool). foldl (put blank add push) (turned blank add push c b .0, add (turned blank add push c b .1) r) (marksF (suc (p + length (spell r))) n (suc (suc (suc i))) rs)) (turns-not n (suc (suc i)) (λ e. omega arith))
+      ap (λ (c : Bool). foldl (put blank add push) (turned blank add push c b .0, add (turned blank add push c b .1) r)
+      (marksF (suc (p + length (spell r))) n (suc (suc (suc i))) rs)) (turns-not n (suc (suc i)) (λ e. omega arith))
       ∙ more rs (suc (p + length (spell r))) n (suc i) (b .0, add (b .1) r)
 
   turns-yes : (n : ℕ) → turns (suc (suc n)) 1 ≡ true
@@ -96,7 +97,8 @@ module _ {F R : Type 0} (encF : List OurTerm → F) (encR : List (List OurTerm) 
       let field = r ∷ rs in
       ap (whole blank add push) (foldl-append (put blank add push) (encR done, encF cur) (marksF p (suc (suc n)) 1 field) (marksT q (suc (suc (suc n))) fs)
       ∙ ap (λ (b : R × F). foldl (put blank add push) b (marksT q (suc (suc (suc n))) fs))
-      (ap (λ (c : Bool). foldl (put blank add push) (turned blank add push c (encR done, encF cur) .0, add (turned blank add push c (encR done, encF cur) .1) r) (marksF (suc (p + length (spell r))) (suc (suc n)) 2 rs)) (turns-yes n)
+      (ap (λ (c : Bool). foldl (put blank add push) (turned blank add push c (encR done, encF cur) .0, add (turned blank add push c (encR done, encF cur) .1) r)
+      (marksF (suc (p + length (spell r))) (suc (suc n)) 2 rs)) (turns-yes n)
       ∙ more rs (suc (p + length (spell r))) (suc (suc n)) 0 (push (encR done) (encF cur), add blank r)
       ∙ ap₂ (λ (a : R) (c : F). (a, c)) (push-is done cur (omega arith))
       (ap (λ (f : F). foldl add f field) (sym blank-is) ∙ adds encF add w add-is field [] (o .0 .0) (omega (arith, o .0 .1)))))
@@ -125,7 +127,8 @@ module _ {F R : Type 0} (blank : F) (add : F → Raw → F) (push : R → F → 
   pub turned-no : (c : Bool) (b : R × F) (r : R) (f : F) → c ≡ false → r ≡ b .0 → f ≡ b .1 → (r, f) ≡ turned blank add push c b
   turned-no c b r f e p q = ap₂ (λ (x : R) (y : F). (x, y)) p q ∙ ap (λ (d : Bool). turned blank add push d b) (sym e)
 
-  pub put-is : (b j : R × F) (m : Mark) (g : F) → j ≡ turned blank add push (turns (m .inField) (m .index)) b → g ≡ add (j .1) (m .raw) → (j .0, g) ≡ put blank add push b m
+  pub put-is : (b j : R × F) (m : Mark) (g : F) → j ≡ turned blank add push (turns (m .inField) (m .index)) b
+      → g ≡ add (j .1) (m .raw) → (j .0, g) ≡ put blank add push b m
   put-is b j m g e q = ap (λ (y : F). (j .0, y)) q ∙ ap (λ (i : R × F). (i .0, add (i .1) (m .raw))) e
 
 -- ---- the two instances
@@ -143,22 +146,32 @@ module _ (w : ℕ) (ts : List OurTerm) (h : length ts < w) where
   with t = (length ts + 1, set (pad w blankTerm (map encodeTerm ts)) (length ts) t)
 
   with-one : (u : OurTerm) (t : Term) → t ≡ encodeTerm u → with t ≡ held (ts ++ u ∷ [])
-  with-one u t e = ap₂ (λ (n : ℕ) (l : List Term). (n, l)) (counted encodeTerm blankTerm w ts u h) (ap (set (pad w blankTerm (map encodeTerm ts)) (length ts)) e ∙ stored encodeTerm blankTerm w ts u h)
+  with-one u t e =
+      ap₂ (λ (n : ℕ) (l : List Term). (n, l)) (counted encodeTerm blankTerm w ts u h)
+      (ap (set (pad w blankTerm (map encodeTerm ts)) (length ts)) e ∙ stored encodeTerm blankTerm w ts u h)
 
   -- the field that has them, over any record of a count and places
   module _ {F : Type 0} (make : Held → F) (add : F → Raw → F)
       (add-empty : add (make (held ts)) raw-empty ≡ make (held ts))
       (add-other : (r : Raw) → isEmpty r ≡ false → add (make (held ts)) r ≡ make (with (termFrom r))) where
     pub adds-one : (r : Raw) → (Over r → ⊥) → add (make (held ts)) r ≡ make (held (ts ++ termOf r))
-    adds-one (raw-int ds) o = add-other (raw-int ds) refl ∙ ap make (with-one _ (termFrom (raw-int ds)) (ap (λ (n : ℕ). record { form = Int n; text = replicate longestString 0 }) (int-is (value ds) (fits (λ k. o (inr k))))))
+    adds-one (raw-int ds) o =
+        add-other (raw-int ds) refl
+        ∙ ap make (with-one _ (termFrom (raw-int ds))
+        (ap (λ (n : ℕ). record { form = Int n; text = replicate longestString 0 }) (int-is (value ds) (fits (λ k. o (inr k))))))
       where
         fits : (largestInteger < value ds → ⊥) → value ds ≤ largestInteger
         fits k = omega arith
     adds-one (raw-str s) o =
         let l : length s ≤ longestString = omega arith in
         let e : min (length s) longestString ≡ length s = omega arith in
-        add-other (raw-str s) refl ∙ ap make (with-one _ (termFrom (raw-str s)) (ap₂ (λ (n : ℕ) (z : List ℕ). record { form = Str n; text = pad longestString 0 z }) e (take-all longestString s l)))
-    adds-one (raw-var k ds) o = add-other (raw-var k ds) refl ∙ ap make (with-one _ (termFrom (raw-var k ds)) (ap (λ (n : ℕ). record { form = Var (kindFrom k) n; text = replicate longestString 0 }) (var-is (value ds) (omega arith))))
+        add-other (raw-str s) refl
+        ∙ ap make (with-one _ (termFrom (raw-str s))
+        (ap₂ (λ (n : ℕ) (z : List ℕ). record { form = Str n; text = pad longestString 0 z }) e (take-all longestString s l)))
+    adds-one (raw-var k ds) o =
+        add-other (raw-var k ds) refl
+        ∙ ap make (with-one _ (termFrom (raw-var k ds))
+        (ap (λ (n : ℕ). record { form = Var (kindFrom k) n; text = replicate longestString 0 }) (var-is (value ds) (omega arith))))
     adds-one raw-empty o = add-empty ∙ ap (λ (us : List OurTerm). make (held us)) (sym (append-nil ts))
 
 abbrev ruleField : ℕ × List Term → Field
@@ -173,7 +186,8 @@ add-rule ts r o h = adds-one (rule .width) ts h ruleField addRaw refl other r o
 push-rule : (fs : List (List OurTerm)) (f : List OurTerm) → length fs < mostFields → pushField (encodeSide fs) (encodeField f) ≡ encodeSide (fs ++ f ∷ [])
 push-rule fs f h =
     rw (lt-ltb (length fs) mostFields h)
-    (ap₂ (λ (n : ℕ) (l : List Field). record { n = n; fields = l }) (counted encodeField blankField mostFields fs f h) (stored encodeField blankField mostFields fs f h))
+    (ap₂ (λ (n : ℕ) (l : List Field). record { n = n; fields = l }) (counted encodeField blankField mostFields fs f h)
+    (stored encodeField blankField mostFields fs f h))
 
 abbrev slipField : ℕ × List Term → SlipField
 slipField h = record { n = h .0; terms = h .1 }
@@ -184,10 +198,12 @@ add-slip ts r o h = adds-one (slip .width) ts h slipField addItem refl other r o
     other : (r : Raw) → isEmpty r ≡ false → addItem (encodeSlipField ts) r ≡ slipField (with (slip .width) ts h (termFrom r))
     other r e = rw (e, lt-ltb (length ts) (slip .width) h)
 
-push-slip : (fs : List (List OurTerm)) (f : List OurTerm) → length fs < mostFields → pushSlipField (encodeSlip fs) (encodeSlipField f) ≡ encodeSlip (fs ++ f ∷ [])
+push-slip : (fs : List (List OurTerm)) (f : List OurTerm) → length fs < mostFields
+    → pushSlipField (encodeSlip fs) (encodeSlipField f) ≡ encodeSlip (fs ++ f ∷ [])
 push-slip fs f h =
     rw (lt-ltb (length fs) mostFields h)
-    (ap₂ (λ (n : ℕ) (l : List SlipField). record { n = n; fields = l }) (counted encodeSlipField blankSlipField mostFields fs f h) (stored encodeSlipField blankSlipField mostFields fs f h))
+    (ap₂ (λ (n : ℕ) (l : List SlipField). record { n = n; fields = l }) (counted encodeSlipField blankSlipField mostFields fs f h)
+    (stored encodeSlipField blankSlipField mostFields fs f h))
 
 -- no term is over its limits, no field too wide, and there are not too many
 abbrev pub Fits : ℕ → List (List Raw) → Type 0

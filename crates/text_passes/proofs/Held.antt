@@ -126,11 +126,14 @@ module _ {M : Type 1} (𝓤 : URA M) (H : Heap 𝓤) (A : Atoms 𝓤) (W : Given
     -- a reader is made of its text, and taken apart
     pub held : (s : RefT (List ℕ)) (a : At) → At-is a → ent 𝓤 (sem 𝓤 H A (Text κ s)) (sem 𝓤 H A (B (κ, tt) .own (reader s a) (mach (reader s a) ∷ [])))
     held s a is =
-        qed W (‵ (Text κ s) ∷ []) ∵ nothing ! $ owned ! P.the-row (Is P.the-row) (LL.makes P.the-type P′.the-plain 𝓤 H A) a _ is $ fjoin ! $ move ! (1 ∷ 0 ∷ []) $ fjoin ! $
+        qed W (‵ (Text κ s) ∷ []) ∵ nothing ! $ owned ! P.the-row (Is P.the-row) (LL.makes P.the-type P′.the-plain 𝓤 H A) a _ is $
+        fjoin ! $ move ! (1 ∷ 0 ∷ []) $ fjoin ! $
         by ! (own-shut 𝓤 H A W (D (κ, tt)) (F (κ, tt)) (s, (a, tt)))
 
     pub text-of : (r : Reader) → ent 𝓤 (sem 𝓤 H A (B (κ, tt) .own r (mach r ∷ []))) (sem 𝓤 H A (Text κ (r .text)))
     text-of r =
         let parts : Values (D (κ, tt) .parts) = (r .text, (r .at, tt)) in
-        qed W (‵ (B (κ, tt) .own r (mach r ∷ [])) ∷ []) ∵ use1 W (given (mach r ∷ [] ≡ mach r ∷ []) (‵ (all-own (D (κ, tt) .parts) (F (κ, tt)) parts))) (own-open 𝓤 H A W (D (κ, tt)) (F (κ, tt)) parts (mach r)) $ learn ! (λ _.
-        use1 W (‵ (ownAt (D (κ, tt) .parts) (F (κ, tt)) 0 (r .text)) ⊛ ‵ (rest (D (κ, tt) .parts) (F (κ, tt)) 0 parts)) (own-out 𝓤 H A W (D (κ, tt) .parts) (F (κ, tt)) 0 parts) $ split ! $ move ! (1 ∷ []) $ drop ! $ done !)
+        qed W (‵ (B (κ, tt) .own r (mach r ∷ [])) ∷ []) ∵ use1 W (given (mach r ∷ [] ≡ mach r ∷ []) (‵ (all-own (D (κ, tt) .parts) (F (κ, tt)) parts)))
+        (own-open 𝓤 H A W (D (κ, tt)) (F (κ, tt)) parts (mach r)) $ learn ! (λ _.
+        use1 W (‵ (ownAt (D (κ, tt) .parts) (F (κ, tt)) 0 (r .text)) ⊛ ‵ (rest (D (κ, tt) .parts) (F (κ, tt)) 0 parts))
+        (own-out 𝓤 H A W (D (κ, tt) .parts) (F (κ, tt)) 0 parts) $ split ! $ move ! (1 ∷ []) $ drop ! $ done !)

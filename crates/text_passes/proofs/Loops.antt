@@ -16,7 +16,10 @@ use Rattle.text_passes.proofs.Places.{spelled-is, size-fits, marks-none
 pub behind-place : (t : List ℕ) (a : At) (e : ℕ) → (behind t a e) .place ≡ e + 1
 behind-place t a e = go (colonAt t e)
   where
-    go : (c : Bool) → (cond {A = At} c (record { place = e + 1; field = a .field; index = a .index + 1 }) (record { place = e + 1; field = a .field + 1; index = 1 })) .place ≡ e + 1
+    go : (c : Bool)
+        → (cond {A = At} c (record { place = e + 1; field = a .field; index = a .index + 1 })
+        (record { place = e + 1; field = a .field + 1; index = 1 })) .place
+        ≡ e + 1
     go true = refl
     go false = refl
 
@@ -27,7 +30,8 @@ Low a = (a .field ≤ a .place + 1) × (a .index ≤ a .place + 1)
 behind-low : (t : List ℕ) (a : At) (e : ℕ) → a .place ≤ e → Low a → Low (behind t a e)
 behind-low t a e h l = go (colonAt t e)
   where
-    go : (c : Bool) → Low (cond {A = At} c (record { place = e + 1; field = a .field; index = a .index + 1 }) (record { place = e + 1; field = a .field + 1; index = 1 }))
+    go : (c : Bool)
+        → Low (cond {A = At} c (record { place = e + 1; field = a .field; index = a .index + 1 }) (record { place = e + 1; field = a .field + 1; index = 1 }))
     go true = (omega (arith, l .0), omega (arith, l .1))
     go false = (omega (arith, l .0), omega arith)
 
@@ -62,12 +66,15 @@ module _ {S : Type 0} (f : S → Mark → S) (t : List ℕ) (x₀ : S) where
   pub walked-none : Walked first x₀
   walked-none = let z : length t ≡ length t - 0 = omega arith in ((omega arith, omega arith), ap (λ (k : ℕ). foldl f x₀ (walk k t 0 1 1)) z)
 
-  pub walked-one : (a : At) (x : S) (p : Piece) (x′ : S) (a′ : At) → Walked a x → a .place < length t → p ≡ pieceOf (termAt t a) → x′ ≡ f x (markAt a (termAt t a)) → a′ ≡ behind t a (a .place + spelled p)
+  pub walked-one : (a : At) (x : S) (p : Piece) (x′ : S) (a′ : At) → Walked a x → a .place < length t
+      → p ≡ pieceOf (termAt t a) → x′ ≡ f x (markAt a (termAt t a)) → a′ ≡ behind t a (a .place + spelled p)
       → Walked a′ x′
   walked-one a x p x′ a′ v h is-p is-x is-a =
       subst (λ (b : At). Walked b x′) (sym is-a) (
         behind-low t a (a .place + spelled p) (omega arith) (v .0),
-        v .1 ∙ ap (foldl f x) (marks-step t a h) ∙ ap₂ (λ (y : S) (e : ℕ). foldl f y (marksFrom t (behind t a (a .place + e)))) (sym is-x) (sym (spelled-is (termAt t a)) ∙ ap spelled (sym is-p)),
+        v .1
+            ∙ ap (foldl f x) (marks-step t a h)
+            ∙ ap₂ (λ (y : S) (e : ℕ). foldl f y (marksFrom t (behind t a (a .place + e)))) (sym is-x) (sym (spelled-is (termAt t a)) ∙ ap spelled (sym is-p)),
       )
 
   pub walked-all : (a : At) (x : S) → Walked a x → length t ≤ a .place → x ≡ foldl f x₀ (walked t)

@@ -42,15 +42,20 @@ spelled-small p = go (p .what) (p .size)
 
 -- the two ways behind a term, as code takes them: n is its length, b says whether a `:` follows
 behind-by : (t : List ℕ) (a : At) (n m : ℕ) (b c : Bool) → n ≡ m → b ≡ colonAt t (a .place + n) → b ≡ c
-    → cond c (record { place = a .place + n + 1; field = a .field; index = a .index + 1 }) (record { place = a .place + n + 1; field = a .field + 1; index = 1 }) ≡ behind t a (a .place + m)
+    → cond c (record { place = a .place + n + 1; field = a .field; index = a .index + 1 })
+    (record { place = a .place + n + 1; field = a .field + 1; index = 1 })
+    ≡ behind t a (a .place + m)
 behind-by t a n m b c e q r =
-    ap (λ (d : Bool). cond d (record { place = a .place + n + 1; field = a .field; index = a .index + 1 }) (record { place = a .place + n + 1; field = a .field + 1; index = 1 })) (sym r ∙ q)
+    ap (λ (d : Bool). cond d (record { place = a .place + n + 1; field = a .field; index = a .index + 1 })
+    (record { place = a .place + n + 1; field = a .field + 1; index = 1 })) (sym r ∙ q)
     ∙ ap (λ (k : ℕ). behind t a (a .place + k)) e
 
-pub behind-yes : (t : List ℕ) (a : At) (n m : ℕ) (b : Bool) → n ≡ m → b ≡ colonAt t (a .place + n) → b ≡ true → record { place = a .place + n + 1; field = a .field; index = a .index + 1 } ≡ behind t a (a .place + m)
+pub behind-yes : (t : List ℕ) (a : At) (n m : ℕ) (b : Bool) → n ≡ m → b ≡ colonAt t (a .place + n) → b ≡ true
+    → record { place = a .place + n + 1; field = a .field; index = a .index + 1 } ≡ behind t a (a .place + m)
 behind-yes t a n m b = behind-by t a n m b true
 
-pub behind-no : (t : List ℕ) (a : At) (n m : ℕ) (b : Bool) → n ≡ m → b ≡ colonAt t (a .place + n) → b ≡ false → record { place = a .place + n + 1; field = a .field + 1; index = 1 } ≡ behind t a (a .place + m)
+pub behind-no : (t : List ℕ) (a : At) (n m : ℕ) (b : Bool) → n ≡ m → b ≡ colonAt t (a .place + n) → b ≡ false
+    → record { place = a .place + n + 1; field = a .field + 1; index = 1 } ≡ behind t a (a .place + m)
 behind-no t a n m b = behind-by t a n m b false
 
 -- a piece is no longer than the text it stands in
@@ -129,28 +134,36 @@ module _ (t : List ℕ) where
       from b q =
           let p : suc e ≡ b .place = omega arith in
           ap (λ (k : ℕ). walk room (drop k t) k (b .field) (b .index)) p
-          ∙ walk-room room (length t - b .place) (drop (b .place) t) (b .place) (b .field) (b .index) (omega (arith, length-drop (b .place) t)) (omega (arith, length-drop (b .place) t))
+          ∙ walk-room room (length t - b .place) (drop (b .place) t) (b .place) (b .field) (b .index) (omega (arith, length-drop (b .place) t))
+          (omega (arith, length-drop (b .place) t))
 
       go : Dec (e < length t) → walkOn (walk room) e n i (drop e t) ≡ marksFrom t (behind t a e)
       go (no k) =
           rw (drop-of-length-le t {i = e} (omega arith))
-          (sym (ap (λ (c : Bool). marksFrom t (cond (c && eqb (getD t e 0) 58) (record { place = e + 1; field = n; index = i + 1 }) (record { place = e + 1; field = n + 1; index = 1 }))) (le-ltb e (length t) (omega arith))
+          (sym (ap (λ (c : Bool). marksFrom t (cond (c && eqb (getD t e 0) 58) (record { place = e + 1; field = n; index = i + 1 })
+          (record { place = e + 1; field = n + 1; index = 1 }))) (le-ltb e (length t) (omega arith))
           ∙ marks-none (record { place = e + 1; field = n + 1; index = 1 }) (omega arith)))
       go (yes k) =
           ap (walkOn (walk room) e n i) (drop-cons t e 0 k)
           ∙ choose (ℕ-discrete (getD t e 0) 58)
-          ∙ sym (ap (λ (c : Bool). marksFrom t (cond (c && eqb (getD t e 0) 58) (record { place = e + 1; field = n; index = i + 1 }) (record { place = e + 1; field = n + 1; index = 1 }))) (lt-ltb e (length t) k))
+          ∙ sym (ap (λ (c : Bool). marksFrom t (cond (c && eqb (getD t e 0) 58) (record { place = e + 1; field = n; index = i + 1 })
+          (record { place = e + 1; field = n + 1; index = 1 }))) (lt-ltb e (length t) k))
         where
           choose : (d : Dec (getD t e 0 ≡ 58)) → ite d (walk room (drop (suc e) t) (suc e) n (suc i)) (walk room (drop (suc e) t) (suc e) (suc n) 1)
-              ≡ marksFrom t (cond (eqb (getD t e 0) 58) (record { place = e + 1; field = n; index = i + 1 }) (record { place = e + 1; field = n + 1; index = 1 }))
+              ≡ marksFrom t
+              (cond (eqb (getD t e 0) 58) (record { place = e + 1; field = n; index = i + 1 }) (record { place = e + 1; field = n + 1; index = 1 }))
           choose (yes q) =
               ap (λ (k : ℕ). walk room (drop (suc e) t) (suc e) n k) (sym (add-one i))
               ∙ from (record { place = e + 1; field = n; index = i + 1 }) refl
-              ∙ ap (λ (c : Bool). marksFrom t (cond c (record { place = e + 1; field = n; index = i + 1 }) (record { place = e + 1; field = n + 1; index = 1 }))) (sym (eq-eqb (getD t e 0) 58 q))
+              ∙ ap (λ (c : Bool).
+              marksFrom t (cond c (record { place = e + 1; field = n; index = i + 1 }) (record { place = e + 1; field = n + 1; index = 1 })))
+              (sym (eq-eqb (getD t e 0) 58 q))
           choose (no q) =
               ap (λ (k : ℕ). walk room (drop (suc e) t) (suc e) k 1) (sym (add-one n))
               ∙ from (record { place = e + 1; field = n + 1; index = 1 }) refl
-              ∙ ap (λ (c : Bool). marksFrom t (cond c (record { place = e + 1; field = n; index = i + 1 }) (record { place = e + 1; field = n + 1; index = 1 }))) (sym (ne-eqb (getD t e 0) 58 q))
+              ∙ ap (λ (c : Bool).
+              marksFrom t (cond c (record { place = e + 1; field = n; index = i + 1 }) (record { place = e + 1; field = n + 1; index = 1 })))
+              (sym (ne-eqb (getD t e 0) 58 q))
 
   -- A STEP: the term that stands here, then those behind it
   pub marks-step : (a : At) → a .place < length t → marksFrom t a ≡ markAt a (termAt t a) ∷ marksFrom t (behind t a (a .place + length (spell (termAt t a))))

@@ -34,7 +34,9 @@ colonAt t e = ltb e (length t) && eqb (getD t e 0) 58
 
 -- behind a term that ends at e: the next of the field behind `:`, else the first of the next field
 abbrev pub behind : List ℕ → At → ℕ → At
-behind t a e = cond (colonAt t e) (record { place = e + 1; field = a .field; index = a .index + 1 }) (record { place = e + 1; field = a .field + 1; index = 1 })
+behind t a e =
+    cond (colonAt t e) (record { place = e + 1; field = a .field; index = a .index + 1 })
+    (record { place = e + 1; field = a .field + 1; index = 1 })
 
 abbrev pub markAt : At → Raw → Mark
 markAt a r = record { place = a .place; inField = a .field; index = a .index; raw = r }

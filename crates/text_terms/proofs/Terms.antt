@@ -36,7 +36,8 @@ term-int p (raw-str s) e h = let q = what-of p (raw-str s) Int e h in never 0 (c
 term-int p (raw-var k ds) e h = let q = what-of p (raw-var k ds) Int e h in never 0 (cc)
 term-int p raw-empty e h = let q = what-of p raw-empty Int e h in never 0 (cc)
 
-pub term-var : (p : Piece) (r : Raw) (k : Kind) → p ≡ pieceOf r → p .what ≡ Var k → record { form = form.Var k (p .value % 256); text = replicate longestString 0 } ≡ termFrom r
+pub term-var : (p : Piece) (r : Raw) (k : Kind) → p ≡ pieceOf r → p .what ≡ Var k
+    → record { form = form.Var k (p .value % 256); text = replicate longestString 0 } ≡ termFrom r
 term-var p (raw-int ds) k e h = let q = what-of p (raw-int ds) (Var k) e h in never 0 (cc)
 term-var p (raw-str s) k e h = let q = what-of p (raw-str s) (Var k) e h in never 0 (cc)
 term-var p (raw-var j ds) k e h =
@@ -57,7 +58,8 @@ until-take z zero h = refl
 until-take [] (suc n) h = refl
 until-take (b ∷ z) (suc n) h = go (ℕ-discrete b 34) h (until-take z n)
   where
-    go : (d : Dec (b ≡ 34)) → suc n ≤ length (quote1 d b (untilQuote z)) → (n ≤ length (untilQuote z) → take n z ≡ take n (untilQuote z)) → b ∷ take n z ≡ take (suc n) (quote1 d b (untilQuote z))
+    go : (d : Dec (b ≡ 34)) → suc n ≤ length (quote1 d b (untilQuote z))
+        → (n ≤ length (untilQuote z) → take n z ≡ take n (untilQuote z)) → b ∷ take n z ≡ take (suc n) (quote1 d b (untilQuote z))
     go (yes e) k rec = absurd (omega arith)
     go (no e) k rec = ap (λ (l : List ℕ). b ∷ l) (rec (omega arith))
 
@@ -68,7 +70,8 @@ take-least s w = go (ℕ-discrete (min (length s) w) w)
     go (yes e) = ap (λ (n : ℕ). take n s) e
     go (no n) = take-all (min (length s) w) s (omega arith) ∙ sym (take-all w s (omega arith))
 
-string-is : (b : ℕ) (z : List ℕ) (c : Begins b) (p : Piece) (n : ℕ) (bytes : List ℕ) → p ≡ pieceOf (frontB b z c) → p .what ≡ Str → n ≡ min (p .size) longestString → bytes ≡ pad longestString 0 (take n z)
+string-is : (b : ℕ) (z : List ℕ) (c : Begins b) (p : Piece) (n : ℕ) (bytes : List ℕ) → p ≡ pieceOf (frontB b z c)
+    → p .what ≡ Str → n ≡ min (p .size) longestString → bytes ≡ pad longestString 0 (take n z)
     → record { form = form.Str n; text = bytes } ≡ termFrom (frontB b z c)
 string-is b z (b-digit h) p n bytes e w k q = let x = what-of p (raw-int (b ∷ leadingDigits z)) Str e w in never 0 (cc)
 string-is b z (b-quote h) p n bytes e w k q =
@@ -76,16 +79,20 @@ string-is b z (b-quote h) p n bytes e w k q =
     let size : p .size ≡ length s = ap (λ (x : Piece). x .size) e in
     let m : n ≡ min (length s) longestString = k ∙ ap (λ (i : ℕ). min i longestString) size in
     ap₂ (λ (x : ℕ) (y : List ℕ). record { form = form.Str x; text = y }) m
-    (q ∙ ap (λ (x : ℕ). pad longestString 0 (take x z)) m ∙ ap (pad longestString 0) (until-take z (min (length s) longestString) (omega arith) ∙ take-least s longestString))
+    (q
+    ∙ ap (λ (x : ℕ). pad longestString 0 (take x z)) m
+    ∙ ap (pad longestString 0) (until-take z (min (length s) longestString) (omega arith) ∙ take-least s longestString))
 string-is b z (b-letter j h) p n bytes e w k q = let x = what-of p (raw-var j (leadingDigits z)) Str e w in never 0 (cc)
 string-is b z (b-e h) p n bytes e w k q = let x = what-of p raw-empty Str e w in never 0 (cc)
 string-is b z (b-none d x l y) p n bytes e w k q = let x = what-of p raw-empty Str e w in never 0 (cc)
 
-pub term-str : (t : List ℕ) (place : ℕ) (p : Piece) (n : ℕ) (bytes : List ℕ) → place < length t → p ≡ pieceOf (front (drop place t)) → p .what ≡ Str → n ≡ min (p .size) longestString
+pub term-str : (t : List ℕ) (place : ℕ) (p : Piece) (n : ℕ) (bytes : List ℕ) → place < length t
+    → p ≡ pieceOf (front (drop place t)) → p .what ≡ Str → n ≡ min (p .size) longestString
     → bytes ≡ pad longestString 0 (take n (drop (place + 1) t)) → record { form = form.Str n; text = bytes } ≡ termFrom (front (drop place t))
 term-str t place p n bytes h e w k q = go (getD t place 0) (drop place t) (drop-cons t place 0 h) e
   where
     go : (b : ℕ) (y : List ℕ) → y ≡ b ∷ drop (suc place) t → p ≡ pieceOf (front y) → record { form = form.Str n; text = bytes } ≡ termFrom (front y)
     go b y s e′ =
-        string-is b (drop (suc place) t) (begins b) p n bytes (e′ ∙ ap (λ (l : List ℕ). pieceOf (front l)) s) w k (q ∙ ap (λ (i : ℕ). pad longestString 0 (take n (drop i t))) (add-one place))
+        string-is b (drop (suc place) t) (begins b) p n bytes (e′ ∙ ap (λ (l : List ℕ). pieceOf (front l)) s) w k
+        (q ∙ ap (λ (i : ℕ). pad longestString 0 (take n (drop i t))) (add-one place))
         ∙ ap (λ (l : List ℕ). termFrom (front l)) (sym s)

@@ -18,6 +18,8 @@ module _ {C K A : Type 0} where
   fill-agree φ ψ (var k a ∷ f) h = ap₂ (λ (v w : List C). v ++ w) (h k a (inl (refl, refl))) (fill-agree φ ψ f (λ j b i. h j b (inr i)))
 
   -- the same of a rule
-  pub fills-agree : (φ ψ : Filling C K A) (r : List (List (Term C K A))) → ((k : K) (a : A) → Any (Occurs k a) r → φ k a ≡ ψ k a) → map (fill φ) r ≡ map (fill ψ) r
+  pub fills-agree : (φ ψ : Filling C K A) (r : List (List (Term C K A)))
+      → ((k : K) (a : A) → Any (Occurs k a) r → φ k a ≡ ψ k a) → map (fill φ) r ≡ map (fill ψ) r
   fills-agree φ ψ [] h = refl
-  fills-agree φ ψ (f ∷ r) h = ap₂ (λ (w : List C) (s : List (List C)). w ∷ s) (fill-agree φ ψ f (λ k a i. h k a (inl i))) (fills-agree φ ψ r (λ k a i. h k a (inr i)))
+  fills-agree φ ψ (f ∷ r) h =
+      ap₂ (λ (w : List C) (s : List (List C)). w ∷ s) (fill-agree φ ψ f (λ k a i. h k a (inl i))) (fills-agree φ ψ r (λ k a i. h k a (inr i)))

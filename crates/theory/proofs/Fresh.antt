@@ -43,7 +43,8 @@ module _ {C K A : Type 0} where
       from (inl (inr i)) = inl i
       from (inr i) = inr (inr i)
 
-  pub all-occurs : (k : K) (a : A) (r : List (List (Term C K A))) (done : List (Term C K A)) → Occurs k a (onto-all r done) ↔ (Any (Occurs k a) r ⊎ Occurs k a done)
+  pub all-occurs : (k : K) (a : A) (r : List (List (Term C K A))) (done : List (Term C K A))
+      → Occurs k a (onto-all r done) ↔ (Any (Occurs k a) r ⊎ Occurs k a done)
   all-occurs k a [] done = (inr, λ i. last i)
     where
       last : ⊥ ⊎ Occurs k a done → Occurs k a done
@@ -91,13 +92,15 @@ module _ {C K A : Type 0} where
       none-here : {a : A} → Occurs list a (var (basic k) b ∷ done) → Occurs list a done
       none-here (inl e) = absurd (list≢basic (e .0))
       none-here (inr i) = i
-  fresh (var list b ∷ f) names done d h = let r = fresh f names (var list b ∷ done) (d .1) (λ a i o. apart a i o) in ((h b (List·Memᴰ·head refl), r .0), r .1, r .2)
+  fresh (var list b ∷ f) names done d h =
+      let r = fresh f names (var list b ∷ done) (d .1) (λ a i o. apart a i o) in ((h b (List·Memᴰ·head refl), r .0), r .1, r .2)
     where
       apart : (a : A) → List·Memᴰ a (lists f ++ names) → Occurs list a (var list b ∷ done) → ⊥
       apart a i (inl e) = d .0 (Memᴰ·cast (sym (e .1)) i)
       apart a i (inr o) = h a (List·Memᴰ·tail i) o
 
-  fresh-all : (r : List (List (Term C (Full K) A))) (done : List (Term C (Full K) A)) → Distinct (concat-map lists r) → Apart (concat-map lists r) done → FreshAll r done
+  fresh-all : (r : List (List (Term C (Full K) A))) (done : List (Term C (Full K) A))
+      → Distinct (concat-map lists r) → Apart (concat-map lists r) done → FreshAll r done
   fresh-all [] done d h = tt
   fresh-all (f ∷ r) done d h = let q = fresh f (concat-map lists r) done d h in (q .0, fresh-all r (onto f done) (q .1) (q .2))
 

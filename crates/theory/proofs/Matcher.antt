@@ -25,11 +25,13 @@ module _ (O : Order) (C : Consts O) {A : Type 0} (name-eq : Discrete A) where
   open Consts C using (Con)
 
   -- ---- the tests of a field, and of a rule
-  walk-out : (gap : ℕ) (w : List Con) (f : List (TermOver O C A)) (p : ℕ) (done : List (TermOver O C A)) (φ : FillingOver O C A) → Good O C done φ → Fresh f done
+  walk-out : (gap : ℕ) (w : List Con) (f : List (TermOver O C A)) (p : ℕ) (done : List (TermOver O C A)) (φ : FillingOver O C A)
+      → Good O C done φ → Fresh f done
       → Out O C done (onto f done) φ (λ θ. Slices θ gap w f p) (walk O C name-eq gap w f p φ)
   walk-out gap w [] p done φ g n = (g, λ θ t. (λ x. x .0, λ a. (a, tt)))
   walk-out gap w (t ∷ f) p done φ g n = out-then O C done (t ∷ done) (onto f (t ∷ done)) φ
-      (λ θ. value θ t ≡ take (width gap t) (drop p w)) (λ θ. Slices θ gap w f (p + width gap t)) (test O C name-eq gap w p t φ) (λ ψ. walk O C name-eq gap w f (p + width gap t) ψ)
+      (λ θ. value θ t ≡ take (width gap t) (drop p w)) (λ θ. Slices θ gap w f (p + width gap t)) (test O C name-eq gap w p t φ)
+      (λ ψ. walk O C name-eq gap w f (p + width gap t) ψ)
       (test-out O C name-eq done φ g gap w p t (n .0)) (λ ψ g′. walk-out gap w f (p + width gap t) (t ∷ done) ψ g′ (n .1))
 
   field-out : (f : List (TermOver O C A)) (w : List Con) → OneList f → (done : List (TermOver O C A)) (φ : FillingOver O C A) → Good O C done φ → Fresh f done
@@ -39,12 +41,16 @@ module _ (O : Order) (C : Consts O) {A : Type 0} (name-eq : Discrete A) where
       iff : (θ : FillingOver O C A) → Typed O C θ → (fill θ f ≡ w) ↔ ((hasRoom f (length w) ≡ true) × Slices θ (length w - atoms f) w f 0)
       iff θ t = field-iff θ (typed-one O C θ t) f o w
 
-      go : (b : Bool) → hasRoom f (length w) ≡ b → Out O C done (onto f done) φ (λ θ. fill θ f ≡ w) (cond b (walk O C name-eq (length w - atoms f) w f 0 φ) none)
-      go true h = out-iff O C done (onto f done) φ (λ θ. Slices θ (length w - atoms f) w f 0) (λ θ. fill θ f ≡ w) (λ θ t. (λ s. iff θ t .1 (h, s), λ e. iff θ t .0 e .1))
+      go : (b : Bool) → hasRoom f (length w) ≡ b
+          → Out O C done (onto f done) φ (λ θ. fill θ f ≡ w) (cond b (walk O C name-eq (length w - atoms f) w f 0 φ) none)
+      go true h =
+          out-iff O C done (onto f done) φ (λ θ. Slices θ (length w - atoms f) w f 0) (λ θ. fill θ f ≡ w)
+          (λ θ t. (λ s. iff θ t .1 (h, s), λ e. iff θ t .0 e .1))
           (walk O C name-eq (length w - atoms f) w f 0 φ) (walk-out (length w - atoms f) w f 0 done φ g n)
       go false h = λ θ t a e. false≢true (sym h ∙ iff θ t .0 e .0)
 
-  fields-out : (fs : List (List (TermOver O C A))) (ws : List (List Con)) → All OneList fs → (done : List (TermOver O C A)) (φ : FillingOver O C A) → Good O C done φ → FreshAll fs done
+  fields-out : (fs : List (List (TermOver O C A))) (ws : List (List Con)) → All OneList fs
+      → (done : List (TermOver O C A)) (φ : FillingOver O C A) → Good O C done φ → FreshAll fs done
       → Out O C done (onto-all fs done) φ (λ θ. map (fill θ) fs ≡ ws) (matchFields O C name-eq fs ws φ)
   fields-out [] [] o done φ g n = (g, λ θ t. (λ x. x .0, λ a. (a, refl)))
   fields-out [] (w ∷ ws) o done φ g n = λ θ t a e. nil≢cons e
@@ -53,7 +59,8 @@ module _ (O : Order) (C : Consts O) {A : Type 0} (name-eq : Discrete A) where
       (λ θ. (fill θ f ≡ w) × (map (fill θ) fs ≡ ws)) (λ θ. map (fill θ) (f ∷ fs) ≡ w ∷ ws)
       (λ θ t. (λ x. ap₂ (λ (y : List Con) (ys : List (List Con)). y ∷ ys) (x .0) (x .1), λ e. (head-eq-of-cons-eq e, tail-eq-of-cons-eq e)))
       (matchFields O C name-eq (f ∷ fs) (w ∷ ws) φ)
-      (out-then O C done (onto f done) (onto-all fs (onto f done)) φ (λ θ. fill θ f ≡ w) (λ θ. map (fill θ) fs ≡ ws) (matchField O C name-eq f w φ) (λ ψ. matchFields O C name-eq fs ws ψ)
+      (out-then O C done (onto f done) (onto-all fs (onto f done)) φ (λ θ. fill θ f ≡ w) (λ θ. map (fill θ) fs ≡ ws) (matchField O C name-eq f w φ)
+      (λ ψ. matchFields O C name-eq fs ws ψ)
       (field-out f w (o .0) done φ g (n .0)) (λ ψ g′. fields-out fs ws (o .1) (onto f done) ψ g′ (n .1)))
 
   blank-good : Good O C {A = A} [] blank
@@ -63,13 +70,15 @@ module _ (O : Order) (C : Consts O) {A : Type 0} (name-eq : Discrete A) where
     matcher-out : (slip : List (List Con)) → Out O C [] (onto-all rule []) blank (λ θ. map (fill θ) rule ≡ slip) (matcher O C name-eq rule slip)
     matcher-out slip = go (eqb (length rule) (length slip)) refl
       where
-        go : (b : Bool) → eqb (length rule) (length slip) ≡ b → Out O C [] (onto-all rule []) blank (λ θ. map (fill θ) rule ≡ slip) (cond b (matchFields O C name-eq rule slip blank) none)
+        go : (b : Bool) → eqb (length rule) (length slip) ≡ b
+            → Out O C [] (onto-all rule []) blank (λ θ. map (fill θ) rule ≡ slip) (cond b (matchFields O C name-eq rule slip blank) none)
         go true h = fields-out rule slip (linear .1) [] blank blank-good (fresh-rule rule (linear .0))
         go false h = λ θ t a e. eqb-false (length rule) (length slip) h (sym (length-map rule (fill θ)) ∙ ap length e)
 
     -- ---- the answer no
     pub match-no : (slip : List (List Con)) → matcher O C name-eq rule slip ≡ none → Matches O C rule slip → ⊥
-    match-no slip e m = subst (Out O C [] (onto-all rule []) blank (λ θ. map (fill θ) rule ≡ slip)) e (matcher-out slip) (m .0) (m .1) (λ k a i. absurd i) (m .2)
+    match-no slip e m =
+        subst (Out O C [] (onto-all rule []) blank (λ θ. map (fill θ) rule ≡ slip)) e (matcher-out slip) (m .0) (m .1) (λ k a i. absurd i) (m .2)
 
     -- ---- the answer yes
     module _ (slip : List (List Con)) (φ : FillingOver O C A) (yes-φ : matcher O C name-eq rule slip ≡ some φ) where

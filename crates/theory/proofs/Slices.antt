@@ -59,7 +59,8 @@ module _ {C K A : Type 0} where
       go (a ∷ []) e o h = omega (arith, span-is (n - atoms f) f, ap (gaps (n - atoms f)) e, leb-true (atoms f) n h)
       go (a ∷ b ∷ l) e o h = absurd (omega arith)
 
-  slices-fill : (φ : Filling C (Full K) A) (gap : ℕ) (w : List C) (f : List (Term C (Full K) A)) (p : ℕ) → p + span gap f ≡ length w → Slices φ gap w f p → fill φ f ≡ drop p w
+  slices-fill : (φ : Filling C (Full K) A) (gap : ℕ) (w : List C) (f : List (Term C (Full K) A)) (p : ℕ)
+      → p + span gap f ≡ length w → Slices φ gap w f p → fill φ f ≡ drop p w
   slices-fill φ gap w [] p e s = sym (drop-of-length-le w {i = p} (omega arith))
   slices-fill φ gap w (t ∷ f) p e s =
       ap₂ (λ (x y : List C). x ++ y) (s .0) (slices-fill φ gap w f (p + width gap t) (omega arith) (s .1) ∙ sym (drop-drop (width gap t) p w))
@@ -80,16 +81,19 @@ module _ {C K A : Type 0} (φ : Filling C (Full K) A) (one : (k : K) (a : A) →
   sized gap w (var list a ∷ f) h = (h .0, sized gap w f (h .1))
 
   -- the room that there must be, and the value's length of each list variable
-  lengths : (f : List (Term C (Full K) A)) → OneList f → (n : ℕ) → length (fill φ f) ≡ n → (hasRoom f n ≡ true) × All (λ a. length (φ list a) ≡ n - atoms f) (lists f)
+  lengths : (f : List (Term C (Full K) A)) → OneList f → (n : ℕ) → length (fill φ f) ≡ n
+      → (hasRoom f n ≡ true) × All (λ a. length (φ list a) ≡ n - atoms f) (lists f)
   lengths f o n e = go (lists f) o (sym e ∙ fill-length f)
     where
-      go : (l : List A) → length l ≤ 1 → n ≡ atoms f + length (concat-map (φ list) l) → (room l (atoms f) n ≡ true) × All (λ a. length (φ list a) ≡ n - atoms f) l
+      go : (l : List A) → length l ≤ 1 → n ≡ atoms f + length (concat-map (φ list) l)
+          → (room l (atoms f) n ≡ true) × All (λ a. length (φ list a) ≡ n - atoms f) l
       go [] o q = (eq-eqb (atoms f) n (omega arith), tt)
       go (a ∷ []) o q = let r = q ∙ ap (λ (m : ℕ). atoms f + m) (length-append (φ list a) []) in (le-leb (atoms f) n (omega arith), (omega arith, tt))
       go (a ∷ b ∷ l) o q = absurd (omega arith)
 
   -- THE ONE WAY: a field is filled to w exactly when w has room for it and each term's value is its part of w
-  pub field-iff : (f : List (Term C (Full K) A)) → OneList f → (w : List C) → (fill φ f ≡ w) ↔ ((hasRoom f (length w) ≡ true) × Slices φ (length w - atoms f) w f 0)
+  pub field-iff : (f : List (Term C (Full K) A)) → OneList f → (w : List C)
+      → (fill φ f ≡ w) ↔ ((hasRoom f (length w) ≡ true) × Slices φ (length w - atoms f) w f 0)
   field-iff f o w = (to, λ s. slices-fill φ (length w - atoms f) w f 0 (omega (arith, room-span f o (length w) (s .0))) (s .1))
     where
       to : fill φ f ≡ w → (hasRoom f (length w) ≡ true) × Slices φ (length w - atoms f) w f 0

@@ -75,7 +75,8 @@ module _ (O : Order) (C : Consts O) {A : Type 0} (name-eq : Discrete A) where
   -- ---- a variable gets its first value
   module _ (done : List (TermOver O C A)) (φ : FillingOver O C A) (g : Good O C done φ) (k : Full Kind) (a : A) (v : List Con) where
     bind-out : (Occurs k a done → ⊥) → OfKind O C k v → Out O C done (var k a ∷ done) φ (λ θ. θ k a ≡ v) (some (bind (full-eq kind-eq) name-eq k a v φ))
-    bind-out new h = (record { kinds = λ j b o. kinds′ j b o (is j b); others = λ j b. others′ j b (is j b) }, λ θ t. (λ x j b o. to θ x j b o (is j b), λ y. from θ y))
+    bind-out new h =
+        (record { kinds = λ j b o. kinds′ j b o (is j b); others = λ j b. others′ j b (is j b) }, λ θ t. (λ x j b o. to θ x j b o (is j b), λ y. from θ y))
       where
         is : (j : Full Kind) (b : A) → Dec ((j ≡ k) × (b ≡ a))
         is j b = both? (full-eq kind-eq j k) (name-eq b a)
@@ -93,7 +94,8 @@ module _ (O : Order) (C : Consts O) {A : Type 0} (name-eq : Discrete A) where
             go (inl i) = inl (inr i)
             go (inr e) = inr e
 
-        to : (θ : FillingOver O C A) → Agree θ φ done × (θ k a ≡ v) → (j : Full Kind) (b : A) → ((j ≡ k) × (b ≡ a)) ⊎ Occurs j b done → (d : Dec ((j ≡ k) × (b ≡ a))) → θ j b ≡ ite d v (φ j b)
+        to : (θ : FillingOver O C A) → Agree θ φ done × (θ k a ≡ v) → (j : Full Kind) (b : A)
+            → ((j ≡ k) × (b ≡ a)) ⊎ Occurs j b done → (d : Dec ((j ≡ k) × (b ≡ a))) → θ j b ≡ ite d v (φ j b)
         to θ x j b o (yes e) = rw (e .0, e .1) (x .1)
         to θ x j b (inl e) (no n) = absurd (n e)
         to θ x j b (inr i) (no n) = x .0 j b i
@@ -120,13 +122,15 @@ module _ (O : Order) (C : Consts O) {A : Type 0} (name-eq : Discrete A) where
       first-out e c = go (le (kind-of c) k) refl
         where
           go : (b : Bool) → le (kind-of c) k ≡ b
-              → Out O C done (var (basic k) a ∷ done) φ (λ θ. θ (basic k) a ≡ c ∷ []) (cond b (some (bind (full-eq kind-eq) name-eq (basic k) a (c ∷ []) φ)) none)
+              → Out O C done (var (basic k) a ∷ done) φ (λ θ. θ (basic k) a ≡ c ∷ [])
+              (cond b (some (bind (full-eq kind-eq) name-eq (basic k) a (c ∷ []) φ)) none)
           go true h = bind-out done φ g (basic k) a (c ∷ []) (λ i. nil≢cons (sym e ∙ g .kinds (basic k) a i .1)) (c, refl, h)
           go false h = λ θ t _ q.
               let v = t (basic k) a in
               false≢true (sym h ∙ ap (λ (z : Con). le (kind-of z) k) (head-eq-of-cons-eq (sym q ∙ v .1)) ∙ v .2)
 
-      again-out : (d : Con) (r : List Con) → φ (basic k) a ≡ d ∷ r → (c : Con) → Out O C done (var (basic k) a ∷ done) φ (λ θ. θ (basic k) a ≡ c ∷ []) (meets O C name-eq k a (d ∷ r) c φ)
+      again-out : (d : Con) (r : List Con) → φ (basic k) a ≡ d ∷ r → (c : Con)
+          → Out O C done (var (basic k) a ∷ done) φ (λ θ. θ (basic k) a ≡ c ∷ []) (meets O C name-eq k a (d ∷ r) c φ)
       again-out d r e c = go (con-eq c d)
         where
           met : Occurs (basic k) a done ⊎ (φ (basic k) a ≡ []) → Occurs (basic k) a done
@@ -154,7 +158,8 @@ module _ (O : Order) (C : Consts O) {A : Type 0} (name-eq : Discrete A) where
           )
           go (no n) = λ θ t x q. n (head-eq-of-cons-eq (sym q ∙ x (basic k) a before ∙ only))
 
-      var-out : (o : Option Con) → Out O C done (var (basic k) a ∷ done) φ (λ θ. θ (basic k) a ≡ here o) (andThen o (λ c. meets O C name-eq k a (φ (basic k) a) c φ))
+      var-out : (o : Option Con)
+          → Out O C done (var (basic k) a ∷ done) φ (λ θ. θ (basic k) a ≡ here o) (andThen o (λ c. meets O C name-eq k a (φ (basic k) a) c φ))
       var-out none = λ θ t x q. nil≢cons (sym q ∙ t (basic k) a .1)
       var-out (some c) = go (φ (basic k) a) refl
         where

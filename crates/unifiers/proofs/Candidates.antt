@@ -2,7 +2,23 @@
 use mathlib.Core.Path.{_≡_, refl, sym, _∙_, ap, subst as along}
 use mathlib.Core.Logic.{_⊎_, inl, inr, ite, if-pos, if-neg}
 use mathlib.Core.Bool.{Bool, true, false, cond}
-use mathlib.Core.List.{[], _∷_, _++_, map, List·Memᴰ, List·Memᴰ·head, List·Memᴰ·tail, List·Memᴰ·not-nil, Memᴰ·append-left, Memᴰ·append-right, List·Memᴰ·append-cases, List·Memᴰ·cases-cons, List·Memᴰ·eq-of-singleton, Memᴰ·map, Memᴰ·of-map}
+use mathlib.Core.List.{
+  [],
+  _∷_,
+  _++_,
+  map,
+  List·Memᴰ,
+  List·Memᴰ·head,
+  List·Memᴰ·tail,
+  List·Memᴰ·not-nil,
+  Memᴰ·append-left,
+  Memᴰ·append-right,
+  List·Memᴰ·append-cases,
+  List·Memᴰ·cases-cons,
+  List·Memᴰ·eq-of-singleton,
+  Memᴰ·map,
+  Memᴰ·of-map,
+}
 use Prim.Native.Nat.{ℕ, zero, suc, _+_, _-_, _≤_, _<_, max}
 use native.Mathlib.Omega.{arith}
 use native.Mathlib.Decide.{decLt, ℕ-discrete}
@@ -67,9 +83,12 @@ module _ {A L R : Type 0} where
   Runs S₁ S₂ long n = wide S₁ S₂ ≤ n
 
   pub pick-in : (S₁ : Shape A L) (S₂ : Shape A R) (n : ℕ) → Room S₁ n → Room S₂ n → List·Memᴰ (pick S₁ S₂ n) (cands S₁ S₂)
-  pick-in (closed xs) T n p q = along (λ (b : Bool). List·Memᴰ (exact n) (cond b (exact (length xs) ∷ []) [])) (sym (room-can T (length xs) (along (Room T) p q))) (List·Memᴰ·head (ap exact p))
+  pick-in (closed xs) T n p q =
+      along (λ (b : Bool). List·Memᴰ (exact n) (cond b (exact (length xs) ∷ []) []))
+      (sym (room-can T (length xs) (along (Room T) p q))) (List·Memᴰ·head (ap exact p))
   pick-in (gapped f l t) (closed ys) n p q =
-      along (λ (b : Bool). List·Memᴰ (exact n) (cond b (exact (length ys) ∷ []) [])) (sym (room-can (gapped f l t) (length ys) (along (Room (gapped f l t)) q p))) (List·Memᴰ·head (ap exact q))
+      along (λ (b : Bool). List·Memᴰ (exact n) (cond b (exact (length ys) ∷ []) []))
+      (sym (room-can (gapped f l t) (length ys) (along (Room (gapped f l t)) q p))) (List·Memᴰ·head (ap exact q))
   pick-in (gapped f l t) (gapped f′ l′ t′) n p q = go (decLt n (wide (gapped f l t) (gapped f′ l′ t′)))
     where
       M : ℕ
@@ -98,7 +117,8 @@ module _ {A L R : Type 0} where
       at : c ≡ exact (length ys) → length f + length t ≤ length ys → (exact n ≡ c) × (length f + length t ≤ n) × (n ≡ length ys)
       at e h = let r′ : n ≡ length ys = along (λ (z : Cand). Runs (gapped f l t) (closed ys) z n) e r in (ap exact r′ ∙ sym e, omega arith, r′)
 
-      go : (b : Bool) → canHave (gapped f l t) (length ys) ≡ b → List·Memᴰ c (cond b (exact (length ys) ∷ []) []) → (exact n ≡ c) × (length f + length t ≤ n) × (n ≡ length ys)
+      go : (b : Bool) → canHave (gapped f l t) (length ys) ≡ b → List·Memᴰ c (cond b (exact (length ys) ∷ []) [])
+          → (exact n ≡ c) × (length f + length t ≤ n) × (n ≡ length ys)
       go true e j = at (List·Memᴰ·eq-of-singleton j) (leb-true (length f + length t) (length ys) e)
       go false e j = absurd (List·Memᴰ·not-nil j)
   pick-of (gapped f l t) (gapped f′ l′ t′) c i n r = go (List·Memᴰ·append-cases (map exact (range M (W - M))) i)
@@ -132,7 +152,8 @@ module _ {A L R : Type 0} where
   pub cands-distinct : (S₁ : Shape A L) (S₂ : Shape A R) → Distinct (cands S₁ S₂)
   cands-distinct (closed xs) T = one-distinct (canHave T (length xs)) (exact (length xs))
   cands-distinct (gapped f l t) (closed ys) = one-distinct (canHave (gapped f l t) (length ys)) (exact (length ys))
-  cands-distinct (gapped f l t) (gapped f′ l′ t′) = distinct-append (map exact (range M (W - M))) (long ∷ []) (distinct-map exact (range M (W - M)) (λ x y e. cc) (range-distinct M (W - M)))
+  cands-distinct (gapped f l t) (gapped f′ l′ t′) =
+      distinct-append (map exact (range M (W - M))) (long ∷ []) (distinct-map exact (range M (W - M)) (λ x y e. cc) (range-distinct M (W - M)))
       (λ i. List·Memᴰ·not-nil i, tt) (λ z i j. apart z (Memᴰ·of-map exact (range M (W - M)) i) (List·Memᴰ·eq-of-singleton j))
     where
       M : ℕ

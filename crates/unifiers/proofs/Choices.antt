@@ -27,7 +27,8 @@ module _ {S : Type 0} where
   alive-cons : (f : List Cand → Option S) (g : List Cand → Option S) (c : Cand) → ((x : List Cand) → f (c ∷ x) ≡ g x) → (r : List (List Cand))
       → alive f (map (λ x. c ∷ x) r) ≡ map (λ e. (c ∷ e .0, e .1)) (alive g r)
   alive-cons f g c h [] = refl
-  alive-cons f g c h (x ∷ r) = ap (λ (o : Option S). keep (c ∷ x) o (alive f (map (λ x. c ∷ x) r))) (h x) ∙ ap (keep (c ∷ x) (g x)) (alive-cons f g c h r) ∙ go (g x)
+  alive-cons f g c h (x ∷ r) =
+      ap (λ (o : Option S). keep (c ∷ x) o (alive f (map (λ x. c ∷ x) r))) (h x) ∙ ap (keep (c ∷ x) (g x)) (alive-cons f g c h r) ∙ go (g x)
     where
       go : (o : Option S) → keep (c ∷ x) o (map (λ e. (c ∷ e .0, e .1)) (alive g r)) ≡ map (λ e. (c ∷ e .0, e .1)) (keep x o (alive g r))
       go none = refl
@@ -44,12 +45,15 @@ module _ (O : Order) (C : Consts O) (N : Vars O) (L M : Type 0) where
       f : List Cand → Option (State O C N)
       f cs = joined O C N L M (S ∷ Ss) (T ∷ Ts) cs s
 
-      own : (c : Cand) (o : Option (State O C N)) → joins O C N (equations S T c) s ≡ o → ((s′ : State O C N) → entries O C N L M Ss Ts s′ ≡ alive (λ cs. joined O C N L M Ss Ts cs s′) (choices Ss Ts))
+      own : (c : Cand) (o : Option (State O C N)) → joins O C N (equations S T c) s ≡ o
+          → ((s′ : State O C N) → entries O C N L M Ss Ts s′ ≡ alive (λ cs. joined O C N L M Ss Ts cs s′) (choices Ss Ts))
           → chosen c o (λ s′. entries O C N L M Ss Ts s′) ≡ alive f (map (λ x. c ∷ x) (choices Ss Ts))
-      own c none e rec = sym (alive-cons f (λ x. none) c (λ x. ap (λ (o : Option (State O C N)). andThen o (λ s′. joined O C N L M Ss Ts x s′)) e) (choices Ss Ts)
+      own c none e rec =
+          sym (alive-cons f (λ x. none) c (λ x. ap (λ (o : Option (State O C N)). andThen o (λ s′. joined O C N L M Ss Ts x s′)) e) (choices Ss Ts)
           ∙ ap (map (λ e. (c ∷ e .0, e .1))) (alive-none (λ x. none) (λ x. refl) (choices Ss Ts)))
       own c (some s₁) e rec = ap (map (λ e. (c ∷ e .0, e .1))) (rec s₁)
-          ∙ sym (alive-cons f (λ cs. joined O C N L M Ss Ts cs s₁) c (λ x. ap (λ (o : Option (State O C N)). andThen o (λ s′. joined O C N L M Ss Ts x s′)) e) (choices Ss Ts))
+          ∙ sym (alive-cons f (λ cs. joined O C N L M Ss Ts cs s₁) c
+          (λ x. ap (λ (o : Option (State O C N)). andThen o (λ s′. joined O C N L M Ss Ts x s′)) e) (choices Ss Ts))
 
       go : (cs : List Cand) → ((s′ : State O C N) → entries O C N L M Ss Ts s′ ≡ alive (λ cs. joined O C N L M Ss Ts cs s′) (choices Ss Ts))
           → branch cs (λ c. joins O C N (equations S T c) s) (λ s′. entries O C N L M Ss Ts s′) ≡ alive f (times cs (choices Ss Ts))

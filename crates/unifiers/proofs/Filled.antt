@@ -43,7 +43,8 @@ module _ {C K A B : Type 0} where
   substs-by σ (f ∷ r) = ap₂ (λ (w : List (Term C K B)) (s : List (List (Term C K B))). w ∷ s) (subst-by σ f) (substs-by σ r)
 
 -- ---- the fields of a rule, on the side d
-module _ {C K A Y : Type 0} (ι : C → Y) (φ : Full K → A → List Y) (d : Side) (θ : Variable K A → Y) (h : (k : K) (a : A) → φ (basic k) a ≡ θ (of d k a) ∷ []) where
+module _ {C K A Y : Type 0} (ι : C → Y) (φ : Full K → A → List Y) (d : Side)
+    (θ : Variable K A → Y) (h : (k : K) (a : A) → φ (basic k) a ≡ θ (of d k a) ∷ []) where
   abbrev v : Atom C (Variable K A) → Y
   v a = val ι θ a
 
@@ -54,7 +55,8 @@ module _ {C K A Y : Type 0} (ι : C → Y) (φ : Full K → A → List Y) (d : S
   Was f none = Unit {0}
   Was f (some S) = fillBy ι φ f ≡ fillShape v m S
 
-  was-atom : (t : Term C (Full K) A) (f : List (Term C (Full K) A)) (a : Atom C (Variable K A)) → valueBy ι φ t ≡ v a ∷ [] → (o : Option (Shape (Atom C (Variable K A)) A)) → Was f o → Was (t ∷ f) (withAtom a o)
+  was-atom : (t : Term C (Full K) A) (f : List (Term C (Full K) A)) (a : Atom C (Variable K A))
+      → valueBy ι φ t ≡ v a ∷ [] → (o : Option (Shape (Atom C (Variable K A)) A)) → Was f o → Was (t ∷ f) (withAtom a o)
   was-atom t f a e none q = tt
   was-atom t f a e (some (closed xs)) q = ap₂ (λ (x y : List Y). x ++ y) e q
   was-atom t f a e (some (gapped p l s)) q = ap₂ (λ (x y : List Y). x ++ y) e q
@@ -83,11 +85,13 @@ module _ {C K A Y : Type 0} (ι : C → Y) (φ : Full K → A → List Y) (d : S
       go (some S) q none q′ = tt
       go (some S) q (some Ss) q′ = ap₂ (λ (x : List Y) (y : List (List Y)). x ∷ y) q q′
 
-  pub shapes-fill : (r : List (List (Term C (Full K) A))) (Ss : List (Shape (Atom C (Variable K A)) A)) → shapesOf d r ≡ some Ss → map (fillBy ι φ) r ≡ map (fillShape (val ι θ) (φ list)) Ss
+  pub shapes-fill : (r : List (List (Term C (Full K) A))) (Ss : List (Shape (Atom C (Variable K A)) A))
+      → shapesOf d r ≡ some Ss → map (fillBy ι φ) r ≡ map (fillShape (val ι θ) (φ list)) Ss
   shapes-fill r Ss e = along (Were r) e (were r)
 
 -- ---- the fields of an entry
-module _ {C K A Y : Type 0} (ι : C → Y) (φ : Full K → Mark A → List Y) (θ : Variable K A → Y) (h : (s : Side) (k : K) (a : A) → φ (basic k) (named s a) ≡ θ (of s k a) ∷ []) where
+module _ {C K A Y : Type 0} (ι : C → Y) (φ : Full K → Mark A → List Y) (θ : Variable K A → Y)
+    (h : (s : Side) (k : K) (a : A) → φ (basic k) (named s a) ≡ θ (of s k a) ∷ []) where
   marked-atoms : (xs : List (Atom C (Variable K A))) → fillBy ι φ (map termOf xs) ≡ map (val ι θ) xs
   marked-atoms [] = refl
   marked-atoms (fixed c ∷ xs) = ap (λ (r : List Y). ι c ∷ r) (marked-atoms xs)

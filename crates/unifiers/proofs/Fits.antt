@@ -63,7 +63,8 @@ module _ (O : Order) (C : Consts O) (N : Vars O) (L M : Type 0) where
         ((picks Ss Ts ws, r .0), r .1, (h .0, h .1, along (λ (X : Type 0). X) (sym (same-fields (picks Ss Ts ws, r .0) (h .0) (r .2) ws)) (r .3)))
 
     -- a slip that fits an entry picks its choice
-    pub fits-picks : (e : List Cand × State O C N) → List·Memᴰ e (the-entries Ss Ts) → (ws : List (List (C .Con))) → FitsEntry Ss Ts e ws → picks Ss Ts ws ≡ e .0
+    pub fits-picks : (e : List Cand × State O C N) → List·Memᴰ e (the-entries Ss Ts)
+        → (ws : List (List (C .Con))) → FitsEntry Ss Ts e ws → picks Ss Ts ws ≡ e .0
     fits-picks e i ws h = from-start e i .picked (valG (λ x. valG (h .0) (e .1 x))) ws (along (λ (X : Type 0). X) (through-fields e (h .0) ws) (h .2))
 
   -- an entry is known by its choice
@@ -79,7 +80,8 @@ module _ (O : Order) (C : Consts O) (N : Vars O) (L M : Type 0) where
       Fr : List Cand × State O C N → Type 0
       Fr x = From (cands S T) (λ c. joins O C N (equations S T c) s) (λ s′. entries O C N L M Ss Ts s′) x
 
-      go : ((s₁ : State O C N) (x y : List Cand × State O C N) → List·Memᴰ x (entries O C N L M Ss Ts s₁) → List·Memᴰ y (entries O C N L M Ss Ts s₁) → x .0 ≡ y .0 → x ≡ y)
+      go : ((s₁ : State O C N) (x y : List Cand × State O C N) → List·Memᴰ x (entries O C N L M Ss Ts s₁)
+          → List·Memᴰ y (entries O C N L M Ss Ts s₁) → x .0 ≡ y .0 → x ≡ y)
           → Fr e → Fr e′ → e ≡ e′
       go rec a b = a .is ∙ ap₂ (λ (c : Cand) (x : List Cand × State O C N). (c ∷ x .0, x .1)) hc hr ∙ sym (b .is)
         where
@@ -93,4 +95,6 @@ module _ (O : Order) (C : Consts O) (N : Vars O) (L M : Type 0) where
           hn = Option·some-injective (a .next) (b .next) (sym (a .joined) ∙ ap (λ (c : Cand). joins O C N (equations S T c) s) hc ∙ b .joined)
 
           hr : a .rest ≡ b .rest
-          hr = rec (b .next) (a .rest) (b .rest) (along (λ (z : State O C N). List·Memᴰ (a .rest) (entries O C N L M Ss Ts z)) hn (a .rest-in)) (b .rest-in) (tail-eq-of-cons-eq whole)
+          hr =
+              rec (b .next) (a .rest) (b .rest)
+              (along (λ (z : State O C N). List·Memᴰ (a .rest) (entries O C N L M Ss Ts z)) hn (a .rest-in)) (b .rest-in) (tail-eq-of-cons-eq whole)

@@ -115,7 +115,8 @@ module _ (O : Order) (C : Consts O) (N : Vars O) where
       go (yes e) = fixw w refl
       go (no n) = ap (replace O C N x w) h ∙ if-neg (var-eq y x) n w (free y)
 
-  bind-good : (s : State O C N) → Good s → (x : Var) (w : At O C N) → s x ≡ free x → subA s w ≡ w → (w ≡ free x → ⊥) → le (kindA w) (sort x) ≡ true → Good (bind O C N x w s)
+  bind-good : (s : State O C N) → Good s → (x : Var) (w : At O C N) → s x ≡ free x
+      → subA s w ≡ w → (w ≡ free x → ⊥) → le (kindA w) (sort x) ≡ true → Good (bind O C N x w s)
   bind-good s g x w sx sw nw k = record {
     idem = λ z. bind-keeps s g x w sx sw nw (s z) (g .idem z);
     kinds = λ z. le-trans (kindA (replace O C N x w (s z))) (kindA (s z)) (sort z) (kind-one x w k (s z)) (g .kinds z);
@@ -135,18 +136,27 @@ module _ (O : Order) (C : Consts O) (N : Vars O) where
   Out s P none = (θ : Var → Con) → Typed θ → Respects θ s → P θ → ⊥
   Out s P (some s′) = Good s′ × ((θ : Var → Con) → Typed θ → (Respects θ s × P θ) ↔ Respects θ s′)
 
-  pub out-iff : (s : State O C N) (P Q : (Var → Con) → Type 0) → ((θ : Var → Con) → Respects θ s → P θ ↔ Q θ) → (o : Option (State O C N)) → Out s P o → Out s Q o
+  pub out-iff : (s : State O C N) (P Q : (Var → Con) → Type 0)
+      → ((θ : Var → Con) → Respects θ s → P θ ↔ Q θ) → (o : Option (State O C N)) → Out s P o → Out s Q o
   out-iff s P Q f none h = λ θ t r q. h θ t r ((f θ r) .1 q)
-  out-iff s P Q f (some s′) h = (h .0, λ θ t. (λ p. (h .1 θ t) .0 (p .0, (f θ (p .0)) .1 (p .1)), λ r. let p = (h .1 θ t) .1 r in (p .0, (f θ (p .0)) .0 (p .1))))
+  out-iff s P Q f (some s′) h =
+      (h .0, λ θ t. (λ p. (h .1 θ t) .0 (p .0, (f θ (p .0)) .1 (p .1)), λ r. let p = (h .1 θ t) .1 r in (p .0, (f θ (p .0)) .0 (p .1))))
 
-  pub out-then : (s : State O C N) (P Q : (Var → Con) → Type 0) (o : Option (State O C N)) (f : State O C N → Option (State O C N)) → Out s P o → ((s′ : State O C N) → Good s′ → Out s′ Q (f s′))
+  pub out-then : (s : State O C N) (P Q : (Var → Con) → Type 0) (o : Option (State O C N)) (f : State O C N → Option (State O C N))
+      → Out s P o → ((s′ : State O C N) → Good s′ → Out s′ Q (f s′))
       → Out s (λ θ. P θ × Q θ) (andThen o f)
   out-then s P Q none f h k = λ θ t r pq. h θ t r (pq .0)
   out-then s P Q (some s′) f h k = go (f s′) (k s′ (h .0))
     where
       go : (o : Option (State O C N)) → Out s′ Q o → Out s (λ θ. P θ × Q θ) o
       go none k′ = λ θ t r pq. k′ θ t ((h .1 θ t) .0 (r, pq .0)) (pq .1)
-      go (some s″) k′ = (k′ .0, λ θ t. (λ p. (k′ .1 θ t) .0 ((h .1 θ t) .0 (p .0, p .1 .0), p .1 .1), λ r. let q = (k′ .1 θ t) .1 r in let p = (h .1 θ t) .1 (q .0) in (p .0, (p .1, q .1))))
+      go (some s″) k′ = (
+        k′ .0,
+        λ θ t. (
+          λ p. (k′ .1 θ t) .0 ((h .1 θ t) .0 (p .0, p .1 .0), p .1 .1),
+          λ r. let q = (k′ .1 θ t) .1 r in let p = (h .1 θ t) .1 (q .0) in (p .0, (p .1, q .1)),
+        ),
+      )
 
   abbrev pub Eqn : At O C N → At O C N → (Var → Con) → Type 0
   Eqn a b θ = valG θ a ≡ valG θ b
@@ -155,7 +165,8 @@ module _ (O : Order) (C : Consts O) (N : Vars O) where
   out-refl s g a b e = (g, λ θ t. (λ h. h .0, λ r. (r, ap (valG θ) e)))
 
   -- x, a root, is replaced by w, of a lower kind
-  out-bind : (s : State O C N) → Good s → (x : Var) (w : At O C N) → s x ≡ free x → subA s w ≡ w → (w ≡ free x → ⊥) → le (kindA w) (sort x) ≡ true → Out s (Eqn (free x) w) (some (bind O C N x w s))
+  out-bind : (s : State O C N) → Good s → (x : Var) (w : At O C N) → s x ≡ free x → subA s w ≡ w
+      → (w ≡ free x → ⊥) → le (kindA w) (sort x) ≡ true → Out s (Eqn (free x) w) (some (bind O C N x w s))
   out-bind s g x w sx sw nw k = (bind-good s g x w sx sw nw k, λ θ t. bind-iff (λ c. c) s x w sx θ)
 
   out-flip : (s : State O C N) (a b : At O C N) (o : Option (State O C N)) → Out s (Eqn a b) o → Out s (Eqn b a) o
@@ -186,7 +197,8 @@ module _ (O : Order) (C : Consts O) (N : Vars O) where
           clash (inl p) = false≢true (sym f ∙ p)
           clash (inr p) = false≢true (sym e ∙ p)
 
-      go₃ : (x ≡ y → ⊥) → le (sort y) (sort x) ≡ false → (b : Bool) → le (sort x) (sort y) ≡ b → Out s (Eqn (free x) (free y)) (cond b (some (bind O C N y (free x) s)) none)
+      go₃ : (x ≡ y → ⊥) → le (sort y) (sort x) ≡ false → (b : Bool) → le (sort x) (sort y) ≡ b
+          → Out s (Eqn (free x) (free y)) (cond b (some (bind O C N y (free x) s)) none)
       go₃ n e true f = out-flip s (free y) (free x) (some (bind O C N y (free x) s)) (out-bind s g y (free x) hb ha (λ p. n (free-inj p)) f)
       go₃ n e false f = λ θ t r e′. no-meet e f θ t e′
 
@@ -195,7 +207,9 @@ module _ (O : Order) (C : Consts O) (N : Vars O) where
       go₂ n true e = out-bind s g x (free y) ha hb (λ p. n (sym (free-inj p))) e
       go₂ n false e = go₃ n e (le (sort x) (sort y)) refl
 
-      go₁ : (q : Dec (x ≡ y)) → Out s (Eqn (free x) (free y)) (ite q (some s) (cond (le (sort y) (sort x)) (some (bind O C N x (free y) s)) (cond (le (sort x) (sort y)) (some (bind O C N y (free x) s)) none)))
+      go₁ : (q : Dec (x ≡ y))
+          → Out s (Eqn (free x) (free y))
+          (ite q (some s) (cond (le (sort y) (sort x)) (some (bind O C N x (free y) s)) (cond (le (sort x) (sort y)) (some (bind O C N y (free x) s)) none)))
       go₁ (yes e) = out-refl s g (free x) (free y) (ap {B = At O C N} free e)
       go₁ (no n) = go₂ n (le (sort y) (sort x)) refl
 
@@ -210,7 +224,9 @@ module _ (O : Order) (C : Consts O) (N : Vars O) where
 
   pub joins-out : (es : List (At O C N × At O C N)) (s : State O C N) → Good s → Out s (Solves es) (joins O C N es s)
   joins-out [] s g = (g, λ θ t. (λ h. h .0, λ r. (r, tt)))
-  joins-out (e ∷ es) s g = out-then s (Eqn (e .0) (e .1)) (Solves es) (join O C N s (e .0) (e .1)) (λ s′. joins O C N es s′) (join-out s g (e .0) (e .1)) (λ s′ g′. joins-out es s′ g′)
+  joins-out (e ∷ es) s g =
+      out-then s (Eqn (e .0) (e .1)) (Solves es) (join O C N s (e .0) (e .1)) (λ s′. joins O C N es s′) (join-out s g (e .0) (e .1))
+      (λ s′ g′. joins-out es s′ g′)
 
   -- What a join makes equal is equal for fillings by anything, terms too: no kinds are needed for this half.
   module _ {Y : Type 0} (ι : Con → Y) where
@@ -243,16 +259,20 @@ module _ (O : Order) (C : Consts O) (N : Vars O) where
         go (no n) = tt
     classes-snd s (fixed c) (free y) ha hb = snd-cond (le (kind-of c) (sort y)) s (EqnY (fixed c) (free y)) (some (bind O C N y (fixed c) s)) none
         (snd-flip s (free y) (fixed c) (some (bind O C N y (fixed c) s)) (snd-bind s y (fixed c) hb)) tt
-    classes-snd s (free x) (fixed d) ha hb = snd-cond (le (kind-of d) (sort x)) s (EqnY (free x) (fixed d)) (some (bind O C N x (fixed d) s)) none (snd-bind s x (fixed d) ha) tt
+    classes-snd s (free x) (fixed d) ha hb =
+        snd-cond (le (kind-of d) (sort x)) s (EqnY (free x) (fixed d)) (some (bind O C N x (fixed d) s)) none (snd-bind s x (fixed d) ha) tt
     classes-snd s (free x) (free y) ha hb = go (var-eq x y)
       where
         rest : Option (State O C N)
         rest = cond (le (sort x) (sort y)) (some (bind O C N y (free x) s)) none
 
-        go : (q : Dec (x ≡ y)) → Snd s (EqnY (free x) (free y)) (ite q (some s) (cond (le (sort y) (sort x)) (some (bind O C N x (free y) s)) (cond (le (sort x) (sort y)) (some (bind O C N y (free x) s)) none)))
+        go : (q : Dec (x ≡ y))
+            → Snd s (EqnY (free x) (free y))
+            (ite q (some s) (cond (le (sort y) (sort x)) (some (bind O C N x (free y) s)) (cond (le (sort x) (sort y)) (some (bind O C N y (free x) s)) none)))
         go (yes e) = snd-refl s (free x) (free y) (ap {B = At O C N} free e)
         go (no n) = snd-cond (le (sort y) (sort x)) s (EqnY (free x) (free y)) (some (bind O C N x (free y) s)) rest (snd-bind s x (free y) ha)
-            (snd-cond (le (sort x) (sort y)) s (EqnY (free x) (free y)) (some (bind O C N y (free x) s)) none (snd-flip s (free y) (free x) (some (bind O C N y (free x) s)) (snd-bind s y (free x) hb)) tt)
+            (snd-cond (le (sort x) (sort y)) s (EqnY (free x) (free y)) (some (bind O C N y (free x) s)) none
+            (snd-flip s (free y) (free x) (some (bind O C N y (free x) s)) (snd-bind s y (free x) hb)) tt)
 
     join-snd : (s : State O C N) → Good s → (t u : At O C N) (o : Option (State O C N)) → Snd s (EqnY (subA s t) (subA s u)) o → Snd s (EqnY t u) o
     join-snd s g t u none h = tt
@@ -264,12 +284,14 @@ module _ (O : Order) (C : Consts O) (N : Vars O) where
         (join-snd s g (e .0) (e .1) (join O C N s (e .0) (e .1)) (classes-snd s (subA s (e .0)) (subA s (e .1)) (sub-idem s g (e .0)) (sub-idem s g (e .1))))
         (λ s′ g′. joins-snd es s′ g′)
       where
-        both : (s₁ : State O C N) → ((θ : Var → Y) → RespectsY ι θ s₁ → RespectsY ι θ s × EqnY (e .0) (e .1) θ) → (o : Option (State O C N)) → Snd s₁ (λ θ. SolvesV (val ι θ) es) o
+        both : (s₁ : State O C N) → ((θ : Var → Y) → RespectsY ι θ s₁ → RespectsY ι θ s × EqnY (e .0) (e .1) θ)
+            → (o : Option (State O C N)) → Snd s₁ (λ θ. SolvesV (val ι θ) es) o
             → Snd s (λ θ. SolvesV (val ι θ) (e ∷ es)) o
         both s₁ h none k = tt
         both s₁ h (some s₂) k = λ θ r. let q = k θ r in let p = h θ (q .0) in (p .0, (p .1, q .1))
 
-        go : (o : Option (State O C N)) → Out s (Eqn (e .0) (e .1)) o → Snd s (EqnY (e .0) (e .1)) o → ((s′ : State O C N) → Good s′ → Snd s′ (λ θ. SolvesV (val ι θ) es) (joins O C N es s′))
+        go : (o : Option (State O C N)) → Out s (Eqn (e .0) (e .1)) o → Snd s (EqnY (e .0) (e .1)) o
+            → ((s′ : State O C N) → Good s′ → Snd s′ (λ θ. SolvesV (val ι θ) es) (joins O C N es s′))
             → Snd s (λ θ. SolvesV (val ι θ) (e ∷ es)) (andThen o (λ s′. joins O C N es s′))
         go none h k rec = tt
         go (some s₁) h k rec = both s₁ k (joins O C N es s₁) (rec s₁ (h .0))

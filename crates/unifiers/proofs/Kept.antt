@@ -80,7 +80,8 @@ module _ {C K A : Type 0} (Q : Atom C (Variable K A) → Type 0) (d : Side) wher
       go (some S) k none k′ = tt
       go (some S) k (some Ss) k′ = (k, k′)
 
-  pub rule-every : (r : List (List (Term C (Full K) A))) (Ss : List (Shape (Atom C (Variable K A)) A)) → shapesOf d r ≡ some Ss → All (All (OnTerm Q d)) r → All (Every Q) Ss
+  pub rule-every : (r : List (List (Term C (Full K) A))) (Ss : List (Shape (Atom C (Variable K A)) A))
+      → shapesOf d r ≡ some Ss → All (All (OnTerm Q d)) r → All (Every Q) Ss
   rule-every r Ss e h = along AllSome e (shapes-every r h)
 
 -- ---- rows and their merging
@@ -120,7 +121,8 @@ module _ {A : Type 0} (P : A → Type 0) where
     all-row n (closed xs) h = all-some xs h
     all-row n (gapped f l t) h =
         let mid = replicate (n - (length f + length t)) none in
-        all-append OnSome (map some f) (mid ++ map some t) (all-some f (h .0)) (all-append OnSome mid (map some t) (all-none (n - (length f + length t))) (all-some t (h .1)))
+        all-append OnSome (map some f) (mid ++ map some t) (all-some f (h .0))
+        (all-append OnSome mid (map some t) (all-none (n - (length f + length t))) (all-some t (h .1)))
 
   module _ {L M : Type 0} where
     pub all-equations : (S : Shape A L) (T : Shape A M) (c : Cand) → Every P S → Every P T → All Both (equations S T c)
@@ -136,7 +138,8 @@ module _ {A : Type 0} (P : A → Type 0) where
         let z = all-cells S T long h h′ in
         (all-take P H (cells S T long) z, all-drop P H (cells S T long) z)
 
-    pub every-fields : (g : ℕ) (Ss : List (Shape A L)) (Ts : List (Shape A M)) (cs : List Cand) → All (Every P) Ss → All (Every P) Ts → All (Every P) (fieldsFor g Ss Ts cs)
+    pub every-fields : (g : ℕ) (Ss : List (Shape A L)) (Ts : List (Shape A M)) (cs : List Cand)
+        → All (Every P) Ss → All (Every P) Ts → All (Every P) (fieldsFor g Ss Ts cs)
     every-fields g [] Ts cs h h′ = tt
     every-fields g (S ∷ Ss) [] cs h h′ = tt
     every-fields g (S ∷ Ss) (T ∷ Ts) [] h h′ = tt
@@ -193,23 +196,30 @@ module _ (O : Order) (C : Consts O) (N : Vars O) (P : At O C N → Type 0) where
       go : (q : Dec (c ≡ d)) → KeepsSome (ite q (some s) none)
       go (yes e) = k
       go (no n) = tt
-  classes-keep s k (fixed c) (free y) h h′ = cond-keeps (O .le (C .kind-of c) (N .sort y)) (some (bind O C N y (fixed c) s)) none (bind-keeps s k y (fixed c) h) tt
-  classes-keep s k (free x) (fixed d) h h′ = cond-keeps (O .le (C .kind-of d) (N .sort x)) (some (bind O C N x (fixed d) s)) none (bind-keeps s k x (fixed d) h′) tt
+  classes-keep s k (fixed c) (free y) h h′ =
+      cond-keeps (O .le (C .kind-of c) (N .sort y)) (some (bind O C N y (fixed c) s)) none (bind-keeps s k y (fixed c) h) tt
+  classes-keep s k (free x) (fixed d) h h′ =
+      cond-keeps (O .le (C .kind-of d) (N .sort x)) (some (bind O C N x (fixed d) s)) none (bind-keeps s k x (fixed d) h′) tt
   classes-keep s k (free x) (free y) h h′ = go (N .var-eq x y)
     where
       rest : Option (State O C N)
       rest = cond (O .le (N .sort x) (N .sort y)) (some (bind O C N y (free x) s)) none
 
-      go : (q : Dec (x ≡ y)) → KeepsSome (ite q (some s) (cond (O .le (N .sort y) (N .sort x)) (some (bind O C N x (free y) s)) (cond (O .le (N .sort x) (N .sort y)) (some (bind O C N y (free x) s)) none)))
+      go : (q : Dec (x ≡ y))
+          → KeepsSome (ite q (some s)
+          (cond (O .le (N .sort y) (N .sort x)) (some (bind O C N x (free y) s)) (cond (O .le (N .sort x) (N .sort y)) (some (bind O C N y (free x) s)) none)))
       go (yes e) = k
       go (no n) = cond-keeps (O .le (N .sort y) (N .sort x)) (some (bind O C N x (free y) s)) rest (bind-keeps s k x (free y) h′)
           (cond-keeps (O .le (N .sort x) (N .sort y)) (some (bind O C N y (free x) s)) none (bind-keeps s k y (free x) h) tt)
 
   joins-keep : (es : List (At O C N × At O C N)) → All (Both P) es → (s : State O C N) → Keeps s → KeepsSome (joins O C N es s)
   joins-keep [] h s k = k
-  joins-keep (e ∷ es) h s k = go (join O C N s (e .0) (e .1)) (classes-keep s k (resolve O C N s (e .0)) (resolve O C N s (e .1)) (k (e .0) (h .0 .0)) (k (e .1) (h .0 .1))) (λ s′ k′. joins-keep es (h .1) s′ k′)
+  joins-keep (e ∷ es) h s k =
+      go (join O C N s (e .0) (e .1))
+      (classes-keep s k (resolve O C N s (e .0)) (resolve O C N s (e .1)) (k (e .0) (h .0 .0)) (k (e .1) (h .0 .1))) (λ s′ k′. joins-keep es (h .1) s′ k′)
     where
-      go : (o : Option (State O C N)) → KeepsSome o → ((s′ : State O C N) → Keeps s′ → KeepsSome (joins O C N es s′)) → KeepsSome (andThen o (λ s′. joins O C N es s′))
+      go : (o : Option (State O C N)) → KeepsSome o → ((s′ : State O C N) → Keeps s′ → KeepsSome (joins O C N es s′))
+          → KeepsSome (andThen o (λ s′. joins O C N es s′))
       go none k′ rec = tt
       go (some s′) k′ rec = rec s′ k′
 
@@ -219,7 +229,8 @@ module _ (O : Order) (C : Consts O) (N : Vars O) (P : At O C N → Type 0) where
     entries-keep [] [] h h′ s k e i = along (λ (x : List Cand × State O C N). Keeps (x .1)) (sym (List·Memᴰ·eq-of-singleton i)) k
     entries-keep [] (T ∷ Ts) h h′ s k e i = absurd (List·Memᴰ·not-nil i)
     entries-keep (S ∷ Ss) [] h h′ s k e i = absurd (List·Memᴰ·not-nil i)
-    entries-keep (S ∷ Ss) (T ∷ Ts) h h′ s k e i = along (λ (x : List Cand × State O C N). Keeps (x .1)) (sym (f .is)) (entries-keep Ss Ts (h .1) (h′ .1) (f .next) next (f .rest) (f .rest-in))
+    entries-keep (S ∷ Ss) (T ∷ Ts) h h′ s k e i =
+        along (λ (x : List Cand × State O C N). Keeps (x .1)) (sym (f .is)) (entries-keep Ss Ts (h .1) (h′ .1) (f .next) next (f .rest) (f .rest-in))
       where
         f : From (cands S T) (λ c. joins O C N (equations S T c) s) (λ s′. entries O C N L M Ss Ts s′) e
         f = branch-from (cands S T) (λ c. joins O C N (equations S T c) s) (λ s′. entries O C N L M Ss Ts s′) e i
@@ -228,7 +239,8 @@ module _ (O : Order) (C : Consts O) (N : Vars O) (P : At O C N → Type 0) where
         next = along KeepsSome (f .joined) (joins-keep (equations S T (f .cand)) (all-equations P S T (f .cand) (h .0) (h′ .0)) s k)
 
     -- the fields of an entry, every atom as its state has it
-    pub entry-every : (Ss : List (Shape (At O C N) L)) (Ts : List (Shape (At O C N) M)) → All (Every P) Ss → All (Every P) Ts → (e : List Cand × State O C N) → List·Memᴰ e (entries O C N L M Ss Ts (start O C N))
+    pub entry-every : (Ss : List (Shape (At O C N) L)) (Ts : List (Shape (At O C N) M)) → All (Every P) Ss
+        → All (Every P) Ts → (e : List Cand × State O C N) → List·Memᴰ e (entries O C N L M Ss Ts (start O C N))
         → Keeps (e .1) × All (Every P) (map (mapShape (resolve O C N (e .1))) (fieldsFor 0 Ss Ts (e .0)))
     entry-every Ss Ts h h′ e i =
         let k = entries-keep Ss Ts h h′ (start O C N) start-keeps e i in

@@ -17,7 +17,8 @@ module _ {C K A : Type 0} (d : Side) where
   abbrev HasShape : List (Term C (Full K) A) → Option (Shape (Atom C (Variable K A)) A) → Type 0
   HasShape f o = (S : Shape (Atom C (Variable K A)) A) × (o ≡ some S) × (gaps (S ∷ []) ≡ lists f)
 
-  atom-shape : (f : List (Term C (Full K) A)) (o : Option (Shape (Atom C (Variable K A)) A)) (a : Atom C (Variable K A)) → HasShape f o → HasShape f (withAtom a o)
+  atom-shape : (f : List (Term C (Full K) A)) (o : Option (Shape (Atom C (Variable K A)) A)) (a : Atom C (Variable K A))
+      → HasShape f o → HasShape f (withAtom a o)
   atom-shape f o a h = go (h .0) (h .1) (h .2)
     where
       go : (S : Shape (Atom C (Variable K A)) A) → o ≡ some S → gaps (S ∷ []) ≡ lists f → HasShape f (withAtom a o)
@@ -38,14 +39,16 @@ module _ {C K A : Type 0} (d : Side) where
   gaps-cons (closed xs) Ss = refl
   gaps-cons (gapped p l t) Ss = refl
 
-  shapes : (r : List (List (Term C (Full K) A))) → All OneList r → (Ss : List (Shape (Atom C (Variable K A)) A)) × (shapesOf d r ≡ some Ss) × (gaps Ss ≡ concat-map lists r)
+  shapes : (r : List (List (Term C (Full K) A))) → All OneList r
+      → (Ss : List (Shape (Atom C (Variable K A)) A)) × (shapesOf d r ≡ some Ss) × (gaps Ss ≡ concat-map lists r)
   shapes [] o = ([], refl, refl)
   shapes (f ∷ r) o =
       let h = shape f (o .0) in
       let t = shapes r (o .1) in
       (h .0 ∷ t .0, ap₂ both (h .1) (t .1), gaps-cons (h .0) (t .0) ∙ ap₂ (λ (x y : List A). x ++ y) (h .2) (t .2))
 
-  pub linear-shapes : (r : List (List (Term C (Full K) A))) → LeftLinear r → (Ss : List (Shape (Atom C (Variable K A)) A)) × (shapesOf d r ≡ some Ss) × Distinct (gaps Ss)
+  pub linear-shapes : (r : List (List (Term C (Full K) A))) → LeftLinear r
+      → (Ss : List (Shape (Atom C (Variable K A)) A)) × (shapesOf d r ≡ some Ss) × Distinct (gaps Ss)
   linear-shapes r h = let t = shapes r (h .1) in (t .0, t .1, along Distinct (sym (t .2)) (h .0))
 
   abbrev Count : List (List (Term C (Full K) A)) → Option (List (Shape (Atom C (Variable K A)) A)) → Type 0

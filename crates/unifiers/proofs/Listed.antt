@@ -19,7 +19,23 @@ use Rattle.unifiers.specs.Shapes.{Atom, fixed, free, val, Vars, Side, le
 use Rattle.unifiers.specs.Candidates.{Cand, exact, long}
 use Rattle.unifiers.specs.Joins.{At, start}
 use Rattle.unifiers.specs.Entries.{fieldsFor, entries}
-use Rattle.unifiers.specs.Overlaps.{Mark, named, place, mark-eq, termOf, fieldOf, mapShape, runOf, rename, PairShape, PairState, markedFields, markedValue, numbersOf, shown}
+use Rattle.unifiers.specs.Overlaps.{
+  Mark,
+  named,
+  place,
+  mark-eq,
+  termOf,
+  fieldOf,
+  mapShape,
+  runOf,
+  rename,
+  PairShape,
+  PairState,
+  markedFields,
+  markedValue,
+  numbersOf,
+  shown,
+}
 use Rattle.unifiers.proofs.Joins.{valG, subA, kindA, Good, start-good, RespectsY}
 use Rattle.unifiers.proofs.Rows.{Inst}
 use Rattle.unifiers.proofs.Walks.{Insts, walk-back, known, picks}
@@ -106,7 +122,8 @@ module _ (O : Order) (C : Consts O) {A : Type 0} (name-eq : Discrete A) (Ss Ts :
   term-kind (fixed c) k h = h
   term-kind (free (of s j a)) k h = h
 
-  marked-typed : (d : Side) (Rs : List (PairShape O C name-eq)) (fs : List (List (TermOver O C (Mark A)))) (e : List Cand × PairState O C name-eq) → List·Memᴰ e raw
+  marked-typed : (d : Side) (Rs : List (PairShape O C name-eq)) (fs : List (List (TermOver O C (Mark A)))) (e : List Cand × PairState O C name-eq)
+      → List·Memᴰ e raw
       → TypedSubst O C (markedValue O C name-eq d Rs (e .1) fs)
   marked-typed d Rs fs e i (basic k) a = (termOf (e .1 (of d k a)), refl, term-kind (e .1 (of d k a)) k (good e i .kinds (of d k a)))
   marked-typed d Rs fs e i list a = tt
@@ -115,7 +132,8 @@ module _ (O : Order) (C : Consts O) {A : Type 0} (name-eq : Discrete A) (Ss Ts :
   left-typed e i = rename-typed O C (markedValue O C name-eq left Ss (e .1) (marked e)) (marked-typed left Ss (marked e) e i) (numbersOf O C name-eq (marked e))
 
   pub right-typed : (e : List Cand × PairState O C name-eq) → List·Memᴰ e raw → TypedSubst O C (shown O C name-eq Ss Ts e .right)
-  right-typed e i = rename-typed O C (markedValue O C name-eq right Ts (e .1) (marked e)) (marked-typed right Ts (marked e) e i) (numbersOf O C name-eq (marked e))
+  right-typed e i =
+      rename-typed O C (markedValue O C name-eq right Ts (e .1) (marked e)) (marked-typed right Ts (marked e) e i) (numbersOf O C name-eq (marked e))
 
   -- ---- the values shown turn both rules into the entry's fields
 
@@ -128,37 +146,45 @@ module _ (O : Order) (C : Consts O) {A : Type 0} (name-eq : Discrete A) (Ss Ts :
       own x = sym (as-term (e .1) (e .1 x) ∙ ap termOf (good e i .idem x))
 
   marked-solves : (d : Side) (Rs : List (PairShape O C name-eq)) → Distinct (gaps Rs) → (r : List (List (TermOver O C A))) → shapesOf d r ≡ some Rs
-      → (e : List Cand × PairState O C name-eq) → Insts (val con (θ (e .1))) Rs (marked e) → map (substitute (markedValue O C name-eq d Rs (e .1) (marked e))) r ≡ marked e
+      → (e : List Cand × PairState O C name-eq) → Insts (val con (θ (e .1))) Rs (marked e)
+      → map (substitute (markedValue O C name-eq d Rs (e .1) (marked e))) r ≡ marked e
   marked-solves d Rs lin r is e h =
       let σ = markedValue O C name-eq d Rs (e .1) (marked e) in
       substs-by σ r ∙ shapes-fill con σ d (θ (e .1)) (λ k a. refl) r Rs is ∙ named-to (val con (θ (e .1))) name-eq Rs lin (marked e) h
 
-  module _ (r₁ r₂ : List (List (TermOver O C A))) (is₁ : shapesOf left r₁ ≡ some Ss) (is₂ : shapesOf right r₂ ≡ some Ts) (lin₁ : Distinct (gaps Ss)) (lin₂ : Distinct (gaps Ts)) where
+  module _ (r₁ r₂ : List (List (TermOver O C A))) (is₁ : shapesOf left r₁ ≡ some Ss)
+      (is₂ : shapesOf right r₂ ≡ some Ts) (lin₁ : Distinct (gaps Ss)) (lin₂ : Distinct (gaps Ts)) where
     -- before the renumbering
-    pub marked-left : (e : List Cand × PairState O C name-eq) → List·Memᴰ e raw → map (substitute (markedValue O C name-eq left Ss (e .1) (markedFields O C name-eq Ss Ts e))) r₁ ≡ markedFields O C name-eq Ss Ts e
+    pub marked-left : (e : List Cand × PairState O C name-eq) → List·Memᴰ e raw
+        → map (substitute (markedValue O C name-eq left Ss (e .1) (markedFields O C name-eq Ss Ts e))) r₁ ≡ markedFields O C name-eq Ss Ts e
     marked-left e i = marked-solves left Ss lin₁ r₁ is₁ e (instances e i .0)
 
-    pub marked-right : (e : List Cand × PairState O C name-eq) → List·Memᴰ e raw → map (substitute (markedValue O C name-eq right Ts (e .1) (markedFields O C name-eq Ss Ts e))) r₂ ≡ markedFields O C name-eq Ss Ts e
+    pub marked-right : (e : List Cand × PairState O C name-eq) → List·Memᴰ e raw
+        → map (substitute (markedValue O C name-eq right Ts (e .1) (markedFields O C name-eq Ss Ts e))) r₂ ≡ markedFields O C name-eq Ss Ts e
     marked-right e i = marked-solves right Ts lin₂ r₂ is₂ e (instances e i .1)
 
-    pub left-solves : (e : List Cand × PairState O C name-eq) → List·Memᴰ e raw → map (substitute (shown O C name-eq Ss Ts e .left)) r₁ ≡ shown O C name-eq Ss Ts e .fields
+    pub left-solves : (e : List Cand × PairState O C name-eq) → List·Memᴰ e raw
+        → map (substitute (shown O C name-eq Ss Ts e .left)) r₁ ≡ shown O C name-eq Ss Ts e .fields
     left-solves e i =
         let ν = numbersOf O C name-eq (marked e) in
         sym (rename-substs ν (markedValue O C name-eq left Ss (e .1) (marked e)) r₁) ∙ ap (map (map (rename ν))) (marked-left e i)
 
-    pub right-solves : (e : List Cand × PairState O C name-eq) → List·Memᴰ e raw → map (substitute (shown O C name-eq Ss Ts e .right)) r₂ ≡ shown O C name-eq Ss Ts e .fields
+    pub right-solves : (e : List Cand × PairState O C name-eq) → List·Memᴰ e raw
+        → map (substitute (shown O C name-eq Ss Ts e .right)) r₂ ≡ shown O C name-eq Ss Ts e .fields
     right-solves e i =
         let ν = numbersOf O C name-eq (marked e) in
         sym (rename-substs ν (markedValue O C name-eq right Ts (e .1) (marked e)) r₂) ∙ ap (map (map (rename ν))) (marked-right e i)
 
     -- ---- a slip that both rules match fits an entry
 
-    rule-instance : (d : Side) (Rs : List (PairShape O C name-eq)) (r : List (List (TermOver O C A))) → shapesOf d r ≡ some Rs → (w : List (List (C .Con))) (φ : FillingOver O C A)
+    rule-instance : (d : Side) (Rs : List (PairShape O C name-eq)) (r : List (List (TermOver O C A)))
+        → shapesOf d r ≡ some Rs → (w : List (List (C .Con))) (φ : FillingOver O C A)
         → (τ : X → C .Con) → ((k : O .Kind) (a : A) → φ (basic k) a ≡ τ (of d k a) ∷ []) → map (fill φ) r ≡ w → Insts (valG τ) Rs w
     rule-instance d Rs r is w φ τ h e = named-from (valG τ) (φ list) Rs w (sym (shapes-fill (λ c. c) φ d τ h r Rs is) ∙ sym (fills-by φ r) ∙ e)
 
     entry-matches : (e : List Cand × PairState O C name-eq) (w : List (List (C .Con))) → FitsEntry O C N A A Ss Ts e w → Matches O C (marked e) w
-    entry-matches e w h = (φ, typed, fills-by φ (marked e) ∙ marked-fill (λ c. c) φ (h .0) (λ s k a. refl) shapes ∙ named-to (valG (h .0)) ℕ-discrete shapes linear w (h .2))
+    entry-matches e w h =
+        (φ, typed, fills-by φ (marked e) ∙ marked-fill (λ c. c) φ (h .0) (λ s k a. refl) shapes ∙ named-to (valG (h .0)) ℕ-discrete shapes linear w (h .2))
       where
         shapes : List (Shape (At O C N) ℕ)
         shapes = resolved O C N A A Ss Ts e
@@ -177,9 +203,15 @@ module _ (O : Order) (C : Consts O) {A : Type 0} (name-eq : Discrete A) (Ss Ts :
         typed (basic k) (place g) = (C .some-of k, refl, C .some-of-le k)
         typed list m = tt
 
-    pub covered : (w : List (List (C .Con))) → Matches O C r₁ w → Matches O C r₂ w → (e : List Cand × PairState O C name-eq) × List·Memᴰ e raw × Matches O C (shown O C name-eq Ss Ts e .fields) w
+    pub covered : (w : List (List (C .Con))) → Matches O C r₁ w → Matches O C r₂ w
+        → (e : List Cand × PairState O C name-eq) × List·Memᴰ e raw × Matches O C (shown O C name-eq Ss Ts e .fields) w
     covered w h₁ h₂ =
-        let e = has-entry O C N A A Ss Ts w (τ, typed, rule-instance left Ss r₁ is₁ w (h₁ .0) τ (λ k a. h₁ .1 (basic k) a .1) (h₁ .2), rule-instance right Ts r₂ is₂ w (h₂ .0) τ (λ k a. h₂ .1 (basic k) a .1) (h₂ .2)) in
+        let e = has-entry O C N A A Ss Ts w (
+          τ,
+          typed,
+          rule-instance left Ss r₁ is₁ w (h₁ .0) τ (λ k a. h₁ .1 (basic k) a .1) (h₁ .2),
+          rule-instance right Ts r₂ is₂ w (h₂ .0) τ (λ k a. h₂ .1 (basic k) a .1) (h₂ .2),
+        ) in
         (e .0, e .1, renumbered-to O C (mark-eq side-eq name-eq ℕ-discrete) (marked (e .0)) w (entry-matches (e .0) w (e .2)))
       where
         τ : X → C .Con
@@ -192,7 +224,8 @@ module _ (O : Order) (C : Consts O) {A : Type 0} (name-eq : Discrete A) (Ss Ts :
 
   -- ---- a slip that fits an entry picks its choice
 
-  pub fits-choice : (e : List Cand × PairState O C name-eq) → List·Memᴰ e raw → (w : List (List (C .Con))) → Matches O C (shown O C name-eq Ss Ts e .fields) w → picks Ss Ts w ≡ e .0
+  pub fits-choice : (e : List Cand × PairState O C name-eq) → List·Memᴰ e raw → (w : List (List (C .Con)))
+      → Matches O C (shown O C name-eq Ss Ts e .fields) w → picks Ss Ts w ≡ e .0
   fits-choice e i w h = fits-picks O C N A A Ss Ts e i w (
     τ,
     typed,

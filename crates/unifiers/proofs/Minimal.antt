@@ -59,14 +59,16 @@ module _ {C K B : Type 0} where
   lists-atoms (var list b ∷ q) h = absurd (h .0)
 
   -- a field that begins with the atoms p, ends in the atoms q and has a list variable has at least as many atoms as p and q together
-  both-ends : (p x y q : List (Term C (Full K) B)) → All IsAtom p → All IsAtom q → p ++ x ≡ y ++ q → 0 < length (lists (y ++ q)) → length p + length q ≤ atoms (y ++ q)
+  both-ends : (p x y q : List (Term C (Full K) B)) → All IsAtom p → All IsAtom q
+      → p ++ x ≡ y ++ q → 0 < length (lists (y ++ q)) → length p + length q ≤ atoms (y ++ q)
   both-ends [] x y q hp hq e h = omega (arith, size-append y q, size-atoms q hq)
   both-ends (a ∷ p) x [] q hp hq e h = absurd (omega (arith, lists-atoms q hq))
   both-ends (a ∷ p) x (con c ∷ y) q hp hq e h = let r = both-ends p x y q (hp .1) hq (tail-eq-of-cons-eq e) h in omega arith
   both-ends (a ∷ p) x (var (basic k) b ∷ y) q hp hq e h = let r = both-ends p x y q (hp .1) hq (tail-eq-of-cons-eq e) h in omega arith
   both-ends (a ∷ p) x (var list b ∷ y) q hp hq e h = absurd (along IsAtom (head-eq-of-cons-eq e) (hp .0))
 
-  both-ends-of : (F p x y q : List (Term C (Full K) B)) → All IsAtom p → All IsAtom q → F ≡ p ++ x → F ≡ y ++ q → 0 < length (lists F) → length p + length q ≤ atoms F
+  both-ends-of : (F p x y q : List (Term C (Full K) B)) → All IsAtom p → All IsAtom q
+      → F ≡ p ++ x → F ≡ y ++ q → 0 < length (lists F) → length p + length q ≤ atoms F
   both-ends-of F p x y q hp hq e e′ h = rw e′ (both-ends p x y q hp hq (sym e ∙ e′) (rw e′ at h))
 
 -- THE KEY LEMMA: F is what the solution makes of both fields; any two runs that fit F pick the same candidate
@@ -79,22 +81,33 @@ module _ {C K A B : Type 0} (v : A → Term C (Full K) B) (atomic : (a : A) → 
     front-to-end : (F : List (Term C (Full K) B)) (f : List A) (l : L) (t p : List A) (m : R) (q : List A)
         → F ≡ fillShape v δ (gapped f l t) → F ≡ fillShape v ε (gapped p m q) → 0 < length (lists F) → length f + length q ≤ atoms F
     front-to-end F f l t p m q e e′ h =
-        simp length-map at (both-ends-of F (map v f) (δ l ++ map v t) (map v p ++ ε m) (map v q) (all-atoms f) (all-atoms q) e (e′ ∙ sym (append-assoc (map v p) (ε m) (map v q))) h)
+        simp length-map at (both-ends-of F (map v f) (δ l ++ map v t) (map v p ++ ε m) (map v q) (all-atoms f) (all-atoms q) e
+        (e′ ∙ sym (append-assoc (map v p) (ε m) (map v q))) h)
 
-module _ {C K A B : Type 0} (v : A → Term C (Full K) B) (atomic : (a : A) → IsAtom (v a)) {L R : Type 0} (δ : L → List (Term C (Full K) B)) (ε : R → List (Term C (Full K) B)) where
+module _ {C K A B : Type 0} (v : A → Term C (Full K) B) (atomic : (a : A) → IsAtom (v a))
+    {L R : Type 0} (δ : L → List (Term C (Full K) B)) (ε : R → List (Term C (Full K) B)) where
   is-wide : (F : List (Term C (Full K) B)) (f : List A) (l : L) (t p : List A) (m : R) (q : List A)
-      → F ≡ fillShape v δ (gapped f l t) → F ≡ fillShape v ε (gapped p m q) → 0 < length (lists F) → max (length f) (length p) + max (length t) (length q) ≤ atoms F
+      → F ≡ fillShape v δ (gapped f l t) → F ≡ fillShape v ε (gapped p m q)
+      → 0 < length (lists F) → max (length f) (length p) + max (length t) (length q) ≤ atoms F
   is-wide F f l t p m q e e′ h =
-      omega (arith, front-to-end v atomic δ δ F f l t f l t e e h, front-to-end v atomic δ ε F f l t p m q e e′ h, front-to-end v atomic ε δ F p m q f l t e′ e h, front-to-end v atomic ε ε F p m q p m q e′ e′ h)
+      omega (
+        arith,
+        front-to-end v atomic δ δ F f l t f l t e e h,
+        front-to-end v atomic δ ε F f l t p m q e e′ h,
+        front-to-end v atomic ε δ F p m q f l t e′ e h,
+        front-to-end v atomic ε ε F p m q p m q e′ e′ h,
+      )
 
   module _ (φ ψ : Filling C (Full K) B) (one : OneItem φ) (two : OneItem ψ) where
-    same-pick : (S : Shape A L) (T : Shape A R) (F : List (Term C (Full K) B)) → F ≡ fillShape v δ S → F ≡ fillShape v ε T → pick S T (length (fill φ F)) ≡ pick S T (length (fill ψ F))
+    same-pick : (S : Shape A L) (T : Shape A R) (F : List (Term C (Full K) B)) → F ≡ fillShape v δ S
+        → F ≡ fillShape v ε T → pick S T (length (fill φ F)) ≡ pick S T (length (fill ψ F))
     same-pick S T F e₁ e₂ = go (ℕ-discrete (length (lists F)) 0)
       where
         pure : (xs : List A) → F ≡ map v xs → length (lists F) ≡ 0
         pure xs e = rw e (lists-atoms (map v xs) (all-atoms v atomic xs))
 
-        broad : (S : Shape A L) (T : Shape A R) → F ≡ fillShape v δ S → F ≡ fillShape v ε T → 0 < length (lists F) → pick S T (length (fill φ F)) ≡ pick S T (length (fill ψ F))
+        broad : (S : Shape A L) (T : Shape A R) → F ≡ fillShape v δ S → F ≡ fillShape v ε T
+            → 0 < length (lists F) → pick S T (length (fill φ F)) ≡ pick S T (length (fill ψ F))
         broad (closed xs) T e e′ h = absurd (omega (arith, pure xs e))
         broad (gapped f l t) (closed xs) e e′ h = absurd (omega (arith, pure xs e′))
         broad (gapped f l t) (gapped p m q) e e′ h =
@@ -107,10 +120,12 @@ module _ {C K A B : Type 0} (v : A → Term C (Full K) B) (atomic : (a : A) → 
         go (no n) = broad S T e₁ e₂ (omega arith)
 
     -- the same for all fields
-    pub same-picks : (Ss : List (Shape A L)) (Ts : List (Shape A R)) (fs : List (List (Term C (Full K) B))) → fs ≡ map (fillShape v δ) Ss → fs ≡ map (fillShape v ε) Ts
+    pub same-picks : (Ss : List (Shape A L)) (Ts : List (Shape A R)) (fs : List (List (Term C (Full K) B)))
+        → fs ≡ map (fillShape v δ) Ss → fs ≡ map (fillShape v ε) Ts
         → picks Ss Ts (map (fill φ) fs) ≡ picks Ss Ts (map (fill ψ) fs)
     same-picks [] Ts fs e e′ = refl
     same-picks (S ∷ Ss) [] fs e e′ = refl
     same-picks (S ∷ Ss) (T ∷ Ts) [] e e′ = refl
     same-picks (S ∷ Ss) (T ∷ Ts) (F ∷ fs) e e′ =
-        ap₂ (λ (x : Cand) (y : List Cand). x ∷ y) (same-pick S T F (head-eq-of-cons-eq e) (head-eq-of-cons-eq e′)) (same-picks Ss Ts fs (tail-eq-of-cons-eq e) (tail-eq-of-cons-eq e′))
+        ap₂ (λ (x : Cand) (y : List Cand). x ∷ y) (same-pick S T F (head-eq-of-cons-eq e) (head-eq-of-cons-eq e′))
+        (same-picks Ss Ts fs (tail-eq-of-cons-eq e) (tail-eq-of-cons-eq e′))

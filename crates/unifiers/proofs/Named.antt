@@ -39,11 +39,13 @@ module _ {A L Y : Type 0} (v : A → Y) where
   agree : (m m′ : L → List Y) (Ss : List (Shape A L)) → ((l : L) → List·Memᴰ l (gaps Ss) → m l ≡ m′ l) → map (fillShape m) Ss ≡ map (fillShape m′) Ss
   agree m m′ [] h = refl
   agree m m′ (closed xs ∷ Ss) h = ap (λ (r : List (List Y)). map v xs ∷ r) (agree m m′ Ss h)
-  agree m m′ (gapped f l t ∷ Ss) h = ap₂ (λ (x : List Y) (r : List (List Y)). (map v f ++ (x ++ map v t)) ∷ r) (h l (List·Memᴰ·head refl)) (agree m m′ Ss (λ k i. h k (List·Memᴰ·tail i)))
+  agree m m′ (gapped f l t ∷ Ss) h =
+      ap₂ (λ (x : List Y) (r : List (List Y)). (map v f ++ (x ++ map v t)) ∷ r) (h l (List·Memᴰ·head refl)) (agree m m′ Ss (λ k i. h k (List·Memᴰ·tail i)))
 
 module _ {Y : Type 0} where
   middle-is : (a m b : List Y) (p q : ℕ) → length a ≡ p → length b ≡ q → middle p q (a ++ (m ++ b)) ≡ m
-  middle-is a m b p q ha hb = ap (take (length (a ++ (m ++ b)) - (p + q))) (drop-at a (m ++ b) p ha) ∙ take-at m b (length (a ++ (m ++ b)) - (p + q)) (simp length-append (omega arith))
+  middle-is a m b p q ha hb =
+      ap (take (length (a ++ (m ++ b)) - (p + q))) (drop-at a (m ++ b) p ha) ∙ take-at m b (length (a ++ (m ++ b)) - (p + q)) (simp length-append (omega arith))
 
 module _ {A L Y : Type 0} (v : A → Y) (name-eq : Discrete L) where
   -- the runs at the places of the list variables are such a filling

@@ -3,7 +3,17 @@ use mathlib.Core.Path.{_≡_, refl, sym, _∙_, ap, ap₂, subst as along}
 use mathlib.Core.Logic.{_⊎_, inl, inr, ite, if-pos, if-neg}
 use mathlib.Core.Option.{some, Option·some-injective}
 use mathlib.Core.List.{List, [], _∷_, _++_, map, map-map, map-append}
-use mathlib.Core.List.{List·Memᴰ, List·Memᴰ·head, List·Memᴰ·tail, List·Memᴰ·not-nil, List·Memᴰ·cases-cons, Memᴰ·append-left, Memᴰ·append-right, Memᴰ·map, Memᴰ·of-map}
+use mathlib.Core.List.{
+  List·Memᴰ,
+  List·Memᴰ·head,
+  List·Memᴰ·tail,
+  List·Memᴰ·not-nil,
+  List·Memᴰ·cases-cons,
+  Memᴰ·append-left,
+  Memᴰ·append-right,
+  Memᴰ·map,
+  Memᴰ·of-map,
+}
 use Prim.Native.Nat.{ℕ, zero, suc, _+_, _≤_, _<_}
 use native.Mathlib.Omega.{arith}
 use native.Mathlib.Decide.{ℕ-discrete}
@@ -18,7 +28,25 @@ use Rattle.unifiers.specs.Shapes.{Atom, fixed, free, Side, left, right, 
 use Rattle.unifiers.specs.Candidates.{Cand, range}
 use Rattle.unifiers.specs.Joins.{resolve}
 use Rattle.unifiers.specs.Entries.{fieldsFor}
-use Rattle.unifiers.specs.Overlaps.{placeOf, without, firsts, namesOf, number, rename, Mark, named, place, mark-eq, termOf, fieldOf, mapShape, PairShape, PairState, markedFields, shown}
+use Rattle.unifiers.specs.Overlaps.{
+  placeOf,
+  without,
+  firsts,
+  namesOf,
+  number,
+  rename,
+  Mark,
+  named,
+  place,
+  mark-eq,
+  termOf,
+  fieldOf,
+  mapShape,
+  PairShape,
+  PairState,
+  markedFields,
+  shown,
+}
 use Rattle.unifiers.proofs.Seqs.{pigeon}
 use Rattle.unifiers.proofs.Renumbered.{in-firsts, at-place, in-all-names}
 use Rattle.unifiers.proofs.Kept.{Every, OnTerm, rule-every, entry-every}
@@ -31,11 +59,13 @@ module _ {A : Type 0} (d : Discrete A) where
   without-in x z [] i = absurd (List·Memᴰ·not-nil i)
   without-in x z (y ∷ l) i = go (d x y) i (λ j. without-in x z l j)
     where
-      first : (x ≡ y → ⊥) → (z ≡ y) ⊎ List·Memᴰ z (without d x l) → (List·Memᴰ z (without d x l) → (x ≡ z → ⊥) × List·Memᴰ z l) → (x ≡ z → ⊥) × List·Memᴰ z (y ∷ l)
+      first : (x ≡ y → ⊥) → (z ≡ y) ⊎ List·Memᴰ z (without d x l)
+          → (List·Memᴰ z (without d x l) → (x ≡ z → ⊥) × List·Memᴰ z l) → (x ≡ z → ⊥) × List·Memᴰ z (y ∷ l)
       first n (inl e) rec = (λ p. n (p ∙ e), List·Memᴰ·head e)
       first n (inr j) rec = let r = rec j in (r .0, List·Memᴰ·tail (r .1))
 
-      go : (q : Dec (x ≡ y)) → List·Memᴰ z (ite q (without d x l) (y ∷ without d x l)) → (List·Memᴰ z (without d x l) → (x ≡ z → ⊥) × List·Memᴰ z l) → (x ≡ z → ⊥) × List·Memᴰ z (y ∷ l)
+      go : (q : Dec (x ≡ y)) → List·Memᴰ z (ite q (without d x l) (y ∷ without d x l))
+          → (List·Memᴰ z (without d x l) → (x ≡ z → ⊥) × List·Memᴰ z l) → (x ≡ z → ⊥) × List·Memᴰ z (y ∷ l)
       go (yes e) j rec = let r = rec j in (r .0, List·Memᴰ·tail (r .1))
       go (no n) j rec = first n (List·Memᴰ·cases-cons j) rec
 
@@ -101,7 +131,8 @@ module _ {A : Type 0} (d : Discrete A) where
   places : (l : List A) → Distinct l → map (λ x. placeOf d x l) l ≡ range 0 (length l)
   places [] h = refl
   places (y ∷ l) h = ap₂ (λ (n : ℕ) (r : List ℕ). n ∷ r) (if-pos (d y y) refl zero (suc (placeOf d y l)))
-      (map-agree (λ x. placeOf d x (y ∷ l)) (λ x. suc (placeOf d x l)) l (λ x i. if-neg (d x y) (λ e. h .0 (along (λ (z : A). List·Memᴰ z l) e i)) zero (suc (placeOf d x l)))
+      (map-agree (λ x. placeOf d x (y ∷ l)) (λ x. suc (placeOf d x l)) l
+      (λ x i. if-neg (d x y) (λ e. h .0 (along (λ (z : A). List·Memᴰ z l) e i)) zero (suc (placeOf d x l)))
       ∙ sym (map-map suc (λ x. placeOf d x l) l) ∙ ap (map suc) (places l (h .1)) ∙ range-suc 0 (length l))
 
 -- ---- the names of renumbered fields
@@ -113,13 +144,15 @@ module _ {C K B D : Type 0} (kind-eq : Discrete K) (ν : K → B → D) (k : K) 
   names-renamed (var j b ∷ f) = go (kind-eq k j) (names-renamed f)
     where
       go : (q : Dec (k ≡ j)) → namesOf kind-eq k (map (rename ν) f) ≡ map (ν k) (namesOf kind-eq k f)
-          → ite q (ν j b ∷ namesOf kind-eq k (map (rename ν) f)) (namesOf kind-eq k (map (rename ν) f)) ≡ map (ν k) (ite q (b ∷ namesOf kind-eq k f) (namesOf kind-eq k f))
+          → ite q (ν j b ∷ namesOf kind-eq k (map (rename ν) f)) (namesOf kind-eq k (map (rename ν) f))
+          ≡ map (ν k) (ite q (b ∷ namesOf kind-eq k f) (namesOf kind-eq k f))
       go (yes e) rec = ap₂ (λ (n : D) (r : List D). n ∷ r) (ap (λ (z : K). ν z b) (sym e)) rec
       go (no n) rec = rec
 
   all-names-renamed : (fs : List (List (Term C K B))) → concat-map (namesOf kind-eq k) (map (map (rename ν)) fs) ≡ map (ν k) (concat-map (namesOf kind-eq k) fs)
   all-names-renamed [] = refl
-  all-names-renamed (f ∷ fs) = ap₂ (λ (x y : List D). x ++ y) (names-renamed f) (all-names-renamed fs) ∙ sym (map-append (ν k) (namesOf kind-eq k f) (concat-map (namesOf kind-eq k) fs))
+  all-names-renamed (f ∷ fs) =
+      ap₂ (λ (x y : List D). x ++ y) (names-renamed f) (all-names-renamed fs) ∙ sym (map-append (ν k) (namesOf kind-eq k f) (concat-map (namesOf kind-eq k) fs))
 
 module _ {C K B : Type 0} (kind-eq : Discrete K) (name-eq : Discrete B) (fs : List (List (Term C K B))) (k : K) where
   abbrev names : List B
@@ -130,17 +163,22 @@ module _ {C K B : Type 0} (kind-eq : Discrete K) (name-eq : Discrete B) (fs : Li
 
   once : (x y : B) → List·Memᴰ x names → List·Memᴰ y names → number kind-eq name-eq fs k x ≡ number kind-eq name-eq fs k y → x ≡ y
   once x y i j e = Option·some-injective x y
-      (sym (at-place name-eq x (firsts name-eq names) (in-firsts name-eq x names i)) ∙ ap (getElem? (firsts name-eq names)) e ∙ at-place name-eq y (firsts name-eq names) (in-firsts name-eq y names j))
+      (sym (at-place name-eq x (firsts name-eq names) (in-firsts name-eq x names i))
+      ∙ ap (getElem? (firsts name-eq names)) e
+      ∙ at-place name-eq y (firsts name-eq names) (in-firsts name-eq y names j))
 
   -- BY FIRST OCCURRENCE: the numbers of a type, each where it stands first, are 0, 1, 2, ..
-  pub by-first : firsts ℕ-discrete (concat-map (namesOf kind-eq k) (map (map (rename (number kind-eq name-eq fs))) fs)) ≡ range 0 (length (firsts name-eq (concat-map (namesOf kind-eq k) fs)))
+  pub by-first : firsts ℕ-discrete (concat-map (namesOf kind-eq k) (map (map (rename (number kind-eq name-eq fs))) fs))
+      ≡ range 0 (length (firsts name-eq (concat-map (namesOf kind-eq k) fs)))
   by-first = ap (firsts ℕ-discrete) (all-names-renamed kind-eq (number kind-eq name-eq fs) k fs)
       ∙ firsts-map name-eq ℕ-discrete (number kind-eq name-eq fs k) names once ∙ places name-eq (firsts name-eq names) (firsts-distinct name-eq names)
 
   -- and they are below the number of names
-  pub number-below : (n : ℕ) → Any (Occurs k n) (map (map (rename (number kind-eq name-eq fs))) fs) → n < length (firsts name-eq (concat-map (namesOf kind-eq k) fs))
+  pub number-below : (n : ℕ) → Any (Occurs k n) (map (map (rename (number kind-eq name-eq fs))) fs)
+      → n < length (firsts name-eq (concat-map (namesOf kind-eq k) fs))
   number-below n o =
-      let u = Memᴰ·of-map (number kind-eq name-eq fs k) names (along (λ (l : List ℕ). List·Memᴰ n l) (all-names-renamed kind-eq (number kind-eq name-eq fs) k fs) (in-all-names kind-eq k n renumbered o)) in
+      let u = Memᴰ·of-map (number kind-eq name-eq fs k) names
+      (along (λ (l : List ℕ). List·Memᴰ n l) (all-names-renamed kind-eq (number kind-eq name-eq fs) k fs) (in-all-names kind-eq k n renumbered o)) in
       along (λ (m : ℕ). m < length (firsts name-eq names)) (u .2) (place-below name-eq (u .0) (firsts name-eq names) (in-firsts name-eq (u .0) names (u .1)))
 
 -- as many different members as names to choose from
@@ -150,7 +188,8 @@ few {A} d l ys h = pigeon (λ (x y : A). x ≡ y) (firsts d l) ys (firsts-distin
 -- ---- the names of an entry's fields are those of the rules
 
 module _ {C K A : Type 0} (kind-eq : Discrete K) where
-  names-append : (k : Full K) (f g : List (Term C (Full K) (Mark A))) → namesOf (full-eq kind-eq) k (f ++ g) ≡ namesOf (full-eq kind-eq) k f ++ namesOf (full-eq kind-eq) k g
+  names-append : (k : Full K) (f g : List (Term C (Full K) (Mark A)))
+      → namesOf (full-eq kind-eq) k (f ++ g) ≡ namesOf (full-eq kind-eq) k f ++ namesOf (full-eq kind-eq) k g
   names-append k [] g = refl
   names-append k (con c ∷ f) g = names-append k f g
   names-append k (var j b ∷ f) g = go (full-eq kind-eq k j) (names-append k f g)
@@ -159,7 +198,8 @@ module _ {C K A : Type 0} (kind-eq : Discrete K) where
       rest = namesOf (full-eq kind-eq) k g
 
       go : (q : Dec (k ≡ j)) → namesOf (full-eq kind-eq) k (f ++ g) ≡ namesOf (full-eq kind-eq) k f ++ rest
-          → ite q (b ∷ namesOf (full-eq kind-eq) k (f ++ g)) (namesOf (full-eq kind-eq) k (f ++ g)) ≡ ite q (b ∷ namesOf (full-eq kind-eq) k f) (namesOf (full-eq kind-eq) k f) ++ rest
+          → ite q (b ∷ namesOf (full-eq kind-eq) k (f ++ g)) (namesOf (full-eq kind-eq) k (f ++ g))
+          ≡ ite q (b ∷ namesOf (full-eq kind-eq) k f) (namesOf (full-eq kind-eq) k f) ++ rest
       go (yes e) rec = ap (λ (r : List (Mark A)). b ∷ r) rec
       go (no n) rec = rec
 
@@ -175,22 +215,28 @@ module _ {C K A : Type 0} (kind-eq : Discrete K) (Q : Atom C (Variable K A) → 
   atom-marks k (fixed c ∷ xs) h = atom-marks k xs (h .1)
   atom-marks k (free (of s j a) ∷ xs) h = go (full-eq kind-eq k (basic j)) (atom-marks k xs (h .1))
     where
-      go : (q : Dec (k ≡ basic j)) → All (MarkIn k) (namesOf (full-eq kind-eq) k (map termOf xs)) → All (MarkIn k) (ite q (named s a ∷ namesOf (full-eq kind-eq) k (map termOf xs)) (namesOf (full-eq kind-eq) k (map termOf xs)))
+      go : (q : Dec (k ≡ basic j)) → All (MarkIn k) (namesOf (full-eq kind-eq) k (map termOf xs))
+          → All (MarkIn k) (ite q (named s a ∷ namesOf (full-eq kind-eq) k (map termOf xs)) (namesOf (full-eq kind-eq) k (map termOf xs)))
       go (yes e) rec = (along (λ (z : Full K). MarkIn z (named s a)) (sym e) (h .0), rec)
       go (no n) rec = rec
 
   field-marks : (k : Full K) (S : Shape (Atom C (Variable K A)) ℕ) → Every Q S → All (MarkIn k) (namesOf (full-eq kind-eq) k (fieldOf S))
   field-marks k (closed xs) h = atom-marks k xs h
   field-marks k (gapped f g t) h = along (All (MarkIn k)) (sym (names-append kind-eq k (map termOf f) (var list (place g) ∷ map termOf t)))
-      (all-append (MarkIn k) (namesOf (full-eq kind-eq) k (map termOf f)) (namesOf (full-eq kind-eq) k (var list (place g) ∷ map termOf t)) (atom-marks k f (h .0)) (go (full-eq kind-eq k list) (atom-marks k t (h .1))))
+      (all-append (MarkIn k) (namesOf (full-eq kind-eq) k (map termOf f))
+      (namesOf (full-eq kind-eq) k (var list (place g) ∷ map termOf t)) (atom-marks k f (h .0)) (go (full-eq kind-eq k list) (atom-marks k t (h .1))))
     where
-      go : (q : Dec (k ≡ list)) → All (MarkIn k) (namesOf (full-eq kind-eq) k (map termOf t)) → All (MarkIn k) (ite q (place g ∷ namesOf (full-eq kind-eq) k (map termOf t)) (namesOf (full-eq kind-eq) k (map termOf t)))
+      go : (q : Dec (k ≡ list)) → All (MarkIn k) (namesOf (full-eq kind-eq) k (map termOf t))
+          → All (MarkIn k) (ite q (place g ∷ namesOf (full-eq kind-eq) k (map termOf t)) (namesOf (full-eq kind-eq) k (map termOf t)))
       go (yes e) rec = (along (λ (z : Full K). MarkIn z (place g)) (sym e) tt, rec)
       go (no n) rec = rec
 
-  all-marks : (k : Full K) (Ss : List (Shape (Atom C (Variable K A)) ℕ)) → All (Every Q) Ss → All (MarkIn k) (concat-map (namesOf (full-eq kind-eq) k) (map fieldOf Ss))
+  all-marks : (k : Full K) (Ss : List (Shape (Atom C (Variable K A)) ℕ)) → All (Every Q) Ss
+      → All (MarkIn k) (concat-map (namesOf (full-eq kind-eq) k) (map fieldOf Ss))
   all-marks k [] h = tt
-  all-marks k (S ∷ Ss) h = all-append (MarkIn k) (namesOf (full-eq kind-eq) k (fieldOf S)) (concat-map (namesOf (full-eq kind-eq) k) (map fieldOf Ss)) (field-marks k S (h .0)) (all-marks k Ss (h .1))
+  all-marks k (S ∷ Ss) h =
+      all-append (MarkIn k) (namesOf (full-eq kind-eq) k (fieldOf S))
+      (concat-map (namesOf (full-eq kind-eq) k) (map fieldOf Ss)) (field-marks k S (h .0)) (all-marks k Ss (h .1))
 
 list≢basic : {K : Type 0} {j : K} → _≡_ {A = Full K} list (basic j) → ⊥
 list≢basic {K} {j} e = let o : _≡_ {A = ℕ} 0 1 = cc in omega arith
@@ -201,7 +247,9 @@ module _ {C K A : Type 0} (kind-eq : Discrete K) where
   no-lists [] = refl
   no-lists (fixed c ∷ xs) = no-lists xs
   no-lists (free (of s j a) ∷ xs) =
-      if-neg (full-eq kind-eq list (basic j)) list≢basic (named s a ∷ namesOf (full-eq kind-eq) list (map termOf xs)) (namesOf (full-eq kind-eq) list (map termOf xs)) ∙ no-lists xs
+      if-neg (full-eq kind-eq list (basic j)) list≢basic (named s a ∷ namesOf (full-eq kind-eq) list (map termOf xs))
+      (namesOf (full-eq kind-eq) list (map termOf xs))
+      ∙ no-lists xs
 
   one-list : (S : Shape (Atom C (Variable K A)) ℕ) → length (namesOf (full-eq kind-eq) list (fieldOf S)) ≤ 1
   one-list (closed xs) = omega (arith, ap length (no-lists xs))
@@ -212,7 +260,8 @@ module _ {C K A : Type 0} (kind-eq : Discrete K) where
 
       is : namesOf (full-eq kind-eq) list (fieldOf (gapped f g t)) ≡ place g ∷ []
       is = names-append kind-eq list (map termOf f) (var list (place g) ∷ map termOf t)
-          ∙ ap₂ (λ (x y : List (Mark A)). x ++ y) (no-lists f) (if-pos (full-eq kind-eq list list) refl (place g ∷ rest) rest ∙ ap (λ (r : List (Mark A)). place g ∷ r) (no-lists t))
+          ∙ ap₂ (λ (x y : List (Mark A)). x ++ y) (no-lists f)
+          (if-pos (full-eq kind-eq list list) refl (place g ∷ rest) rest ∙ ap (λ (r : List (Mark A)). place g ∷ r) (no-lists t))
 
   all-lists : (Ss : List (Shape (Atom C (Variable K A)) ℕ)) → length (concat-map (namesOf (full-eq kind-eq) list) (map fieldOf Ss)) ≤ length Ss
   all-lists [] = omega arith
@@ -252,7 +301,8 @@ module _ (O : Order) (C : Consts O) {A : Type 0} (name-eq : Discrete A) (r₁ r�
     on-rule [] h = tt
     on-rule (f ∷ r) h = (on-field f (λ k a o. h k a (inl o)), on-rule r (λ k a o. h k a (inr o)))
 
-  module _ (Ss Ts : List (PairShape O C name-eq)) (is₁ : shapesOf left r₁ ≡ some Ss) (is₂ : shapesOf right r₂ ≡ some Ts) (e : List Cand × PairState O C name-eq) (i : List·Memᴰ e (raw O C name-eq Ss Ts)) where
+  module _ (Ss Ts : List (PairShape O C name-eq)) (is₁ : shapesOf left r₁ ≡ some Ss) (is₂ : shapesOf right r₂ ≡ some Ts)
+      (e : List Cand × PairState O C name-eq) (i : List·Memᴰ e (raw O C name-eq Ss Ts)) where
     abbrev resolved : List (Shape (Atom (C .Con) (Variable (O .Kind) A)) ℕ)
     resolved = map (mapShape (resolve O C (pairVars O name-eq) (e .1))) (fieldsFor 0 Ss Ts (e .0))
 
@@ -262,7 +312,8 @@ module _ (O : Order) (C : Consts O) {A : Type 0} (name-eq : Discrete A) (r₁ r�
         (rule-every InRules right r₂ Ts is₂ (on-rule right (λ k a. Any (Occurs (basic k) a) r₂) (λ k a o. o) r₂ (λ k a o. o))) e i .1
 
     -- the numbers of a type are below the number of names that the two rules have for it
-    pub numbers-below : (k : O .Kind) (as₁ as₂ : List A) → ((a : A) → Any (Occurs (basic k) a) r₁ → List·Memᴰ a as₁) → ((a : A) → Any (Occurs (basic k) a) r₂ → List·Memᴰ a as₂)
+    pub numbers-below : (k : O .Kind) (as₁ as₂ : List A) → ((a : A) → Any (Occurs (basic k) a) r₁ → List·Memᴰ a as₁)
+        → ((a : A) → Any (Occurs (basic k) a) r₂ → List·Memᴰ a as₂)
         → (n : ℕ) → Any (Occurs (basic k) n) (shown O C name-eq Ss Ts e .fields) → n < length as₁ + length as₂
     numbers-below k as₁ as₂ h₁ h₂ n o =
         let p = number-below (full-eq (O .kind-eq)) (mark-eq side-eq name-eq ℕ-discrete) (markedFields O C name-eq Ss Ts e) (basic k) n o in

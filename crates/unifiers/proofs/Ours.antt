@@ -16,7 +16,21 @@ use Rattle.unifiers.specs.Shapes.{Atom, fixed, free, Side, left, right, 
 use Rattle.unifiers.specs.Candidates.{Cand}
 use Rattle.unifiers.specs.Joins.{resolve}
 use Rattle.unifiers.specs.Entries.{fieldsFor}
-use Rattle.unifiers.specs.Overlaps.{place, termOf, fieldOf, mapShape, middle, runOf, rename, PairShape, PairState, markedFields, markedValue, numbersOf, shown}
+use Rattle.unifiers.specs.Overlaps.{
+  place,
+  termOf,
+  fieldOf,
+  mapShape,
+  middle,
+  runOf,
+  rename,
+  PairShape,
+  PairState,
+  markedFields,
+  markedValue,
+  numbersOf,
+  shown,
+}
 use Rattle.unifiers.proofs.Kept.{all-take, all-drop, Every, OnTerm, rule-every, Keeps, entry-every}
 use Rattle.unifiers.proofs.Listed.{raw}
 
@@ -46,8 +60,11 @@ module _ {C K A : Type 0} (P : C → Type 0) where
   on-term d (var (basic k) a) h = tt
   on-term d (var list a) h = tt
 
-  pub rule-in : (d : Side) (r : List (List (Term C (Full K) A))) (Ss : List (Shape (Atom C (Variable K A)) A)) → shapesOf d r ≡ some Ss → All (All (ConstantIn P)) r → All (Every (AtomIn P)) Ss
-  rule-in d r Ss e h = rule-every (AtomIn P) d r Ss e (all-map (All (ConstantIn P)) (All (OnTerm (AtomIn P) d)) (λ f k. all-map (ConstantIn P) (OnTerm (AtomIn P) d) (on-term d) f k) r h)
+  pub rule-in : (d : Side) (r : List (List (Term C (Full K) A))) (Ss : List (Shape (Atom C (Variable K A)) A))
+      → shapesOf d r ≡ some Ss → All (All (ConstantIn P)) r → All (Every (AtomIn P)) Ss
+  rule-in d r Ss e h =
+      rule-every (AtomIn P) d r Ss e
+      (all-map (All (ConstantIn P)) (All (OnTerm (AtomIn P) d)) (λ f k. all-map (ConstantIn P) (OnTerm (AtomIn P) d) (on-term d) f k) r h)
 
   term-in : (a : Atom C (Variable K A)) → AtomIn P a → ConstantIn P (termOf a)
   term-in (fixed c) h = h
@@ -88,13 +105,15 @@ module _ {C K A : Type 0} (P : C → Type 0) (φ : Filling C K A) (h : (k : K) (
 
 module _ (O : Order) (C : Consts O) {A : Type 0} (name-eq : Discrete A) (Ss Ts : List (PairShape O C name-eq)) (P : C .Con → Type 0)
     (in₁ : All (Every (AtomIn P)) Ss) (in₂ : All (Every (AtomIn P)) Ts) (e : List Cand × PairState O C name-eq) (i : List·Memᴰ e (raw O C name-eq Ss Ts)) where
-  kept : Keeps O C (pairVars O name-eq) (AtomIn P) (e .1) × All (Every (AtomIn P)) (map (mapShape (resolve O C (pairVars O name-eq) (e .1))) (fieldsFor 0 Ss Ts (e .0)))
+  kept : Keeps O C (pairVars O name-eq) (AtomIn P) (e .1)
+      × All (Every (AtomIn P)) (map (mapShape (resolve O C (pairVars O name-eq) (e .1))) (fieldsFor 0 Ss Ts (e .0)))
   kept = entry-every O C (pairVars O name-eq) (AtomIn P) A A Ss Ts in₁ in₂ e i
 
   marked-in : All (All (ConstantIn P)) (markedFields O C name-eq Ss Ts e)
   marked-in = fields-in P (map (mapShape (resolve O C (pairVars O name-eq) (e .1))) (fieldsFor 0 Ss Ts (e .0))) (kept .1)
 
-  marked-value-in : (d : Side) (Rs : List (PairShape O C name-eq)) (k : Full (O .Kind)) (a : A) → All (ConstantIn P) (markedValue O C name-eq d Rs (e .1) (markedFields O C name-eq Ss Ts e) k a)
+  marked-value-in : (d : Side) (Rs : List (PairShape O C name-eq)) (k : Full (O .Kind)) (a : A)
+      → All (ConstantIn P) (markedValue O C name-eq d Rs (e .1) (markedFields O C name-eq Ss Ts e) k a)
   marked-value-in d Rs (basic k) a = (term-in P (e .1 (of d k a)) (kept .0 (free (of d k a)) tt), tt)
   marked-value-in d Rs list a = all-run name-eq (ConstantIn P) Rs (markedFields O C name-eq Ss Ts e) marked-in a
 
@@ -102,7 +121,11 @@ module _ (O : Order) (C : Consts O) {A : Type 0} (name-eq : Discrete A) (Ss Ts :
   fields-ours = all-renamed-in P (numbersOf O C name-eq (markedFields O C name-eq Ss Ts e)) (markedFields O C name-eq Ss Ts e) marked-in
 
   pub left-ours : (k : Full (O .Kind)) (a : A) → All (ConstantIn P) (shown O C name-eq Ss Ts e .left k a)
-  left-ours k a = let fs = markedFields O C name-eq Ss Ts e in renamed-in P (numbersOf O C name-eq fs) (markedValue O C name-eq left Ss (e .1) fs k a) (marked-value-in left Ss k a)
+  left-ours k a =
+      let fs = markedFields O C name-eq Ss Ts e in
+      renamed-in P (numbersOf O C name-eq fs) (markedValue O C name-eq left Ss (e .1) fs k a) (marked-value-in left Ss k a)
 
   pub right-ours : (k : Full (O .Kind)) (a : A) → All (ConstantIn P) (shown O C name-eq Ss Ts e .right k a)
-  right-ours k a = let fs = markedFields O C name-eq Ss Ts e in renamed-in P (numbersOf O C name-eq fs) (markedValue O C name-eq right Ts (e .1) fs k a) (marked-value-in right Ts k a)
+  right-ours k a =
+      let fs = markedFields O C name-eq Ss Ts e in
+      renamed-in P (numbersOf O C name-eq fs) (markedValue O C name-eq right Ts (e .1) fs k a) (marked-value-in right Ts k a)

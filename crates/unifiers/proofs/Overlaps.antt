@@ -48,7 +48,8 @@ use Rattle.unifiers.proofs.Lengths.{AtMost, short-rule, shown-few}
 use Rattle.unifiers.proofs.Numbers.{by-first, numbers-below, lists-below}
 use Rattle.unifiers.proofs.Parts.{part-of-rule, part-occurs, part-short}
 
-module _ (O : Order) (C : Consts O) {A : Type 0} (name-eq : Discrete A) (r₁ r₂ : List (List (TermOver O C A))) (lin₁ : LeftLinear r₁) (lin₂ : LeftLinear r₂) where
+module _ (O : Order) (C : Consts O) {A : Type 0} (name-eq : Discrete A)
+    (r₁ r₂ : List (List (TermOver O C A))) (lin₁ : LeftLinear r₁) (lin₂ : LeftLinear r₂) where
   abbrev Slip : Type 0
   Slip = List (List (C .Con))
 
@@ -90,12 +91,14 @@ module _ (O : Order) (C : Consts O) {A : Type 0} (name-eq : Discrete A) (r₁ r�
   solves-left : (e : Entry O C A) → List·Memᴰ e (overlaps O C name-eq r₁ r₂) → map (substitute (e .left)) r₁ ≡ e .fields
   solves-left e i =
       let x = chosen e i in
-      along (λ (y : Entry O C A). map (substitute (y .left)) r₁ ≡ y .fields) (x .2) (left-solves O C name-eq Ss Ts r₁ r₂ (linear₁ .1) (linear₂ .1) (linear₁ .2) (linear₂ .2) (x .0) (x .1))
+      along (λ (y : Entry O C A). map (substitute (y .left)) r₁ ≡ y .fields) (x .2)
+      (left-solves O C name-eq Ss Ts r₁ r₂ (linear₁ .1) (linear₂ .1) (linear₁ .2) (linear₂ .2) (x .0) (x .1))
 
   solves-right : (e : Entry O C A) → List·Memᴰ e (overlaps O C name-eq r₁ r₂) → map (substitute (e .right)) r₂ ≡ e .fields
   solves-right e i =
       let x = chosen e i in
-      along (λ (y : Entry O C A). map (substitute (y .right)) r₂ ≡ y .fields) (x .2) (right-solves O C name-eq Ss Ts r₁ r₂ (linear₁ .1) (linear₂ .1) (linear₁ .2) (linear₂ .2) (x .0) (x .1))
+      along (λ (y : Entry O C A). map (substitute (y .right)) r₂ ≡ y .fields) (x .2)
+      (right-solves O C name-eq Ss Ts r₁ r₂ (linear₁ .1) (linear₂ .1) (linear₁ .2) (linear₂ .2) (x .0) (x .1))
 
   -- AN ENTRY IS A SOLUTION, whose fields are the entry's
   pub entry-solves : (e : Entry O C A) → List·Memᴰ e (overlaps O C name-eq r₁ r₂)
@@ -114,18 +117,21 @@ module _ (O : Order) (C : Consts O) {A : Type 0} (name-eq : Discrete A) (r₁ r�
   )
 
   -- THE FILLINGS: the entry's filling, put into the values shown, is a filling of the rule; by `match-unique` there is no other
-  pub fillings-left : (e : Entry O C A) → List·Memᴰ e (overlaps O C name-eq r₁ r₂) → (w : List (List (C .Con))) (ψ : FillingOver O C ℕ) → Typed O C ψ → map (fill ψ) (e .fields) ≡ w
+  pub fillings-left : (e : Entry O C A) → List·Memᴰ e (overlaps O C name-eq r₁ r₂)
+      → (w : List (List (C .Con))) (ψ : FillingOver O C ℕ) → Typed O C ψ → map (fill ψ) (e .fields) ≡ w
       → Typed O C (λ k a. fill ψ (e .left k a)) × (map (fill (λ k a. fill ψ (e .left k a))) r₁ ≡ w)
   fillings-left e i w ψ t h = (fill-typed O C (e .left) (typed-left e i) ψ t, sym (fill-substs ψ (e .left) r₁) ∙ ap (map (fill ψ)) (solves-left e i) ∙ h)
 
-  pub fillings-right : (e : Entry O C A) → List·Memᴰ e (overlaps O C name-eq r₁ r₂) → (w : List (List (C .Con))) (ψ : FillingOver O C ℕ) → Typed O C ψ → map (fill ψ) (e .fields) ≡ w
+  pub fillings-right : (e : Entry O C A) → List·Memᴰ e (overlaps O C name-eq r₁ r₂)
+      → (w : List (List (C .Con))) (ψ : FillingOver O C ℕ) → Typed O C ψ → map (fill ψ) (e .fields) ≡ w
       → Typed O C (λ k a. fill ψ (e .right k a)) × (map (fill (λ k a. fill ψ (e .right k a))) r₂ ≡ w)
   fillings-right e i w ψ t h = (fill-typed O C (e .right) (typed-right e i) ψ t, sym (fill-substs ψ (e .right) r₂) ∙ ap (map (fill ψ)) (solves-right e i) ∙ h)
 
   -- ---- exactness and uniqueness
 
   -- EXACT: both rules match a slip exactly when it fits an entry
-  pub exact : (w : List (List (C .Con))) → (Matches O C r₁ w × Matches O C r₂ w) ↔ ((e : Entry O C A) × List·Memᴰ e (overlaps O C name-eq r₁ r₂) × Matches O C (e .fields) w)
+  pub exact : (w : List (List (C .Con)))
+      → (Matches O C r₁ w × Matches O C r₂ w) ↔ ((e : Entry O C A) × List·Memᴰ e (overlaps O C name-eq r₁ r₂) × Matches O C (e .fields) w)
   exact w = (to, from)
     where
       to : Matches O C r₁ w × Matches O C r₂ w → (e : Entry O C A) × List·Memᴰ e (overlaps O C name-eq r₁ r₂) × Matches O C (e .fields) w
@@ -171,7 +177,8 @@ module _ (O : Order) (C : Consts O) {A : Type 0} (name-eq : Discrete A) (r₁ r�
           (sym (fits-choice O C name-eq Ss Ts x i w h) ∙ fits-choice O C name-eq Ss Ts y j w (along (λ (z : Entry O C A). Matches O C (z .fields) w) e h))
 
   -- the same by places in the list: entries at two places share no slip
-  pub one-place : (i j : ℕ) (e e′ : Entry O C A) → getElem? (overlaps O C name-eq r₁ r₂) i ≡ some e → getElem? (overlaps O C name-eq r₁ r₂) j ≡ some e′ → (w : List (List (C .Con)))
+  pub one-place : (i j : ℕ) (e e′ : Entry O C A) → getElem? (overlaps O C name-eq r₁ r₂) i ≡ some e
+      → getElem? (overlaps O C name-eq r₁ r₂) j ≡ some e′ → (w : List (List (C .Con)))
       → Matches O C (e .fields) w → Matches O C (e′ .fields) w → i ≡ j
   one-place i j e e′ p q w h h′ =
       let l = overlaps O C name-eq r₁ r₂ in
@@ -180,12 +187,15 @@ module _ (O : Order) (C : Consts O) {A : Type 0} (name-eq : Discrete A) (r₁ r�
 
   -- ---- constants that can be read: no others come in, and they are enough for a slip and for minimality
 
-  module _ (Ours : C .Con → Type 0) (ours : (k : O .Kind) → Ours (C .some-of k)) (ours₁ : All (All (ConstantIn Ours)) r₁) (ours₂ : All (All (ConstantIn Ours)) r₂) where
+  module _ (Ours : C .Con → Type 0) (ours : (k : O .Kind) → Ours (C .some-of k))
+      (ours₁ : All (All (ConstantIn Ours)) r₁) (ours₂ : All (All (ConstantIn Ours)) r₂) where
     pub entry-constants : (e : Entry O C A) → List·Memᴰ e (overlaps O C name-eq r₁ r₂)
-        → All (All (ConstantIn Ours)) (e .fields) × ((k : Full (O .Kind)) (a : A) → All (ConstantIn Ours) (e .left k a)) × ((k : Full (O .Kind)) (a : A) → All (ConstantIn Ours) (e .right k a))
+        → All (All (ConstantIn Ours)) (e .fields) × ((k : Full (O .Kind)) (a : A) → All (ConstantIn Ours) (e .left k a))
+        × ((k : Full (O .Kind)) (a : A) → All (ConstantIn Ours) (e .right k a))
     entry-constants e i =
         let x = chosen e i in
-        along (λ (y : Entry O C A). All (All (ConstantIn Ours)) (y .fields) × ((k : Full (O .Kind)) (a : A) → All (ConstantIn Ours) (y .left k a)) × ((k : Full (O .Kind)) (a : A) → All (ConstantIn Ours) (y .right k a))) (x .2) (
+        along (λ (y : Entry O C A). All (All (ConstantIn Ours)) (y .fields) × ((k : Full (O .Kind)) (a : A) → All (ConstantIn Ours) (y .left k a))
+        × ((k : Full (O .Kind)) (a : A) → All (ConstantIn Ours) (y .right k a))) (x .2) (
           fields-ours O C name-eq Ss Ts Ours (rule-in Ours left r₁ Ss (linear₁ .1) ours₁) (rule-in Ours right r₂ Ts (linear₂ .1) ours₂) (x .0) (x .1),
           left-ours O C name-eq Ss Ts Ours (rule-in Ours left r₁ Ss (linear₁ .1) ours₁) (rule-in Ours right r₂ Ts (linear₂ .1) ours₂) (x .0) (x .1),
           right-ours O C name-eq Ss Ts Ours (rule-in Ours left r₁ Ss (linear₁ .1) ours₁) (rule-in Ours right r₂ Ts (linear₂ .1) ours₂) (x .0) (x .1),
@@ -193,7 +203,11 @@ module _ (O : Order) (C : Consts O) {A : Type 0} (name-eq : Discrete A) (r₁ r�
 
     -- EVERY ENTRY HAS A SLIP
     pub has-slip : (e : Entry O C A) → List·Memᴰ e (overlaps O C name-eq r₁ r₂) → (w : List (List (C .Con))) × All (All Ours) w × Matches O C (e .fields) w
-    has-slip e i = (map (fill (λ k b. someValue O C k)) (e .fields), all-filled-in Ours (λ k b. someValue O C k) some-ours (e .fields) (entry-constants e i .0), some-slip e)
+    has-slip e i = (
+      map (fill (λ k b. someValue O C k)) (e .fields),
+      all-filled-in Ours (λ k b. someValue O C k) some-ours (e .fields) (entry-constants e i .0),
+      some-slip e,
+    )
       where
         some-ours : (k : Full (O .Kind)) (b : ℕ) → All Ours (someValue O C k)
         some-ours (basic k) b = (ours k, tt)
@@ -201,7 +215,8 @@ module _ (O : Order) (C : Consts O) {A : Type 0} (name-eq : Discrete A) (r₁ r�
 
     -- MINIMAL: solutions that cover every shared slip of such constants are at least as many as the entries
     pub minimal : (B : Type 0) (xs : List (Solution O C r₁ r₂ B))
-        → ((w : List (List (C .Con))) → All (All Ours) w → Matches O C r₁ w → Matches O C r₂ w → (x : Solution O C r₁ r₂ B) × List·Memᴰ x xs × Covers O C r₁ r₂ B x w)
+        → ((w : List (List (C .Con))) → All (All Ours) w → Matches O C r₁ w → Matches O C r₂ w
+        → (x : Solution O C r₁ r₂ B) × List·Memᴰ x xs × Covers O C r₁ r₂ B x w)
         → length (overlaps O C name-eq r₁ r₂) ≤ length xs
     minimal B xs cover = pigeon Hits (overlaps O C name-eq r₁ r₂) xs overlaps-distinct hit one
       where
@@ -220,7 +235,8 @@ module _ (O : Order) (C : Consts O) {A : Type 0} (name-eq : Discrete A) (r₁ r�
           where
             one-choice : (x : Solution O C r₁ r₂ B) (w w′ : Slip) → Covers O C r₁ r₂ B x w → Covers O C r₁ r₂ B x w′ → picks Ss Ts w ≡ picks Ss Ts w′
             one-choice x w w′ c c′ = ap (picks Ss Ts) (sym (c .2))
-                ∙ same-picks v atomic (x .left list) (x .right list) (c .0) (c′ .0) (typed-one O C (c .0) (c .1)) (typed-one O C (c′ .0) (c′ .1)) Ss Ts (fieldsOf O C r₁ r₂ B x) by-left by-right
+                ∙ same-picks v atomic (x .left list) (x .right list) (c .0) (c′ .0) (typed-one O C (c .0) (c .1)) (typed-one O C (c′ .0) (c′ .1)) Ss Ts
+                (fieldsOf O C r₁ r₂ B x) by-left by-right
                 ∙ ap (picks Ss Ts) (c′ .2)
               where
                 θ : Variable (O .Kind) A → TermOver O C B
@@ -250,7 +266,8 @@ module _ (O : Order) (C : Consts O) {A : Type 0} (name-eq : Discrete A) (r₁ r�
 
   -- the values shown of a rule's variables have the variables of the entry's fields
   pub values-occur : (e : Entry O C A) → List·Memᴰ e (overlaps O C name-eq r₁ r₂) → (k : Full (O .Kind)) (a : A) (j : Full (O .Kind)) (n : ℕ)
-      → (Any (Occurs k a) r₁ → Occurs j n (e .left k a) → Any (Occurs j n) (e .fields)) × (Any (Occurs k a) r₂ → Occurs j n (e .right k a) → Any (Occurs j n) (e .fields))
+      → (Any (Occurs k a) r₁ → Occurs j n (e .left k a) → Any (Occurs j n) (e .fields))
+      × (Any (Occurs k a) r₂ → Occurs j n (e .right k a) → Any (Occurs j n) (e .fields))
   values-occur e i k a j n = (
     λ o p. along (Any (Occurs j n)) (solves-left e i) (part-occurs j n (e .left k a) p (map (substitute (e .left)) r₁) (part-of-rule (e .left) k a r₁ o)),
     λ o p. along (Any (Occurs j n)) (solves-right e i) (part-occurs j n (e .right k a) p (map (substitute (e .right)) r₂) (part-of-rule (e .right) k a r₂ o)),
@@ -266,14 +283,17 @@ module _ (O : Order) (C : Consts O) {A : Type 0} (name-eq : Discrete A) (r₁ r�
     pub values-short : (e : Entry O C A) → List·Memᴰ e (overlaps O C name-eq r₁ r₂) → (k : Full (O .Kind)) (a : A)
         → (Any (Occurs k a) r₁ → length (e .left k a) ≤ 31) × (Any (Occurs k a) r₂ → length (e .right k a) ≤ 31)
     values-short e i k a = (
-      λ o. part-short 31 (e .left k a) (map (substitute (e .left)) r₁) (along (All (AtMost 31)) (sym (solves-left e i)) (fields-short e i)) (part-of-rule (e .left) k a r₁ o),
-      λ o. part-short 31 (e .right k a) (map (substitute (e .right)) r₂) (along (All (AtMost 31)) (sym (solves-right e i)) (fields-short e i)) (part-of-rule (e .right) k a r₂ o),
+      λ o. part-short 31 (e .left k a) (map (substitute (e .left)) r₁)
+          (along (All (AtMost 31)) (sym (solves-left e i)) (fields-short e i)) (part-of-rule (e .left) k a r₁ o),
+      λ o. part-short 31 (e .right k a) (map (substitute (e .right)) r₂)
+          (along (All (AtMost 31)) (sym (solves-right e i)) (fields-short e i)) (part-of-rule (e .right) k a r₂ o),
     )
 
   -- ---- numbers
 
   -- "renumbered from 0 in each type, by first occurrence in its fields"
-  pub numbered : (e : Entry O C A) → List·Memᴰ e (overlaps O C name-eq r₁ r₂) → (k : Full (O .Kind)) → (n : ℕ) × (firsts ℕ-discrete (concat-map (namesOf (full-eq (O .kind-eq)) k) (e .fields)) ≡ range 0 n)
+  pub numbered : (e : Entry O C A) → List·Memᴰ e (overlaps O C name-eq r₁ r₂) → (k : Full (O .Kind))
+      → (n : ℕ) × (firsts ℕ-discrete (concat-map (namesOf (full-eq (O .kind-eq)) k) (e .fields)) ≡ range 0 n)
   numbered e i k =
       let x = chosen e i in
       along (λ (y : Entry O C A). (n : ℕ) × (firsts ℕ-discrete (concat-map (namesOf (full-eq (O .kind-eq)) k) (y .fields)) ≡ range 0 n)) (x .2) (
@@ -293,4 +313,5 @@ module _ (O : Order) (C : Consts O) {A : Type 0} (name-eq : Discrete A) (r₁ r�
   pub lists-few : (e : Entry O C A) → List·Memᴰ e (overlaps O C name-eq r₁ r₂) → (n : ℕ) → Any (Occurs list n) (e .fields) → n < length r₁
   lists-few e i n o =
       let x = chosen e i in
-      along (λ (m : ℕ). n < m) (shapes-count left r₁ Ss (linear₁ .1)) (lists-below O C name-eq r₁ r₂ Ss Ts (x .0) n (along (λ (y : Entry O C A). Any (Occurs list n) (y .fields)) (sym (x .2)) o))
+      along (λ (m : ℕ). n < m) (shapes-count left r₁ Ss (linear₁ .1))
+      (lists-below O C name-eq r₁ r₂ Ss Ts (x .0) n (along (λ (y : Entry O C A). Any (Occurs list n) (y .fields)) (sym (x .2)) o))

@@ -11,7 +11,21 @@ use Rattle.unifiers.specs.Candidates.{Cand, exact, long, before, wide, c
 use Rattle.unifiers.specs.Entries.{row, span, cells, equations, fieldFor}
 use Rattle.unifiers.proofs.Seqs.{cut, split3, SolvesV}
 use Rattle.unifiers.proofs.Candidates.{Room, pick, Runs, pick-in, pick-of, pick-runs, exact≢long}
-use Rattle.unifiers.proofs.Rows.{Covered, merge-length, merge-fit, fit-merge, Inst, inst-room, inst-fit, fit-inst, long-drop, long-add, Reach, covered-row, row-length}
+use Rattle.unifiers.proofs.Rows.{
+  Covered,
+  merge-length,
+  merge-fit,
+  fit-merge,
+  Inst,
+  inst-room,
+  inst-fit,
+  fit-inst,
+  long-drop,
+  long-add,
+  Reach,
+  covered-row,
+  row-length,
+}
 
 module _ {A L M : Type 0} where
   pub room-of : (S₁ : Shape A L) (S₂ : Shape A M) (c : Cand) → List·Memᴰ c (cands S₁ S₂) → Room S₁ (span S₁ S₂ c) × Room S₂ (span S₁ S₂ c)
@@ -35,7 +49,8 @@ module _ {A L M : Type 0} where
   covered-of S₁ S₂ c i = let r = room-of S₁ S₂ c i in covered-row (span S₁ S₂ c) S₁ S₂ (r .0) (r .1) (reach-of S₁ S₂ c i)
 
   pub cells-length : (S₁ : Shape A L) (S₂ : Shape A M) (c : Cand) → List·Memᴰ c (cands S₁ S₂) → length (cells S₁ S₂ c) ≡ span S₁ S₂ c
-  cells-length S₁ S₂ c i = merge-length (row (span S₁ S₂ c) S₁) (row (span S₁ S₂ c) S₂) (covered-of S₁ S₂ c i) ∙ row-length (span S₁ S₂ c) S₁ (room-of S₁ S₂ c i .0)
+  cells-length S₁ S₂ c i =
+      merge-length (row (span S₁ S₂ c) S₁) (row (span S₁ S₂ c) S₂) (covered-of S₁ S₂ c i) ∙ row-length (span S₁ S₂ c) S₁ (room-of S₁ S₂ c i .0)
 
 module _ (A L M : Type 0) where
   pub no-long₁ : (xs : List A) (S₂ : Shape A M) → List·Memᴰ long (cands {L = L} (closed xs) S₂) → ⊥
@@ -48,31 +63,38 @@ module _ {A L M G C : Type 0} (v : A → C) (g : G) where
   -- a run of as many items as the candidate has cells
   even-to : (S₁ : Shape A L) (S₂ : Shape A M) (c : Cand) → List·Memᴰ c (cands S₁ S₂) → (w : List C) → length w ≡ span S₁ S₂ c → Inst v S₁ w → Inst v S₂ w
       → SolvesV v (equations S₁ S₂ c) × (w ≡ map v (cells S₁ S₂ c))
-  even-to S₁ S₂ c i w e p q = merge-fit v (row (span S₁ S₂ c) S₁) (row (span S₁ S₂ c) S₂) (covered-of S₁ S₂ c i) w (inst-fit v S₁ (span S₁ S₂ c) w e p) (inst-fit v S₂ (span S₁ S₂ c) w e q)
+  even-to S₁ S₂ c i w e p q =
+      merge-fit v (row (span S₁ S₂ c) S₁) (row (span S₁ S₂ c) S₂) (covered-of S₁ S₂ c i) w (inst-fit v S₁ (span S₁ S₂ c) w e p)
+      (inst-fit v S₂ (span S₁ S₂ c) w e q)
 
-  even-from : (S₁ : Shape A L) (S₂ : Shape A M) (c : Cand) → List·Memᴰ c (cands S₁ S₂) → (w : List C) → SolvesV v (equations S₁ S₂ c) → w ≡ map v (cells S₁ S₂ c)
+  even-from : (S₁ : Shape A L) (S₂ : Shape A M) (c : Cand) → List·Memᴰ c (cands S₁ S₂)
+      → (w : List C) → SolvesV v (equations S₁ S₂ c) → w ≡ map v (cells S₁ S₂ c)
       → Inst v S₁ w × Inst v S₂ w
   even-from S₁ S₂ c i w s e =
       let r = fit-merge v (row (span S₁ S₂ c) S₁) (row (span S₁ S₂ c) S₂) (covered-of S₁ S₂ c i) w s e in
       (fit-inst v S₁ (span S₁ S₂ c) w (r .0), fit-inst v S₂ (span S₁ S₂ c) w (r .1))
 
   -- a run fits the entry of a candidate only if the candidate is for it
-  pub entry-runs : (S₁ : Shape A L) (S₂ : Shape A M) (c : Cand) → List·Memᴰ c (cands S₁ S₂) → (w : List C) → Inst v (fieldFor g S₁ S₂ c) w → Runs S₁ S₂ c (length w)
+  pub entry-runs : (S₁ : Shape A L) (S₂ : Shape A M) (c : Cand) → List·Memᴰ c (cands S₁ S₂)
+      → (w : List C) → Inst v (fieldFor g S₁ S₂ c) w → Runs S₁ S₂ c (length w)
   entry-runs S₁ S₂ (exact n) i w h = ap length h ∙ length-map (cells S₁ S₂ (exact n)) v ∙ cells-length S₁ S₂ (exact n) i
   entry-runs S₁ S₂ long i w h = omega (arith, simp (length-append, length-map, length-take, length-drop) at (ap length (h .1)), cells-length S₁ S₂ long i)
 
-  pub entry-pick : (S₁ : Shape A L) (S₂ : Shape A M) (c : Cand) → List·Memᴰ c (cands S₁ S₂) → (w : List C) → Inst v (fieldFor g S₁ S₂ c) w → pick S₁ S₂ (length w) ≡ c
+  pub entry-pick : (S₁ : Shape A L) (S₂ : Shape A M) (c : Cand) → List·Memᴰ c (cands S₁ S₂)
+      → (w : List C) → Inst v (fieldFor g S₁ S₂ c) w → pick S₁ S₂ (length w) ≡ c
   entry-pick S₁ S₂ c i w h = pick-of S₁ S₂ c i (length w) (entry-runs S₁ S₂ c i w h) .0
 
   -- both shapes have the run: it fits the entry of the candidate that it picks
   abbrev Meets : Shape A L → Shape A M → List C → Cand → Type 0
   Meets S₁ S₂ w c = List·Memᴰ c (cands S₁ S₂) × SolvesV v (equations S₁ S₂ c) × Inst v (fieldFor g S₁ S₂ c) w
 
-  to-exact : (S₁ : Shape A L) (S₂ : Shape A M) (w : List C) → Inst v S₁ w → Inst v S₂ w → (n : ℕ) → List·Memᴰ (exact n) (cands S₁ S₂) → length w ≡ n → Meets S₁ S₂ w (exact n)
+  to-exact : (S₁ : Shape A L) (S₂ : Shape A M) (w : List C) → Inst v S₁ w → Inst v S₂ w
+      → (n : ℕ) → List·Memᴰ (exact n) (cands S₁ S₂) → length w ≡ n → Meets S₁ S₂ w (exact n)
   to-exact S₁ S₂ w p q n i e = let r = even-to S₁ S₂ (exact n) i w e p q in (i, r .0, r .1)
 
   -- the two ends of a `long` entry
-  ends-of : (S₁ : Shape A L) (S₂ : Shape A M) (a b : List C) → List·Memᴰ long (cands S₁ S₂) → length a ≡ max (before S₁) (before S₂) → a ++ b ≡ map v (cells S₁ S₂ long)
+  ends-of : (S₁ : Shape A L) (S₂ : Shape A M) (a b : List C) → List·Memᴰ long (cands S₁ S₂)
+      → length a ≡ max (before S₁) (before S₂) → a ++ b ≡ map v (cells S₁ S₂ long)
       → (a ≡ map v (take (max (before S₁) (before S₂)) (cells S₁ S₂ long))) × (b ≡ map v (drop (max (before S₁) (before S₂)) (cells S₁ S₂ long)))
   ends-of S₁ S₂ a b i ha e = cut a (map v (take H z)) b (map v (drop H z)) (simp (length-map, length-take) (omega (arith, cells-length S₁ S₂ long i)))
       (e ∙ ap (map v) (sym (take-append-drop H z)) ∙ map-append v (take H z) (drop H z))
@@ -83,7 +105,8 @@ module _ {A L M G C : Type 0} (v : A → C) (g : G) where
       z : List A
       z = cells S₁ S₂ long
 
-  to-long : (S₁ : Shape A L) (S₂ : Shape A M) (w : List C) → Inst v S₁ w → Inst v S₂ w → List·Memᴰ long (cands S₁ S₂) → wide S₁ S₂ ≤ length w → Meets S₁ S₂ w long
+  to-long : (S₁ : Shape A L) (S₂ : Shape A M) (w : List C) → Inst v S₁ w → Inst v S₂ w
+      → List·Memᴰ long (cands S₁ S₂) → wide S₁ S₂ ≤ length w → Meets S₁ S₂ w long
   to-long (closed xs) S₂ w p q i h = absurd (no-long₁ A L M xs S₂ i)
   to-long (gapped f l t) (closed ys) w p q i h = absurd (no-long₂ A L M f l t ys i)
   to-long (gapped f l t) (gapped f′ l′ t′) w p q i h = (i, r .0, (x .1, x .3 ∙ ap₂ (λ (a b : List C). a ++ (x .1 ++ b)) (e .0) (e .1)))
@@ -106,7 +129,8 @@ module _ {A L M G C : Type 0} (v : A → C) (g : G) where
       e = ends-of S₁ S₂ (x .0) (x .2) i (x .4) (r .1)
 
   pub pair-to : (S₁ : Shape A L) (S₂ : Shape A M) (w : List C) → Inst v S₁ w → Inst v S₂ w
-      → List·Memᴰ (pick S₁ S₂ (length w)) (cands S₁ S₂) × SolvesV v (equations S₁ S₂ (pick S₁ S₂ (length w))) × Inst v (fieldFor g S₁ S₂ (pick S₁ S₂ (length w))) w
+      → List·Memᴰ (pick S₁ S₂ (length w)) (cands S₁ S₂) × SolvesV v (equations S₁ S₂ (pick S₁ S₂ (length w)))
+      × Inst v (fieldFor g S₁ S₂ (pick S₁ S₂ (length w))) w
   pair-to S₁ S₂ w p q = go (pick S₁ S₂ (length w)) (pick-in S₁ S₂ (length w) (inst-room v S₁ w p) (inst-room v S₂ w q)) (pick-runs S₁ S₂ (length w))
     where
       go : (c : Cand) → List·Memᴰ c (cands S₁ S₂) → Runs S₁ S₂ c (length w) → Meets S₁ S₂ w c
@@ -114,13 +138,16 @@ module _ {A L M G C : Type 0} (v : A → C) (g : G) where
       go long i r = to-long S₁ S₂ w p q i r
 
   -- a run that fits an entry whose equations hold fits both shapes
-  pub pair-from : (S₁ : Shape A L) (S₂ : Shape A M) (c : Cand) → List·Memᴰ c (cands S₁ S₂) → (w : List C) → SolvesV v (equations S₁ S₂ c) → Inst v (fieldFor g S₁ S₂ c) w
+  pub pair-from : (S₁ : Shape A L) (S₂ : Shape A M) (c : Cand) → List·Memᴰ c (cands S₁ S₂)
+      → (w : List C) → SolvesV v (equations S₁ S₂ c) → Inst v (fieldFor g S₁ S₂ c) w
       → Inst v S₁ w × Inst v S₂ w
   pair-from S₁ S₂ (exact n) i w s h = even-from S₁ S₂ (exact n) i w s h
   pair-from (closed xs) S₂ long i w s h = absurd (no-long₁ A L M xs S₂ i)
   pair-from (gapped f l t) (closed ys) long i w s h = absurd (no-long₂ A L M f l t ys i)
-  pair-from (gapped f l t) (gapped f′ l′ t′) long i w s h =
-      (along (Inst v S₁) (sym (h .1)) (long-add v f l t a (h .0) b (la .0) (lb .0) (r .0)), along (Inst v S₂) (sym (h .1)) (long-add v f′ l′ t′ a (h .0) b (la .1) (lb .1) (r .1)))
+  pair-from (gapped f l t) (gapped f′ l′ t′) long i w s h = (
+    along (Inst v S₁) (sym (h .1)) (long-add v f l t a (h .0) b (la .0) (lb .0) (r .0)),
+    along (Inst v S₂) (sym (h .1)) (long-add v f′ l′ t′ a (h .0) b (la .1) (lb .1) (r .1)),
+  )
     where
       S₁ : Shape A L
       S₁ = gapped f l t

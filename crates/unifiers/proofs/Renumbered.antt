@@ -42,7 +42,8 @@ module _ {A : Type 0} (d : Discrete A) where
   at-place x [] i = absurd (List·Memᴰ·not-nil i)
   at-place x (y ∷ l) i = go (d x y) (List·Memᴰ·cases-cons i) (λ j. at-place x l j)
     where
-      go : (q : Dec (x ≡ y)) → (x ≡ y) ⊎ List·Memᴰ x l → (List·Memᴰ x l → getElem? l (placeOf d x l) ≡ some x) → getElem? (y ∷ l) (ite q zero (suc (placeOf d x l))) ≡ some x
+      go : (q : Dec (x ≡ y)) → (x ≡ y) ⊎ List·Memᴰ x l → (List·Memᴰ x l → getElem? l (placeOf d x l) ≡ some x)
+          → getElem? (y ∷ l) (ite q zero (suc (placeOf d x l))) ≡ some x
       go (yes e) p rec = ap {B = Option A} some (sym e)
       go (no h) (inl p) rec = absurd (h p)
       go (no h) (inr j) rec = rec j
@@ -52,7 +53,8 @@ module _ {C K B : Type 0} (kind-eq : Discrete K) where
   in-names k b (con c ∷ f) o = in-names k b f o
   in-names k b (var j a ∷ f) o = go (kind-eq k j) o (λ i. in-names k b f i)
     where
-      go : (q : Dec (k ≡ j)) → ((k ≡ j) × (b ≡ a)) ⊎ Occurs k b f → (Occurs k b f → List·Memᴰ b (namesOf kind-eq k f)) → List·Memᴰ b (ite q (a ∷ namesOf kind-eq k f) (namesOf kind-eq k f))
+      go : (q : Dec (k ≡ j)) → ((k ≡ j) × (b ≡ a)) ⊎ Occurs k b f → (Occurs k b f → List·Memᴰ b (namesOf kind-eq k f))
+          → List·Memᴰ b (ite q (a ∷ namesOf kind-eq k f) (namesOf kind-eq k f))
       go (yes e) (inl p) rec = List·Memᴰ·head (p .1)
       go (yes e) (inr i) rec = List·Memᴰ·tail (rec i)
       go (no n) (inl p) rec = absurd (n (p .0))

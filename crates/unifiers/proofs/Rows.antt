@@ -47,7 +47,8 @@ module _ {A : Type 0} where
   covers-all (a ∷ xs) (p ∷ q) h = covers-all xs q (omega arith)
 
   -- atoms from the front on one side, atoms to the end on the other, that meet
-  covers-meet : (f : List A) (r s : List (Option A)) (t : List A) → length (map some f ++ r) ≡ length (s ++ map some t) → length r ≤ length t → Covered (map some f ++ r) (s ++ map some t)
+  covers-meet : (f : List A) (r s : List (Option A)) (t : List A) → length (map some f ++ r) ≡ length (s ++ map some t)
+      → length r ≤ length t → Covered (map some f ++ r) (s ++ map some t)
   covers-meet f r [] t e h = covered-sym (map some t) (map some f ++ r) (covers-all t (map some f ++ r) (sym (length-map t some) ∙ sym e))
   covers-meet [] r (p ∷ s) t e h = absurd (omega (arith, simp (length-append, length-map) at e))
   covers-meet (a ∷ f) r (p ∷ s) t e h = covers-meet f r s t (omega arith) h
@@ -74,7 +75,8 @@ module _ {A C : Type 0} (v : A → C) where
   merge-fit [] (o ∷ q) h w p p′ = absurd h
   merge-fit (o ∷ r) [] h w p p′ = absurd h
   merge-fit (o ∷ r) (o′ ∷ q) h [] p p′ = absurd p
-  merge-fit (some a ∷ r) (some b ∷ q) h (c ∷ w) p p′ = let i = merge-fit r q h w (p .1) (p′ .1) in ((sym (p .0) ∙ p′ .0, i .0), ap₂ (λ (x : C) (l : List C). x ∷ l) (p .0) (i .1))
+  merge-fit (some a ∷ r) (some b ∷ q) h (c ∷ w) p p′ =
+      let i = merge-fit r q h w (p .1) (p′ .1) in ((sym (p .0) ∙ p′ .0, i .0), ap₂ (λ (x : C) (l : List C). x ∷ l) (p .0) (i .1))
   merge-fit (some a ∷ r) (none ∷ q) h (c ∷ w) p p′ = let i = merge-fit r q h w (p .1) p′ in (i .0, ap₂ (λ (x : C) (l : List C). x ∷ l) (p .0) (i .1))
   merge-fit (none ∷ r) (some b ∷ q) h (c ∷ w) p p′ = let i = merge-fit r q h w p (p′ .1) in (i .0, ap₂ (λ (x : C) (l : List C). x ∷ l) (p′ .0) (i .1))
   merge-fit (none ∷ r) (none ∷ q) h (c ∷ w) p p′ = absurd h
@@ -87,7 +89,8 @@ module _ {A C : Type 0} (v : A → C) where
   fit-merge (some a ∷ r) (o′ ∷ q) h [] s e = absurd (nil≢cons e)
   fit-merge (none ∷ r) (some b ∷ q) h [] s e = absurd (nil≢cons e)
   fit-merge (none ∷ r) (none ∷ q) h w s e = absurd h
-  fit-merge (some a ∷ r) (some b ∷ q) h (c ∷ w) s e = let i = fit-merge r q h w (s .1) (tail-eq-of-cons-eq e) in ((head-eq-of-cons-eq e, i .0), (head-eq-of-cons-eq e ∙ s .0, i .1))
+  fit-merge (some a ∷ r) (some b ∷ q) h (c ∷ w) s e =
+      let i = fit-merge r q h w (s .1) (tail-eq-of-cons-eq e) in ((head-eq-of-cons-eq e, i .0), (head-eq-of-cons-eq e ∙ s .0, i .1))
   fit-merge (some a ∷ r) (none ∷ q) h (c ∷ w) s e = let i = fit-merge r q h w s (tail-eq-of-cons-eq e) in ((head-eq-of-cons-eq e, i .0), i .1)
   fit-merge (none ∷ r) (some b ∷ q) h (c ∷ w) s e = let i = fit-merge r q h w s (tail-eq-of-cons-eq e) in (i .0, (head-eq-of-cons-eq e, i .1))
 
@@ -140,7 +143,8 @@ module _ {A C : Type 0} (v : A → C) where
 
     pub inst-fit : (S : Shape A L) (n : ℕ) (w : List C) → length w ≡ n → Inst S w → Fit v (row n S) w
     inst-fit (closed xs) n w e h = rw h (fit-some xs)
-    inst-fit (gapped f l t) n w e h = rw (h .1) (fit-join (map some f) (replicate (n - (length f + length t)) none ++ map some t) (map v f) (h .0 ++ map v t) (fit-some f)
+    inst-fit (gapped f l t) n w e h =
+        rw (h .1) (fit-join (map some f) (replicate (n - (length f + length t)) none ++ map some t) (map v f) (h .0 ++ map v t) (fit-some f)
         (fit-join (replicate (n - (length f + length t)) none) (map some t) (h .0) (map v t)
         (fit-none (n - (length f + length t)) (h .0) (omega (arith, simp (length-append, length-map) at (ap length (h .1))))) (fit-some t)))
 
@@ -151,12 +155,14 @@ module _ {A C : Type 0} (v : A → C) where
         let j = fit-split (replicate (n - (length f + length t)) none) (map some t) (i .1) (i .4) in
         (j .0, i .2 ∙ ap₂ (λ (x y : List C). x ++ y) (some-fit f (i .0) (i .3)) (j .2 ∙ ap (λ (y : List C). j .0 ++ y) (some-fit t (j .1) (j .4))))
 
-    pub long-drop : (f : List A) (l : L) (t : List A) (a m b : List C) → length f ≤ length a → length t ≤ length b → Inst (gapped f l t) (a ++ (m ++ b)) → Inst (gapped f l t) (a ++ b)
+    pub long-drop : (f : List A) (l : L) (t : List A) (a m b : List C) → length f ≤ length a
+        → length t ≤ length b → Inst (gapped f l t) (a ++ (m ++ b)) → Inst (gapped f l t) (a ++ b)
     long-drop f l t a m b p q h =
         let e = ends f t a m b (h .0) p q (h .1) in
         (e .0 .0 ++ e .1 .0, ap₂ (λ (x y : List C). x ++ y) (e .0 .1) (e .1 .1) ∙ regroup (map v f) (e .0 .0) (e .1 .0) (map v t))
 
-    pub long-add : (f : List A) (l : L) (t : List A) (a m b : List C) → length f ≤ length a → length t ≤ length b → Inst (gapped f l t) (a ++ b) → Inst (gapped f l t) (a ++ (m ++ b))
+    pub long-add : (f : List A) (l : L) (t : List A) (a m b : List C) → length f ≤ length a
+        → length t ≤ length b → Inst (gapped f l t) (a ++ b) → Inst (gapped f l t) (a ++ (m ++ b))
     long-add f l t a m b p q h =
         let e = ends f t a [] b (h .0) p q (h .1) in
         (e .0 .0 ++ (m ++ e .1 .0), ap₂ (λ (x y : List C). x ++ (m ++ y)) (e .0 .1) (e .1 .1) ∙ regroup₂ (map v f) (e .0 .0) m (e .1 .0) (map v t))
@@ -168,11 +174,13 @@ module _ {A : Type 0} where
   grow-full : (n : ℕ) (f t : List A) → n - (length f + length t) ≡ 0 → grow n f t ≡ map some (f ++ t)
   grow-full n f t e = ap (λ (k : ℕ). map some f ++ (replicate k none ++ map some t)) e ∙ sym (map-append some f t)
 
-  covered-full : (n : ℕ) (f t f′ t′ : List A) → length f + length t ≤ n → length f′ + length t′ ≤ n → n ≤ length f + length t → Covered (grow n f t) (grow n f′ t′)
+  covered-full : (n : ℕ) (f t f′ t′ : List A) → length f + length t ≤ n
+      → length f′ + length t′ ≤ n → n ≤ length f + length t → Covered (grow n f t) (grow n f′ t′)
   covered-full n f t f′ t′ p q h = rw (grow-full n f t (omega arith))
       (covers-all (f ++ t) (grow n f′ t′) (rw grow-length (simp length-append (omega arith))))
 
-  covered-meet : (n : ℕ) (f t f′ t′ : List A) → length f + length t ≤ n → length f′ + length t′ ≤ n → n ≤ length f + length t′ → Covered (grow n f t) (grow n f′ t′)
+  covered-meet : (n : ℕ) (f t f′ t′ : List A) → length f + length t ≤ n
+      → length f′ + length t′ ≤ n → n ≤ length f + length t′ → Covered (grow n f t) (grow n f′ t′)
   covered-meet n f t f′ t′ p q h = along (Covered (grow n f t)) e
       (covers-meet f (replicate (n - (length f + length t)) none ++ map some t) (map some f′ ++ replicate (n - (length f′ + length t′)) none) t′
       (grow-length n f t p ∙ sym (grow-length n f′ t′ q) ∙ ap length (sym e))

@@ -16,7 +16,8 @@ module _ {C K A B : Type 0} where
   fill-subst ψ σ (con c ∷ f) = ap (λ (r : List C). c ∷ r) (fill-subst ψ σ f)
   fill-subst ψ σ (var k a ∷ f) = fill-append ψ (σ k a) (substitute σ f) ∙ ap (λ (r : List C). fill ψ (σ k a) ++ r) (fill-subst ψ σ f)
 
-  pub fill-substs : (ψ : Filling C K B) (σ : Subst C K A B) (fs : List (List (Term C K A))) → map (fill ψ) (map (substitute σ) fs) ≡ map (fill (λ k a. fill ψ (σ k a))) fs
+  pub fill-substs : (ψ : Filling C K B) (σ : Subst C K A B) (fs : List (List (Term C K A)))
+      → map (fill ψ) (map (substitute σ) fs) ≡ map (fill (λ k a. fill ψ (σ k a))) fs
   fill-substs ψ σ [] = refl
   fill-substs ψ σ (f ∷ fs) = ap₂ (λ (w : List C) (r : List (List C)). w ∷ r) (fill-subst ψ σ f) (fill-substs ψ σ fs)
 
@@ -28,7 +29,11 @@ module _ (O : Order) (C : Consts O) {A B : Type 0} (σ : Subst (C .Con) (Full (O
       go : (s : TermOver O C B) → σ (basic k) a ≡ s ∷ [] → full-le O (kindOf O C s) (basic k) ≡ true → OfKind O C (basic k) (fill ψ (σ (basic k) a))
       go (con c) e h = (c, ap (fill ψ) e, h)
       go (var list b) e h = absurd (false≢true h)
-      go (var (basic j) b) e h = (u (basic j) b .0, ap (fill ψ) e ∙ append-nil (ψ (basic j) b) ∙ u (basic j) b .1, O .le-trans (C .kind-of (u (basic j) b .0)) j k (u (basic j) b .2) h)
+      go (var (basic j) b) e h = (
+        u (basic j) b .0,
+        ap (fill ψ) e ∙ append-nil (ψ (basic j) b) ∙ u (basic j) b .1,
+        O .le-trans (C .kind-of (u (basic j) b .0)) j k (u (basic j) b .2) h,
+      )
 
   pub rename-typed : {D : Type 0} (ν : Full (O .Kind) → B → D) → TypedSubst O C (λ k a. map (rename ν) (σ k a))
   rename-typed ν list a = tt

@@ -10,7 +10,22 @@ use Rattle.theory.specs.Terms.{Term, con, var}
 use Rattle.theory.specs.Constants.{Consts, TermOver}
 use Rattle.theory.specs.Seqs.{concat-map}
 use Rattle.unifiers.specs.Substitutions.{Subst}
-use Rattle.unifiers.specs.Shapes.{Atom, fixed, free, Side, left, right, side-eq, Variable, of, pairVars, Shape, closed, gapped, shapesOf}
+use Rattle.unifiers.specs.Shapes.{
+  Atom,
+  fixed,
+  free,
+  Side,
+  left,
+  right,
+  side-eq,
+  Variable,
+  of,
+  pairVars,
+  Shape,
+  closed,
+  gapped,
+  shapesOf,
+}
 use Rattle.unifiers.specs.Candidates.{Cand}
 use Rattle.unifiers.specs.Joins.{State, start, resolve}
 use Rattle.unifiers.specs.Entries.{fieldsFor, entries}
@@ -107,7 +122,8 @@ module _ (O : Order) (C : Consts O) {A : Type 0} (name-eq : Discrete A) where
   markedFields Ss Ts e = map fieldOf (map (mapShape (resolve O C (pairVars O name-eq) (e .1))) (fieldsFor 0 Ss Ts (e .0)))
 
   -- the values of the variables of the rule on a side: of atom variables by the state, of list variables by their places
-  abbrev pub markedValue : Side → List PairShape → PairState → List (List (TermOver O C (Mark A))) → Subst (C .Con) (Full (O .Kind)) A (Mark A)
+  abbrev pub markedValue : Side → List PairShape → PairState
+      → List (List (TermOver O C (Mark A))) → Subst (C .Con) (Full (O .Kind)) A (Mark A)
   markedValue d Ss s fs (basic k) a = termOf (s (of d k a)) ∷ []
   markedValue d Ss s fs list a = runOf name-eq Ss fs a
 

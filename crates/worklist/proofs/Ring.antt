@@ -23,7 +23,8 @@ place head i cap = cond (ltb (head + i) cap) (head + i) (head + i - cap)
 place-is : (head i cap : ℕ) → ((head + i < cap) × (place head i cap ≡ head + i)) ⊎ ((cap ≤ head + i) × (place head i cap ≡ head + i - cap))
 place-is head i cap = go (ltb (head + i) cap) refl
   where
-    go : (b : Bool) → ltb (head + i) cap ≡ b → ((head + i < cap) × (cond b (head + i) (head + i - cap) ≡ head + i)) ⊎ ((cap ≤ head + i) × (cond b (head + i) (head + i - cap) ≡ head + i - cap))
+    go : (b : Bool) → ltb (head + i) cap ≡ b
+        → ((head + i < cap) × (cond b (head + i) (head + i - cap) ≡ head + i)) ⊎ ((cap ≤ head + i) × (cond b (head + i) (head + i - cap) ≡ head + i - cap))
     go true e = inl (ltb-true (head + i) cap e, refl)
     go false e = inr (ltb-false (head + i) cap e, refl)
 
@@ -60,7 +61,8 @@ place-first head cap h = go (place-is head 0 cap)
 pub place-next : (head i cap : ℕ) → head < cap → i < cap → nextPlace (place head i cap) cap ≡ place head (i + 1) cap
 place-next head i cap h k = go (next-is (place head i cap) cap) (place-is head i cap) (place-is head (i + 1) cap)
   where
-    go : ((place head i cap + 1 < cap) × (nextPlace (place head i cap) cap ≡ place head i cap + 1)) ⊎ ((cap ≤ place head i cap + 1) × (nextPlace (place head i cap) cap ≡ 0))
+    go : ((place head i cap + 1 < cap) × (nextPlace (place head i cap) cap ≡ place head i cap + 1))
+        ⊎ ((cap ≤ place head i cap + 1) × (nextPlace (place head i cap) cap ≡ 0))
         → ((head + i < cap) × (place head i cap ≡ head + i)) ⊎ ((cap ≤ head + i) × (place head i cap ≡ head + i - cap))
         → ((head + (i + 1) < cap) × (place head (i + 1) cap ≡ head + (i + 1))) ⊎ ((cap ≤ head + (i + 1)) × (place head (i + 1) cap ≡ head + (i + 1) - cap))
         → nextPlace (place head i cap) cap ≡ place head (i + 1) cap
@@ -78,7 +80,8 @@ pub place-after : (head i cap : ℕ) → head < cap → i < cap → place (nextP
 place-after head i cap h k = go (next-is head cap) (place-is (nextPlace head cap) i cap) (place-is head (i + 1) cap)
   where
     go : ((head + 1 < cap) × (nextPlace head cap ≡ head + 1)) ⊎ ((cap ≤ head + 1) × (nextPlace head cap ≡ 0))
-        → ((nextPlace head cap + i < cap) × (place (nextPlace head cap) i cap ≡ nextPlace head cap + i)) ⊎ ((cap ≤ nextPlace head cap + i) × (place (nextPlace head cap) i cap ≡ nextPlace head cap + i - cap))
+        → ((nextPlace head cap + i < cap) × (place (nextPlace head cap) i cap ≡ nextPlace head cap + i))
+        ⊎ ((cap ≤ nextPlace head cap + i) × (place (nextPlace head cap) i cap ≡ nextPlace head cap + i - cap))
         → ((head + (i + 1) < cap) × (place head (i + 1) cap ≡ head + (i + 1))) ⊎ ((cap ≤ head + (i + 1)) × (place head (i + 1) cap ≡ head + (i + 1) - cap))
         → place (nextPlace head cap) i cap ≡ place head (i + 1) cap
     go (inl a) (inl b) (inl c) = omega (arith, a .0, a .1, b .0, b .1, c .0, c .1)
@@ -112,7 +115,8 @@ module _ {A : Type 0} (d : A) where
   last-is : (q : List A) (p : A) → getD (q ++ p ∷ []) (length q) d ≡ p
   last-is q p = getD-append-seam q p [] d
 
-  pub ring-put : (row : List A) (cap head : ℕ) (q : List A) (p : A) → Ring row cap head q → length q < cap → Ring (set row (place head (length q) cap) p) cap head (q ++ p ∷ [])
+  pub ring-put : (row : List A) (cap head : ℕ) (q : List A) (p : A) → Ring row cap head q
+      → length q < cap → Ring (set row (place head (length q) cap) p) cap head (q ++ p ∷ [])
   ring-put row cap head q p r l = record {
     size = length-set row (place head (length q) cap) p ∙ r .size;
     inside = r .inside;
@@ -128,7 +132,10 @@ module _ {A : Type 0} (d : A) where
           go false e = inr (omega (arith, ltb-false i (length q) e))
 
       at : (i : ℕ) → (i < length q) ⊎ (i ≡ length q) → getD (set row (place head (length q) cap) p) (place head i cap) d ≡ getD (q ++ p ∷ []) i d
-      at i (inl h) = getD-set-other row (place head (length q) cap) (place head i cap) p d (λ e. place-once head i (length q) cap (r .inside) h l e) ∙ r .holds i h ∙ sym (List·getD-append q (p ∷ []) d i h)
+      at i (inl h) =
+          getD-set-other row (place head (length q) cap) (place head i cap) p d (λ e. place-once head i (length q) cap (r .inside) h l e)
+          ∙ r .holds i h
+          ∙ sym (List·getD-append q (p ∷ []) d i h)
       at i (inr e) =
           ap (λ (j : ℕ). getD (set row (place head (length q) cap) p) (place head j cap) d) e
           ∙ getD-set-same row (place head (length q) cap) p d (omega (arith, r .size, place-low head (length q) cap (r .inside) (r .fits)))
@@ -149,7 +156,8 @@ module _ {A : Type 0} (d : A) where
       at : (i : ℕ) → i < length q → getD (set row head x) (place (nextPlace head cap) i cap) d ≡ getD q i d
       at i h =
           ap (λ (j : ℕ). getD (set row head x) j d) (place-after head i cap (r .inside) (omega (arith, r .fits)))
-          ∙ getD-set-other row head (place head (i + 1) cap) x d (λ e. place-once head 0 (i + 1) cap (r .inside) (omega arith) (omega (arith, r .fits)) (place-first head cap (r .inside) ∙ sym e))
+          ∙ getD-set-other row head (place head (i + 1) cap) x d
+          (λ e. place-once head 0 (i + 1) cap (r .inside) (omega arith) (omega (arith, r .fits)) (place-first head cap (r .inside) ∙ sym e))
           ∙ r .holds (i + 1) (omega arith)
           ∙ ap (λ (j : ℕ). getD (p ∷ q) j d) one-more
         where
@@ -161,4 +169,8 @@ module _ {A : Type 0} (d : A) where
   ring-one row cap head p s h e = record { size = s; inside = h; fits = omega arith; holds = λ i k. at i (omega arith) }
     where
       at : (i : ℕ) → i ≡ 0 → getD row (place head i cap) d ≡ getD (p ∷ []) i d
-      at i z = ap (λ (j : ℕ). getD row (place head j cap) d) z ∙ ap (λ (j : ℕ). getD row j d) (place-first head cap h) ∙ e ∙ ap (λ (j : ℕ). getD (p ∷ []) j d) (sym z)
+      at i z =
+          ap (λ (j : ℕ). getD row (place head j cap) d) z
+          ∙ ap (λ (j : ℕ). getD row j d) (place-first head cap h)
+          ∙ e
+          ∙ ap (λ (j : ℕ). getD (p ∷ []) j d) (sym z)

@@ -58,7 +58,8 @@ module _ (D : Records) (writing : Bool) (cap : ℕ) where
     pub written : writing ≡ true → end .out ≡ machine.storeAll D writing cap ls (v .bytes) (v .out)
 
 module _ (E : Setting) (D : Records) (Holds : D .Rec → Problem E → Type 0) (number : Rule → ℕ) (text : Bindings E → List ℕ) (g : Agrees E D Holds number text)
-    (bound : ℕ) (short : (p : D .Rec) (σ : Bindings E) (u : List (E .names .Name)) → Holds p (problem solved σ u) → length (text σ) ≤ bound) (writing : Bool) (cap : ℕ) where
+    (bound : ℕ) (short : (p : D .Rec) (σ : Bindings E) (u : List (E .names .Name)) → Holds p (problem solved σ u) → length (text σ) ≤ bound)
+    (writing : Bool) (cap : ℕ) where
   open Setting E using (names)
   open Names names using (Name, pick)
   open Records D using (Rec, isOpen, ok, child, line, store)
@@ -145,18 +146,24 @@ module _ (E : Setting) (D : Records) (Holds : D .Rec → Problem E → Type 0) (
         go (some Q) e h = subst (Then (some Q)) e h
 
     module _ (L M : Field E) (σ : Bindings E) (u : List Name) (hp : Holds p (problem (equation L M) σ u)) (nf : fails E L M ≡ false) where
-      tries : (rs : List Rule) (k : ℕ) → Numbered number k rs → (q : List Rec) (Q : List (Problem E)) → Both q Q → Tried k q (enqueue E cap Q (made σ u (collect E L M (pick u) rs)))
+      tries : (rs : List Rule) (k : ℕ) → Numbered number k rs → (q : List Rec) (Q : List (Problem E))
+          → Both q Q → Tried k q (enqueue E cap Q (made σ u (collect E L M (pick u) rs)))
       tries [] k h q Q both = (q, subst (λ (j : ℕ). Goes (from k q) (on j p q a b o)) (next-end (ok p) k (omega (arith, h))) here, both)
-      tries (r ∷ rs) k h q Q both = go (rule E r L M (pick u)) (subst (λ (j : ℕ). ChildIs E D Holds p j σ u (rule E r L M (pick u))) (h .0) (g .child-is p L M σ u hp nf r)) (λ q′ Q′ both′. tries rs (k + 1) (h .1) q′ Q′ both′)
+      tries (r ∷ rs) k h q Q both =
+          go (rule E r L M (pick u)) (subst (λ (j : ℕ). ChildIs E D Holds p j σ u (rule E r L M (pick u))) (h .0) (g .child-is p L M σ u hp nf r))
+          (λ q′ Q′ both′. tries rs (k + 1) (h .1) q′ Q′ both′)
         where
           low : k < 14
           low = omega (arith, numbered-length k (r ∷ rs) h)
 
-          put-in : (m : Move E) → ok p k ≡ true → Holds (child p k) (apply E σ u m) → ((q′ : List Rec) (Q′ : List (Problem E)) → Both q′ Q′ → Tried (k + 1) q′ (enqueue E cap Q′ (made σ u (collect E L M (pick u) rs))))
+          put-in : (m : Move E) → ok p k ≡ true → Holds (child p k) (apply E σ u m)
+              → ((q′ : List Rec) (Q′ : List (Problem E)) → Both q′ Q′ → Tried (k + 1) q′ (enqueue E cap Q′ (made σ u (collect E L M (pick u) rs))))
               → (f : Bool) → leb cap (length Q) ≡ f → Tried k q (cond f none (enqueue E cap (Q ++ apply E σ u m ∷ []) (made σ u (collect E L M (pick u) rs))))
           put-in m e c rec true t = record {
             end = machine.full D writing cap (on k p q a b o);
-            leads = turns (machine.full D writing cap (on k p q a b o)) refl (turn-full k q low e (omega (arith, leb-true cap (length Q) t, both-length q Q both))) here;
+            leads =
+                turns (machine.full D writing cap (on k p q a b o)) refl
+                (turn-full k q low e (omega (arith, leb-true cap (length Q) t, both-length q Q both))) here;
             idle = refl;
             is-refused = refl;
             no-lines = refl;
@@ -168,7 +175,8 @@ module _ (E : Setting) (D : Records) (Holds : D .Rec → Problem E → Type 0) (
               (enqueue E cap (Q ++ apply E σ u m ∷ []) (made σ u (collect E L M (pick u) rs)))
               (rec (q ++ child p k ∷ []) (Q ++ apply E σ u m ∷ []) (both-put q Q (child p k) (apply E σ u m) both c))
 
-          go : (x : Option (Move E)) → ChildIs E D Holds p k σ u x → ((q′ : List Rec) (Q′ : List (Problem E)) → Both q′ Q′ → Tried (k + 1) q′ (enqueue E cap Q′ (made σ u (collect E L M (pick u) rs))))
+          go : (x : Option (Move E)) → ChildIs E D Holds p k σ u x
+              → ((q′ : List Rec) (Q′ : List (Problem E)) → Both q′ Q′ → Tried (k + 1) q′ (enqueue E cap Q′ (made σ u (collect E L M (pick u) rs))))
               → Tried k q (enqueue E cap Q (made σ u (add E r x (collect E L M (pick u) rs))))
           go none e rec = tried-pass k q low e (enqueue E cap Q (made σ u (collect E L M (pick u) rs))) (rec q Q both)
           go (some m) e rec = put-in m (e .0) (e .1) rec (leb cap (length Q)) refl
@@ -182,12 +190,30 @@ module _ (E : Setting) (D : Records) (Holds : D .Rec → Problem E → Type 0) (
   Outcome v (answers xs) = v .lines + length xs < 2 ^ 64 → v .bytes + bound * length xs < 2 ^ 64 → StopsWith D writing cap v (map text xs)
 
   -- turns that count nothing
-  outcome-on : (k k′ : ℕ) (p p′ : Rec) (q q′ : List Rec) (a b : ℕ) (o : List ℕ) → Goes (on k p q a b o) (on k′ p′ q′ a b o) → (r : Result E) → Outcome (on k′ p′ q′ a b o) r → Outcome (on k p q a b o) r
+  outcome-on : (k k′ : ℕ) (p p′ : Rec) (q q′ : List Rec) (a b : ℕ) (o : List ℕ) → Goes (on k p q a b o) (on k′ p′ q′ a b o)
+      → (r : Result E) → Outcome (on k′ p′ q′ a b o) r → Outcome (on k p q a b o) r
   outcome-on k k′ p p′ q q′ a b o l unfinished h = tt
-  outcome-on k k′ p p′ q q′ a b o l refused h = record { end = h .end; leads = leads-on D writing cap l (h .leads); idle = h .idle; is-refused = h .is-refused; no-lines = h .no-lines; no-bytes = h .no-bytes; untouched = h .untouched }
+  outcome-on k k′ p p′ q q′ a b o l refused h = record {
+    end = h .end;
+    leads = leads-on D writing cap l (h .leads);
+    idle = h .idle;
+    is-refused = h .is-refused;
+    no-lines = h .no-lines;
+    no-bytes = h .no-bytes;
+    untouched = h .untouched;
+  }
   outcome-on k k′ p p′ q q′ a b o l (answers xs) h = λ few low.
       let s = h few low in
-      record { end = s .end; leads = leads-on D writing cap l (s .leads); idle = s .idle; not-refused = s .not-refused; counted = s .counted; sized = s .sized; untouched = s .untouched; written = s .written }
+      record {
+        end = s .end;
+        leads = leads-on D writing cap l (s .leads);
+        idle = s .idle;
+        not-refused = s .not-refused;
+        counted = s .counted;
+        sized = s .sized;
+        untouched = s .untouched;
+        written = s .written;
+      }
 
   plus-is : (a b : ℕ) → a + b < 2 ^ 64 → plus a b ≡ a + b
   plus-is a b h = mod-eq-of-lt h
@@ -200,7 +226,8 @@ module _ (E : Setting) (D : Records) (Holds : D .Rec → Problem E → Type 0) (
     turn-answer : onTurn (on 14 p₀ (p ∷ q) a b o) ≡ on 14 p q (plus a 1) (plus b (length (text σ))) line-out
     turn-answer = rw (g .open-is p solved σ u h, g .line-is p σ u h) refl
 
-    answered : (xs : List (Bindings E)) → Outcome (on 14 p q (plus a 1) (plus b (length (text σ))) line-out) (answers xs) → Outcome (on 14 p₀ (p ∷ q) a b o) (answers (σ ∷ xs))
+    answered : (xs : List (Bindings E)) → Outcome (on 14 p q (plus a 1) (plus b (length (text σ))) line-out) (answers xs)
+        → Outcome (on 14 p₀ (p ∷ q) a b o) (answers (σ ∷ xs))
     answered xs c few low = record {
       end = s .end;
       leads = turns (on 14 p q (plus a 1) (plus b (length (text σ))) line-out) refl turn-answer (s .leads);
@@ -209,7 +236,9 @@ module _ (E : Setting) (D : Records) (Holds : D .Rec → Problem E → Type 0) (
       counted = omega (arith, s .counted, one-more);
       sized = omega (arith, s .sized, longer, parts);
       untouched = λ n. s .untouched n ∙ ap (λ (t : Bool). cond t (store (text σ) b o) o) n;
-      written = λ y. s .written y ∙ ap₂ (λ (k : ℕ) (l : List ℕ). machine.storeAll D writing cap (map text xs) k l) longer (ap (λ (t : Bool). cond t (store (text σ) b o) o) y);
+      written =
+          λ y. s .written y
+          ∙ ap₂ (λ (k : ℕ) (l : List ℕ). machine.storeAll D writing cap (map text xs) k l) longer (ap (λ (t : Bool). cond t (store (text σ) b o) o) y);
     }
       where
         parts : length (text σ ++ bytesOf (map text xs)) ≡ length (text σ) + length (bytesOf (map text xs))
@@ -261,11 +290,13 @@ module _ (E : Setting) (D : Records) (Holds : D .Rec → Problem E → Type 0) (
     turn-hold : fails E L M ≡ false → onTurn (on 14 p₀ (p ∷ q) a b o) ≡ from p a b o 0 q
     turn-hold e = rw (g .open-is p (equation L M) σ u h, g .fails-is p L M σ u h ∙ e) refl
 
-    outcome-open : (Q : List (Problem E)) → Both q Q → (k : ℕ) → ((q′ : List Rec) (Q′ : List (Problem E)) → Both q′ Q′ → Outcome (on 14 p q′ a b o) (run E k cap Q′))
+    outcome-open : (Q : List (Problem E)) → Both q Q → (k : ℕ)
+        → ((q′ : List Rec) (Q′ : List (Problem E)) → Both q′ Q′ → Outcome (on 14 p q′ a b o) (run E k cap Q′))
         → Outcome (on 14 p₀ (p ∷ q) a b o) (onward E (enqueue E cap Q (offspring E (problem (equation L M) σ u))) (λ Q′. run E k cap Q′))
     outcome-open Q both k rec = by (fails E L M) refl
       where
-        held : fails E L M ≡ false → (x : Option (List (Problem E))) → Tried p a b o 0 q x → Outcome (on 14 p₀ (p ∷ q) a b o) (onward E x (λ Q′. run E k cap Q′))
+        held : fails E L M ≡ false → (x : Option (List (Problem E))) → Tried p a b o 0 q x
+            → Outcome (on 14 p₀ (p ∷ q) a b o) (onward E x (λ Q′. run E k cap Q′))
         held nf none t = record {
           end = t .end;
           leads = turns (from p a b o 0 q) refl (turn-hold nf) (t .leads);
@@ -291,10 +322,14 @@ module _ (E : Setting) (D : Records) (Holds : D .Rec → Problem E → Type 0) (
   outcome (suc k) [] [] both p₀ a b o = outcome-none p₀ a b o
   outcome (suc k) [] (p ∷ q) both p₀ a b o = absurd both
   outcome (suc k) (P ∷ Q) [] both p₀ a b o = absurd both
-  outcome (suc k) (problem solved σ u ∷ Q) (p ∷ q) both p₀ a b o = outcome-answer p₀ p q a b o σ u (both .0) (run E k cap Q) (outcome k Q q (both .1) p (plus a 1) (plus b (length (text σ))) (cond writing (store (text σ) b o) o))
-  outcome (suc k) (problem (equation L M) σ u ∷ Q) (p ∷ q) both p₀ a b o = outcome-open p₀ p q a b o L M σ u (both .0) Q (both .1) k (λ q′ Q′ both′. outcome k Q′ q′ both′ p a b o)
+  outcome (suc k) (problem solved σ u ∷ Q) (p ∷ q) both p₀ a b o =
+      outcome-answer p₀ p q a b o σ u (both .0) (run E k cap Q)
+      (outcome k Q q (both .1) p (plus a 1) (plus b (length (text σ))) (cond writing (store (text σ) b o) o))
+  outcome (suc k) (problem (equation L M) σ u ∷ Q) (p ∷ q) both p₀ a b o =
+      outcome-open p₀ p q a b o L M σ u (both .0) Q (both .1) k (λ q′ Q′ both′. outcome k Q′ q′ both′ p a b o)
 
   -- ---- from the root alone
 
   pub search-outcome : (A B : Field E) (p p₀ : Rec) (o : List ℕ) → Holds p (root E A B) → 1 ≤ cap → Outcome (on 14 p₀ (p ∷ []) 0 0 o) (searching E cap A B)
-  search-outcome A B p p₀ o h c = subst (Outcome (on 14 p₀ (p ∷ []) 0 0 o)) (sym (begins E cap A B c)) (outcome (total E (root E A B ∷ [])) (root E A B ∷ []) (p ∷ []) (h, tt) p₀ 0 0 o)
+  search-outcome A B p p₀ o h c =
+      subst (Outcome (on 14 p₀ (p ∷ []) 0 0 o)) (sym (begins E cap A B c)) (outcome (total E (root E A B ∷ [])) (root E A B ∷ []) (p ∷ []) (h, tt) p₀ 0 0 o)

@@ -30,7 +30,9 @@ module _ (E : Setting) (D : Records) (Holds : D .Rec → Problem E → Type 0) w
   pub record Agrees (number : Rule → ℕ) (text : Bindings E → List ℕ) : Type 0 where
     pub ordered : Numbered number 0 ruleOrder
     pub open-is : (p : D .Rec) (n : Rest E) (σ : Bindings E) (u : List Name) → Holds p (problem n σ u) → D .isOpen p ≡ openRest n
-    pub fails-is : (p : D .Rec) (L M : Field E) (σ : Bindings E) (u : List Name) → Holds p (problem (equation L M) σ u) → D .fails p ≡ fails E L M
-    pub child-is : (p : D .Rec) (L M : Field E) (σ : Bindings E) (u : List Name) → Holds p (problem (equation L M) σ u) → fails E L M ≡ false
+    pub fails-is : (p : D .Rec) (L M : Field E) (σ : Bindings E) (u : List Name)
+        → Holds p (problem (equation L M) σ u) → D .fails p ≡ fails E L M
+    pub child-is : (p : D .Rec) (L M : Field E) (σ : Bindings E) (u : List Name)
+        → Holds p (problem (equation L M) σ u) → fails E L M ≡ false
         → (r : Rule) → ChildIs p (number r) σ u (rule E r L M (pick u))
     pub line-is : (p : D .Rec) (σ : Bindings E) (u : List Name) → Holds p (problem solved σ u) → D .line p ≡ text σ

@@ -46,7 +46,16 @@ module _ (D : Records) (writing : Bool) (cap : ℕ) where
   worked p = cond (isOpen p) (not (fails p)) false
 
   abbrev pub stopped : Work Rec → Work Rec
-  stopped w = record { busy = false; refused = w .refused; rule = w .rule; held = w .held; waiting = w .waiting; lines = w .lines; bytes = w .bytes; out = w .out }
+  stopped w = record {
+    busy = false;
+    refused = w .refused;
+    rule = w .rule;
+    held = w .held;
+    waiting = w .waiting;
+    lines = w .lines;
+    bytes = w .bytes;
+    out = w .out;
+  }
 
   -- p leaves the queue q: a solved one is an answer; one that does not fail is held
   abbrev pub taken : Work Rec → Rec → List Rec → Work Rec

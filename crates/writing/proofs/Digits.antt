@@ -1,4 +1,5 @@
--- Laws of a number's digits: the last digit stands behind those of the tenth part, and a number below a power of ten has at most as many as the power says. Assumes nothing.
+-- Laws of a number's digits: the last digit stands behind those of the tenth part, and a number below a power of ten has at most as many as the power says.
+-- Assumes nothing.
 use mathlib.Core.Path.{_≡_, refl, sym, ap, _∙_}
 use mathlib.Core.List.{List, [], _∷_, _++_}
 use Prim.Native.Nat.{ℕ, zero, suc, _+_, _*_, _-_, _/_, _%_, _^_, _≤_, _<_}

@@ -23,11 +23,14 @@ module _ (k : ℕ) (s : List ℕ) (long : length s ≡ 15) where
   quoted-length = omega (arith, length-append (take k s) (34 ∷ []), length-take k s)
 
   -- a quote, the bytes, a quote
-  pub put-quoted : (n : ℕ) (l : List ℕ) (at : ℕ) {p : ℕ} {m : List ℕ} → n ≡ min k 15 → p ≡ at + 1 + length (take n s) → m ≡ sets (set l at 34) (at + 1) (take n s)
+  pub put-quoted : (n : ℕ) (l : List ℕ) (at : ℕ) {p : ℕ} {m : List ℕ} → n ≡ min k 15
+      → p ≡ at + 1 + length (take n s) → m ≡ sets (set l at 34) (at + 1) (take n s)
       → Put (spell (raw-str (take k s))) at l (p + 1) (set m p 34)
   put-quoted n l at h hp hm =
-      let b = put-behind (take n s) (34 ∷ []) (set l at 34) (at + 1) hp hm refl refl in
-      (omega (arith, quoted-length, length-take n s), b .1 ∙ put-cons 34 (take n s ++ 34 ∷ []) l at ∙ ap (λ (t : List ℕ). sets l at (spell (raw-str t))) (sym (take-most k n 15 s long h)))
+      let b = put-behind (take n s) (34 ∷ []) (set l at 34) (at + 1) hp hm refl refl in (
+        omega (arith, quoted-length, length-take n s),
+        b .1 ∙ put-cons 34 (take n s ++ 34 ∷ []) l at ∙ ap (λ (t : List ℕ). sets l at (spell (raw-str t))) (sym (take-most k n 15 s long h)),
+      )
 
 module _ (f : Form) (s : List ℕ) where
   pub int-text : (n : ℕ) → f ≡ Int n → termText (viewForm f s) ≡ digitsOf n

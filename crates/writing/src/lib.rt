@@ -1,5 +1,6 @@
 // Writing: a number's digits and a term's text, into lent bytes.
-// The bytes are counted first, so that a buffer that is too small keeps its old bytes (refusal 8); then they are written into room that is known.
+// The bytes are counted first, so that a buffer that is too small keeps its old bytes (refusal 8);
+// then they are written into room that is known.
 ghost use mathlib.Core.Path.{_≡_};
 ghost use Prim.Native.Nat.{_≤_, min};
 ghost use lib.ListN.{length, take};

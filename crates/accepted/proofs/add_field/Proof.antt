@@ -24,7 +24,11 @@ next-field-requires : tie.Need-next-field-requires Inv-loop μ-loop
 next-field-requires c κs = search needs
 
 loop-holds : tie.Need-loop-holds Inv-loop μ-loop
-loop-holds c = (search long-mapped, c .before .least .ensures, folded-none viewTerm addTerm (c .before .before .args .t2 .n) (c .before .before .args .t2 .terms) (c .next-field .result))
+loop-holds c = (
+  search long-mapped,
+  c .before .least .ensures,
+  folded-none viewTerm addTerm (c .before .before .args .t2 .n) (c .before .before .args .t2 .terms) (c .next-field .result),
+)
 
 mul-add-term : tie.Need-mul-add-term Inv-loop μ-loop
 mul-add-term c = search needs
@@ -42,10 +46,25 @@ loop-less : tie.Need-loop-less Inv-loop μ-loop
 loop-less c = search needs
 
 loop-again : tie.Need-loop-again Inv-loop μ-loop
-loop-again c = let v = c .before .before .before .loop .inv in (v .0, v .1, rw (c .add-term .ensures) (folded-one viewTerm addTerm (c .before .before .before .before .before .before .args .t2 .n) (c .before .before .before .before .before .before .args .t2 .terms) _ (c .before .before .before .loop .i) (c .before .before .before .loop .now) _ (v .2) (omega (arith, length-take (c .before .before .before .before .before .before .args .t2 .n) (c .before .before .before .before .before .before .args .t2 .terms), c .before .before .loop-test .taken))))
+loop-again c =
+    let v = c .before .before .before .loop .inv in (
+      v .0,
+      v .1,
+      rw (c .add-term .ensures) (folded-one viewTerm addTerm (c .before .before .before .before .before .before .args .t2 .n)
+          (c .before .before .before .before .before .before .args .t2 .terms) _ (c .before .before .before .loop .i)
+          (c .before .before .before .loop .now) _ (v .2) (omega (
+            arith,
+            length-take (c .before .before .before .before .before .before .args .t2 .n) (c .before .before .before .before .before .before .args .t2 .terms),
+            c .before .before .loop-test .taken,
+          ))),
+    )
 
 returns : tie.Need-returns Inv-loop μ-loop
-returns c = let v = c .before .loop .inv in folded-all viewTerm addTerm (c .before .before .before .before .args .t2 .n) (c .before .before .before .before .args .t2 .terms) (c .before .before .next-field .result) (c .before .loop .i) (c .before .loop .now) (v .2) (omega (arith, length-take (c .before .before .before .before .args .t2 .n) (c .before .before .before .before .args .t2 .terms), c .loop-test .left)) ∙ rw (c .before .before .next-field .ensures)
+returns c =
+    let v = c .before .loop .inv in folded-all viewTerm addTerm (c .before .before .before .before .args .t2 .n)
+    (c .before .before .before .before .args .t2 .terms) (c .before .before .next-field .result) (c .before .loop .i) (c .before .loop .now) (v .2)
+    (omega (arith, length-take (c .before .before .before .before .args .t2 .n) (c .before .before .before .before .args .t2 .terms), c .loop-test .left))
+    ∙ rw (c .before .before .next-field .ensures)
 
 pub add-field-spec : {M : Type 1} → statement M
 add-field-spec =

@@ -26,7 +26,11 @@ none-requires : tie.Need-none-requires Inv-loop μ-loop
 none-requires c κs = search needs
 
 loop-holds : tie.Need-loop-holds Inv-loop μ-loop
-loop-holds c = (search long-mapped, c .before .least .ensures, folded-none viewField addField (c .before .before .args .t1 .n) (c .before .before .args .t1 .fields) (c .none .result))
+loop-holds c = (
+  search long-mapped,
+  c .before .least .ensures,
+  folded-none viewField addField (c .before .before .args .t1 .n) (c .before .before .args .t1 .fields) (c .none .result),
+)
 
 mul-add-field : tie.Need-mul-add-field Inv-loop μ-loop
 mul-add-field c = search needs
@@ -44,12 +48,27 @@ loop-less : tie.Need-loop-less Inv-loop μ-loop
 loop-less c = search needs
 
 loop-again : tie.Need-loop-again Inv-loop μ-loop
-loop-again c = let v = c .before .before .before .loop .inv in (v .0, v .1, rw (c .add-field .ensures) (folded-one viewField addField (c .before .before .before .before .before .before .args .t1 .n) (c .before .before .before .before .before .before .args .t1 .fields) _ (c .before .before .before .loop .i) (c .before .before .before .loop .l) _ (v .2) (omega (arith, length-take (c .before .before .before .before .before .before .args .t1 .n) (c .before .before .before .before .before .before .args .t1 .fields), c .before .before .loop-test .taken))))
+loop-again c =
+    let v = c .before .before .before .loop .inv in (
+      v .0,
+      v .1,
+      rw (c .add-field .ensures) (folded-one viewField addField (c .before .before .before .before .before .before .args .t1 .n)
+          (c .before .before .before .before .before .before .args .t1 .fields) _ (c .before .before .before .loop .i)
+          (c .before .before .before .loop .l) _ (v .2) (omega (
+            arith,
+            length-take (c .before .before .before .before .before .before .args .t1 .n) (c .before .before .before .before .before .before .args .t1 .fields),
+            c .before .before .loop-test .taken,
+          ))),
+    )
 
 returns : tie.Need-returns Inv-loop μ-loop
 returns c = let v = c .before .loop .inv in
-    ap (λ (x : Lists). x .ok) (folded-all viewField addField (c .before .before .before .before .args .t1 .n) (c .before .before .before .before .args .t1 .fields) (c .before .before .none .result) (c .before .loop .i) (c .before .loop .l) (v .2) (omega (arith, length-take (c .before .before .before .before .args .t1 .n) (c .before .before .before .before .args .t1 .fields), c .loop-test .left)))
-    ∙ ap (λ (x : Lists). (foldl addField x (map viewField (take (c .before .before .before .before .args .t1 .n) (c .before .before .before .before .args .t1 .fields)))) .ok) (c .before .before .none .ensures)
+    ap (λ (x : Lists). x .ok) (folded-all viewField addField (c .before .before .before .before .args .t1 .n)
+    (c .before .before .before .before .args .t1 .fields) (c .before .before .none .result) (c .before .loop .i) (c .before .loop .l) (v .2)
+    (omega (arith, length-take (c .before .before .before .before .args .t1 .n) (c .before .before .before .before .args .t1 .fields), c .loop-test .left)))
+    ∙ ap (λ (x : Lists).
+    (foldl addField x (map viewField (take (c .before .before .before .before .args .t1 .n) (c .before .before .before .before .args .t1 .fields)))) .ok)
+    (c .before .before .none .ensures)
 
 pub is-linear-spec : {M : Type 1} → statement M
 is-linear-spec =

@@ -16,10 +16,12 @@ abbrev μ-loop : tie.MeasureT-loop
 μ-loop f n i₀ i = 64 - i
 
 returns : tie.Need-returns Inv-loop μ-loop
-returns c = let h : length (c .before .args .t1 .terms) ≡ 64 = search long-mapped in passed-over itemOk termBlank 64 _ (c .before .args .t1 .terms) h (c .if1 .taken)
+returns c =
+    let h : length (c .before .args .t1 .terms) ≡ 64 = search long-mapped in passed-over itemOk termBlank 64 _ (c .before .args .t1 .terms) h (c .if1 .taken)
 
 loop-holds : tie.Need-loop-holds Inv-loop μ-loop
-loop-holds c = let h : length (c .before .args .t1 .terms) ≡ 64 = search long-mapped in passed-none itemOk termBlank 64 _ (c .before .args .t1 .terms) h (c .if1 .left)
+loop-holds c =
+    let h : length (c .before .args .t1 .terms) ≡ 64 = search long-mapped in passed-none itemOk termBlank 64 _ (c .before .args .t1 .terms) h (c .if1 .left)
 
 mul-is-item-place : tie.Need-mul-is-item-place Inv-loop μ-loop
 mul-is-item-place c = search needs
@@ -31,7 +33,10 @@ is-item-place-requires : tie.Need-is-item-place-requires Inv-loop μ-loop
 is-item-place-requires c κs = search needs
 
 returns-2 : tie.Need-returns-2 Inv-loop μ-loop
-returns-2 c = passed-not itemOk termBlank 64 _ (c .before .before .before .before .before .before .args .t1 .terms) (c .before .before .before .before .loop .i) _ (c .before .is-item-place .result) (c .before .before .before .before .loop .inv) (c .before .before .before .loop-test .taken) (c .before .is-item-place .ensures) (c .if2 .taken)
+returns-2 c =
+    passed-not itemOk termBlank 64 _ (c .before .before .before .before .before .before .args .t1 .terms)
+    (c .before .before .before .before .loop .i) _ (c .before .is-item-place .result) (c .before .before .before .before .loop .inv)
+    (c .before .before .before .loop-test .taken) (c .before .is-item-place .ensures) (c .if2 .taken)
 
 add-i : tie.Need-add-i Inv-loop μ-loop
 add-i c = search needs
@@ -40,7 +45,10 @@ loop-less : tie.Need-loop-less Inv-loop μ-loop
 loop-less c = search needs
 
 loop-again : tie.Need-loop-again Inv-loop μ-loop
-loop-again c = passed-one itemOk termBlank 64 _ (c .before .before .before .before .before .before .args .t1 .terms) (c .before .before .before .before .loop .i) _ (c .before .is-item-place .result) (c .before .before .before .before .loop .inv) (c .before .before .before .loop-test .taken) (c .before .is-item-place .ensures) (c .if2 .left)
+loop-again c =
+    passed-one itemOk termBlank 64 _ (c .before .before .before .before .before .before .args .t1 .terms)
+    (c .before .before .before .before .loop .i) _ (c .before .is-item-place .result) (c .before .before .before .before .loop .inv)
+    (c .before .before .before .loop-test .taken) (c .before .is-item-place .ensures) (c .if2 .left)
 
 returns-3 : tie.Need-returns-3 Inv-loop μ-loop
 returns-3 c = passed-all itemOk termBlank 64 _ (c .before .before .before .args .t1 .terms) (c .before .loop .i) (c .before .loop .inv) (c .loop-test .left)

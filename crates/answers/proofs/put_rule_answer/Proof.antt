@@ -29,7 +29,9 @@ returns : tie.Need-returns
 returns c =
     let z = c .before .before .before .before .before .before .before .before .before .before .before .before .before .before .before .before .args in
     let R = c .before .before .before .before .before .before .before .before .before .before .before .before .before .read-rule in
-    placed-as (z .at) (z .out .now) (rule-pieces (z .line .now) (R .result) (R .ensures)) (placed-three (ascii "rule ") (ruleSaid (R .result)) newline (z .at) (z .out .now) (c .before .before .before .before .before .before .before .before .before .before .put-bytes .ensures) (c .before .before .before .before .before .before .put-rule-read .ensures) (c .before .before .put-newline .ensures))
+    placed-as (z .at) (z .out .now) (rule-pieces (z .line .now) (R .result) (R .ensures)) (placed-three (ascii "rule ") (ruleSaid (R .result)) newline (z .at)
+    (z .out .now) (c .before .before .before .before .before .before .before .before .before .before .put-bytes .ensures)
+    (c .before .before .before .before .before .before .put-rule-read .ensures) (c .before .before .put-newline .ensures))
 
 pub put-rule-answer-spec : {M : Type 1} → statement M
 put-rule-answer-spec =

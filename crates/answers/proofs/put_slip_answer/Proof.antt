@@ -29,7 +29,10 @@ returns : tie.Need-returns
 returns c =
     let z = c .before .before .before .before .before .before .before .before .before .before .before .before .before .before .before .before .args in
     let R = c .before .before .before .before .before .before .before .before .before .before .before .before .before .read-slip in
-    placed-as (z .at) (z .out .now) (slip-pieces (z .line .now) (R .result) (R .ensures)) (placed-three (ascii "slip ") (verdictText (R .result .verdict) (ascii "read")) newline (z .at) (z .out .now) (c .before .before .before .before .before .before .before .before .before .before .put-bytes .ensures) (c .before .before .before .before .before .before .put-slip-verdict .ensures) (c .before .before .put-newline .ensures))
+    placed-as (z .at) (z .out .now) (slip-pieces (z .line .now) (R .result) (R .ensures))
+    (placed-three (ascii "slip ") (verdictText (R .result .verdict) (ascii "read")) newline (z .at) (z .out .now)
+    (c .before .before .before .before .before .before .before .before .before .before .put-bytes .ensures)
+    (c .before .before .before .before .before .before .put-slip-verdict .ensures) (c .before .before .put-newline .ensures))
 
 pub put-slip-answer-spec : {M : Type 1} → statement M
 put-slip-answer-spec =

@@ -30,7 +30,8 @@ same-length c = search needs
 returns : tie.Need-returns
 returns c =
     let z = c .before .before .before .before .before .before .before .before .args in
-    placed-as (z .at) (z .out .now) (text-accepted (z .verdict) (ascii "read") (c .before .before .before .before .before .enum-told .given .1)) (c .before .before .put-bytes .ensures)
+    placed-as (z .at) (z .out .now)
+    (text-accepted (z .verdict) (ascii "read") (c .before .before .before .before .before .enum-told .given .1)) (c .before .before .put-bytes .ensures)
 
 same-length-2 : tie.Need-same-length-2
 same-length-2 c = search needs
@@ -38,7 +39,8 @@ same-length-2 c = search needs
 returns-2 : tie.Need-returns-2
 returns-2 c =
     let z = c .before .before .before .before .before .before .before .before .before .args in
-    placed-as (z .at) (z .out .now) (text-refused (z .verdict) (ascii "read") _ _ (c .before .before .before .before .before .before .verdict .given .1)) (c .before .before .put-refusal .ensures)
+    placed-as (z .at) (z .out .now) (text-refused (z .verdict) (ascii "read") _ _ (c .before .before .before .before .before .before .verdict .given .1))
+    (c .before .before .put-refusal .ensures)
 
 pub put-slip-verdict-spec : {M : Type 1} → statement M
 put-slip-verdict-spec =

@@ -34,7 +34,10 @@ unfolding textsAnswer
 slice-aggregate-give c =
     let z = c .before .before .before .before .before .before .before .before .before .before .args in
     let l = c .before .before .before .before .before .before .before .room .result in
-    front-size (textsAnswer (z .line .now)) l (omega (arith, texts-short (z .line .now), c .before .before .before .before .before .before .before .room .ensures)) (placed-next (ruleAnswer (z .line .now)) (slipAnswer (z .line .now)) 0 l (c .before .before .before .before .before .put-rule-answer .ensures) (c .before .before .put-slip-answer .ensures))
+    front-size (textsAnswer (z .line .now)) l
+    (omega (arith, texts-short (z .line .now), c .before .before .before .before .before .before .before .room .ensures))
+    (placed-next (ruleAnswer (z .line .now)) (slipAnswer (z .line .now)) 0 l
+    (c .before .before .before .before .before .put-rule-answer .ensures) (c .before .before .put-slip-answer .ensures))
 
 give-requires : tie.Need-give-requires
 give-requires c κs = search needs
@@ -48,7 +51,11 @@ returns c =
     let z = c .before .before .before .before .before .before .before .before .before .before .before .before .before .before .args in
     let l = c .before .before .before .before .before .before .before .before .before .before .before .room .result in
     let G = c .before .before .give in
-    subst (λ (t : List ℕ). Writes t (z .out .now) (G .result) (G .last .1 .0)) (front-is (textsAnswer (z .line .now)) l (omega (arith, texts-short (z .line .now), c .before .before .before .before .before .before .before .before .before .before .before .room .ensures)) (placed-next (ruleAnswer (z .line .now)) (slipAnswer (z .line .now)) 0 l (c .before .before .before .before .before .before .before .before .before .put-rule-answer .ensures) (c .before .before .before .before .before .before .put-slip-answer .ensures))) (G .ensures)
+    subst (λ (t : List ℕ). Writes t (z .out .now) (G .result) (G .last .1 .0)) (front-is (textsAnswer (z .line .now)) l
+    (omega (arith, texts-short (z .line .now), c .before .before .before .before .before .before .before .before .before .before .before .room .ensures))
+    (placed-next (ruleAnswer (z .line .now)) (slipAnswer (z .line .now)) 0 l
+    (c .before .before .before .before .before .before .before .before .before .put-rule-answer .ensures)
+    (c .before .before .before .before .before .before .put-slip-answer .ensures))) (G .ensures)
 
 pub texts-answer-spec : {M : Type 1} → statement M
 texts-answer-spec =

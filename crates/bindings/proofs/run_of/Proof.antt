@@ -9,7 +9,10 @@ use Rattle.bindings.proofs.run_of.Statement.{statement}
 use Rattle.bindings.proofs.run_of.Tie as tie
 
 returns : tie.Need-returns
-returns c = let hr : length (c .before .args .t1 .runs) ≡ 16 = search long-mapped in let h = c .if1 .taken in sym (List·getD-eq-default (c .before .args .t1 .runs) blankRun {n = c .before .args .n} (omega arith))
+returns c =
+    let hr : length (c .before .args .t1 .runs) ≡ 16 = search long-mapped in
+    let h = c .if1 .taken in
+    sym (List·getD-eq-default (c .before .args .t1 .runs) blankRun {n = c .before .args .n} (omega arith))
 
 mul-result : tie.Need-mul-result
 mul-result c = search needs

@@ -27,7 +27,9 @@ is-byte-requires : tie.Need-is-byte-requires Inv-loop μ-loop
 is-byte-requires c κs = search needs
 
 returns-2 : tie.Need-returns-2 Inv-loop μ-loop
-returns-2 c = passed-not isInside isZero 15 _ (c .before .before .before .before .before .args .t1) (c .before .before .before .loop .i) 0 (c .before .is-byte .result) (c .before .before .before .loop .inv) (c .before .before .loop-test .taken) (c .before .is-byte .ensures) (c .if2 .taken)
+returns-2 c =
+    passed-not isInside isZero 15 _ (c .before .before .before .before .before .args .t1) (c .before .before .before .loop .i) 0 (c .before .is-byte .result)
+    (c .before .before .before .loop .inv) (c .before .before .loop-test .taken) (c .before .is-byte .ensures) (c .if2 .taken)
 
 add-i : tie.Need-add-i Inv-loop μ-loop
 add-i c = search needs
@@ -36,7 +38,9 @@ loop-less : tie.Need-loop-less Inv-loop μ-loop
 loop-less c = search needs
 
 loop-again : tie.Need-loop-again Inv-loop μ-loop
-loop-again c = passed-one isInside isZero 15 _ (c .before .before .before .before .before .args .t1) (c .before .before .before .loop .i) 0 (c .before .is-byte .result) (c .before .before .before .loop .inv) (c .before .before .loop-test .taken) (c .before .is-byte .ensures) (c .if2 .left)
+loop-again c =
+    passed-one isInside isZero 15 _ (c .before .before .before .before .before .args .t1) (c .before .before .before .loop .i) 0 (c .before .is-byte .result)
+    (c .before .before .before .loop .inv) (c .before .before .loop-test .taken) (c .before .is-byte .ensures) (c .if2 .left)
 
 returns-3 : tie.Need-returns-3 Inv-loop μ-loop
 returns-3 c = passed-all isInside isZero 15 _ (c .before .before .before .args .t1) (c .before .loop .i) (c .before .loop .inv) (c .loop-test .left)

@@ -32,7 +32,9 @@ returns c =
     )
 
 sub-walk-field : tie.Need-sub-walk-field
-sub-walk-field c = fits-atoms (c .before .before .before .shape-of .result) (c .before .before .at-most .result) (sym (c .before .fits-length .ensures) ∙ not-false (c .before .fits-length .result) (c .if1 .left))
+sub-walk-field c =
+    fits-atoms (c .before .before .before .shape-of .result) (c .before .before .at-most .result)
+    (sym (c .before .fits-length .ensures) ∙ not-false (c .before .fits-length .result) (c .if1 .left))
 
 walk-field-requires : tie.Need-walk-field-requires
 walk-field-requires c κs = search needs

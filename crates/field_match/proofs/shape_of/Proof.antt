@@ -36,10 +36,16 @@ loop-less : tie.Need-loop-less Inv-loop μ-loop
 loop-less c = search needs
 
 loop-again : tie.Need-loop-again Inv-loop μ-loop
-loop-again c = let v = c .before .before .before .loop .inv in let h = c .before .before .loop-test .taken in (v .0, rw (c .with-term .ensures) (counted-one (c .before .before .before .before .before .args .t1 .n) (c .before .before .before .before .before .args .t1 .terms) 16 (c .before .before .before .loop .i) (c .before .before .before .loop .s) _ (v .1) (omega (arith, v .0))))
+loop-again c = let v = c .before .before .before .loop .inv in let h = c .before .before .loop-test .taken in (
+  v .0,
+  rw (c .with-term .ensures) (counted-one (c .before .before .before .before .before .args .t1 .n) (c .before .before .before .before .before .args .t1 .terms)
+      16 (c .before .before .before .loop .i) (c .before .before .before .loop .s) _ (v .1) (omega (arith, v .0))),
+)
 
 returns : tie.Need-returns Inv-loop μ-loop
-returns c = let v = c .before .loop .inv in let h = c .loop-test .left in counted-all (c .before .before .before .args .t1 .n) (c .before .before .before .args .t1 .terms) 16 (c .before .loop .i) (c .before .loop .s) (v .1) (omega (arith, v .0))
+returns c =
+    let v = c .before .loop .inv in let h = c .loop-test .left in counted-all (c .before .before .before .args .t1 .n)
+    (c .before .before .before .args .t1 .terms) 16 (c .before .loop .i) (c .before .loop .s) (v .1) (omega (arith, v .0))
 
 pub shape-of-spec : {M : Type 1} → statement M
 shape-of-spec =

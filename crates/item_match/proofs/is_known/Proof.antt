@@ -7,7 +7,10 @@ use Rattle.item_match.proofs.is_known.Statement.{statement}
 use Rattle.item_match.proofs.is_known.Tie as tie
 
 returns : tie.Need-returns
-returns c = let hk : length (c .before .args .t1 .known) ≡ 48 = search needs in let h = c .if1 .taken in sym (List·getD-eq-default (c .before .args .t1 .known) _ {n = c .before .args .i} (omega arith))
+returns c =
+    let hk : length (c .before .args .t1 .known) ≡ 48 = search needs in
+    let h = c .if1 .taken in
+    sym (List·getD-eq-default (c .before .args .t1 .known) _ {n = c .before .args .i} (omega arith))
 
 element-copy-out-result : tie.Need-element-copy-out-result
 element-copy-out-result c = search needs

@@ -14,7 +14,8 @@ abbrev μ-loop : tie.MeasureT-loop
 μ-loop a b i₀ i = 15 - i
 
 loop-holds : tie.Need-loop-holds Inv-loop μ-loop
-loop-holds c = let ha : length (c .args .t1) ≡ 15 = search needs in let hb : length (c .args .t2) ≡ 15 = search needs in same-none 15 (c .args .t1) (c .args .t2) ha hb
+loop-holds c =
+    let ha : length (c .args .t1) ≡ 15 = search needs in let hb : length (c .args .t2) ≡ 15 = search needs in same-none 15 (c .args .t1) (c .args .t2) ha hb
 
 array-read-if1 : tie.Need-array-read-if1 Inv-loop μ-loop
 array-read-if1 c = search needs
@@ -23,7 +24,9 @@ array-read-if1-2 : tie.Need-array-read-if1-2 Inv-loop μ-loop
 array-read-if1-2 c = search needs
 
 returns : tie.Need-returns Inv-loop μ-loop
-returns c = same-not 15 (c .before .before .before .args .t1) (c .before .before .before .args .t2) (c .before .before .loop .i) (c .before .before .loop .inv) (c .before .loop-test .taken) (c .if1 .taken)
+returns c =
+    same-not 15 (c .before .before .before .args .t1) (c .before .before .before .args .t2) (c .before .before .loop .i) (c .before .before .loop .inv)
+    (c .before .loop-test .taken) (c .if1 .taken)
 
 add-i : tie.Need-add-i Inv-loop μ-loop
 add-i c = search needs
@@ -32,7 +35,9 @@ loop-less : tie.Need-loop-less Inv-loop μ-loop
 loop-less c = search needs
 
 loop-again : tie.Need-loop-again Inv-loop μ-loop
-loop-again c = same-one 15 (c .before .before .before .args .t1) (c .before .before .before .args .t2) (c .before .before .loop .i) (c .before .before .loop .inv) (c .before .loop-test .taken) (c .if1 .left)
+loop-again c =
+    same-one 15 (c .before .before .before .args .t1) (c .before .before .before .args .t2) (c .before .before .loop .i) (c .before .before .loop .inv)
+    (c .before .loop-test .taken) (c .if1 .left)
 
 returns-2 : tie.Need-returns-2 Inv-loop μ-loop
 returns-2 c = same-all 15 (c .before .before .args .t1) (c .before .before .args .t2) (c .before .loop .i) (c .before .loop .inv) (c .loop-test .left)

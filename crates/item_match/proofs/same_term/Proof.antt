@@ -50,7 +50,9 @@ returns-5 : tie.Need-returns-5
 returns-5 c = search needs
 
 returns-6 : tie.Need-returns-6
-returns-6 c = rw (c .before .before .before .before .before .before .x2 .given .1, c .before .before .before .y2 .given .1, eq-eqb _ _ (c .before .if1 .left)) (c .same-bytes .ensures)
+returns-6 c =
+    rw (c .before .before .before .before .before .before .x2 .given .1, c .before .before .before .y2 .given .1, eq-eqb _ _ (c .before .if1 .left))
+    (c .same-bytes .ensures)
 
 returns-7 : tie.Need-returns-7
 returns-7 c = search needs

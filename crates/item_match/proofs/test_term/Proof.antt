@@ -31,7 +31,8 @@ returns : tie.Need-returns
 returns c =
     let z = c .before .before .before .before .before .args in
     let x = c .before .before .before .form .given in
-    rw (x .1) (test-list (kindOf (x .0 .0)) (x .0 .1 .0) (z .item) (z .v) (sym (list-kind (kindOf (x .0 .0))) ∙ sym (c .before .same-kind .ensures) ∙ c .if1 .taken))
+    rw (x .1)
+    (test-list (kindOf (x .0 .0)) (x .0 .1 .0) (z .item) (z .v) (sym (list-kind (kindOf (x .0 .0))) ∙ sym (c .before .same-kind .ensures) ∙ c .if1 .taken))
 
 test-atom-requires : tie.Need-test-atom-requires
 test-atom-requires c κs = search needs
@@ -54,7 +55,8 @@ returns-4 c =
     let x = c .before .before .before .before .form .given in
     rw (x .1)
     (c .test-atom .ensures
-    ∙ test-basic (kindOf (x .0 .0)) (x .0 .1 .0) (z .item) (z .v) (sym (list-kind (kindOf (x .0 .0))) ∙ sym (c .before .before .same-kind .ensures) ∙ c .before .if1 .left))
+    ∙ test-basic (kindOf (x .0 .0)) (x .0 .1 .0) (z .item) (z .v)
+    (sym (list-kind (kindOf (x .0 .0))) ∙ sym (c .before .before .same-kind .ensures) ∙ c .before .if1 .left))
 
 pub test-term-spec : {M : Type 1} → statement M
 test-term-spec =

@@ -27,7 +27,9 @@ returns : tie.Need-returns
 returns c =
     let z = c .before .before .before .before .before .before .before .before .before .before .before .args in
     let n = c .before .before .before .before .before .before .before .before .number in
-    placed-as (z .at) (z .out .now) (ap (λ (n : ℕ). z .words .now ++ numberAt n (z .place)) (sym (n .ensures))) (placed-next (z .words .now) (numberAt (n .result) (z .place)) (z .at) (z .out .now) (c .before .before .before .before .before .before .put-bytes .ensures) (c .before .before .put-number-at .ensures))
+    placed-as (z .at) (z .out .now) (ap (λ (n : ℕ). z .words .now ++ numberAt n (z .place)) (sym (n .ensures)))
+    (placed-next (z .words .now) (numberAt (n .result) (z .place)) (z .at) (z .out .now)
+    (c .before .before .before .before .before .before .put-bytes .ensures) (c .before .before .put-number-at .ensures))
 
 pub put-refusal-spec : {M : Type 1} → statement M
 put-refusal-spec =

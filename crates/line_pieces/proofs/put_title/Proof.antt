@@ -24,7 +24,9 @@ same-length c = search needs
 returns : tie.Need-returns
 returns c =
     let z = c .before .before .before .before .before .before .before .before .before .before .before .before .before .before .before .args in
-    placed-three (z .words .now) (digitsOf (z .k)) newline (z .at) (z .out .now) (c .before .before .before .before .before .before .before .before .before .before .before .put-bytes .ensures) (c .before .before .before .before .before .before .before .put-number .ensures) (c .before .before .put-bytes2 .ensures)
+    placed-three (z .words .now) (digitsOf (z .k)) newline (z .at) (z .out .now)
+    (c .before .before .before .before .before .before .before .before .before .before .before .put-bytes .ensures)
+    (c .before .before .before .before .before .before .before .put-number .ensures) (c .before .before .put-bytes2 .ensures)
 
 pub put-title-spec : {M : Type 1} → statement M
 put-title-spec =

@@ -41,8 +41,11 @@ same-length c = search needs
 
 returns : tie.Need-returns
 returns c =
-    let z = c .before .before .before .before .before .before .before .before in
-    (added-some (z .args .l) (z .args .part .now) (z .args .line .now) (c .before .before .before .before .before .if1 .taken), copied-part (take (length (z .args .line .now) - z .args .l .kept) (z .args .part .now)) (z .args .line .now) (z .args .l .kept) (simp length-take (omega (arith, z .pre))) (c .before .before .copy .ensures .1))
+    let z = c .before .before .before .before .before .before .before .before in (
+      added-some (z .args .l) (z .args .part .now) (z .args .line .now) (c .before .before .before .before .before .if1 .taken),
+      copied-part (take (length (z .args .line .now) - z .args .l .kept) (z .args .part .now)) (z .args .line .now) (z .args .l .kept)
+          (simp length-take (omega (arith, z .pre))) (c .before .before .copy .ensures .1),
+    )
 
 sub-copy-2 : tie.Need-sub-copy-2
 sub-copy-2 c = search needs
@@ -68,7 +71,8 @@ returns-2 c =
     let h = c .before .before .before .before .if1 .left in (
       added-all (z .args .l) (z .args .part .now) (z .args .line .now) h,
       copied-part (z .args .part .now) (z .args .line .now) (z .args .l .kept) (omega (arith, z .pre)) (c .before .before .copy2 .ensures .1)
-          ∙ ap (λ (p : List ℕ). placed p (z .args .l .kept) (z .args .line .now)) (sym (take-all (length (z .args .line .now) - z .args .l .kept) (z .args .part .now) h)),
+          ∙ ap (λ (p : List ℕ). placed p (z .args .l .kept) (z .args .line .now))
+          (sym (take-all (length (z .args .line .now) - z .args .l .kept) (z .args .part .now) h)),
     )
 
 pub add-part-spec : {M : Type 1} → statement M

@@ -49,7 +49,13 @@ returns : tie.Need-returns Inv-loop μ-loop
 returns c =
     let z = c .before .before .before .before .before .before .before .before .before .before .args in
     let long : length (z .t1 .terms) ≡ 64 = search long-mapped in
-    placed-as (z .at) (z .out .now) (no-items (z .t1) (z .start) (z .count) (c .before .before .before .before .before .before .before .before .at-most .result) (c .before .before .before .before .before .before .before .at-most2 .result) _ long (c .before .before .before .before .before .before .before .before .at-most .ensures) (c .before .before .before .before .before .before .before .at-most2 .ensures) (ap (_+_ (c .before .before .before .before .before .before .before .at-most2 .result)) (c .before .before .before .before .before .before .at-most3 .ensures)) (c .before .before .before .before .before .if1 .taken)) (c .before .before .put-bytes .ensures)
+    placed-as (z .at) (z .out .now) (no-items (z .t1) (z .start) (z .count) (c .before .before .before .before .before .before .before .before .at-most .result)
+    (c .before .before .before .before .before .before .before .at-most2 .result) _ long
+    (c .before .before .before .before .before .before .before .before .at-most .ensures)
+    (c .before .before .before .before .before .before .before .at-most2 .ensures)
+    (ap (_+_ (c .before .before .before .before .before .before .before .at-most2 .result))
+    (c .before .before .before .before .before .before .at-most3 .ensures)) (c .before .before .before .before .before .if1 .taken))
+    (c .before .before .put-bytes .ensures)
 
 mul-put-term : tie.Need-mul-put-term Inv-loop μ-loop
 mul-put-term c = search needs
@@ -66,8 +72,23 @@ add-i c = search needs
 loop-holds : tie.Need-loop-holds Inv-loop μ-loop
 loop-holds c =
     let z = c .before .before .before .before .before .before .before .before .before .before .args in
-    let long : length (z .t1 .terms) ≡ 64 = search long-mapped in
-    (long, omega (arith, c .before .before .before .before .before .before .before .before .at-most .ensures, c .before .before .before .before .before .before .before .at-most2 .ensures, c .before .before .before .before .before .before .at-most3 .ensures), omega (arith, c .before .before .before .before .before .before .before .before .at-most .ensures, c .before .before .before .before .before .before .before .at-most2 .ensures, c .before .before .before .before .before .before .at-most3 .ensures, c .before .before .before .before .before .if1 .left), all-left _ _ _)
+    let long : length (z .t1 .terms) ≡ 64 = search long-mapped in (
+      long,
+      omega (
+        arith,
+        c .before .before .before .before .before .before .before .before .at-most .ensures,
+        c .before .before .before .before .before .before .before .at-most2 .ensures,
+        c .before .before .before .before .before .before .at-most3 .ensures,
+      ),
+      omega (
+        arith,
+        c .before .before .before .before .before .before .before .before .at-most .ensures,
+        c .before .before .before .before .before .before .before .at-most2 .ensures,
+        c .before .before .before .before .before .before .at-most3 .ensures,
+        c .before .before .before .before .before .if1 .left,
+      ),
+      all-left _ _ _,
+    )
 
 slice-aggregate-put-bytes-2 : tie.Need-slice-aggregate-put-bytes-2 Inv-loop μ-loop
 slice-aggregate-put-bytes-2 c = search needs
@@ -92,14 +113,24 @@ loop-less c = omega (arith, c .before .before .before .before .before .before .b
 
 loop-again : tie.Need-loop-again Inv-loop μ-loop
 loop-again c =
-    let z = c .before .before .before .before .before .before .before .before .before .before .before .before .before .before .before .before .before .before .before .before .before .before .args in
+    let z = c .before .before .before .before .before .before .before .before .before .before .before
+    .before .before .before .before .before .before .before .before .before .before .before .args in
     let L = c .before .before .before .before .before .before .before .before .before .before .before .loop in
     let s = z .t1 .terms in
-    let end = c .before .before .before .before .before .before .before .before .before .before .before .before .before .before .before .before .before .before .before .at-most2 .result + c .before .before .before .before .before .before .before .before .before .before .before .before .before .before .before .before .before .before .at-most3 .result in
+    let end = c .before .before .before .before .before .before .before .before .before .before
+    .before .before .before .before .before .before .before .before .before .at-most2 .result
+    + c .before .before .before .before .before .before .before .before .before .before
+    .before .before .before .before .before .before .before .before .at-most3 .result in
     let h = c .before .before .before .before .before .before .before .before .before .before .loop-test .taken in
     let t = termText (viewTerm (getD s (L .i) absent)) in
-    let rest = rowText (drop (L .i + 1) (take end s)) in
-    (L .inv .0, L .inv .1, omega (arith, h, L .inv .1), left-next _ _ _ t rest (left-next _ _ _ (58 ∷ []) (t ++ rest) (rest-as _ _ _ (L .p) (L .out) (next-item s end (L .i) absent h (omega (arith, L .inv .0, L .inv .1))) (L .inv .3)) (c .before .before .before .before .before .before .before .put-bytes2 .ensures)) (c .before .before .put-term2 .ensures))
+    let rest = rowText (drop (L .i + 1) (take end s)) in (
+      L .inv .0,
+      L .inv .1,
+      omega (arith, h, L .inv .1),
+      left-next _ _ _ t rest (left-next _ _ _ (58 ∷ []) (t ++ rest)
+          (rest-as _ _ _ (L .p) (L .out) (next-item s end (L .i) absent h (omega (arith, L .inv .0, L .inv .1))) (L .inv .3))
+          (c .before .before .before .before .before .before .before .put-bytes2 .ensures)) (c .before .before .put-term2 .ensures),
+    )
 
 same-length-2 : tie.Need-same-length-2 Inv-loop μ-loop
 same-length-2 c = c .before .loop .inv .3 .long ∙ c .before .before .before .before .put-term .kept .1 .0
@@ -114,8 +145,10 @@ returns-2 c =
     let end = from .result + size .result in
     let s = z .t1 .terms in
     let last = none-left _ _ _ (rest-as _ _ _ (L .p) (L .out) (last-item s end (L .i) (c .loop-test .left)) (L .inv .3)) in
-    placed-as (z .at) (z .out .now) (first-item (z .t1) (z .start) (z .count) (n .result) (from .result) end (L .inv .0) (n .ensures) (from .ensures) (ap (_+_ (from .result)) (size .ensures)) absent (omega (arith, c .before .before .before .before .before .before .before .if1 .left)))
-    (placed-next (termText (viewTerm (getD s (from .result) absent))) (rowText (drop (from .result + 1) (take end s))) (z .at) (z .out .now) (c .before .before .before .before .put-term .ensures) last)
+    placed-as (z .at) (z .out .now) (first-item (z .t1) (z .start) (z .count) (n .result) (from .result) end (L .inv .0) (n .ensures) (from .ensures)
+    (ap (_+_ (from .result)) (size .ensures)) absent (omega (arith, c .before .before .before .before .before .before .before .if1 .left)))
+    (placed-next (termText (viewTerm (getD s (from .result) absent))) (rowText (drop (from .result + 1) (take end s))) (z .at) (z .out .now)
+    (c .before .before .before .before .put-term .ensures) last)
 
 pub put-items-spec : {M : Type 1} → statement M
 put-items-spec =

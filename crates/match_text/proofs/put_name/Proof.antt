@@ -29,7 +29,9 @@ same-length c = search needs
 returns : tie.Need-returns
 returns c =
     let z = c .before .before .before .before .before .before .before .before .before .before .before .before .before .before .before .args in
-    placed-three (ascii " ") (termText (var (kindOf (z .k)) (z .n))) (ascii "=") (z .at) (z .out .now) (c .before .before .before .before .before .before .before .before .before .before .before .put-bytes .ensures) (c .before .before .before .before .before .before .before .put-term .ensures) (c .before .before .put-bytes2 .ensures)
+    placed-three (ascii " ") (termText (var (kindOf (z .k)) (z .n))) (ascii "=") (z .at) (z .out .now)
+    (c .before .before .before .before .before .before .before .before .before .before .before .put-bytes .ensures)
+    (c .before .before .before .before .before .before .before .put-term .ensures) (c .before .before .put-bytes2 .ensures)
 
 pub put-name-spec : {M : Type 1} → statement M
 put-name-spec =

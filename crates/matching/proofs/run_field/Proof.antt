@@ -77,7 +77,9 @@ returns c =
     let terms = c .before .before .before .before .at-most in
     put-all (z .j) (gap .result) (z .t2 .n) (z .t2 .terms) 16 (z .x) (l .i) (l .y) (l .inv .1) (omega (arith, l .inv .0))
     ∙ ap (λ (g : ℕ). runsOver (z .j) g 0 (termsOf (z .t2)) (z .x))
-    (gap .ensures ∙ ap₂ (λ (m n : ℕ). m + 1 - n) (items-count (z .w .n) (z .w .terms) 64 (items .result) (search long-mapped) (items .ensures)) (items-count (z .t2 .n) (z .t2 .terms) 16 (terms .result) (search long-mapped) (terms .ensures)))
+    (gap .ensures
+    ∙ ap₂ (λ (m n : ℕ). m + 1 - n) (items-count (z .w .n) (z .w .terms) 64 (items .result) (search long-mapped) (items .ensures))
+    (items-count (z .t2 .n) (z .t2 .terms) 16 (terms .result) (search long-mapped) (terms .ensures)))
 
 pub run-field-spec : {M : Type 1} → statement M
 run-field-spec =

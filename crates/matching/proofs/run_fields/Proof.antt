@@ -47,8 +47,13 @@ loop-less c = search needs
 loop-again : tie.Need-loop-again Inv-loop μ-loop
 loop-again c =
     let l = c .before .before .before .before .loop in
-    let z = c .before .before .before .before .before in
-    (l .inv .0, l .inv .1, l .inv .2, put-field (z .args .t1 .fields) (z .args .t2 .fields) (z .args .t1 .n) (z .args .x) (l .j) (l .y) _ _ _ (l .inv .3) (c .before .before .before .loop-test .taken) (c .run-field .ensures))
+    let z = c .before .before .before .before .before in (
+      l .inv .0,
+      l .inv .1,
+      l .inv .2,
+      put-field (z .args .t1 .fields) (z .args .t2 .fields) (z .args .t1 .n) (z .args .x) (l .j) (l .y) _ _ _ (l .inv .3)
+          (c .before .before .before .loop-test .taken) (c .run-field .ensures),
+    )
 
 returns : tie.Need-returns Inv-loop μ-loop
 returns c =

@@ -41,7 +41,9 @@ returns : tie.Need-returns
 returns c =
     let z = c .before .before .before .before .before in
     let f = c .before .before .before .form in
-    sym (ap (byForm (z .args .r) (z .args .x)) (f .given .1) ∙ ap (byList (f .given .0 .1 .0) (z .args .r) (z .args .x)) (sym (list-kind (kindOf (f .given .0 .0))) ∙ sym (c .before .same-kind .ensures) ∙ not-true _ (c .if1 .taken)))
+    sym (ap (byForm (z .args .r) (z .args .x)) (f .given .1)
+    ∙ ap (byList (f .given .0 .1 .0) (z .args .r) (z .args .x))
+    (sym (list-kind (kindOf (f .given .0 .0))) ∙ sym (c .before .same-kind .ensures) ∙ not-true _ (c .if1 .taken)))
 
 cast-i : tie.Need-cast-i
 cast-i c = search needs
@@ -53,7 +55,8 @@ returns-2 c =
     let h : length (z .args .x .runs) ≡ 16 = search long-mapped in
     let b = c .if2 .taken in
     sym (ap (byForm (z .args .r) (z .args .x)) (f .given .1)
-    ∙ ap (byList (f .given .0 .1 .0) (z .args .r) (z .args .x)) (sym (list-kind (kindOf (f .given .0 .0))) ∙ sym (c .before .before .same-kind .ensures) ∙ not-false _ (c .before .if1 .left))
+    ∙ ap (byList (f .given .0 .1 .0) (z .args .r) (z .args .x))
+    (sym (list-kind (kindOf (f .given .0 .0))) ∙ sym (c .before .before .same-kind .ensures) ∙ not-false _ (c .before .if1 .left))
     ∙ rw (set-out (z .args .x .runs) (f .given .0 .1 .0) (z .args .r) (omega arith)))
 
 mul-r : tie.Need-mul-r
@@ -72,7 +75,9 @@ returns-5 : tie.Need-returns-5
 returns-5 c =
     let z = c .before .before .before .before .before .before in
     let f = c .before .before .before .before .form in
-    sym (ap (byForm (z .args .r) (z .args .x)) (f .given .1) ∙ ap (byList (f .given .0 .1 .0) (z .args .r) (z .args .x)) (sym (list-kind (kindOf (f .given .0 .0))) ∙ sym (c .before .before .same-kind .ensures) ∙ not-false _ (c .before .if1 .left)))
+    sym (ap (byForm (z .args .r) (z .args .x)) (f .given .1)
+    ∙ ap (byList (f .given .0 .1 .0) (z .args .r) (z .args .x))
+    (sym (list-kind (kindOf (f .given .0 .0))) ∙ sym (c .before .before .same-kind .ensures) ∙ not-false _ (c .before .if1 .left)))
 
 pub with-run-spec : {M : Type 1} → statement M
 with-run-spec =

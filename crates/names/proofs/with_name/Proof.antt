@@ -21,7 +21,8 @@ returns-2 : tie.Need-returns-2
 returns-2 c =
     let n = c .before .args .n in
     let h : n < digits = omega arith in
-    ap (bitOr (c .before .args .set)) (ap (λ (m : ℕ). m % 2 ^ digits) (one-mul (2 ^ n)) ∙ mod-eq-of-lt (pow-lt h)) ∙ sym (with-within (c .before .args .set) n h)
+    ap (bitOr (c .before .args .set)) (ap (λ (m : ℕ). m % 2 ^ digits) (one-mul (2 ^ n)) ∙ mod-eq-of-lt (pow-lt h))
+    ∙ sym (with-within (c .before .args .set) n h)
 
 pub with-name-spec : {M : Type 1} → statement M
 with-name-spec = tie.close (tie.spec returns shl-result returns-2)

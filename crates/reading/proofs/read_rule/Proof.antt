@@ -35,7 +35,8 @@ returns-2 : tie.Need-returns-2
 returns-2 c =
     let j = c .before .before .before in
     let r = j .before .before .before in
-    rule-no (r .args .text .now) (j .judge-rule .result) (c .blank-rule .result) _ _ (j .judge-rule .ensures) (c .before .enum-told2 .given .1) (c .blank-rule .ensures)
+    rule-no (r .args .text .now) (j .judge-rule .result) (c .blank-rule .result) _ _ (j .judge-rule .ensures) (c .before .enum-told2 .given .1)
+    (c .blank-rule .ensures)
 
 pub read-rule-spec : {M : Type 1} → statement M
 read-rule-spec =

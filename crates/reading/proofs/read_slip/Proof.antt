@@ -20,10 +20,14 @@ blank-slip-requires : tie.Need-blank-slip-requires
 blank-slip-requires c κs = search needs
 
 returns : tie.Need-returns
-returns c = slip-yes (c .before .before .before .before .before .args .text .now) (c .before .before .before .judge-slip .result) (c .slip-in .result) (c .before .before .before .judge-slip .ensures) (c .before .enum-told .given .1) (c .slip-in .ensures)
+returns c =
+    slip-yes (c .before .before .before .before .before .args .text .now) (c .before .before .before .judge-slip .result) (c .slip-in .result)
+    (c .before .before .before .judge-slip .ensures) (c .before .enum-told .given .1) (c .slip-in .ensures)
 
 returns-2 : tie.Need-returns-2
-returns-2 c = slip-no (c .before .before .before .before .before .args .text .now) (c .before .before .before .judge-slip .result) (c .blank-slip .result) _ _ (c .before .before .before .judge-slip .ensures) (c .before .enum-told2 .given .1) (c .blank-slip .ensures)
+returns-2 c =
+    slip-no (c .before .before .before .before .before .args .text .now) (c .before .before .before .judge-slip .result)
+    (c .blank-slip .result) _ _ (c .before .before .before .judge-slip .ensures) (c .before .enum-told2 .given .1) (c .blank-slip .ensures)
 
 pub read-slip-spec : {M : Type 1} → statement M
 read-slip-spec =

@@ -40,7 +40,8 @@ returns-2 c =
     let b = c .before .before .before .before .before .before .before .before .before in
     let z = b .before .before .before .before .before .before .before .before .before in
     placed-both (z .args .r) (long z) (b .if1 .left) (z .args .at) (z .args .out .now)
-    (b .before .before .before .before .put-side .ensures) (c .before .before .before .before .before .before .put-bytes .ensures) (c .before .before .put-side2 .ensures)
+    (b .before .before .before .before .put-side .ensures)
+    (c .before .before .before .before .before .before .put-bytes .ensures) (c .before .before .put-side2 .ensures)
 
 pub put-rule-spec : {M : Type 1} → statement M
 put-rule-spec =

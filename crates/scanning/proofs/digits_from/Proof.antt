@@ -1,4 +1,5 @@
--- `scanning::digits_from` meets its contract. The loop's invariant: the digits passed, and those from here on, are those from the place on, in number and in capped value.
+-- `scanning::digits_from` meets its contract. The loop's invariant: the digits passed, and those from here on, are those from the place on,
+-- in number and in capped value.
 -- The measure is what is left of the length. Assumes nothing.
 use mathlib.Core.Path.{_≡_, sym, _∙_}
 use mathlib.Core.Logic.{⊎-elim}
@@ -28,7 +29,8 @@ is-digit-requires : tie.Need-is-digit-requires Inv-loop μ-loop
 is-digit-requires c κs = search needs
 
 -- within the loop's body a digit stands at i
-digit : (c : tie.Then1 Inv-loop μ-loop) → isDigit (getD (c .before .before .before .before .before .before .args .text .now) (c .before .before .before .before .loop .i) 0) ≡ true
+digit : (c : tie.Then1 Inv-loop μ-loop)
+    → isDigit (getD (c .before .before .before .before .before .before .args .text .now) (c .before .before .before .before .loop .i) 0) ≡ true
 digit c = sym (c .before .is-digit .ensures) ∙ c .if1 .taken
 
 mul-cap : tie.Need-mul-cap Inv-loop μ-loop
@@ -59,7 +61,8 @@ loop-again : tie.Need-loop-again Inv-loop μ-loop
 loop-again c =
     let w = c .before .before in
     let d = w .before .before .before .before in
-    rw (c .cap .ensures) (digits-more (d .before .before .args .text .now) (d .before .before .args .at) (d .loop .i) (d .loop .v) (d .loop .inv) (w .before .before .before .loop-test .taken) (digit w))
+    rw (c .cap .ensures) (digits-more (d .before .before .args .text .now) (d .before .before .args .at) (d .loop .i) (d .loop .v) (d .loop .inv)
+    (w .before .before .before .loop-test .taken) (digit w))
 
 sub-t16 : tie.Need-sub-t16 Inv-loop μ-loop
 sub-t16 c = search needs

@@ -1,4 +1,5 @@
--- `scanning::quoted_from` meets its contract. The loop's invariant: the bytes passed, and those before a quote from here on, are those before a quote from the place on.
+-- `scanning::quoted_from` meets its contract. The loop's invariant: the bytes passed, and those before a quote from here on,
+-- are those before a quote from the place on.
 -- The measure is what is left of the length. Assumes nothing.
 use mathlib.Core.Logic.{⊎-elim}
 use Prim.Native.Nat.{_-_}
@@ -30,7 +31,8 @@ loop-less c = search needs
 loop-again : tie.Need-loop-again Inv-loop μ-loop
 loop-again c =
     let d = c .before .before .before in
-    quoted-more (d .before .args .text .now) (d .before .args .at) (d .loop .i) (d .loop .inv) (c .before .before .loop-test .taken) (eqb-false _ 34 (not-true _ (c .if1 .taken)))
+    quoted-more (d .before .args .text .now) (d .before .args .at) (d .loop .i) (d .loop .inv) (c .before .before .loop-test .taken)
+    (eqb-false _ 34 (not-true _ (c .if1 .taken)))
 
 sub-result : tie.Need-sub-result Inv-loop μ-loop
 sub-result c = search needs

@@ -29,7 +29,8 @@ returns : tie.Need-returns Inv-loop μ-loop
 returns c =
     let z = c .before .before .before .before .before .before .args in
     let L = c .before .before .before .before .loop in
-    sym (ap sizeValue (no-digit (z .most) (z .text .now) (L .i) (L .n) (L .inv) (c .before .before .before .loop-test .taken) (sym (c .before .is-digit .ensures) ∙ not-true _ (c .if1 .taken))))
+    sym (ap sizeValue (no-digit (z .most) (z .text .now) (L .i) (L .n) (L .inv) (c .before .before .before .loop-test .taken)
+    (sym (c .before .is-digit .ensures) ∙ not-true _ (c .if1 .taken))))
 
 mul-n : tie.Need-mul-n Inv-loop μ-loop
 mul-n c =
@@ -37,10 +38,18 @@ mul-n c =
     omega (arith, c .before .before .before .before .loop .inv .0)
 
 sub-n : tie.Need-sub-n Inv-loop μ-loop
-sub-n c = omega (arith, digit-least (getD (c .before .before .before .before .before .before .args .text .now) (c .before .before .before .before .loop .i) 0) (sym (c .before .is-digit .ensures) ∙ not-false _ (c .if1 .left)))
+sub-n c = omega (
+  arith,
+  digit-least (getD (c .before .before .before .before .before .before .args .text .now) (c .before .before .before .before .loop .i) 0)
+      (sym (c .before .is-digit .ensures) ∙ not-false _ (c .if1 .left)),
+)
 
 cast-n : tie.Need-cast-n Inv-loop μ-loop
-cast-n c = omega (arith, digit-least (getD (c .before .before .before .before .before .before .args .text .now) (c .before .before .before .before .loop .i) 0) (sym (c .before .is-digit .ensures) ∙ not-false _ (c .if1 .left)))
+cast-n c = omega (
+  arith,
+  digit-least (getD (c .before .before .before .before .before .before .args .text .now) (c .before .before .before .before .loop .i) 0)
+      (sym (c .before .is-digit .ensures) ∙ not-false _ (c .if1 .left)),
+)
 
 add-n : tie.Need-add-n Inv-loop μ-loop
 add-n c =
@@ -53,7 +62,8 @@ returns-2 : tie.Need-returns-2 Inv-loop μ-loop
 returns-2 c =
     let z = c .before .before .before .before .before .before .before .args in
     let L = c .before .before .before .before .before .loop in
-    sym (ap sizeValue (digit-over (z .most) (z .text .now) (L .i) (L .n) (L .inv) (c .before .before .before .before .loop-test .taken) (sym (c .before .before .is-digit .ensures) ∙ not-false _ (c .before .if1 .left)) (c .if2 .taken)))
+    sym (ap sizeValue (digit-over (z .most) (z .text .now) (L .i) (L .n) (L .inv) (c .before .before .before .before .loop-test .taken)
+    (sym (c .before .before .is-digit .ensures) ∙ not-false _ (c .before .if1 .left)) (c .if2 .taken)))
 
 add-i : tie.Need-add-i Inv-loop μ-loop
 add-i c = search needs
@@ -65,7 +75,8 @@ loop-again : tie.Need-loop-again Inv-loop μ-loop
 loop-again c =
     let z = c .before .before .before .before .before .before .before .args in
     let L = c .before .before .before .before .before .loop in
-    digit-read (z .most) (z .text .now) (L .i) (L .n) (L .inv) (c .before .before .before .before .loop-test .taken) (sym (c .before .before .is-digit .ensures) ∙ not-false _ (c .before .if1 .left)) (c .if2 .left)
+    digit-read (z .most) (z .text .now) (L .i) (L .n) (L .inv) (c .before .before .before .before .loop-test .taken)
+    (sym (c .before .before .is-digit .ensures) ∙ not-false _ (c .before .if1 .left)) (c .if2 .left)
 
 returns-3 : tie.Need-returns-3 Inv-loop μ-loop
 returns-3 c =

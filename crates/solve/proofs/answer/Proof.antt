@@ -28,7 +28,11 @@ slice-aggregate-put : tie.Need-slice-aggregate-put
 slice-aggregate-put c =
     let W = c .before .before .before .before .before .solve-answer in
     let z = c .before .before .before .before .before .before .before .before .before .args in
-    sym (length-take-le _ _ (omega (arith, written-in (solveAnswer (z .k) (z .line .now)) (replicate 131164 0) (W .ensures .0) (c .before .before .n .given .1), W .kept .1 .1 .0)))
+    sym (length-take-le _ _ (omega (
+      arith,
+      written-in (solveAnswer (z .k) (z .line .now)) (replicate 131164 0) (W .ensures .0) (c .before .before .n .given .1),
+      W .kept .1 .1 .0,
+    )))
 
 put-requires : tie.Need-put-requires
 put-requires c κs = search needs

@@ -93,10 +93,22 @@ stayed = (stay-none-slice (0 ∷ []) tt (plain (λ _. u8)) yes, tt)
 module _ {M : Type 1} (𝓤 : URA M) (H : Heap 𝓤) (A : Atoms 𝓤) (W : Given 𝓤 H A) where
   -- a rule and a field of it
   abbrev X : Spelt
-  X = record { row = N.the-row; ty = N′.mir; val = LL.val N.the-type N′.the-laws; tells = LL.tells N.the-type N′.the-laws; typed = λ x g. LL.lawful N.the-type N′.the-laws 𝓤 H A W .typed x _ g .0 }
+  X = record {
+    row = N.the-row;
+    ty = N′.mir;
+    val = LL.val N.the-type N′.the-laws;
+    tells = LL.tells N.the-type N′.the-laws;
+    typed = λ x g. LL.lawful N.the-type N′.the-laws 𝓤 H A W .typed x _ g .0;
+  }
 
   abbrev Y : Spelt
-  Y = record { row = G.the-row; ty = G′.mir; val = LL.val G.the-type G′.the-laws; tells = LL.tells G.the-type G′.the-laws; typed = λ f g. LL.lawful G.the-type G′.the-laws 𝓤 H A W .typed f _ g .0 }
+  Y = record {
+    row = G.the-row;
+    ty = G′.mir;
+    val = LL.val G.the-type G′.the-laws;
+    tells = LL.tells G.the-type G′.the-laws;
+    typed = λ f g. LL.lawful G.the-type G′.the-laws 𝓤 H A W .typed f _ g .0;
+  }
 
   module _ (mem : Memory → SProp 𝓤) (run : Routine → Fun 𝓤) (κ : Lft) (q : Share) (s : RefT (List ℕ)) where
     abbrev bound : walkOf 𝓤 H A build.ended stayed (build.clauses 𝓤 H A mem run) .Ghost
@@ -111,7 +123,8 @@ module _ {M : Type 1} (𝓤 : URA M) (H : Heap 𝓤) (A : Atoms 𝓤) (W : Given
     exits : (x : RuleSide) → Good X x → x ≡ builtSide (terms-of (now s)) → ent 𝓤 (⋆ 𝓤 H A Own) (Post (X .val x))
     exits x gx is =
         qed W Own ∵ suffices ! _ (ends-at 𝓤 H A build.ended stayed (build.clauses 𝓤 H A mem run) W bound (X .val x) x (tt, tt) (tt, tt)) $ says ! is $
-        move ! (1 ∷ []) $ frame ! $ nothing ! $ move ! (1 ∷ 0 ∷ []) $ fjoin ! $ frame ! $ owned ! N.the-row (Is N.the-row) (LL.makes N.the-type N′.the-plain 𝓤 H A) x _ gx $ done !
+        move ! (1 ∷ []) $ frame ! $ nothing ! $ move ! (1 ∷ 0 ∷ []) $ fjoin ! $ frame ! $
+        owned ! N.the-row (Is N.the-row) (LL.makes N.the-type N′.the-plain 𝓤 H A) x _ gx $ done !
 
     -- the term at a place
     abbrev p : At → Piece
@@ -119,27 +132,43 @@ module _ {M : Type 1} (𝓤 : URA M) (H : Heap 𝓤) (A : Atoms 𝓤) (W : Given
 
     module _ (C : Calls 𝓤 H) where
       -- what the callees return
-      blank-rule-returns : Triple 𝓤 (C #terms·blank-side) (Met 𝓤 H A blank-whole.ended (blank-whole.clauses 𝓤 H A mem run)) → Returns 𝓤 H A C #terms·blank-side [] N.the-row blankSide [] (raw (emp 𝓤))
-      blank-rule-returns known = returns-plain 𝓤 H A blank-whole.ended (blank-whole.clauses 𝓤 H A mem run) C #terms·blank-side known (tt, tt, tt, tt, tt) tt blankSide (λ z ws. id⊢ 𝓤 _) W (id⊢ 𝓤 _) (id⊢ 𝓤 _) (id⊢ 𝓤 _) tt tt
+      blank-rule-returns : Triple 𝓤 (C #terms·blank-side) (Met 𝓤 H A blank-whole.ended (blank-whole.clauses 𝓤 H A mem run))
+          → Returns 𝓤 H A C #terms·blank-side [] N.the-row blankSide [] (raw (emp 𝓤))
+      blank-rule-returns known =
+          returns-plain 𝓤 H A blank-whole.ended (blank-whole.clauses 𝓤 H A mem run) C #terms·blank-side known (tt, tt, tt, tt, tt) tt blankSide
+          (λ z ws. id⊢ 𝓤 _) W (id⊢ 𝓤 _) (id⊢ 𝓤 _) (id⊢ 𝓤 _) tt tt
 
-      blank-field-returns : Triple 𝓤 (C #terms·blank-field) (Met 𝓤 H A blank-field.ended (blank-field.clauses 𝓤 H A mem run)) → Returns 𝓤 H A C #terms·blank-field [] G.the-row blankField [] (raw (emp 𝓤))
-      blank-field-returns known = returns-plain 𝓤 H A blank-field.ended (blank-field.clauses 𝓤 H A mem run) C #terms·blank-field known (tt, tt, tt, tt, tt) tt blankField (λ z ws. id⊢ 𝓤 _) W (id⊢ 𝓤 _) (id⊢ 𝓤 _) (id⊢ 𝓤 _) tt tt
+      blank-field-returns : Triple 𝓤 (C #terms·blank-field) (Met 𝓤 H A blank-field.ended (blank-field.clauses 𝓤 H A mem run))
+          → Returns 𝓤 H A C #terms·blank-field [] G.the-row blankField [] (raw (emp 𝓤))
+      blank-field-returns known =
+          returns-plain 𝓤 H A blank-field.ended (blank-field.clauses 𝓤 H A mem run) C #terms·blank-field known (tt, tt, tt, tt, tt) tt blankField
+          (λ z ws. id⊢ 𝓤 _) W (id⊢ 𝓤 _) (id⊢ 𝓤 _) (id⊢ 𝓤 _) tt tt
 
-      push-field-returns : Triple 𝓤 (C #text-passes·push-field) (Met 𝓤 H A push.ended (push.clauses 𝓤 H A mem run)) → (x : RuleSide) (f : Field) → Good X x → Good Y f
+      push-field-returns : Triple 𝓤 (C #text-passes·push-field) (Met 𝓤 H A push.ended (push.clauses 𝓤 H A mem run))
+          → (x : RuleSide) (f : Field) → Good X x → Good Y f
           → Returns 𝓤 H A C #text-passes·push-field (X .val x ∷ Y .val f ∷ []) N.the-row (pushField x f) [] (raw (emp 𝓤))
-      push-field-returns known x f gx gf = returns-plain 𝓤 H A push.ended (push.clauses 𝓤 H A mem run) C #text-passes·push-field known (tt, tt, tt, (x, (f, tt)), (X .val x ∷ [], (Y .val f ∷ [], tt))) tt (pushField x f) (λ z ws. id⊢ 𝓤 _)
+      push-field-returns known x f gx gf =
+          returns-plain 𝓤 H A push.ended (push.clauses 𝓤 H A mem run) C #text-passes·push-field known
+          (tt, tt, tt, (x, (f, tt)), (X .val x ∷ [], (Y .val f ∷ [], tt))) tt (pushField x f) (λ z ws. id⊢ 𝓤 _)
           W (id⊢ 𝓤 _) (id⊢ 𝓤 _) (id⊢ 𝓤 _) (LL.makes N.the-type N′.the-plain 𝓤 H A, (LL.makes G.the-type G′.the-plain 𝓤 H A, tt)) (gx, (gf, tt))
 
-      with-term-returns : Triple 𝓤 (C #text-passes·with-term) (Met 𝓤 H A with′.ended (with′.clauses 𝓤 H A mem run)) → (f : Field) (a : At) → Good Y f → a .place < 2 ^ 64 → Piece-is (p a) → a .place < length (now s)
-          → Returns 𝓤 H A C #text-passes·with-term (Y .val f ∷ mach-text s ∷ vint w64 (a .place) ∷ mach-piece (p a) ∷ []) G.the-row (addRaw f (termAt (now s) a)) (‵ (Text κ s) ∷ Token 𝓤 κ q ∷ []) (Token 𝓤 κ q)
+      with-term-returns : Triple 𝓤 (C #text-passes·with-term) (Met 𝓤 H A with′.ended (with′.clauses 𝓤 H A mem run))
+          → (f : Field) (a : At) → Good Y f → a .place < 2 ^ 64 → Piece-is (p a) → a .place < length (now s)
+          → Returns 𝓤 H A C #text-passes·with-term (Y .val f ∷ mach-text s ∷ vint w64 (a .place) ∷ mach-piece (p a) ∷ []) G.the-row
+          (addRaw f (termAt (now s) a)) (‵ (Text κ s) ∷ Token 𝓤 κ q ∷ []) (Token 𝓤 κ q)
       with-term-returns known f a gf fits gp less = returns-of 𝓤 H A with′.ended (with′.clauses 𝓤 H A mem run) C #text-passes·with-term known
-          ((κ, tt), (q, tt), tt, (f, (s, (a .place, (p a, tt)))), (Y .val f ∷ [], (mach-text s ∷ [], (vint w64 (a .place) ∷ [], (mach-piece (p a) ∷ [], tt))))) tt (addRaw f (termAt (now s) a)) (λ z ws. id⊢ 𝓤 _) Own (Token 𝓤 κ q)
-          (qed W Own ∵ says ! (less, refl) $ nothing ! $ owned ! O.the-row (Is O.the-row) (LL.makes O.the-type O′.the-plain 𝓤 H A) (p a) _ gp $ fjoin ! $ owned ! usize (Is usize) (uint-makes 𝓤 H A W w64) (a .place) _ (refl, fits) $ fjoin ! $
-          move ! (1 ∷ 0 ∷ []) $ fjoin ! $ owned ! G.the-row (Is G.the-row) (LL.makes G.the-type G′.the-plain 𝓤 H A) f _ gf $ fjoin ! $ move ! (1 ∷ 0 ∷ []) $ frame ! $ done !) (id⊢ 𝓤 _)
+          ((κ, tt), (q, tt), tt, (f, (s, (a .place, (p a, tt)))), (Y .val f ∷ [], (mach-text s ∷ [], (vint w64 (a .place) ∷ [], (mach-piece (p a) ∷ [], tt)))))
+          tt (addRaw f (termAt (now s) a)) (λ z ws. id⊢ 𝓤 _) Own (Token 𝓤 κ q)
+          (qed W Own ∵ says ! (less, refl) $ nothing ! $ owned ! O.the-row (Is O.the-row) (LL.makes O.the-type O′.the-plain 𝓤 H A) (p a) _ gp $
+          fjoin ! $ owned ! usize (Is usize) (uint-makes 𝓤 H A W w64) (a .place) _ (refl, fits) $ fjoin ! $
+          move ! (1 ∷ 0 ∷ []) $ fjoin ! $ owned ! G.the-row (Is G.the-row) (LL.makes G.the-type G′.the-plain 𝓤 H A) f _ gf $
+          fjoin ! $ move ! (1 ∷ 0 ∷ []) $ frame ! $ done !) (id⊢ 𝓤 _)
 
     -- what the function is passed is what the walk keeps
     entry : ent 𝓤 (onEntry 𝓤 H A build.signature (κ, tt) (q, tt) (bound .0 .3) (bound .0 .4)) (⋆ 𝓤 H A Own)
-    entry = qed W (Token 𝓤 κ q ∷ ‵ (owns (ShrSlice (named 0) κ u8 ∷ []) (bound .0 .3) (bound .0 .4)) ∷ []) ∵ move ! (1 ∷ []) $ fsplit ! $ move ! (1 ∷ []) $ drop ! $ done !
+    entry =
+        qed W (Token 𝓤 κ q ∷ ‵ (owns (ShrSlice (named 0) κ u8 ∷ []) (bound .0 .3) (bound .0 .4)) ∷ []) ∵ move ! (1 ∷ []) $
+        fsplit ! $ move ! (1 ∷ []) $ drop ! $ done !
 
 pub build-side-spec : {M : Type 1} → stated.statement M
 unfolding code.routine tablesOf
@@ -149,22 +178,31 @@ build-side-spec 𝓤 H 𝓜 𝓖 𝓡 =
     let 𝓣 = tablesOf 𝓤 H 𝓜 (tables 𝓤 H 𝓜 𝓡 code.env) in
     let clauses = build.clauses 𝓤 H A (𝓜 .mem) (𝓡 .run) in
     let goes = WpFn 𝓤 H (𝓣 .C) (𝓣 .Λ) code.function in
-    entered 𝓤 H (tripleOf 𝓤 H A build.signature (build.spec 𝓤 H A (𝓜 .mem) (𝓡 .run))) (tables 𝓤 H 𝓜 𝓡 code.env .C) (tables 𝓤 H 𝓜 𝓡 code.env .Λ) #text-passes·build-side code.function (code.unfolded 𝓤 H 𝓜 𝓡)
-    (walk-meets 𝓤 H A build.ended stayed W (goes-none-slice 𝓤 H A W 1 (0 ∷ []) tt (plain (λ _. u8)) yes, tt) clauses goes (WpFn-mono 𝓤 H (W .laws) 𝓣 code.function)
+    entered 𝓤 H (tripleOf 𝓤 H A build.signature (build.spec 𝓤 H A (𝓜 .mem) (𝓡 .run))) (tables 𝓤 H 𝓜 𝓡 code.env .C)
+    (tables 𝓤 H 𝓜 𝓡 code.env .Λ) #text-passes·build-side code.function (code.unfolded 𝓤 H 𝓜 𝓡)
+    (walk-meets 𝓤 H A build.ended stayed W (goes-none-slice 𝓤 H A W 1 (0 ∷ []) tt (plain (λ _. u8)) yes, tt) clauses goes
+    (WpFn-mono 𝓤 H (W .laws) 𝓣 code.function)
     (walked 𝓤 H A build.ended stayed clauses goes (λ κs. (slice-vals, tt)) (λ κs. (shr-slice-tells (named 0) (κs .0) u8, tt))
     (λ κs qs bounds a g are. needs 𝓤 _ _ (λ short. via 𝓤 _ (entry 𝓤 H A W (𝓜 .mem) (𝓡 .run) (κs .0) (qs .0) (a .0))
-    (walk 𝓤 H A W (𝓜 .mem) (𝓡 .run) (κs .0) (qs .0) (a .0) #terms·blank-side #terms·blank-field #text-passes·push-field #text-passes·with-term (X 𝓤 H A W) (Y 𝓤 H A W) blankSide blankField addRaw pushField
+    (walk 𝓤 H A W (𝓜 .mem) (𝓡 .run) (κs .0) (qs .0) (a .0) #terms·blank-side #terms·blank-field #text-passes·push-field #text-passes·with-term (X 𝓤 H A W)
+    (Y 𝓤 H A W) blankSide blankField addRaw pushField
     (Post 𝓤 H A W (𝓜 .mem) (𝓡 .run) (κs .0) (qs .0) (a .0)) (exits 𝓤 H A W (𝓜 .mem) (𝓡 .run) (κs .0) (qs .0) (a .0)) (are .0) short 𝓣
     (cited 𝓤 H (Start 𝓤 H A (𝓜 .mem) (𝓡 .run)) 𝓜 𝓡 code.env #text-passes·start start-def.routine code.calls-text-passes·start (start-thm.met 𝓤 H 𝓜 𝓖 𝓡))
-    (cited 𝓤 H (HasTerm 𝓤 H A (𝓜 .mem) (𝓡 .run)) 𝓜 𝓡 code.env #text-passes·has-term has-term-def.routine code.calls-text-passes·has-term (has-term-thm.met 𝓤 H 𝓜 𝓖 𝓡))
+    (cited 𝓤 H (HasTerm 𝓤 H A (𝓜 .mem) (𝓡 .run)) 𝓜 𝓡 code.env #text-passes·has-term has-term-def.routine code.calls-text-passes·has-term
+    (has-term-thm.met 𝓤 H 𝓜 𝓖 𝓡))
     (cited 𝓤 H (Term 𝓤 H A (𝓜 .mem) (𝓡 .run)) 𝓜 𝓡 code.env #text-passes·term term-def.routine code.calls-text-passes·term (term-thm.met 𝓤 H 𝓜 𝓖 𝓡))
-    (cited 𝓤 H (Is-turn 𝓤 H A (𝓜 .mem) (𝓡 .run)) 𝓜 𝓡 code.env #text-passes·is-turn is-turn-def.routine code.calls-text-passes·is-turn (is-turn-thm.met 𝓤 H 𝓜 𝓖 𝓡))
+    (cited 𝓤 H (Is-turn 𝓤 H A (𝓜 .mem) (𝓡 .run)) 𝓜 𝓡 code.env #text-passes·is-turn is-turn-def.routine code.calls-text-passes·is-turn
+    (is-turn-thm.met 𝓤 H 𝓜 𝓖 𝓡))
     (cited 𝓤 H (Passed 𝓤 H A (𝓜 .mem) (𝓡 .run)) 𝓜 𝓡 code.env #text-passes·passed passed-def.routine code.calls-text-passes·passed (passed-thm.met 𝓤 H 𝓜 𝓖 𝓡))
     (blank-rule-returns 𝓤 H A W (𝓜 .mem) (𝓡 .run) (κs .0) (qs .0) (a .0) (𝓣 .C)
-    (cited 𝓤 H (Met 𝓤 H A blank-whole.ended (blank-whole.clauses 𝓤 H A (𝓜 .mem) (𝓡 .run))) 𝓜 𝓡 code.env #terms·blank-side blank-whole-def.routine code.calls-terms·blank-side (blank-whole-thm.met 𝓤 H 𝓜 𝓖 𝓡)))
+    (cited 𝓤 H (Met 𝓤 H A blank-whole.ended (blank-whole.clauses 𝓤 H A (𝓜 .mem) (𝓡 .run))) 𝓜 𝓡 code.env
+    #terms·blank-side blank-whole-def.routine code.calls-terms·blank-side (blank-whole-thm.met 𝓤 H 𝓜 𝓖 𝓡)))
     (blank-field-returns 𝓤 H A W (𝓜 .mem) (𝓡 .run) (κs .0) (qs .0) (a .0) (𝓣 .C)
-    (cited 𝓤 H (Met 𝓤 H A blank-field.ended (blank-field.clauses 𝓤 H A (𝓜 .mem) (𝓡 .run))) 𝓜 𝓡 code.env #terms·blank-field blank-field-def.routine code.calls-terms·blank-field (blank-field-thm.met 𝓤 H 𝓜 𝓖 𝓡)))
+    (cited 𝓤 H (Met 𝓤 H A blank-field.ended (blank-field.clauses 𝓤 H A (𝓜 .mem) (𝓡 .run))) 𝓜 𝓡 code.env
+    #terms·blank-field blank-field-def.routine code.calls-terms·blank-field (blank-field-thm.met 𝓤 H 𝓜 𝓖 𝓡)))
     (push-field-returns 𝓤 H A W (𝓜 .mem) (𝓡 .run) (κs .0) (qs .0) (a .0) (𝓣 .C)
-    (cited 𝓤 H (Met 𝓤 H A push.ended (push.clauses 𝓤 H A (𝓜 .mem) (𝓡 .run))) 𝓜 𝓡 code.env #text-passes·push-field push-def.routine code.calls-text-passes·push-field (push-thm.met 𝓤 H 𝓜 𝓖 𝓡)))
+    (cited 𝓤 H (Met 𝓤 H A push.ended (push.clauses 𝓤 H A (𝓜 .mem) (𝓡 .run))) 𝓜 𝓡 code.env
+    #text-passes·push-field push-def.routine code.calls-text-passes·push-field (push-thm.met 𝓤 H 𝓜 𝓖 𝓡)))
     (with-term-returns 𝓤 H A W (𝓜 .mem) (𝓡 .run) (κs .0) (qs .0) (a .0) (𝓣 .C)
-    (cited 𝓤 H (Met 𝓤 H A with′.ended (with′.clauses 𝓤 H A (𝓜 .mem) (𝓡 .run))) 𝓜 𝓡 code.env #text-passes·with-term with-def.routine code.calls-text-passes·with-term (with-thm.met 𝓤 H 𝓜 𝓖 𝓡))))))))
+    (cited 𝓤 H (Met 𝓤 H A with′.ended (with′.clauses 𝓤 H A (𝓜 .mem) (𝓡 .run))) 𝓜 𝓡 code.env
+    #text-passes·with-term with-def.routine code.calls-text-passes·with-term (with-thm.met 𝓤 H 𝓜 𝓖 𝓡))))))))

@@ -93,10 +93,22 @@ stayed = (stay-none-slice (0 ∷ []) tt (plain (λ _. u8)) yes, tt)
 module _ {M : Type 1} (𝓤 : URA M) (H : Heap 𝓤) (A : Atoms 𝓤) (W : Given 𝓤 H A) where
   -- a slip and a field of it
   abbrev X : Spelt
-  X = record { row = N.the-row; ty = N′.mir; val = LL.val N.the-type N′.the-laws; tells = LL.tells N.the-type N′.the-laws; typed = λ x g. LL.lawful N.the-type N′.the-laws 𝓤 H A W .typed x _ g .0 }
+  X = record {
+    row = N.the-row;
+    ty = N′.mir;
+    val = LL.val N.the-type N′.the-laws;
+    tells = LL.tells N.the-type N′.the-laws;
+    typed = λ x g. LL.lawful N.the-type N′.the-laws 𝓤 H A W .typed x _ g .0;
+  }
 
   abbrev Y : Spelt
-  Y = record { row = G.the-row; ty = G′.mir; val = LL.val G.the-type G′.the-laws; tells = LL.tells G.the-type G′.the-laws; typed = λ f g. LL.lawful G.the-type G′.the-laws 𝓤 H A W .typed f _ g .0 }
+  Y = record {
+    row = G.the-row;
+    ty = G′.mir;
+    val = LL.val G.the-type G′.the-laws;
+    tells = LL.tells G.the-type G′.the-laws;
+    typed = λ f g. LL.lawful G.the-type G′.the-laws 𝓤 H A W .typed f _ g .0;
+  }
 
   module _ (mem : Memory → SProp 𝓤) (run : Routine → Fun 𝓤) (κ : Lft) (q : Share) (s : RefT (List ℕ)) where
     abbrev bound : walkOf 𝓤 H A build.ended stayed (build.clauses 𝓤 H A mem run) .Ghost
@@ -111,7 +123,8 @@ module _ {M : Type 1} (𝓤 : URA M) (H : Heap 𝓤) (A : Atoms 𝓤) (W : Given
     exits : (x : Slip) → Good X x → x ≡ builtSlip (terms-of (now s)) → ent 𝓤 (⋆ 𝓤 H A Own) (Post (X .val x))
     exits x gx is =
         qed W Own ∵ suffices ! _ (ends-at 𝓤 H A build.ended stayed (build.clauses 𝓤 H A mem run) W bound (X .val x) x (tt, tt) (tt, tt)) $ says ! is $
-        move ! (1 ∷ []) $ frame ! $ nothing ! $ move ! (1 ∷ 0 ∷ []) $ fjoin ! $ frame ! $ owned ! N.the-row (Is N.the-row) (LL.makes N.the-type N′.the-plain 𝓤 H A) x _ gx $ done !
+        move ! (1 ∷ []) $ frame ! $ nothing ! $ move ! (1 ∷ 0 ∷ []) $ fjoin ! $ frame ! $
+        owned ! N.the-row (Is N.the-row) (LL.makes N.the-type N′.the-plain 𝓤 H A) x _ gx $ done !
 
     -- the term at a place
     abbrev p : At → Piece
@@ -119,27 +132,43 @@ module _ {M : Type 1} (𝓤 : URA M) (H : Heap 𝓤) (A : Atoms 𝓤) (W : Given
 
     module _ (C : Calls 𝓤 H) where
       -- what the callees return
-      blank-slip-returns : Triple 𝓤 (C #terms·blank-slip) (Met 𝓤 H A blank-whole.ended (blank-whole.clauses 𝓤 H A mem run)) → Returns 𝓤 H A C #terms·blank-slip [] N.the-row blankSlip [] (raw (emp 𝓤))
-      blank-slip-returns known = returns-plain 𝓤 H A blank-whole.ended (blank-whole.clauses 𝓤 H A mem run) C #terms·blank-slip known (tt, tt, tt, tt, tt) tt blankSlip (λ z ws. id⊢ 𝓤 _) W (id⊢ 𝓤 _) (id⊢ 𝓤 _) (id⊢ 𝓤 _) tt tt
+      blank-slip-returns : Triple 𝓤 (C #terms·blank-slip) (Met 𝓤 H A blank-whole.ended (blank-whole.clauses 𝓤 H A mem run))
+          → Returns 𝓤 H A C #terms·blank-slip [] N.the-row blankSlip [] (raw (emp 𝓤))
+      blank-slip-returns known =
+          returns-plain 𝓤 H A blank-whole.ended (blank-whole.clauses 𝓤 H A mem run) C #terms·blank-slip known (tt, tt, tt, tt, tt) tt blankSlip
+          (λ z ws. id⊢ 𝓤 _) W (id⊢ 𝓤 _) (id⊢ 𝓤 _) (id⊢ 𝓤 _) tt tt
 
-      blank-slip-field-returns : Triple 𝓤 (C #terms·blank-slip-field) (Met 𝓤 H A blank-field.ended (blank-field.clauses 𝓤 H A mem run)) → Returns 𝓤 H A C #terms·blank-slip-field [] G.the-row blankSlipField [] (raw (emp 𝓤))
-      blank-slip-field-returns known = returns-plain 𝓤 H A blank-field.ended (blank-field.clauses 𝓤 H A mem run) C #terms·blank-slip-field known (tt, tt, tt, tt, tt) tt blankSlipField (λ z ws. id⊢ 𝓤 _) W (id⊢ 𝓤 _) (id⊢ 𝓤 _) (id⊢ 𝓤 _) tt tt
+      blank-slip-field-returns : Triple 𝓤 (C #terms·blank-slip-field) (Met 𝓤 H A blank-field.ended (blank-field.clauses 𝓤 H A mem run))
+          → Returns 𝓤 H A C #terms·blank-slip-field [] G.the-row blankSlipField [] (raw (emp 𝓤))
+      blank-slip-field-returns known =
+          returns-plain 𝓤 H A blank-field.ended (blank-field.clauses 𝓤 H A mem run) C #terms·blank-slip-field known (tt, tt, tt, tt, tt) tt blankSlipField
+          (λ z ws. id⊢ 𝓤 _) W (id⊢ 𝓤 _) (id⊢ 𝓤 _) (id⊢ 𝓤 _) tt tt
 
-      push-slip-field-returns : Triple 𝓤 (C #text-passes·push-slip-field) (Met 𝓤 H A push.ended (push.clauses 𝓤 H A mem run)) → (x : Slip) (f : SlipField) → Good X x → Good Y f
+      push-slip-field-returns : Triple 𝓤 (C #text-passes·push-slip-field) (Met 𝓤 H A push.ended (push.clauses 𝓤 H A mem run))
+          → (x : Slip) (f : SlipField) → Good X x → Good Y f
           → Returns 𝓤 H A C #text-passes·push-slip-field (X .val x ∷ Y .val f ∷ []) N.the-row (pushSlipField x f) [] (raw (emp 𝓤))
-      push-slip-field-returns known x f gx gf = returns-plain 𝓤 H A push.ended (push.clauses 𝓤 H A mem run) C #text-passes·push-slip-field known (tt, tt, tt, (x, (f, tt)), (X .val x ∷ [], (Y .val f ∷ [], tt))) tt (pushSlipField x f) (λ z ws. id⊢ 𝓤 _)
+      push-slip-field-returns known x f gx gf =
+          returns-plain 𝓤 H A push.ended (push.clauses 𝓤 H A mem run) C #text-passes·push-slip-field known
+          (tt, tt, tt, (x, (f, tt)), (X .val x ∷ [], (Y .val f ∷ [], tt))) tt (pushSlipField x f) (λ z ws. id⊢ 𝓤 _)
           W (id⊢ 𝓤 _) (id⊢ 𝓤 _) (id⊢ 𝓤 _) (LL.makes N.the-type N′.the-plain 𝓤 H A, (LL.makes G.the-type G′.the-plain 𝓤 H A, tt)) (gx, (gf, tt))
 
-      with-item-returns : Triple 𝓤 (C #text-passes·with-item) (Met 𝓤 H A with′.ended (with′.clauses 𝓤 H A mem run)) → (f : SlipField) (a : At) → Good Y f → a .place < 2 ^ 64 → Piece-is (p a) → a .place < length (now s)
-          → Returns 𝓤 H A C #text-passes·with-item (Y .val f ∷ mach-text s ∷ vint w64 (a .place) ∷ mach-piece (p a) ∷ []) G.the-row (addItem f (termAt (now s) a)) (‵ (Text κ s) ∷ Token 𝓤 κ q ∷ []) (Token 𝓤 κ q)
+      with-item-returns : Triple 𝓤 (C #text-passes·with-item) (Met 𝓤 H A with′.ended (with′.clauses 𝓤 H A mem run))
+          → (f : SlipField) (a : At) → Good Y f → a .place < 2 ^ 64 → Piece-is (p a) → a .place < length (now s)
+          → Returns 𝓤 H A C #text-passes·with-item (Y .val f ∷ mach-text s ∷ vint w64 (a .place) ∷ mach-piece (p a) ∷ []) G.the-row
+          (addItem f (termAt (now s) a)) (‵ (Text κ s) ∷ Token 𝓤 κ q ∷ []) (Token 𝓤 κ q)
       with-item-returns known f a gf fits gp less = returns-of 𝓤 H A with′.ended (with′.clauses 𝓤 H A mem run) C #text-passes·with-item known
-          ((κ, tt), (q, tt), tt, (f, (s, (a .place, (p a, tt)))), (Y .val f ∷ [], (mach-text s ∷ [], (vint w64 (a .place) ∷ [], (mach-piece (p a) ∷ [], tt))))) tt (addItem f (termAt (now s) a)) (λ z ws. id⊢ 𝓤 _) Own (Token 𝓤 κ q)
-          (qed W Own ∵ says ! (less, refl) $ nothing ! $ owned ! O.the-row (Is O.the-row) (LL.makes O.the-type O′.the-plain 𝓤 H A) (p a) _ gp $ fjoin ! $ owned ! usize (Is usize) (uint-makes 𝓤 H A W w64) (a .place) _ (refl, fits) $ fjoin ! $
-          move ! (1 ∷ 0 ∷ []) $ fjoin ! $ owned ! G.the-row (Is G.the-row) (LL.makes G.the-type G′.the-plain 𝓤 H A) f _ gf $ fjoin ! $ move ! (1 ∷ 0 ∷ []) $ frame ! $ done !) (id⊢ 𝓤 _)
+          ((κ, tt), (q, tt), tt, (f, (s, (a .place, (p a, tt)))), (Y .val f ∷ [], (mach-text s ∷ [], (vint w64 (a .place) ∷ [], (mach-piece (p a) ∷ [], tt)))))
+          tt (addItem f (termAt (now s) a)) (λ z ws. id⊢ 𝓤 _) Own (Token 𝓤 κ q)
+          (qed W Own ∵ says ! (less, refl) $ nothing ! $ owned ! O.the-row (Is O.the-row) (LL.makes O.the-type O′.the-plain 𝓤 H A) (p a) _ gp $
+          fjoin ! $ owned ! usize (Is usize) (uint-makes 𝓤 H A W w64) (a .place) _ (refl, fits) $ fjoin ! $
+          move ! (1 ∷ 0 ∷ []) $ fjoin ! $ owned ! G.the-row (Is G.the-row) (LL.makes G.the-type G′.the-plain 𝓤 H A) f _ gf $
+          fjoin ! $ move ! (1 ∷ 0 ∷ []) $ frame ! $ done !) (id⊢ 𝓤 _)
 
     -- what the function is passed is what the walk keeps
     entry : ent 𝓤 (onEntry 𝓤 H A build.signature (κ, tt) (q, tt) (bound .0 .3) (bound .0 .4)) (⋆ 𝓤 H A Own)
-    entry = qed W (Token 𝓤 κ q ∷ ‵ (owns (ShrSlice (named 0) κ u8 ∷ []) (bound .0 .3) (bound .0 .4)) ∷ []) ∵ move ! (1 ∷ []) $ fsplit ! $ move ! (1 ∷ []) $ drop ! $ done !
+    entry =
+        qed W (Token 𝓤 κ q ∷ ‵ (owns (ShrSlice (named 0) κ u8 ∷ []) (bound .0 .3) (bound .0 .4)) ∷ []) ∵ move ! (1 ∷ []) $
+        fsplit ! $ move ! (1 ∷ []) $ drop ! $ done !
 
 pub build-slip-spec : {M : Type 1} → stated.statement M
 unfolding code.routine tablesOf
@@ -149,22 +178,31 @@ build-slip-spec 𝓤 H 𝓜 𝓖 𝓡 =
     let 𝓣 = tablesOf 𝓤 H 𝓜 (tables 𝓤 H 𝓜 𝓡 code.env) in
     let clauses = build.clauses 𝓤 H A (𝓜 .mem) (𝓡 .run) in
     let goes = WpFn 𝓤 H (𝓣 .C) (𝓣 .Λ) code.function in
-    entered 𝓤 H (tripleOf 𝓤 H A build.signature (build.spec 𝓤 H A (𝓜 .mem) (𝓡 .run))) (tables 𝓤 H 𝓜 𝓡 code.env .C) (tables 𝓤 H 𝓜 𝓡 code.env .Λ) #text-passes·build-slip code.function (code.unfolded 𝓤 H 𝓜 𝓡)
-    (walk-meets 𝓤 H A build.ended stayed W (goes-none-slice 𝓤 H A W 1 (0 ∷ []) tt (plain (λ _. u8)) yes, tt) clauses goes (WpFn-mono 𝓤 H (W .laws) 𝓣 code.function)
+    entered 𝓤 H (tripleOf 𝓤 H A build.signature (build.spec 𝓤 H A (𝓜 .mem) (𝓡 .run))) (tables 𝓤 H 𝓜 𝓡 code.env .C)
+    (tables 𝓤 H 𝓜 𝓡 code.env .Λ) #text-passes·build-slip code.function (code.unfolded 𝓤 H 𝓜 𝓡)
+    (walk-meets 𝓤 H A build.ended stayed W (goes-none-slice 𝓤 H A W 1 (0 ∷ []) tt (plain (λ _. u8)) yes, tt) clauses goes
+    (WpFn-mono 𝓤 H (W .laws) 𝓣 code.function)
     (walked 𝓤 H A build.ended stayed clauses goes (λ κs. (slice-vals, tt)) (λ κs. (shr-slice-tells (named 0) (κs .0) u8, tt))
     (λ κs qs bounds a g are. needs 𝓤 _ _ (λ short. via 𝓤 _ (entry 𝓤 H A W (𝓜 .mem) (𝓡 .run) (κs .0) (qs .0) (a .0))
-    (walk 𝓤 H A W (𝓜 .mem) (𝓡 .run) (κs .0) (qs .0) (a .0) #terms·blank-slip #terms·blank-slip-field #text-passes·push-slip-field #text-passes·with-item (X 𝓤 H A W) (Y 𝓤 H A W) blankSlip blankSlipField addItem pushSlipField
+    (walk 𝓤 H A W (𝓜 .mem) (𝓡 .run) (κs .0) (qs .0) (a .0) #terms·blank-slip #terms·blank-slip-field #text-passes·push-slip-field #text-passes·with-item
+    (X 𝓤 H A W) (Y 𝓤 H A W) blankSlip blankSlipField addItem pushSlipField
     (Post 𝓤 H A W (𝓜 .mem) (𝓡 .run) (κs .0) (qs .0) (a .0)) (exits 𝓤 H A W (𝓜 .mem) (𝓡 .run) (κs .0) (qs .0) (a .0)) (are .0) short 𝓣
     (cited 𝓤 H (Start 𝓤 H A (𝓜 .mem) (𝓡 .run)) 𝓜 𝓡 code.env #text-passes·start start-def.routine code.calls-text-passes·start (start-thm.met 𝓤 H 𝓜 𝓖 𝓡))
-    (cited 𝓤 H (HasTerm 𝓤 H A (𝓜 .mem) (𝓡 .run)) 𝓜 𝓡 code.env #text-passes·has-term has-term-def.routine code.calls-text-passes·has-term (has-term-thm.met 𝓤 H 𝓜 𝓖 𝓡))
+    (cited 𝓤 H (HasTerm 𝓤 H A (𝓜 .mem) (𝓡 .run)) 𝓜 𝓡 code.env #text-passes·has-term has-term-def.routine code.calls-text-passes·has-term
+    (has-term-thm.met 𝓤 H 𝓜 𝓖 𝓡))
     (cited 𝓤 H (Term 𝓤 H A (𝓜 .mem) (𝓡 .run)) 𝓜 𝓡 code.env #text-passes·term term-def.routine code.calls-text-passes·term (term-thm.met 𝓤 H 𝓜 𝓖 𝓡))
-    (cited 𝓤 H (Is-turn 𝓤 H A (𝓜 .mem) (𝓡 .run)) 𝓜 𝓡 code.env #text-passes·is-turn is-turn-def.routine code.calls-text-passes·is-turn (is-turn-thm.met 𝓤 H 𝓜 𝓖 𝓡))
+    (cited 𝓤 H (Is-turn 𝓤 H A (𝓜 .mem) (𝓡 .run)) 𝓜 𝓡 code.env #text-passes·is-turn is-turn-def.routine code.calls-text-passes·is-turn
+    (is-turn-thm.met 𝓤 H 𝓜 𝓖 𝓡))
     (cited 𝓤 H (Passed 𝓤 H A (𝓜 .mem) (𝓡 .run)) 𝓜 𝓡 code.env #text-passes·passed passed-def.routine code.calls-text-passes·passed (passed-thm.met 𝓤 H 𝓜 𝓖 𝓡))
     (blank-slip-returns 𝓤 H A W (𝓜 .mem) (𝓡 .run) (κs .0) (qs .0) (a .0) (𝓣 .C)
-    (cited 𝓤 H (Met 𝓤 H A blank-whole.ended (blank-whole.clauses 𝓤 H A (𝓜 .mem) (𝓡 .run))) 𝓜 𝓡 code.env #terms·blank-slip blank-whole-def.routine code.calls-terms·blank-slip (blank-whole-thm.met 𝓤 H 𝓜 𝓖 𝓡)))
+    (cited 𝓤 H (Met 𝓤 H A blank-whole.ended (blank-whole.clauses 𝓤 H A (𝓜 .mem) (𝓡 .run))) 𝓜 𝓡 code.env
+    #terms·blank-slip blank-whole-def.routine code.calls-terms·blank-slip (blank-whole-thm.met 𝓤 H 𝓜 𝓖 𝓡)))
     (blank-slip-field-returns 𝓤 H A W (𝓜 .mem) (𝓡 .run) (κs .0) (qs .0) (a .0) (𝓣 .C)
-    (cited 𝓤 H (Met 𝓤 H A blank-field.ended (blank-field.clauses 𝓤 H A (𝓜 .mem) (𝓡 .run))) 𝓜 𝓡 code.env #terms·blank-slip-field blank-field-def.routine code.calls-terms·blank-slip-field (blank-field-thm.met 𝓤 H 𝓜 𝓖 𝓡)))
+    (cited 𝓤 H (Met 𝓤 H A blank-field.ended (blank-field.clauses 𝓤 H A (𝓜 .mem) (𝓡 .run))) 𝓜 𝓡 code.env
+    #terms·blank-slip-field blank-field-def.routine code.calls-terms·blank-slip-field (blank-field-thm.met 𝓤 H 𝓜 𝓖 𝓡)))
     (push-slip-field-returns 𝓤 H A W (𝓜 .mem) (𝓡 .run) (κs .0) (qs .0) (a .0) (𝓣 .C)
-    (cited 𝓤 H (Met 𝓤 H A push.ended (push.clauses 𝓤 H A (𝓜 .mem) (𝓡 .run))) 𝓜 𝓡 code.env #text-passes·push-slip-field push-def.routine code.calls-text-passes·push-slip-field (push-thm.met 𝓤 H 𝓜 𝓖 𝓡)))
+    (cited 𝓤 H (Met 𝓤 H A push.ended (push.clauses 𝓤 H A (𝓜 .mem) (𝓡 .run))) 𝓜 𝓡 code.env
+    #text-passes·push-slip-field push-def.routine code.calls-text-passes·push-slip-field (push-thm.met 𝓤 H 𝓜 𝓖 𝓡)))
     (with-item-returns 𝓤 H A W (𝓜 .mem) (𝓡 .run) (κs .0) (qs .0) (a .0) (𝓣 .C)
-    (cited 𝓤 H (Met 𝓤 H A with′.ended (with′.clauses 𝓤 H A (𝓜 .mem) (𝓡 .run))) 𝓜 𝓡 code.env #text-passes·with-item with-def.routine code.calls-text-passes·with-item (with-thm.met 𝓤 H 𝓜 𝓖 𝓡))))))))
+    (cited 𝓤 H (Met 𝓤 H A with′.ended (with′.clauses 𝓤 H A (𝓜 .mem) (𝓡 .run))) 𝓜 𝓡 code.env
+    #text-passes·with-item with-def.routine code.calls-text-passes·with-item (with-thm.met 𝓤 H 𝓜 𝓖 𝓡))))))))

@@ -44,7 +44,8 @@ use Rattle.text_passes.proofs.has_term.Code as code
 abbrev stayed : Stays (has.ended .signature .params) (has.ended .kept)
 stayed = (stay-none B yes, tt)
 
-module _ {M : Type 1} (𝓤 : URA M) (H : Heap 𝓤) (A : Atoms 𝓤) (W : Given 𝓤 H A) (mem : Memory → SProp 𝓤) (run : Routine → Fun 𝓤) (κ : Lft) (q : Share) (r : Reader) where
+module _ {M : Type 1} (𝓤 : URA M) (H : Heap 𝓤) (A : Atoms 𝓤) (W : Given 𝓤 H A)
+    (mem : Memory → SProp 𝓤) (run : Routine → Fun 𝓤) (κ : Lft) (q : Share) (r : Reader) where
   abbrev n : ℕ
   n = length (now (r .text))
 
@@ -69,14 +70,19 @@ module _ {M : Type 1} (𝓤 : URA M) (H : Heap 𝓤) (A : Atoms 𝓤) (W : Given
   abbrev L : ℕ → ℕ
   L k = pos 2 4 k
 
-  walk : Holds (hasTy (R′.mir (named 0)) (mach r)) × WT (mach r) → (C : Calls 𝓤 H) (Λ : Loops 𝓤 H) → ent 𝓤 (onEntry 𝓤 H A has.signature (κ, tt) (q, tt) (r, tt) (mach r ∷ [], tt)) (WpFn 𝓤 H C Λ code.function (mach r ∷ []) Post)
+  walk : Holds (hasTy (R′.mir (named 0)) (mach r)) × WT (mach r) → (C : Calls 𝓤 H) (Λ : Loops 𝓤 H)
+      → ent 𝓤 (onEntry 𝓤 H A has.signature (κ, tt) (q, tt) (r, tt) (mach r ∷ [], tt)) (WpFn 𝓤 H C Λ code.function (mach r ∷ []) Post)
   walk wt C Λ =
       qed W Kept ∵ enter ! C Λ code.function (mach r ∷ []) _ $ allocs-all ! (code.function .locals) (λ l. params1 ! $ move ! (8 ∷ 9 ∷ []) $
       pass1 ! (init ! (L 1) refl wt) $ pass0 ! $
-      sets ! (of-opd ! (load ! (from ! (fld ! refl (fld ! refl (stop !)))) (look-in ! (L 1) (sub ! 0 refl (sub ! 1 refl (whole !)))))) (init ! (L 2) refl (tt, wt .1 .1 .0 .0)) $
-      sets ! (of-opd ! (load ! (from ! (fld ! refl (fld ! refl (stop !)))) (look-in ! (L 1) (sub ! 1 refl (sub ! 0 refl (whole !)))))) (init ! (L 3) refl (tt, wt .1 .0 .1 .0)) $
+      sets ! (of-opd ! (load ! (from ! (fld ! refl (fld ! refl (stop !)))) (look-in ! (L 1) (sub ! 0 refl (sub ! 1 refl (whole !))))))
+      (init ! (L 2) refl (tt, wt .1 .1 .0 .0)) $
+      sets ! (of-opd ! (load ! (from ! (fld ! refl (fld ! refl (stop !)))) (look-in ! (L 1) (sub ! 1 refl (sub ! 0 refl (whole !))))))
+      (init ! (L 3) refl (tt, wt .1 .0 .1 .0)) $
       sets ! (bin ! (var ! (L 2) refl) (var ! (L 3) refl) tt) (init ! (L 0) refl (tt, tt)) $
-      returns ! (look ! (L 0) refl) $ frees-all W ! Kept (envOf 𝓤 H A (code.function .locals) l) (holds (vbool t) ∷ holds (mach r) ∷ holds (vint w64 (r .at .place)) ∷ holds (vint w64 n) ∷ []) exits)
+      returns ! (look ! (L 0) refl) $
+      frees-all W ! Kept (envOf 𝓤 H A (code.function .locals) l)
+      (holds (vbool t) ∷ holds (mach r) ∷ holds (vint w64 (r .at .place)) ∷ holds (vint w64 n) ∷ []) exits)
 
 pub has-term-spec : {M : Type 1} → stated.statement M
 unfolding code.routine tablesOf
@@ -86,7 +92,8 @@ has-term-spec 𝓤 H 𝓜 𝓖 𝓡 =
     let 𝓣 = tablesOf 𝓤 H 𝓜 (tables 𝓤 H 𝓜 𝓡 code.env) in
     let clauses = has.clauses 𝓤 H A (𝓜 .mem) (𝓡 .run) in
     let goes = WpFn 𝓤 H (𝓣 .C) (𝓣 .Λ) code.function in
-    entered 𝓤 H (tripleOf 𝓤 H A has.signature (has.spec 𝓤 H A (𝓜 .mem) (𝓡 .run))) (tables 𝓤 H 𝓜 𝓡 code.env .C) (tables 𝓤 H 𝓜 𝓡 code.env .Λ) #text-passes·has-term code.function (code.unfolded 𝓤 H 𝓜 𝓡)
+    entered 𝓤 H (tripleOf 𝓤 H A has.signature (has.spec 𝓤 H A (𝓜 .mem) (𝓡 .run))) (tables 𝓤 H 𝓜 𝓡 code.env .C)
+    (tables 𝓤 H 𝓜 𝓡 code.env .Λ) #text-passes·has-term code.function (code.unfolded 𝓤 H 𝓜 𝓡)
     (walk-meets 𝓤 H A has.ended stayed W (goes-none 𝓤 H A W 1 B yes (λ κs x f. refl), tt) clauses goes (WpFn-mono 𝓤 H (W .laws) 𝓣 code.function)
     (walked 𝓤 H A has.ended stayed clauses goes (λ κs. (LL.vals (D κs) (F κs), tt)) (λ κs. (LL.tells (D κs) (F κs), tt))
     (λ κs qs bounds a g are. via 𝓤 _ (fst∗ 𝓤 _ (emp 𝓤)) (walk 𝓤 H A W (𝓜 .mem) (𝓡 .run) (κs .0) (qs .0) (a .0)

@@ -1,4 +1,5 @@
--- `text_passes::passed` meets its contract: a walk of its MIR, by hand. The reader is taken apart, `behind` is called on the text, the place and the term, and a reader is made of the text and what it returns.
+-- `text_passes::passed` meets its contract: a walk of its MIR, by hand. The reader is taken apart, `behind` is called on the text, the place and the term,
+-- and a reader is made of the text and what it returns.
 -- Assumes nothing.
 use mathlib.Core.Path.{refl}
 use Prim.Native.Nat.{ℕ, _+_, _≤_}
@@ -41,7 +42,29 @@ use Rattle.text_passes.specs.Places.{spelled, behind, passed}
 use Rattle.refusals.proofs.At as P
 use Rattle.refusals.proofs.At.Laws as P′
 use Rattle.text_passes.proofs.Reader.Laws as R′
-use Rattle.text_passes.proofs.Held.{B, D, F, mach-text, mach-at, mach, Text, At-is, Reader-is, text-of-is, at-of-is, reader-is, at-typed, reader-typed, text-twice, held, text-of, mach-piece, Token, Piece-is, piece-typed}
+use Rattle.text_passes.proofs.Held.{
+  B,
+  D,
+  F,
+  mach-text,
+  mach-at,
+  mach,
+  Text,
+  At-is,
+  Reader-is,
+  text-of-is,
+  at-of-is,
+  reader-is,
+  at-typed,
+  reader-typed,
+  text-twice,
+  held,
+  text-of,
+  mach-piece,
+  Token,
+  Piece-is,
+  piece-typed,
+}
 use Rattle.text_passes.proofs.behind as behind′
 use Rattle.text_passes.proofs.behind.Symbol as behind-def
 use Rattle.text_passes.proofs.behind.Symbol.{name as #text-passes·behind}
@@ -54,7 +77,8 @@ use Rattle.text_passes.proofs.passed.Code as code
 abbrev stayed : Stays (passed′.ended .signature .params) (passed′.ended .kept)
 stayed = (stay-none B yes, (stay-none (λ _. O.the-row) yes, tt))
 
-module _ {M : Type 1} (𝓤 : URA M) (H : Heap 𝓤) (A : Atoms 𝓤) (W : Given 𝓤 H A) (mem : Memory → SProp 𝓤) (run : Routine → Fun 𝓤) (κ : Lft) (q : Share) (r : Reader) (p : Piece) where
+module _ {M : Type 1} (𝓤 : URA M) (H : Heap 𝓤) (A : Atoms 𝓤) (W : Given 𝓤 H A) (mem : Memory → SProp 𝓤)
+    (run : Routine → Fun 𝓤) (κ : Lft) (q : Share) (r : Reader) (p : Piece) where
   -- the place behind the term
   abbrev a : At
   a = behind (now (r .text)) (r .at) (r .at .place + spelled p)
@@ -72,35 +96,52 @@ module _ {M : Type 1} (𝓤 : URA M) (H : Heap 𝓤) (A : Atoms 𝓤) (W : Given
   module _ (g : Reader-is κ r) (gp : Piece-is p) where
     exits : At-is a → ent 𝓤 (⋆ 𝓤 H A (‵ (Text κ (r .text)) ∷ Token 𝓤 κ q ∷ [])) (Post (mach (passed r p)))
     exits ga =
-        qed W (‵ (Text κ (r .text)) ∷ Token 𝓤 κ q ∷ []) ∵ suffices ! _ (ends-at 𝓤 H A passed′.ended stayed (passed′.clauses 𝓤 H A mem run) W bound (mach (passed r p)) (passed r p) (tt, (tt, tt)) (tt, (tt, tt))) $ says ! refl $
-        move ! (1 ∷ []) $ frame ! $ use1 W (‵ (Text κ (r .text)) ⊛ ‵ (Text κ (r .text))) (text-twice 𝓤 H A W κ (r .text)) $ split ! $ use1 W (‵ (B (κ, tt) .own r (mach r ∷ []))) (held 𝓤 H A W κ (r .text) (r .at) (at-of-is κ r g)) $
-        nothing ! $ owned ! O.the-row (Is O.the-row) (LL.makes O.the-type O′.the-plain 𝓤 H A) p _ gp $ fjoin ! $ move ! (1 ∷ 0 ∷ []) $ fjoin ! $ frame ! $ by ! (held 𝓤 H A W κ (r .text) a ga)
+        qed W (‵ (Text κ (r .text)) ∷ Token 𝓤 κ q ∷ []) ∵ suffices !
+        _ (ends-at 𝓤 H A passed′.ended stayed (passed′.clauses 𝓤 H A mem run) W bound (mach (passed r p)) (passed r p) (tt, (tt, tt)) (tt, (tt, tt))) $
+        says ! refl $
+        move ! (1 ∷ []) $ frame ! $ use1 W (‵ (Text κ (r .text)) ⊛ ‵ (Text κ (r .text))) (text-twice 𝓤 H A W κ (r .text)) $
+        split ! $ use1 W (‵ (B (κ, tt) .own r (mach r ∷ []))) (held 𝓤 H A W κ (r .text) (r .at) (at-of-is κ r g)) $
+        nothing ! $ owned ! O.the-row (Is O.the-row) (LL.makes O.the-type O′.the-plain 𝓤 H A) p _ gp $
+        fjoin ! $ move ! (1 ∷ 0 ∷ []) $ fjoin ! $ frame ! $ by ! (held 𝓤 H A W κ (r .text) a ga)
 
     -- what it asks
-    gives : (r .at .place ≤ 8192) × (r .at .field ≤ r .at .place + 1) × (r .at .index ≤ r .at .place + 1) × (p .size ≤ 8192) → ent 𝓤 (⋆ 𝓤 H A (‵ (Text κ (r .text)) ∷ Token 𝓤 κ q ∷ [])) (Met 𝓤 H A behind′.ended (behind′.clauses 𝓤 H A mem run) .pre to)
-    gives low = qed W (‵ (Text κ (r .text)) ∷ Token 𝓤 κ q ∷ []) ∵ says ! low $ nothing ! $ owned ! O.the-row (Is O.the-row) (LL.makes O.the-type O′.the-plain 𝓤 H A) p _ gp $ fjoin ! $
-        owned ! P.the-row (Is P.the-row) (LL.makes P.the-type P′.the-plain 𝓤 H A) (r .at) _ (at-of-is κ r g) $ fjoin ! $ move ! (1 ∷ 0 ∷ []) $ fjoin ! $ move ! (1 ∷ 0 ∷ []) $ frame ! $ done !
+    gives : (r .at .place ≤ 8192) × (r .at .field ≤ r .at .place + 1) × (r .at .index ≤ r .at .place + 1) × (p .size ≤ 8192)
+        → ent 𝓤 (⋆ 𝓤 H A (‵ (Text κ (r .text)) ∷ Token 𝓤 κ q ∷ [])) (Met 𝓤 H A behind′.ended (behind′.clauses 𝓤 H A mem run) .pre to)
+    gives low =
+        qed W (‵ (Text κ (r .text)) ∷ Token 𝓤 κ q ∷ []) ∵ says ! low $ nothing ! $
+        owned ! O.the-row (Is O.the-row) (LL.makes O.the-type O′.the-plain 𝓤 H A) p _ gp $ fjoin ! $
+        owned ! P.the-row (Is P.the-row) (LL.makes P.the-type P′.the-plain 𝓤 H A) (r .at) _ (at-of-is κ r g) $
+        fjoin ! $ move ! (1 ∷ 0 ∷ []) $ fjoin ! $ move ! (1 ∷ 0 ∷ []) $ frame ! $ done !
 
     -- where local k stands, behind the text and the token
     abbrev L : ℕ → ℕ
     L k = pos 2 7 k
 
-    walk : Holds (hasTy (R′.mir (named 0)) (mach r)) × WT (mach r) → (r .at .place ≤ 8192) × (r .at .field ≤ r .at .place + 1) × (r .at .index ≤ r .at .place + 1) × (p .size ≤ 8192)
+    walk : Holds (hasTy (R′.mir (named 0)) (mach r)) × WT (mach r)
+        → (r .at .place ≤ 8192) × (r .at .field ≤ r .at .place + 1) × (r .at .index ≤ r .at .place + 1) × (p .size ≤ 8192)
         → (𝓣 : Tables 𝓤 H) → Triple 𝓤 (𝓣 .C #text-passes·behind) (Met 𝓤 H A behind′.ended (behind′.clauses 𝓤 H A mem run))
-        → ent 𝓤 (onEntry 𝓤 H A passed′.signature (κ, tt) (q, tt) (r, (p, tt)) (mach r ∷ [], (mach-piece p ∷ [], tt))) (WpFn 𝓤 H (𝓣 .C) (𝓣 .Λ) code.function (mach r ∷ mach-piece p ∷ []) Post)
+        → ent 𝓤 (onEntry 𝓤 H A passed′.signature (κ, tt) (q, tt) (r, (p, tt)) (mach r ∷ [], (mach-piece p ∷ [], tt)))
+        (WpFn 𝓤 H (𝓣 .C) (𝓣 .Λ) code.function (mach r ∷ mach-piece p ∷ []) Post)
     walk wt low 𝓣 known =
-        qed W (Token 𝓤 κ q ∷ ‵ (owns (B (κ, tt) ∷ O.the-row ∷ []) (r, (p, tt)) (mach r ∷ [], (mach-piece p ∷ [], tt))) ∷ []) ∵ move ! (1 ∷ []) $ fsplit ! $ move ! (1 ∷ []) $ drop ! $ use1 W (‵ (Text κ (r .text))) (text-of 𝓤 H A W κ r) $
+        qed W (Token 𝓤 κ q ∷ ‵ (owns (B (κ, tt) ∷ O.the-row ∷ []) (r, (p, tt)) (mach r ∷ [], (mach-piece p ∷ [], tt))) ∷ []) ∵ move ! (1 ∷ []) $
+        fsplit ! $ move ! (1 ∷ []) $ drop ! $ use1 W (‵ (Text κ (r .text))) (text-of 𝓤 H A W κ r) $
         enter ! (𝓣 .C) (𝓣 .Λ) code.function (mach r ∷ mach-piece p ∷ []) _ $ allocs-all ! (code.function .locals) (λ l. params1 ! $ move ! (14 ∷ 15 ∷ []) $
         pass1 ! (init ! (L 1) refl wt) $ pass1 ! (init ! (L 2) refl (piece-typed 𝓤 H A W p gp)) $ pass0 ! $
         sets ! (of-opd ! (load ! (from ! (fld ! refl (stop !))) (look-in ! (L 1) (sub ! 0 refl (whole !))))) (init ! (L 4) refl (tt, wt .1 .0)) $
-        sets ! (of-opd ! (load ! (from ! (fld ! refl (stop !))) (look-in ! (L 1) (sub ! 1 refl (whole !))))) (init ! (L 5) refl (at-typed 𝓤 H A W (r .at) (at-of-is κ r g))) $
-        calls-shared ! (fmOf 𝓤 H (W .laws) 𝓣) P.the-row mach-at (LL.tells P.the-type P′.the-laws) a (‵ (Text κ (r .text))) (Token 𝓤 κ q) (text-twice 𝓤 H A W κ (r .text))
-        (returns-of 𝓤 H A behind′.ended (behind′.clauses 𝓤 H A mem run) (𝓣 .C) #text-passes·behind known (to .0) tt a (λ z ws. id⊢ 𝓤 _) (‵ (Text κ (r .text)) ∷ Token 𝓤 κ q ∷ []) (Token 𝓤 κ q) (gives low) (id⊢ 𝓤 _))
-        (λ Q. and-then ! (var ! (L 4) refl) (and-then ! (var ! (L 5) refl) (and-then ! (var ! (L 2) refl) (no-more !)))) (λ ga. land ! (from ! (stop !)) (init ! (L 3) refl (at-typed 𝓤 H A W a ga)) $
+        sets ! (of-opd ! (load ! (from ! (fld ! refl (stop !))) (look-in ! (L 1) (sub ! 1 refl (whole !)))))
+        (init ! (L 5) refl (at-typed 𝓤 H A W (r .at) (at-of-is κ r g))) $
+        calls-shared ! (fmOf 𝓤 H (W .laws) 𝓣) P.the-row mach-at (LL.tells P.the-type P′.the-laws) a (‵ (Text κ (r .text))) (Token 𝓤 κ q)
+        (text-twice 𝓤 H A W κ (r .text))
+        (returns-of 𝓤 H A behind′.ended (behind′.clauses 𝓤 H A mem run) (𝓣 .C) #text-passes·behind known (to .0) tt a (λ z ws. id⊢ 𝓤 _)
+        (‵ (Text κ (r .text)) ∷ Token 𝓤 κ q ∷ []) (Token 𝓤 κ q) (gives low) (id⊢ 𝓤 _))
+        (λ Q. and-then ! (var ! (L 4) refl) (and-then ! (var ! (L 5) refl) (and-then ! (var ! (L 2) refl) (no-more !))))
+        (λ ga. land ! (from ! (stop !)) (init ! (L 3) refl (at-typed 𝓤 H A W a ga)) $
         sets ! (of-opd ! (load ! (from ! (fld ! refl (stop !))) (look-in ! (L 1) (sub ! 0 refl (whole !))))) (init ! (L 6) refl (tt, wt .1 .0)) $
-        sets ! (agg ! (and-then ! (var ! (L 6) refl) (and-then ! (var ! (L 3) refl) (no-more !)))) (init ! (L 0) refl (reader-typed 𝓤 H A W κ (passed r p) (reader-is κ (r .text) a (text-of-is κ r g) ga))) $
+        sets ! (agg ! (and-then ! (var ! (L 6) refl) (and-then ! (var ! (L 3) refl) (no-more !))))
+        (init ! (L 0) refl (reader-typed 𝓤 H A W κ (passed r p) (reader-is κ (r .text) a (text-of-is κ r g) ga))) $
         returns ! (look ! (L 0) refl) $ frees-all W ! (‵ (Text κ (r .text)) ∷ Token 𝓤 κ q ∷ []) (envOf 𝓤 H A (code.function .locals) l)
-        (holds (mach (passed r p)) ∷ holds (mach r) ∷ holds (mach-piece p) ∷ holds (mach-at a) ∷ holds (mach-text (r .text)) ∷ holds (mach-at (r .at)) ∷ holds (mach-text (r .text)) ∷ []) (exits ga)))
+        (holds (mach (passed r p)) ∷ holds (mach r) ∷ holds (mach-piece p) ∷ holds (mach-at a)
+        ∷ holds (mach-text (r .text)) ∷ holds (mach-at (r .at)) ∷ holds (mach-text (r .text)) ∷ []) (exits ga)))
 
 pub passed-spec : {M : Type 1} → stated.statement M
 unfolding code.routine tablesOf
@@ -110,8 +151,13 @@ passed-spec 𝓤 H 𝓜 𝓖 𝓡 =
     let 𝓣 = tablesOf 𝓤 H 𝓜 (tables 𝓤 H 𝓜 𝓡 code.env) in
     let clauses = passed′.clauses 𝓤 H A (𝓜 .mem) (𝓡 .run) in
     let goes = WpFn 𝓤 H (𝓣 .C) (𝓣 .Λ) code.function in
-    entered 𝓤 H (tripleOf 𝓤 H A passed′.signature (passed′.spec 𝓤 H A (𝓜 .mem) (𝓡 .run))) (tables 𝓤 H 𝓜 𝓡 code.env .C) (tables 𝓤 H 𝓜 𝓡 code.env .Λ) #text-passes·passed code.function (code.unfolded 𝓤 H 𝓜 𝓡)
-    (walk-meets 𝓤 H A passed′.ended stayed W (goes-none 𝓤 H A W 1 B yes (λ κs x f. refl), (goes-none 𝓤 H A W 1 (λ _. O.the-row) yes (λ κs x f. refl), tt)) clauses goes (WpFn-mono 𝓤 H (W .laws) 𝓣 code.function)
-    (walked 𝓤 H A passed′.ended stayed clauses goes (λ κs. (LL.vals (D κs) (F κs), (LL.vals O.the-type O′.the-laws, tt))) (λ κs. (LL.tells (D κs) (F κs), (LL.tells O.the-type O′.the-laws, tt)))
-    (λ κs qs bounds a g are. needs 𝓤 _ _ (λ low. walk 𝓤 H A W (𝓜 .mem) (𝓡 .run) (κs .0) (qs .0) (a .0) (a .1 .0) (are .0) (are .1 .0) (reader-typed 𝓤 H A W (κs .0) (a .0) (are .0)) low 𝓣
-    (cited 𝓤 H (Met 𝓤 H A behind′.ended (behind′.clauses 𝓤 H A (𝓜 .mem) (𝓡 .run))) 𝓜 𝓡 code.env #text-passes·behind behind-def.routine code.calls-text-passes·behind (behind-thm.met 𝓤 H 𝓜 𝓖 𝓡))))))
+    entered 𝓤 H (tripleOf 𝓤 H A passed′.signature (passed′.spec 𝓤 H A (𝓜 .mem) (𝓡 .run))) (tables 𝓤 H 𝓜 𝓡 code.env .C)
+    (tables 𝓤 H 𝓜 𝓡 code.env .Λ) #text-passes·passed code.function (code.unfolded 𝓤 H 𝓜 𝓡)
+    (walk-meets 𝓤 H A passed′.ended stayed W (goes-none 𝓤 H A W 1 B yes (λ κs x f. refl), (goes-none 𝓤 H A W 1 (λ _. O.the-row) yes (λ κs x f. refl), tt))
+    clauses goes (WpFn-mono 𝓤 H (W .laws) 𝓣 code.function)
+    (walked 𝓤 H A passed′.ended stayed clauses goes (λ κs. (LL.vals (D κs) (F κs), (LL.vals O.the-type O′.the-laws, tt)))
+    (λ κs. (LL.tells (D κs) (F κs), (LL.tells O.the-type O′.the-laws, tt)))
+    (λ κs qs bounds a g are. needs 𝓤
+    _ _ (λ low. walk 𝓤 H A W (𝓜 .mem) (𝓡 .run) (κs .0) (qs .0) (a .0) (a .1 .0) (are .0) (are .1 .0) (reader-typed 𝓤 H A W (κs .0) (a .0) (are .0)) low 𝓣
+    (cited 𝓤 H (Met 𝓤 H A behind′.ended (behind′.clauses 𝓤 H A (𝓜 .mem) (𝓡 .run))) 𝓜 𝓡 code.env
+    #text-passes·behind behind-def.routine code.calls-text-passes·behind (behind-thm.met 𝓤 H 𝓜 𝓖 𝓡))))))

@@ -1,4 +1,5 @@
--- `text_passes::survey_of` meets its contract: a walk of its MIR, by hand, with a loop that moves a text reader from term to term. The measure is the number of bytes that are left.
+-- `text_passes::survey_of` meets its contract: a walk of its MIR, by hand, with a loop that moves a text reader from term to term.
+-- The measure is the number of bytes that are left.
 -- Assumes nothing.
 use mathlib.Core.Path.{_≡_, refl, sym, subst}
 use mathlib.Core.Bool.{Bool, true, false, not}
@@ -22,7 +23,34 @@ use contract.Monad.{Fun}
 use contract.Running.{givenOf, tables, tablesOf}
 use types.Kit.{Given, Item, ‵, ⋆, runs, anyQ, atRet, Sq, _$_, _∵_, !, qed, move, drop, rewrite, fsplit, fjoin, suffices, frame, done}
 use types.Part.{whole, sub, look-in}
-use types.Run.{look, init, store, forget, stop, fld, from, load, of-opd, and-then, no-more, assigns-last, land, first as first-part, blocks, stays, leaves-loop, returns, enter, params1, pass1, pass0, exec, Below, again, loops}
+use types.Run.{
+  look,
+  init,
+  store,
+  forget,
+  stop,
+  fld,
+  from,
+  load,
+  of-opd,
+  and-then,
+  no-more,
+  assigns-last,
+  land,
+  first as first-part,
+  blocks,
+  stays,
+  leaves-loop,
+  returns,
+  enter,
+  params1,
+  pass1,
+  pass0,
+  exec,
+  Below,
+  again,
+  loops,
+}
 use sound.WpLaws.{fmOf, WpFn-mono}
 use denote.RattleType.{owns}
 use denote.Laws.{Is}
@@ -57,7 +85,23 @@ use Rattle.text_passes.proofs.Reader.Laws as R′
 use Rattle.refusals.proofs.Survey as S
 use Rattle.refusals.proofs.Survey.Laws as S′
 use Rattle.text_passes.proofs.Loops.{within, fewer-left, piece-small, Walked, walked-none, walked-one, walked-all}
-use Rattle.text_passes.proofs.Held.{reader, mach-text, mach-at, mach, Text, Text-is, At-is, text-typed, at-typed, reader-typedᵉ, at-of-is, reader-is, mach-piece, Token, piece-typed}
+use Rattle.text_passes.proofs.Held.{
+  reader,
+  mach-text,
+  mach-at,
+  mach,
+  Text,
+  Text-is,
+  At-is,
+  text-typed,
+  at-typed,
+  reader-typedᵉ,
+  at-of-is,
+  reader-is,
+  mach-piece,
+  Token,
+  piece-typed,
+}
 use Rattle.text_passes.proofs.Calls.{next-at, Start, HasTerm, Term, Passed, Kept, calls-start, calls-has-term, calls-term, calls-passed}
 use Rattle.text_passes.proofs.nothing_yet as nothing-yet
 use Rattle.text_passes.proofs.nothing_yet.Symbol as nothing-yet-def
@@ -94,7 +138,8 @@ mach-survey x = LL.val S.the-type S′.the-laws x
 abbrev Survey-is : Survey → Type 0
 Survey-is x = Is S.the-row x (mach-survey x ∷ [])
 
-module _ {M : Type 1} (𝓤 : URA M) (H : Heap 𝓤) (A : Atoms 𝓤) (W : Given 𝓤 H A) (mem : Memory → SProp 𝓤) (run : Routine → Fun 𝓤) (κ : Lft) (q : Share) (s : RefT (List ℕ)) (slip : Bool) where
+module _ {M : Type 1} (𝓤 : URA M) (H : Heap 𝓤) (A : Atoms 𝓤) (W : Given 𝓤 H A) (mem : Memory → SProp 𝓤)
+    (run : Routine → Fun 𝓤) (κ : Lft) (q : Share) (s : RefT (List ℕ)) (slip : Bool) where
   abbrev width : ℕ
   width = (sortOf slip) .width
 
@@ -148,12 +193,17 @@ module _ {M : Type 1} (𝓤 : URA M) (H : Heap 𝓤) (A : Atoms 𝓤) (W : Given
   module _ (gt : Text-is κ s) (short : length (now s) ≤ 8192) where
     exits : (x : Survey) → Survey-is x → x ≡ foldl (surveyMark slip width) nothingYet (terms-of (now s)) → ent 𝓤 (⋆ 𝓤 H A Own) (Post (mach-survey x))
     exits x gx is =
-        qed W Own ∵ suffices ! _ (ends-at 𝓤 H A survey-of.ended stayed (survey-of.clauses 𝓤 H A mem run) W bound (mach-survey x) x (tt, (tt, tt)) (tt, (tt, tt))) $ says ! is $
-        move ! (1 ∷ []) $ frame ! $ nothing ! $ owned ! Boolean (Is Boolean) (bool-makes 𝓤 H A W) slip _ refl $ fjoin ! $ move ! (1 ∷ 0 ∷ []) $ fjoin ! $ frame ! $
+        qed W Own ∵
+        suffices ! _ (ends-at 𝓤 H A survey-of.ended stayed (survey-of.clauses 𝓤 H A mem run) W bound (mach-survey x) x (tt, (tt, tt)) (tt, (tt, tt))) $
+        says ! is $
+        move ! (1 ∷ []) $ frame ! $ nothing ! $ owned ! Boolean (Is Boolean) (bool-makes 𝓤 H A W) slip _ refl $
+        fjoin ! $ move ! (1 ∷ 0 ∷ []) $ fjoin ! $ frame ! $
         owned ! S.the-row (Is S.the-row) (LL.makes S.the-type S′.the-plain 𝓤 H A) x _ gx $ done !
 
-    module _ (𝓣 : Tables 𝓤 H) (k-none : Triple 𝓤 (𝓣 .C #text-passes·nothing-yet) Nothing-yet) (k-start : Triple 𝓤 (𝓣 .C #text-passes·start) (Start 𝓤 H A mem run)) (k-has : Triple 𝓤 (𝓣 .C #text-passes·has-term) (HasTerm 𝓤 H A mem run))
-        (k-term : Triple 𝓤 (𝓣 .C #text-passes·term) (Term 𝓤 H A mem run)) (k-note : Triple 𝓤 (𝓣 .C #refusals·note) Note) (k-passed : Triple 𝓤 (𝓣 .C #text-passes·passed) (Passed 𝓤 H A mem run)) where
+    module _ (𝓣 : Tables 𝓤 H) (k-none : Triple 𝓤 (𝓣 .C #text-passes·nothing-yet) Nothing-yet)
+        (k-start : Triple 𝓤 (𝓣 .C #text-passes·start) (Start 𝓤 H A mem run)) (k-has : Triple 𝓤 (𝓣 .C #text-passes·has-term) (HasTerm 𝓤 H A mem run))
+        (k-term : Triple 𝓤 (𝓣 .C #text-passes·term) (Term 𝓤 H A mem run)) (k-note : Triple 𝓤 (𝓣 .C #refusals·note) Note)
+        (k-passed : Triple 𝓤 (𝓣 .C #text-passes·passed) (Passed 𝓤 H A mem run)) where
       abbrev C : Calls 𝓤 H
       C = 𝓣 .C
 
@@ -165,31 +215,51 @@ module _ {M : Type 1} (𝓤 : URA M) (H : Heap 𝓤) (A : Atoms 𝓤) (W : Given
         En = envOf 𝓤 H A (code.function .locals) l
 
         abbrev In : Turn → List (Item 𝓤)
-        In j = ‵ (Text κ s) ∷ Token 𝓤 κ q ∷ cells 𝓤 H A En (room ∷ holds (mach-text s) ∷ holds (vbool slip) ∷ holds (mach-survey (j .1)) ∷ holds (mach (reader s (j .0))) ∷ [])
+        In j =
+            ‵ (Text κ s) ∷ Token 𝓤 κ q
+            ∷ cells 𝓤 H A En (room ∷ holds (mach-text s) ∷ holds (vbool slip) ∷ holds (mach-survey (j .1)) ∷ holds (mach (reader s (j .0))) ∷ [])
 
         abbrev Turned : Turn → Out → SProp 𝓤
-        Turned j = afterTurn 𝓤 H (Below 𝓤 H A Nearer In j) (afterBlock 𝓤 H (afterSeq 𝓤 H (Wp 𝓤 H C Λ En body.t-4 (atReturn 𝓤 H En Post)) (atReturn 𝓤 H En Post)))
+        Turned j =
+            afterTurn 𝓤 H (Below 𝓤 H A Nearer In j) (afterBlock 𝓤 H (afterSeq 𝓤 H (Wp 𝓤 H C Λ En body.t-4 (atReturn 𝓤 H En Post)) (atReturn 𝓤 H En Post)))
 
         -- a turn, by how its test comes out
         turn-by : (j : Turn) (t : Bool) → ltb (j .0 .place) (length (now s)) ≡ t → Sq W (In j) (runs C Λ En body.turn-1 (anyQ (Turned j)))
         unfolding afterTurn
         turn-by j true is =
             sets ! (of-opd ! (var ! (L 4) refl)) (init ! (L 9) refl (at-reader (j .0) (j .3))) $
-            calls-has-term ! mem run (fmOf 𝓤 H (W .laws) 𝓣) κ q s (j .0) (j .3) k-has (λ Q. and-then ! (var ! (L 9) refl) (no-more !)) (land ! (from ! (stop !)) (init ! (L 8) refl (tt, tt)) $
+            calls-has-term ! mem run (fmOf 𝓤 H (W .laws) 𝓣) κ q s (j .0) (j .3) k-has (λ Q. and-then ! (var ! (L 9) refl) (no-more !))
+            (land ! (from ! (stop !)) (init ! (L 8) refl (tt, tt)) $
             rewrite ! (L 8) (λ (t : Bool). ‵ (fat fullShare tyBool (spotOf 𝓤 H En 8 .1) 0 (vbool t))) is refl $ stays ! (var ! (L 8) refl) $
             sets ! (of-opd ! (var ! (L 4) refl)) (init ! (L 10) refl (at-reader (j .0) (j .3))) $
-            calls-term ! mem run (fmOf 𝓤 H (W .laws) 𝓣) κ q s (j .0) (j .3) k-term (λ Q. and-then ! (var ! (L 10) refl) (no-more !)) (λ gp. land ! (from ! (stop !)) (init ! (L 5) refl (piece-typed 𝓤 H A W (piece (j .0)) gp)) $
-            sets ! (of-opd ! (load ! (from ! (fld ! refl (stop !))) (look-in ! (L 4) (sub ! 1 refl (whole !))))) (init ! (L 11) refl (at-typed 𝓤 H A W (j .0) (j .3))) $
-            calls-plain ! (fmOf 𝓤 H (W .laws) 𝓣) S.the-row mach-survey (LL.tells S.the-type S′.the-laws) (x′ j) (returns-plain 𝓤 H A note.ended (note.clauses 𝓤 H A mem run) C #refusals·note k-note
-            (tt, tt, tt, (j .1, (slip, (j .0, (piece (j .0), tt)))), (mach-survey (j .1) ∷ [], (vbool slip ∷ [], (mach-at (j .0) ∷ [], (mach-piece (piece (j .0)) ∷ [], tt))))) tt (x′ j) (λ z ws. id⊢ 𝓤 _) W (id⊢ 𝓤 _) (id⊢ 𝓤 _) (id⊢ 𝓤 _)
-            (LL.makes S.the-type S′.the-plain 𝓤 H A, (bool-makes 𝓤 H A W, (LL.makes P.the-type P′.the-plain 𝓤 H A, (LL.makes O.the-type O′.the-plain 𝓤 H A, tt)))) (j .4, (refl, (j .3, (gp, tt)))))
-            (λ Q. and-then ! (var ! (L′ 3) refl) (and-then ! (var ! (L′ 2) refl) (and-then ! (var ! (L′ 11) refl) (and-then ! (var ! (L′ 5) refl) (no-more !))))) (λ gx. land ! (from ! (stop !)) (init ! (L 6) refl (survey-typed (x′ j) gx)) $
+            calls-term ! mem run (fmOf 𝓤 H (W .laws) 𝓣) κ q s (j .0) (j .3) k-term (λ Q. and-then ! (var ! (L 10) refl) (no-more !))
+            (λ gp. land ! (from ! (stop !)) (init ! (L 5) refl (piece-typed 𝓤 H A W (piece (j .0)) gp)) $
+            sets ! (of-opd ! (load ! (from ! (fld ! refl (stop !))) (look-in ! (L 4) (sub ! 1 refl (whole !)))))
+            (init ! (L 11) refl (at-typed 𝓤 H A W (j .0) (j .3))) $
+            calls-plain ! (fmOf 𝓤 H (W .laws) 𝓣) S.the-row mach-survey (LL.tells S.the-type S′.the-laws) (x′ j)
+            (returns-plain 𝓤 H A note.ended (note.clauses 𝓤 H A mem run) C #refusals·note k-note (
+              tt,
+              tt,
+              tt,
+              (j .1, (slip, (j .0, (piece (j .0), tt)))),
+              (mach-survey (j .1) ∷ [], (vbool slip ∷ [], (mach-at (j .0) ∷ [], (mach-piece (piece (j .0)) ∷ [], tt)))),
+            ) tt (x′ j)
+            (λ z ws. id⊢ 𝓤 _) W (id⊢ 𝓤 _) (id⊢ 𝓤 _) (id⊢ 𝓤 _) (
+              LL.makes S.the-type S′.the-plain 𝓤 H A,
+              (bool-makes 𝓤 H A W, (LL.makes P.the-type P′.the-plain 𝓤 H A, (LL.makes O.the-type O′.the-plain 𝓤 H A, tt))),
+            ) (j .4, (refl, (j .3, (gp, tt)))))
+            (λ Q.
+            and-then ! (var ! (L′ 3) refl) (and-then ! (var ! (L′ 2) refl) (and-then ! (var ! (L′ 11) refl) (and-then ! (var ! (L′ 5) refl) (no-more !)))))
+            (λ gx. land ! (from ! (stop !)) (init ! (L 6) refl (survey-typed (x′ j) gx)) $
             sets ! (of-opd ! (var ! (L 4) refl)) (init ! (L 12) refl (at-reader (j .0) (j .3))) $
-            calls-passed ! mem run (fmOf 𝓤 H (W .laws) 𝓣) κ q s (j .0) (j .3) k-passed (piece (j .0)) gp (within (length (now s)) (j .0 .place) less short, j .2 .0 .0, j .2 .0 .1, piece-small (now s) 8192 (j .0 .place) (piece (j .0)) refl short)
-            (λ Q. and-then ! (var ! (L 12) refl) (and-then ! (var ! (L 5) refl) (no-more !))) (λ gr. land ! (from ! (stop !)) (init ! (L 7) refl (reader-typedᵉ 𝓤 H A W κ (reader s (a′ j)) gr)) $
+            calls-passed ! mem run (fmOf 𝓤 H (W .laws) 𝓣) κ q s (j .0) (j .3) k-passed (piece (j .0)) gp
+            (within (length (now s)) (j .0 .place) less short, j .2 .0 .0, j .2 .0 .1, piece-small (now s) 8192 (j .0 .place) (piece (j .0)) refl short)
+            (λ Q. and-then ! (var ! (L 12) refl) (and-then ! (var ! (L 5) refl) (no-more !)))
+            (λ gr. land ! (from ! (stop !)) (init ! (L 7) refl (reader-typedᵉ 𝓤 H A W κ (reader s (a′ j)) gr)) $
             sets ! (of-opd ! (var ! (L 6) refl)) (store ! (L 3) refl (survey-typed (x′ j) gx)) $
             assigns-last ! (of-opd ! (var ! (L 7) refl)) (from ! (stop !)) (store ! (L 4) refl (reader-typedᵉ 𝓤 H A W κ (reader s (a′ j)) gr)) $
-            forget ! (L 5) refl $ forget ! (L 6) refl $ forget ! (L 7) refl $ forget ! (L 8) refl $ forget ! (L 9) refl $ forget ! (L 10) refl $ forget ! (L 11) refl $ forget ! (L 12) refl $
+            forget ! (L 5) refl $ forget ! (L 6) refl $ forget ! (L 7) refl $ forget ! (L 8) refl $
+            forget ! (L 9) refl $ forget ! (L 10) refl $ forget ! (L 11) refl $ forget ! (L 12) refl $
             again ! Nearer In j (
               a′ j,
               x′ j,
@@ -208,23 +278,34 @@ module _ {M : Type 1} (𝓤 : URA M) (H : Heap 𝓤) (A : Atoms 𝓤) (W : Given
             nearer = fewer-left (now s) (j .0) (piece (j .0)) less
         turn-by j false is =
             sets ! (of-opd ! (var ! (L 4) refl)) (init ! (L 9) refl (reader-typedᵉ 𝓤 H A W κ (reader s (j .0)) (reader-is κ s (j .0) gt (j .3)))) $
-            calls-has-term ! mem run (fmOf 𝓤 H (W .laws) 𝓣) κ q s (j .0) (j .3) k-has (λ Q. and-then ! (var ! (L 9) refl) (no-more !)) (land ! (from ! (stop !)) (init ! (L 8) refl (tt, tt)) $
-            rewrite ! (L 8) (λ (t : Bool). ‵ (fat fullShare tyBool (spotOf 𝓤 H En 8 .1) 0 (vbool t))) is refl $ leaves-loop ! (var ! (L 8) refl) $ exec ! C Λ En body.t-4 (atRet En Post) $
+            calls-has-term ! mem run (fmOf 𝓤 H (W .laws) 𝓣) κ q s (j .0) (j .3) k-has (λ Q. and-then ! (var ! (L 9) refl) (no-more !))
+            (land ! (from ! (stop !)) (init ! (L 8) refl (tt, tt)) $
+            rewrite ! (L 8) (λ (t : Bool). ‵ (fat fullShare tyBool (spotOf 𝓤 H En 8 .1) 0 (vbool t))) is refl $
+            leaves-loop ! (var ! (L 8) refl) $ exec ! C Λ En body.t-4 (atRet En Post) $
             sets ! (of-opd ! (var ! (L 3) refl)) (init ! (L 0) refl (survey-typed (j .1) (j .4))) $
             returns ! (look ! (L 0) refl) $ frees-all W ! Own En
-            (holds (mach-survey (j .1)) ∷ holds (mach-text s) ∷ holds (vbool slip) ∷ holds (mach-survey (j .1)) ∷ holds (mach (reader s (j .0))) ∷ room ∷ room ∷ room ∷ holds (vbool false) ∷ holds (mach (reader s (j .0))) ∷ [])
-            (exits (j .1) (j .4) (walked-all (surveyMark slip width) (now s) nothingYet (j .0) (j .1) (j .2) (nltb→le (j .0 .place) (length (now s)) (subst (λ (t : Bool). Holds (not t)) (sym is) tt)))))
+            (holds (mach-survey (j .1)) ∷ holds (mach-text s) ∷ holds (vbool slip) ∷ holds (mach-survey (j .1))
+            ∷ holds (mach (reader s (j .0))) ∷ room ∷ room ∷ room ∷ holds (vbool false) ∷ holds (mach (reader s (j .0))) ∷ [])
+            (exits (j .1) (j .4) (walked-all (surveyMark slip width) (now s) nothingYet (j .0) (j .1) (j .2)
+            (nltb→le (j .0 .place) (length (now s)) (subst (λ (t : Bool). Holds (not t)) (sym is) tt)))))
 
-      walk : ent 𝓤 (onEntry 𝓤 H A survey-of.signature (κ, tt) (q, tt) (bound .0 .3) (bound .0 .4)) (WpFn 𝓤 H (𝓣 .C) (𝓣 .Λ) code.function (mach-text s ∷ vbool slip ∷ []) Post)
+      walk : ent 𝓤 (onEntry 𝓤 H A survey-of.signature (κ, tt) (q, tt) (bound .0 .3) (bound .0 .4))
+          (WpFn 𝓤 H (𝓣 .C) (𝓣 .Λ) code.function (mach-text s ∷ vbool slip ∷ []) Post)
       walk =
-          qed W (Token 𝓤 κ q ∷ ‵ (owns (ShrSlice (named 0) κ u8 ∷ Boolean ∷ []) (bound .0 .3) (bound .0 .4)) ∷ []) ∵ move ! (1 ∷ []) $ fsplit ! $ move ! (1 ∷ []) $ drop ! $
+          qed W (Token 𝓤 κ q ∷ ‵ (owns (ShrSlice (named 0) κ u8 ∷ Boolean ∷ []) (bound .0 .3) (bound .0 .4)) ∷ []) ∵ move ! (1 ∷ []) $
+          fsplit ! $ move ! (1 ∷ []) $ drop ! $
           enter ! (𝓣 .C) (𝓣 .Λ) code.function (mach-text s ∷ vbool slip ∷ []) _ $ allocs-all ! (code.function .locals) (λ l. params1 ! $ move ! (26 ∷ 27 ∷ []) $
           -- [the text; its token; _12; …; _0; …]
           pass1 ! (init ! (L 1) refl (tt, text-typed 𝓤 H A W κ s gt)) $ pass1 ! (init ! (L 2) refl (tt, tt)) $ pass0 ! $
           calls-plain ! (fmOf 𝓤 H (W .laws) 𝓣) S.the-row mach-survey (LL.tells S.the-type S′.the-laws) nothingYet
-          (returns-plain 𝓤 H A nothing-yet.ended (nothing-yet.clauses 𝓤 H A mem run) C #text-passes·nothing-yet k-none (tt, tt, tt, tt, tt) tt nothingYet (λ z ws. id⊢ 𝓤 _) W (id⊢ 𝓤 _) (id⊢ 𝓤 _) (id⊢ 𝓤 _) tt tt) (λ Q. no-more !) (λ gx. land ! (from ! (stop !)) (init ! (L 3) refl (survey-typed nothingYet gx)) $
-          calls-start ! mem run (fmOf 𝓤 H (W .laws) 𝓣) κ q s k-start (λ Q. and-then ! (var ! (L 1) refl) (no-more !)) (λ gr. land ! (from ! (stop !)) (init ! (L 4) refl (reader-typedᵉ 𝓤 H A W κ (reader s first) gr)) $
-          first-part ! $ blocks ! $ loops ! 𝓣 Nearer Nearer-wf (In l) (λ j. turn-by l j (ltb (j .0 .place) (length (now s))) refl) (first, nothingYet, walked-none (surveyMark slip width) (now s) nothingYet, at-of-is κ (reader s first) gr, gx))))
+          (returns-plain 𝓤 H A nothing-yet.ended (nothing-yet.clauses 𝓤 H A mem run) C #text-passes·nothing-yet k-none (tt, tt, tt, tt, tt) tt nothingYet
+          (λ z ws. id⊢ 𝓤 _) W (id⊢ 𝓤 _) (id⊢ 𝓤 _) (id⊢ 𝓤 _) tt tt) (λ Q. no-more !)
+          (λ gx. land ! (from ! (stop !)) (init ! (L 3) refl (survey-typed nothingYet gx)) $
+          calls-start ! mem run (fmOf 𝓤 H (W .laws) 𝓣) κ q s k-start (λ Q. and-then ! (var ! (L 1) refl) (no-more !))
+          (λ gr. land ! (from ! (stop !)) (init ! (L 4) refl (reader-typedᵉ 𝓤 H A W κ (reader s first) gr)) $
+          first-part ! $ blocks ! $
+          loops ! 𝓣 Nearer Nearer-wf (In l) (λ j. turn-by l j (ltb (j .0 .place) (length (now s))) refl)
+          (first, nothingYet, walked-none (surveyMark slip width) (now s) nothingYet, at-of-is κ (reader s first) gr, gx))))
 
 pub survey-of-spec : {M : Type 1} → stated.statement M
 unfolding code.routine tablesOf
@@ -234,13 +315,21 @@ survey-of-spec 𝓤 H 𝓜 𝓖 𝓡 =
     let 𝓣 = tablesOf 𝓤 H 𝓜 (tables 𝓤 H 𝓜 𝓡 code.env) in
     let clauses = survey-of.clauses 𝓤 H A (𝓜 .mem) (𝓡 .run) in
     let goes = WpFn 𝓤 H (𝓣 .C) (𝓣 .Λ) code.function in
-    entered 𝓤 H (tripleOf 𝓤 H A survey-of.signature (survey-of.spec 𝓤 H A (𝓜 .mem) (𝓡 .run))) (tables 𝓤 H 𝓜 𝓡 code.env .C) (tables 𝓤 H 𝓜 𝓡 code.env .Λ) #text-passes·survey-of code.function (code.unfolded 𝓤 H 𝓜 𝓡)
-    (walk-meets 𝓤 H A survey-of.ended stayed W (goes-none-slice 𝓤 H A W 1 (0 ∷ []) tt (plain (λ _. u8)) yes, (goes-none 𝓤 H A W 1 (λ _. Boolean) yes (λ κs x f. refl), tt)) clauses goes (WpFn-mono 𝓤 H (W .laws) 𝓣 code.function)
+    entered 𝓤 H (tripleOf 𝓤 H A survey-of.signature (survey-of.spec 𝓤 H A (𝓜 .mem) (𝓡 .run))) (tables 𝓤 H 𝓜 𝓡 code.env .C)
+    (tables 𝓤 H 𝓜 𝓡 code.env .Λ) #text-passes·survey-of code.function (code.unfolded 𝓤 H 𝓜 𝓡)
+    (walk-meets 𝓤 H A survey-of.ended stayed W (
+      goes-none-slice 𝓤 H A W 1 (0 ∷ []) tt (plain (λ _. u8)) yes,
+      (goes-none 𝓤 H A W 1 (λ _. Boolean) yes (λ κs x f. refl), tt),
+    ) clauses goes (WpFn-mono 𝓤 H (W .laws) 𝓣 code.function)
     (walked 𝓤 H A survey-of.ended stayed clauses goes (λ κs. (slice-vals, (bool-vals, tt))) (λ κs. (shr-slice-tells (named 0) (κs .0) u8, (bool-tells, tt)))
     (λ κs qs bounds a g are. needs 𝓤 _ _ (λ short. walk 𝓤 H A W (𝓜 .mem) (𝓡 .run) (κs .0) (qs .0) (a .0) (a .1 .0) (are .0) short 𝓣
-    (cited 𝓤 H (Met 𝓤 H A nothing-yet.ended (nothing-yet.clauses 𝓤 H A (𝓜 .mem) (𝓡 .run))) 𝓜 𝓡 code.env #text-passes·nothing-yet nothing-yet-def.routine code.calls-text-passes·nothing-yet (nothing-yet-thm.met 𝓤 H 𝓜 𝓖 𝓡))
+    (cited 𝓤 H (Met 𝓤 H A nothing-yet.ended (nothing-yet.clauses 𝓤 H A (𝓜 .mem) (𝓡 .run))) 𝓜 𝓡 code.env
+    #text-passes·nothing-yet nothing-yet-def.routine code.calls-text-passes·nothing-yet (nothing-yet-thm.met 𝓤 H 𝓜 𝓖 𝓡))
     (cited 𝓤 H (Start 𝓤 H A (𝓜 .mem) (𝓡 .run)) 𝓜 𝓡 code.env #text-passes·start start-def.routine code.calls-text-passes·start (start-thm.met 𝓤 H 𝓜 𝓖 𝓡))
-    (cited 𝓤 H (HasTerm 𝓤 H A (𝓜 .mem) (𝓡 .run)) 𝓜 𝓡 code.env #text-passes·has-term has-term-def.routine code.calls-text-passes·has-term (has-term-thm.met 𝓤 H 𝓜 𝓖 𝓡))
+    (cited 𝓤 H (HasTerm 𝓤 H A (𝓜 .mem) (𝓡 .run)) 𝓜 𝓡 code.env #text-passes·has-term has-term-def.routine code.calls-text-passes·has-term
+    (has-term-thm.met 𝓤 H 𝓜 𝓖 𝓡))
     (cited 𝓤 H (Term 𝓤 H A (𝓜 .mem) (𝓡 .run)) 𝓜 𝓡 code.env #text-passes·term term-def.routine code.calls-text-passes·term (term-thm.met 𝓤 H 𝓜 𝓖 𝓡))
-    (cited 𝓤 H (Met 𝓤 H A note.ended (note.clauses 𝓤 H A (𝓜 .mem) (𝓡 .run))) 𝓜 𝓡 code.env #refusals·note note-def.routine code.calls-refusals·note (note-thm.met 𝓤 H 𝓜 𝓖 𝓡))
-    (cited 𝓤 H (Passed 𝓤 H A (𝓜 .mem) (𝓡 .run)) 𝓜 𝓡 code.env #text-passes·passed passed-def.routine code.calls-text-passes·passed (passed-thm.met 𝓤 H 𝓜 𝓖 𝓡))))))
+    (cited 𝓤 H (Met 𝓤 H A note.ended (note.clauses 𝓤 H A (𝓜 .mem) (𝓡 .run))) 𝓜 𝓡 code.env #refusals·note note-def.routine code.calls-refusals·note
+    (note-thm.met 𝓤 H 𝓜 𝓖 𝓡))
+    (cited 𝓤 H (Passed 𝓤 H A (𝓜 .mem) (𝓡 .run)) 𝓜 𝓡 code.env #text-passes·passed passed-def.routine code.calls-text-passes·passed
+    (passed-thm.met 𝓤 H 𝓜 𝓖 𝓡))))))

@@ -22,7 +22,10 @@ sub-if1 : tie.Need-sub-if1 Inv-loop μ-loop
 sub-if1 c = c .before .loop .inv .0
 
 returns : tie.Need-returns Inv-loop μ-loop
-returns c = copied-all 15 (c .before .before .before .args .text .now) (c .before .before .before .args .from) (c .before .before .loop .i) (c .before .before .before .args .n) (c .before .before .loop .bytes) (c .before .before .loop .inv .3) (c .before .before .loop .inv .2) (inr (c .if1 .taken))
+returns c =
+    copied-all 15 (c .before .before .before .args .text .now) (c .before .before .before .args .from) (c .before .before .loop .i)
+    (c .before .before .before .args .n) (c .before .before .loop .bytes) (c .before .before .loop .inv .3)
+    (c .before .before .loop .inv .2) (inr (c .if1 .taken))
 
 add-bytes : tie.Need-add-bytes Inv-loop μ-loop
 add-bytes c = search needs
@@ -40,10 +43,21 @@ loop-less : tie.Need-loop-less Inv-loop μ-loop
 loop-less c = search needs
 
 loop-again : tie.Need-loop-again Inv-loop μ-loop
-loop-again c = let v = c .before .before .before .loop .inv in let h = c .before .before .loop-test .taken in let k = c .before .if1 .left in (v .0, v .1, omega arith, copied-one 15 (c .before .before .before .before .args .text .now) (c .before .before .before .before .args .from) (c .before .before .before .loop .i) (c .before .before .before .loop .bytes) (v .3) (omega arith) (omega arith))
+loop-again c =
+    let v = c .before .before .before .loop .inv in
+    let h = c .before .before .loop-test .taken in
+    let k = c .before .if1 .left in (
+      v .0,
+      v .1,
+      omega arith,
+      copied-one 15 (c .before .before .before .before .args .text .now) (c .before .before .before .before .args .from) (c .before .before .before .loop .i)
+          (c .before .before .before .loop .bytes) (v .3) (omega arith) (omega arith),
+    )
 
 returns-2 : tie.Need-returns-2 Inv-loop μ-loop
-returns-2 c = copied-all 15 (c .before .before .args .text .now) (c .before .before .args .from) (c .before .loop .i) (c .before .before .args .n) (c .before .loop .bytes) (c .before .loop .inv .3) (c .before .loop .inv .2) (inl (c .loop-test .left))
+returns-2 c =
+    copied-all 15 (c .before .before .args .text .now) (c .before .before .args .from) (c .before .loop .i) (c .before .before .args .n)
+    (c .before .loop .bytes) (c .before .loop .inv .3) (c .before .loop .inv .2) (inl (c .loop-test .left))
 
 pub string-at-spec : {M : Type 1} → statement M
 string-at-spec =

@@ -49,19 +49,27 @@ blank-term-requires-2 c κs = search needs
 
 returns-2 : tie.Need-returns-2
 returns-2 c =
-    let z = c .before .before .before .before .before .args in term-int (c .before .before .piece-at .result) (front (drop (z .place) (z .text .now))) (c .before .before .piece-at .ensures) (c .enum-told .given .1)
+    let z = c .before .before .before .before .before .args in
+    term-int (c .before .before .piece-at .result) (front (drop (z .place) (z .text .now))) (c .before .before .piece-at .ensures) (c .enum-told .given .1)
 
 returns-3 : tie.Need-returns-3
 returns-3 c =
-    let z = c .before .before .before .before .before .before .before .args in let p = c .before .before .before .before .piece-at in term-str (z .text .now) (z .place) (p .result) (c .before .at-most .result) (c .string-at .result) (search needs) (p .ensures) (c .before .before .enum-told2 .given .1) (c .before .at-most .ensures) (c .string-at .ensures)
+    let z = c .before .before .before .before .before .before .before .args in
+    let p = c .before .before .before .before .piece-at in
+    term-str (z .text .now) (z .place) (p .result) (c .before .at-most .result) (c .string-at .result) (search needs) (p .ensures)
+    (c .before .before .enum-told2 .given .1) (c .before .at-most .ensures) (c .string-at .ensures)
 
 returns-4 : tie.Need-returns-4
 returns-4 c =
-    let z = c .before .before .before .before .before .before .before .args in let p = c .before .before .before .before .piece-at in term-var (p .result) (front (drop (z .place) (z .text .now))) _ (p .ensures) (c .before .before .what .given .1)
+    let z = c .before .before .before .before .before .before .before .args in
+    let p = c .before .before .before .before .piece-at in
+    term-var (p .result) (front (drop (z .place) (z .text .now))) _ (p .ensures) (c .before .before .what .given .1)
 
 returns-5 : tie.Need-returns-5
 returns-5 c =
-    let z = c .before .before .before .before .before .before .args in let p = c .before .before .before .piece-at in c .blank-term2 .ensures ∙ term-empty (p .result) (front (drop (z .place) (z .text .now))) (p .ensures) (c .before .enum-told3 .given .1)
+    let z = c .before .before .before .before .before .before .args in
+    let p = c .before .before .before .piece-at in
+    c .blank-term2 .ensures ∙ term-empty (p .result) (front (drop (z .place) (z .text .now))) (p .ensures) (c .before .enum-told3 .given .1)
 
 pub term-at-spec : {M : Type 1} → statement M
 term-at-spec =

@@ -91,7 +91,12 @@ put-digits-slice-write-out-2 : (t : ℕ) → put-digits-lts.Need-slice-write-out
 ) (put-digits-at t) put-digits.Post
 put-digits-slice-write-out-2 t c =
     let P = c .before .before .put-digits in
-    omega (arith, P .ensures .0, P .kept .1 .0, one-more (c .before .before .before .before .before .before .args .n) (c .before .before .before .before .if1 .left))
+    omega (
+      arith,
+      P .ensures .0,
+      P .kept .1 .0,
+      one-more (c .before .before .before .before .before .before .args .n) (c .before .before .before .before .if1 .left),
+    )
 
 put-digits-add-result-2 : (t : ℕ) → put-digits-lts.Need-add-result-2 (
   put-digits-below t,

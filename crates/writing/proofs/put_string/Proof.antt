@@ -17,7 +17,15 @@ room : (c : tie.After-slice-known2) → c .before .before .put-bytes .result < l
 room c =
     let n = c .before .before .before .before .before .at-most in
     let z = c .before .before .before .before .before .before .before in
-    omega (arith, z .pre, quoted-length (z .args .k) (z .args .t1) (long z), long z, length-take (n .result) (z .args .t1), n .ensures, c .before .before .put-bytes .ensures .0)
+    omega (
+      arith,
+      z .pre,
+      quoted-length (z .args .k) (z .args .t1) (long z),
+      long z,
+      length-take (n .result) (z .args .t1),
+      n .ensures,
+      c .before .before .put-bytes .ensures .0,
+    )
 
 at-most-requires : tie.Need-at-most-requires
 at-most-requires c κs = search needs
@@ -61,7 +69,8 @@ returns : tie.Need-returns
 returns c =
     let P = c .before .before .put-bytes in
     let z = c .before .before .before .before .before .before .before in
-    put-quoted (z .args .k) (z .args .t1) (long z) _ (z .args .out .now) (z .args .at) (c .before .before .before .before .before .at-most .ensures) (P .ensures .0) (P .ensures .1)
+    put-quoted (z .args .k) (z .args .t1) (long z) _ (z .args .out .now) (z .args .at)
+    (c .before .before .before .before .before .at-most .ensures) (P .ensures .0) (P .ensures .1)
 
 pub put-string-spec : {M : Type 1} → statement M
 put-string-spec =

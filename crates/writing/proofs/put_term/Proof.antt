@@ -55,7 +55,8 @@ same-length c = search needs
 returns : tie.Need-returns
 returns c =
     let z = c .before .before .before .before .before .before .before .before in
-    put-as (z .args .out .now) (z .args .at) (int-text (z .args .t .form) (z .args .t .text) _ (c .before .before .before .before .before .form .given .1)) (c .before .before .put-digits .ensures)
+    put-as (z .args .out .now) (z .args .at)
+    (int-text (z .args .t .form) (z .args .t .text) _ (c .before .before .before .before .before .form .given .1)) (c .before .before .put-digits .ensures)
 
 same-length-2 : tie.Need-same-length-2
 same-length-2 c = search needs
@@ -63,7 +64,9 @@ same-length-2 c = search needs
 returns-2 : tie.Need-returns-2
 returns-2 c =
     let z = c .before .before .before .before .before .before .before .before .before in
-    put-as (z .args .out .now) (z .args .at) (str-text (z .args .t .form) (z .args .t .text) _ (c .before .before .before .before .before .before .form2 .given .1)) (c .before .before .put-string .ensures)
+    put-as (z .args .out .now) (z .args .at)
+    (str-text (z .args .t .form) (z .args .t .text) _ (c .before .before .before .before .before .before .form2 .given .1))
+    (c .before .before .put-string .ensures)
 
 same-length-3 : tie.Need-same-length-3
 same-length-3 c =
@@ -74,7 +77,8 @@ returns-3 : tie.Need-returns-3
 returns-3 c =
     let z = c .before .before .before .before .before .before .before .before .before .args in
     let P = c .before .before .put-digits2 in
-    put-var (z .t .form) (z .t .text) _ _ (z .out .now) (z .at) (c .before .before .before .before .before .before .form3 .given .1) (c .before .before .before .before .letter .ensures) (P .ensures .0) (P .ensures .1)
+    put-var (z .t .form) (z .t .text) _ _ (z .out .now) (z .at) (c .before .before .before .before .before .before .form3 .given .1)
+    (c .before .before .before .before .letter .ensures) (P .ensures .0) (P .ensures .1)
 
 pub put-term-spec : {M : Type 1} → statement M
 put-term-spec =

@@ -11,7 +11,9 @@ stays-ok-requires : tie.Need-stays-ok-requires
 stays-ok-requires c κs = search needs
 
 returns : tie.Need-returns
-returns c = let h : length (c .before .before .args .self .seen) ≡ 16 = search needs in rw (c .before .stays-ok .ensures, set-out (c .before .before .args .self .seen) (c .before .before .args .v) _ (omega arith))
+returns c =
+    let h : length (c .before .before .args .self .seen) ≡ 16 = search needs in
+    rw (c .before .stays-ok .ensures, set-out (c .before .before .args .self .seen) (c .before .before .args .v) _ (omega arith))
 
 element-write-l : tie.Need-element-write-l
 element-write-l c = search needs

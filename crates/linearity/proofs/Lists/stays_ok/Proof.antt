@@ -14,7 +14,13 @@ returns-2 : tie.Need-returns-2
 returns-2 c = rw (not-false (c .before .before .args .t1 .ok) (c .before .if1 .left), c .if2 .taken)
 
 returns-3 : tie.Need-returns-3
-returns-3 c = let h : length (c .before .before .before .args .t1 .seen) ≡ 16 = search needs in rw (not-false (c .before .before .before .args .t1 .ok) (c .before .before .if1 .left), c .before .if2 .left, List·getD-eq-default (c .before .before .before .args .t1 .seen) _ {n = c .before .before .before .args .v} (omega arith))
+returns-3 c =
+    let h : length (c .before .before .before .args .t1 .seen) ≡ 16 = search needs in
+    rw (
+      not-false (c .before .before .before .args .t1 .ok) (c .before .before .if1 .left),
+      c .before .if2 .left,
+      List·getD-eq-default (c .before .before .before .args .t1 .seen) _ {n = c .before .before .before .args .v} (omega arith),
+    )
 
 element-copy-out-result : tie.Need-element-copy-out-result
 element-copy-out-result c = search needs
