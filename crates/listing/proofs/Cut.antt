@@ -10,7 +10,8 @@ use native.Mathlib.Decide.{ℕ-discrete}
 use Rattle.lists.specs.Seqs.{All}
 use Rattle.order.specs.Order.{basic, list}
 use Rattle.order.specs.Types.{integer, string, atom, Kind}
-use Rattle.text.specs.Bytes.{letter, Begins, b-digit, b-quote, b-letter, b-e, b-none, begins, Follows, f-digit, f-colon, f-bar, f-none, follows, First, n-zero, n-more, n-none, first, Holds, h-quote, h-in, h-none, holds}
+use Rattle.text.specs.Bytes.{letter, Begins, b-digit, b-quote, b-letter, b-e, b-none, begins, Follows, f-digit, f-colon, f-bar, f-none, follows, First, n-zero}
+use Rattle.text.specs.Bytes.{n-more, n-none, first, Holds, h-quote, h-in, h-none, holds}
 use Rattle.text.specs.Grammar.{Grammar}
 use Rattle.text.specs.Machine.{State, after, digits, number, done, quoted, must, Move, goA, goD, goE, goN, goQ, goM, move, Final}
 use Rattle.text.proofs.Place.{run, thenRun, Accepts, grammar-run}

@@ -14,7 +14,8 @@ use Rattle.text.specs.Terms.{OurTerm}
 use Rattle.text.specs.Plain.{rawField, fieldText, plain, TermOk, RuleOk}
 use Rattle.text.proofs.Numbers.{digits-number, number-digits}
 use Rattle.text.proofs.Plain.{plain-says, plain-one}
-use Rattle.listing.specs.Lines.{Binding, Line, nameText, bindingText, leftMark, rightMark, bindingsText, lineText, listText, WritableBinding, WritableLine}
+use Rattle.listing.specs.Lines.{Binding, Line, nameText, bindingText, leftMark, rightMark, bindingsText, lineText, listText, WritableBinding}
+use Rattle.listing.specs.Lines.{WritableLine}
 use Rattle.listing.proofs.Cut.{Printable, letter-lower, Closed, grammar-closed, grammar-printable, closed-byte, Starts, closed-one}
 
 -- ---- the fields

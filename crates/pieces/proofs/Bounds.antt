@@ -13,7 +13,8 @@ Piece k t at l p m = Placed t at l p m × (length t ≤ k)
 pub piece-as : (k : ℕ) {a b : List ℕ} (at : ℕ) (l : List ℕ) {p : ℕ} {m : List ℕ} → b ≡ a → Piece k a at l p m → Piece k b at l p m
 piece-as k at l e q = (placed-as at l e (q .0), omega (arith, ap length e, q .1))
 
-pub piece-next : (j k i : ℕ) (a b : List ℕ) (at : ℕ) (l : List ℕ) {p r : ℕ} {m n : List ℕ} → Piece j a at l p m → Piece k b p m r n → j + k ≤ i → Piece i (a ++ b) at l r n
+pub piece-next : (j k i : ℕ) (a b : List ℕ) (at : ℕ) (l : List ℕ) {p r : ℕ} {m n : List ℕ}
+    → Piece j a at l p m → Piece k b p m r n → j + k ≤ i → Piece i (a ++ b) at l r n
 piece-next j k i a b at l q s h = (placed-next a b at l (q .0) (s .0), omega (arith, q .1, s .1, length-append a b))
 
 -- a byte

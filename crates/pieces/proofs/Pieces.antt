@@ -76,7 +76,8 @@ module _ (whole : List ℕ) (at : ℕ) (old : List ℕ) (a b : List ℕ) {p : �
 pub rest-as : (whole : List ℕ) (at : ℕ) (l : List ℕ) {a b : List ℕ} (p : ℕ) (m : List ℕ) → a ≡ b → Left whole at l a p m → Left whole at l b p m
 rest-as whole at l p m e h = subst (λ (t : List ℕ). Left whole at l t p m) e h
 
-pub placed-three : (a b c : List ℕ) (at : ℕ) (l : List ℕ) {p r o : ℕ} {m n k : List ℕ} → Placed a at l p m → Placed b p m r n → Placed c r n o k → Placed (a ++ b ++ c) at l o k
+pub placed-three : (a b c : List ℕ) (at : ℕ) (l : List ℕ) {p r o : ℕ} {m n k : List ℕ}
+    → Placed a at l p m → Placed b p m r n → Placed c r n o k → Placed (a ++ b ++ c) at l o k
 placed-three a b c at l q s t = placed-next (a ++ b) c at l (placed-next a b at l q s) t
 
 pub placed-none : (at : ℕ) (l : List ℕ) → Placed [] at l at l
@@ -86,7 +87,8 @@ pub placed-as : {a b : List ℕ} (at : ℕ) (l : List ℕ) {p : ℕ} {m : List �
 placed-as at l e q = (q .0 ∙ ap (λ (t : List ℕ). placeBehind t at l) (sym e), q .1 ∙ ap (λ (t : List ℕ). placed t at l) (sym e))
 
 -- a byte in its place, and then those behind it
-pub byte-left : (s : List ℕ) (at : ℕ) (l : List ℕ) (i p : ℕ) (m : List ℕ) → i < length s → p < length m → Left s at l (drop i s) p m → Left s at l (drop (i + 1) s) (p + 1) (set m p (getD s i 0))
+pub byte-left : (s : List ℕ) (at : ℕ) (l : List ℕ) (i p : ℕ) (m : List ℕ) → i < length s → p < length m
+    → Left s at l (drop i s) p m → Left s at l (drop (i + 1) s) (p + 1) (set m p (getD s i 0))
 byte-left s at l i p m h k q =
     left-next s at l (getD s i 0 ∷ []) (drop (i + 1) s) (rest-as s at l p m (drop-cons s i 0 h ∙ rw add-one) q) (omega arith, refl)
 
@@ -138,4 +140,8 @@ written-in t l {n} {w} put h =
     omega arith
 
 pub copied : (t l : List ℕ) {m : List ℕ} → length t ≤ length l → m ≡ take (length t) t ++ drop (length t) l → m ≡ sets l 0 t
-copied t l h e = e ∙ ap (λ (r : List ℕ). r ++ drop (length t) l) (take-length t) ∙ ap (λ (k : ℕ). t ++ drop k l) (sym (zero-add (length t))) ∙ sym (sets-eq t l 0 (omega arith))
+copied t l h e =
+    e
+    ∙ ap (λ (r : List ℕ). r ++ drop (length t) l) (take-length t)
+    ∙ ap (λ (k : ℕ). t ++ drop k l) (sym (zero-add (length t)))
+    ∙ sym (sets-eq t l 0 (omega arith))

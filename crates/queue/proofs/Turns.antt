@@ -35,7 +35,8 @@ pub place-fits : (s : State) (n : ℕ) → linePlace s n ≤ n
 place-fits s n = fits-by (s .writing) (s .bytes) n
 
 module _ (l old : List ℕ) (k at : ℕ) {m : List ℕ} (e : m ≡ sets (take (length old - at) (drop at old)) 0 l) where
-  part-by : (w : Bool) → at ≡ cond w (min k (length old)) (length old) → take at old ++ (m ++ drop (length old - at) (drop at old)) ≡ cond w (storeLine l k old) old
+  part-by : (w : Bool) → at ≡ cond w (min k (length old)) (length old)
+      → take at old ++ (m ++ drop (length old - at) (drop at old)) ≡ cond w (storeLine l k old) old
   part-by true a = store-part l old k at a e
   part-by false a = store-part l old (length old) at (omega (arith, a)) e ∙ store-end l old
 

@@ -58,7 +58,9 @@ abbrev pub read : Config → Problem
 read c = getD (c .row) (c .state .at) blankProblem
 
 abbrev pub next : Config → Config
-next c = conf (moved (c .state) (read c) .state) (set (c .row) (c .state .at) (moved (c .state) (read c) .problem)) (wrote (c .state) (read c) (c .out))
+next c =
+    conf (moved (c .state) (read c) .state)
+    (set (c .row) (c .state .at) (moved (c .state) (read c) .problem)) (wrote (c .state) (read c) (c .out))
 
 -- ---- turns until the machine is not busy
 
@@ -89,7 +91,8 @@ Reaches c d = (n : ℕ) × (after n c ≡ d) × (d .state .busy ≡ false)
 
 -- ---- a turn of the loop, where n turns from d end at e
 
-pub turn-on : (n : ℕ) (d e : Config) → after n d ≡ e → e .state .busy ≡ false → d .state .busy ≡ true → (after (n - 1) (next d) ≡ e) × (n - 1 < n)
+pub turn-on : (n : ℕ) (d e : Config) → after n d ≡ e → e .state .busy ≡ false
+    → d .state .busy ≡ true → (after (n - 1) (next d) ≡ e) × (n - 1 < n)
 turn-on zero d e p z h = absurd (subst T (sym h ∙ ap (λ (y : Config). y .state .busy) (sym (after-none d) ∙ p) ∙ z) tt)
 turn-on (suc n) d e p z h =
     let k : suc n - 1 ≡ n = omega arith in

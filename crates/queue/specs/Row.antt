@@ -22,12 +22,15 @@ same-by : (i j : ℕ) (b : Bool) → eqb i j ≡ b → (i ≡ j) ⊎ (i ≡ j �
 same-by i j true e = inl (eqb→eq i j (subst T (sym e) tt))
 same-by i j false e = inr (λ h. subst T (subst (λ (k : ℕ). eqb i k ≡ false) (sym h) e) (eqb-refl i))
 
-wiped-by : (l : List Problem) (i j : ℕ) → i < length l → (j ≡ i) ⊎ (j ≡ i → ⊥) → ((j ≡ i → ⊥) → getD l j blankProblem ≡ blankProblem) → getD (set l i blankProblem) j blankProblem ≡ blankProblem
-wiped-by l i j h (inl e) f = subst (λ (k : ℕ). getD (set l i blankProblem) k blankProblem ≡ blankProblem) (sym e) (getD-set-same l i blankProblem blankProblem h)
+wiped-by : (l : List Problem) (i j : ℕ) → i < length l → (j ≡ i) ⊎ (j ≡ i → ⊥)
+    → ((j ≡ i → ⊥) → getD l j blankProblem ≡ blankProblem) → getD (set l i blankProblem) j blankProblem ≡ blankProblem
+wiped-by l i j h (inl e) f =
+    subst (λ (k : ℕ). getD (set l i blankProblem) k blankProblem ≡ blankProblem) (sym e) (getD-set-same l i blankProblem blankProblem h)
 wiped-by l i j h (inr n) f = getD-set-other l i j blankProblem blankProblem n ∙ f n
 
 -- what is blank but at i is blank after a blank is put at i
-wiped : (l : List Problem) (i j : ℕ) → i < length l → ((j ≡ i → ⊥) → getD l j blankProblem ≡ blankProblem) → getD (set l i blankProblem) j blankProblem ≡ blankProblem
+wiped : (l : List Problem) (i j : ℕ) → i < length l → ((j ≡ i → ⊥) → getD l j blankProblem ≡ blankProblem)
+    → getD (set l i blankProblem) j blankProblem ≡ blankProblem
 wiped l i j h f = wiped-by l i j h (same-by j i (eqb j i) refl) f
 
 pub record Upto (row : List Problem) (i : ℕ) : Type 0 where

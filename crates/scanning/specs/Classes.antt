@@ -18,7 +18,8 @@ use Rattle.lists.specs.Tables.{both, allBelow, all-below}
 use Rattle.order.specs.Order.{basic, list}
 use Rattle.order.specs.Types.{integer, string, atom}
 use Rattle.text.specs.Bytes as bytes
-use Rattle.text.specs.Bytes.{digit?, Begins, b-digit, b-quote, b-letter, b-e, b-none, begins, Follows, f-digit, f-colon, f-bar, f-none, follows, Holds, h-quote, h-in, h-none, holds}
+use Rattle.text.specs.Bytes.{digit?, Begins, b-digit, b-quote, b-letter, b-e, b-none, begins, Follows, f-digit, f-colon, f-bar, f-none}
+use Rattle.text.specs.Bytes.{follows, Holds, h-quote, h-in, h-none, holds}
 use Rattle.text.specs.Grammar.{raw-empty, spell}
 
 -- ---- the five classes

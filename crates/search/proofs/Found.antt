@@ -37,7 +37,8 @@ stays zero n c h k = after-none c ∙ sym (after-idle n c (ap (λ (d : Config). 
 stays (suc m) zero c h k = after-idle (suc m) c (ap (λ (d : Config). d .state .busy) (sym (after-none c)) ∙ k) ∙ sym (after-none c)
 stays (suc m) (suc n) c h k = go (c .state .busy) refl (λ h k. stays m n (next c) h k)
   where
-    go : (b : Bool) → c .state .busy ≡ b → (after m (next c) .state .busy ≡ false → after n (next c) .state .busy ≡ false → after m (next c) ≡ after n (next c)) → after (suc m) c ≡ after (suc n) c
+    go : (b : Bool) → c .state .busy ≡ b → (after m (next c) .state .busy ≡ false → after n (next c) .state .busy ≡ false → after m (next c) ≡ after n (next c))
+        → after (suc m) c ≡ after (suc n) c
     go true e rec =
         after-next m c e
         ∙ rec (ap (λ (d : Config). d .state .busy) (sym (after-next m c e)) ∙ h) (ap (λ (d : Config). d .state .busy) (sym (after-next n c e)) ∙ k)
@@ -73,7 +74,8 @@ starts tables texts writing cap p = record {
 }
 
 -- lines stored by the list machine's fold
-stored-same : (tables texts : List ℕ) (writing : Bool) (cap : ℕ) (ls : List (List ℕ)) (at : ℕ) (old : List ℕ) → list.storeAll (records tables texts) writing cap ls at old ≡ storeAll ls at old
+stored-same : (tables texts : List ℕ) (writing : Bool) (cap : ℕ) (ls : List (List ℕ)) (at : ℕ) (old : List ℕ)
+    → list.storeAll (records tables texts) writing cap ls at old ≡ storeAll ls at old
 stored-same tables texts writing cap [] at old = refl
 stored-same tables texts writing cap (l ∷ ls) at old = stored-same tables texts writing cap ls (at + length l) (storeLine l at old)
 
@@ -81,13 +83,17 @@ module _ (E : Setting) (text : Bindings E → List ℕ) where
   -- what the machine has come to at d, by the search's result
   abbrev pub Final : Bool → List ℕ → Config → Result E → Type 0
   Final writing out d (answers xs) =
-      (d .state .refused ≡ false) × (d .state .lines ≡ length xs) × (d .state .bytes ≡ length (bytesOf (map text xs))) × (writing ≡ false → d .out ≡ out) × (writing ≡ true → d .out ≡ storeAll (map text xs) 0 out)
+      (d .state .refused ≡ false) × (d .state .lines ≡ length xs) × (d .state .bytes ≡ length (bytesOf (map text xs)))
+      × (writing ≡ false → d .out ≡ out) × (writing ≡ true → d .out ≡ storeAll (map text xs) 0 out)
   Final writing out d refused = (d .state .refused ≡ true) × (d .state .lines ≡ 0) × (d .state .bytes ≡ 0) × (writing ≡ false → d .out ≡ out)
   Final writing out d unfinished = ⊥
 
-module _ (E : Setting) (tables texts : List ℕ) (Holds : Problem → theory.Problem E → Type 0) (number : Rule → ℕ) (text : Bindings E → List ℕ) (agrees : Agrees E (records tables texts) Holds number text)
-    (bound : ℕ) (short : (p : Problem) (σ : Bindings E) (u : List (E .names .Name)) → Holds p (theory.problem theory.solved σ u) → length (text σ) ≤ bound) (low : bound * 2 ^ 34 < 2 ^ 64) where
-  module _ (A B : theory.Field E) (linear : Linear E A B) (a : length A ≤ 16) (b : length B ≤ 16) (writing : Bool) (cap : ℕ) (some-room : 1 ≤ cap) (p : Problem) (is-root : Holds p (root E A B))
+module _ (E : Setting) (tables texts : List ℕ) (Holds : Problem → theory.Problem E → Type 0) (number : Rule → ℕ)
+    (text : Bindings E → List ℕ) (agrees : Agrees E (records tables texts) Holds number text)
+    (bound : ℕ) (short : (p : Problem) (σ : Bindings E) (u : List (E .names .Name)) → Holds p (theory.problem theory.solved σ u) → length (text σ) ≤ bound)
+    (low : bound * 2 ^ 34 < 2 ^ 64) where
+  module _ (A B : theory.Field E) (linear : Linear E A B) (a : length A ≤ 16) (b : length B ≤ 16)
+      (writing : Bool) (cap : ℕ) (some-room : 1 ≤ cap) (p : Problem) (is-root : Holds p (root E A B))
       (row : List Problem) (size : length row ≡ cap) (out : List ℕ) where
     abbrev begins : Config
     begins = fromRoot (conf (starts tables texts writing cap p) row out)
@@ -124,7 +130,8 @@ module _ (E : Setting) (tables texts : List ℕ) (Holds : Problem → theory.Pro
         behind : nextPlace 0 cap ≡ place 0 1 cap
         behind = ap (λ (i : ℕ). nextPlace i cap) (sym (place-first 0 cap (omega arith))) ∙ place-next 0 0 cap (omega arith) (omega arith)
 
-    by-result : (r : Result E) → searching E cap A B ≡ r → Outcome E (records tables texts) Holds number text agrees bound short writing cap work r → (d : Config) × Reaches begins d × Final E text writing out d r
+    by-result : (r : Result E) → searching E cap A B ≡ r → Outcome E (records tables texts) Holds number text agrees bound short writing cap work r
+        → (d : Config) × Reaches begins d × Final E text writing out d r
     by-result unfinished e h = absurd (searching-ends E cap A B e)
     by-result refused e h = (
       after (m .0) begins,
@@ -167,4 +174,6 @@ module _ (E : Setting) (tables texts : List ℕ) (Holds : Problem → theory.Pro
         shown = m .1 .2
 
     pub machine-finds : (d : Config) × Reaches begins d × Final E text writing out d (searching E cap A B)
-    machine-finds = by-result (searching E cap A B) refl (search-outcome E (records tables texts) Holds number text agrees bound short writing cap A B p p out is-root some-room)
+    machine-finds =
+        by-result (searching E cap A B) refl
+        (search-outcome E (records tables texts) Holds number text agrees bound short writing cap A B p p out is-root some-room)

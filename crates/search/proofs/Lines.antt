@@ -52,9 +52,13 @@ module _ (f g : List OurTerm) where
   lines-are refused = refl
   lines-are unfinished = refl
 
-  module _ (F G : Field) (row : List Problem) (out : List ℕ) (is-f : IsLeft (f ∷ [])) (is-g : IsLeft (g ∷ [])) (both : (acceptedField F && acceptedField G) ≡ true)
-      (Holds : Problem → theory.Problem setting → Type 0) (number : Rule → ℕ) (agrees : Agrees setting (records (rowsIn F G .0) (rowsIn F G .1)) Holds number (answerText f g))
-      (bound : ℕ) (short : (p : Problem) (σ : theory.Bindings setting) (u : List ℕ) → Holds p (theory.problem theory.solved σ u) → length (answerText f g σ) ≤ bound) (low : bound * 2 ^ 34 < 2 ^ 64)
+  module _ (F G : Field) (row : List Problem) (out : List ℕ) (is-f : IsLeft (f ∷ []))
+      (is-g : IsLeft (g ∷ [])) (both : (acceptedField F && acceptedField G) ≡ true)
+      (Holds : Problem → theory.Problem setting → Type 0) (number : Rule → ℕ)
+      (agrees : Agrees setting (records (rowsIn F G .0) (rowsIn F G .1)) Holds number (answerText f g))
+      (bound : ℕ)
+      (short : (p : Problem) (σ : theory.Bindings setting) (u : List ℕ) → Holds p (theory.problem theory.solved σ u) → length (answerText f g σ) ≤ bound)
+      (low : bound * 2 ^ 34 < 2 ^ 64)
       (is-root : Holds (rootValue (rowsIn F G .0)) (root setting (fieldOn left f) (fieldOn right g))) where
     short-f : length (fieldOn left f) ≤ 16
     short-f = omega (arith, is-f .0 .2 .0, length-map f (sideTerm basics consts ℕ-discrete numbers sixteenAbove left))
@@ -63,12 +67,18 @@ module _ (f g : List OurTerm) where
     short-g = omega (arith, is-g .0 .2 .0, length-map g (sideTerm basics consts ℕ-discrete numbers sixteenAbove right))
 
     pub counting-ends : Ends (counting F G row out)
-    counting-ends = runs.counting-ends F G row out setting Holds number (answerText f g) agrees bound short low (fieldOn left f) (fieldOn right g) (equation-linear f g is-f is-g) short-f short-g is-root both
+    counting-ends =
+        runs.counting-ends F G row out setting Holds number (answerText f g) agrees bound short low (fieldOn left f) (fieldOn right g)
+        (equation-linear f g is-f is-g) short-f short-g is-root both
 
     pub writing-ends : (t : Config) → Reaches (counting F G row out) t → Ends (writing F G row out t)
-    writing-ends = runs.writing-ends F G row out setting Holds number (answerText f g) agrees bound short low (fieldOn left f) (fieldOn right g) (equation-linear f g is-f is-g) short-f short-g is-root both
+    writing-ends =
+        runs.writing-ends F G row out setting Holds number (answerText f g) agrees bound short low (fieldOn left f) (fieldOn right g)
+        (equation-linear f g is-f is-g) short-f short-g is-root both
 
     pub twice-lines : (t v : Config) → Reaches (counting F G row out) t → Reaches (writing F G row out t) v
         → Answered F G row out (isNine (linesOf (length row) f g)) (shownLines (linesOf (length row) f g)) t v
-    twice-lines t v r s = subst₂ (λ (no : Bool) (ls : List (List ℕ)). Answered F G row out no ls t v) (nine-is (found (length row) f g)) (lines-are (found (length row) f g))
-        (runs.twice F G row out setting Holds number (answerText f g) agrees bound short low (fieldOn left f) (fieldOn right g) (equation-linear f g is-f is-g) short-f short-g is-root both t v r s)
+    twice-lines t v r s =
+        subst₂ (λ (no : Bool) (ls : List (List ℕ)). Answered F G row out no ls t v) (nine-is (found (length row) f g)) (lines-are (found (length row) f g))
+        (runs.twice F G row out setting Holds number (answerText f g) agrees bound short low (fieldOn left f) (fieldOn right g)
+        (equation-linear f g is-f is-g) short-f short-g is-root both t v r s)

@@ -34,7 +34,8 @@ bytes-same : (L : Found) → stored.bytesOf (shownLines L) ≡ bytesOf L
 bytes-same (lines ls) = refl
 bytes-same nine = refl
 
-reported-as : (e₉ : Bool) (n b room : ℕ) (t : State) → t .refused ≡ e₉ → t .lines ≡ n → t .bytes ≡ b → reported t room ≡ cond e₉ Full (cond (leb b room) (Lines n b) (TooSmall n b))
+reported-as : (e₉ : Bool) (n b room : ℕ) (t : State) → t .refused ≡ e₉ → t .lines ≡ n
+    → t .bytes ≡ b → reported t room ≡ cond e₉ Full (cond (leb b room) (Lines n b) (TooSmall n b))
 reported-as e₉ n b room t e f g =
     ap (λ (c : Bool). cond c Full (cond (leb (t .bytes) room) (Lines (t .lines) (t .bytes)) (TooSmall (t .lines) (t .bytes)))) e
     ∙ ap₂ (λ (n b : ℕ). cond e₉ Full (cond (leb b room) (Lines n b) (TooSmall n b))) f g
@@ -72,13 +73,19 @@ module _ (f g : List OurTerm) (is-f : IsLeft (f ∷ [])) (is-g : IsLeft (g ∷ [
 
   halts-read : Halts (encodeField f) (encodeField g) row out
   halts-read = record {
-    count = counting-ends f g (encodeField f) (encodeField g) row out is-f is-g both (Held f g is-f is-g) number (agreed f g is-f is-g) lineBound (line-short f g is-f is-g) (omega arith) (root-held f g is-f is-g);
-    write = writing-ends f g (encodeField f) (encodeField g) row out is-f is-g both (Held f g is-f is-g) number (agreed f g is-f is-g) lineBound (line-short f g is-f is-g) (omega arith) (root-held f g is-f is-g);
+    count =
+        counting-ends f g (encodeField f) (encodeField g) row out is-f is-g both (Held f g is-f is-g) number (agreed f g is-f is-g) lineBound
+        (line-short f g is-f is-g) (omega arith) (root-held f g is-f is-g);
+    write =
+        writing-ends f g (encodeField f) (encodeField g) row out is-f is-g both (Held f g is-f is-g) number (agreed f g is-f is-g) lineBound
+        (line-short f g is-f is-g) (omega arith) (root-held f g is-f is-g);
   }
 
-  leaves-read : (r : Searched) (row′ : List Problem) (out′ : List ℕ) → Done (encodeField f) (encodeField g) row out r row′ out′ → Leaves (linesOf (length row) f g) out r out′
+  leaves-read : (r : Searched) (row′ : List Problem) (out′ : List ℕ)
+      → Done (encodeField f) (encodeField g) row out r row′ out′ → Leaves (linesOf (length row) f g) out r out′
   leaves-read r row′ out′ d = leaves (encodeField f) (encodeField g) row out r row′ out′ (linesOf (length row) f g) d
-      (twice-lines f g (encodeField f) (encodeField g) row out is-f is-g both (Held f g is-f is-g) number (agreed f g is-f is-g) lineBound (line-short f g is-f is-g) (omega arith) (root-held f g is-f is-g)
+      (twice-lines f g (encodeField f) (encodeField g) row out is-f is-g both (Held f g is-f is-g) number (agreed f g is-f is-g) lineBound
+      (line-short f g is-f is-g) (omega arith) (root-held f g is-f is-g)
       (d .counted) (d .written) (d .counts) (d .writes))
 
 -- ---- any two fields
@@ -104,7 +111,8 @@ module _ (F G : Field) (row : List Problem) (out : List ℕ) where
     left-none : (acceptedField F && acceptedField G) ≡ false → Leaves (lines []) out r out′
     left-none z = leaves F G row out r row′ out′ (lines []) d (twice-none F G row out z (d .counted) (d .written) (d .counts) (d .writes))
 
-    of : (L : Found) → linesFor (length row) (countedField F) (countedField G) ≡ L → Leaves L out r out′ → Leaves (linesFor (length row) (countedField F) (countedField G)) out r out′
+    of : (L : Found) → linesFor (length row) (countedField F) (countedField G) ≡ L → Leaves L out r out′
+        → Leaves (linesFor (length row) (countedField F) (countedField G)) out r out′
     of L e h = subst (λ (M : Found). Leaves M out r out′) (sym e) h
 
     leaves-by : (a b : Bool) → acceptedField F ≡ a → acceptedField G ≡ b → Leaves (linesFor (length row) (countedField F) (countedField G)) out r out′
@@ -112,7 +120,8 @@ module _ (F G : Field) (row : List Problem) (out : List ℕ) where
         let i = accepted-field F p in
         let j = accepted-field G q in
         of (linesOf (length row) (viewField F) (viewField G)) (ap₂ (linesFor (length row)) (counted-by F true p) (counted-by G true q))
-        (leaves-read (viewField F) (viewField G) (i .0) (j .0) row out r row′ out′ (subst₂ (λ (F G : Field). Done F G row out r row′ out′) (sym (i .1)) (sym (j .1)) d))
+        (leaves-read (viewField F) (viewField G) (i .0) (j .0) row out r row′ out′
+        (subst₂ (λ (F G : Field). Done F G row out r row′ out′) (sym (i .1)) (sym (j .1)) d))
     leaves-by true false p q = of (lines []) (ap₂ (linesFor (length row)) (counted-by F true p) (counted-by G false q)) (left-none (ap₂ _&&_ p q))
     leaves-by false b p q = of (lines []) (ap (λ (c : List (List OurTerm)). linesFor (length row) c (countedField G)) (counted-by F false p))
         (left-none (ap₂ _&&_ p q))

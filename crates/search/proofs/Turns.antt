@@ -57,13 +57,17 @@ module _ (s : State) (row : List Problem) (out : List ℕ) where
   head-moved b t z = ap (λ (c : Bool). cond c (ruleTurn s there) (cond (eqb (s .count) 0) stops takes)) t ∙ ap (λ (c : Bool). cond c stops takes) z
 
   head-wrote : (b : Bool) → trying (s .rule) ≡ false → eqb (s .count) 0 ≡ b → wrote s there out ≡ cond (cond b false (not (there .«open»))) stored out
-  head-wrote b t z = ap (λ (c : Bool). cond (cond c false (cond (eqb (s .count) 0) false (not (there .«open»)))) stored out) t ∙ ap (λ (c : Bool). cond (cond c false (not (there .«open»))) stored out) z
+  head-wrote b t z =
+      ap (λ (c : Bool). cond (cond c false (cond (eqb (s .count) 0) false (not (there .«open»)))) stored out) t
+      ∙ ap (λ (c : Bool). cond (cond c false (not (there .«open»))) stored out) z
 
   next-stopped : trying (s .rule) ≡ false → eqb (s .count) 0 ≡ true → next (conf s row out) ≡ conf (stopped s) row out
   next-stopped t z = by-turn stops out (head-moved true t z) (head-wrote true t z) ∙ back (stopped s)
 
   next-taken : trying (s .rule) ≡ false → eqb (s .count) 0 ≡ false
-      → next (conf s row out) ≡ conf (taken s there (length (lineOf s there))) (set row (s .at) blankProblem) (cond (not (there .«open»)) (cond (s .writing) (storeLine (lineOf s there) (s .bytes) out) out) out)
+      → next (conf s row out)
+      ≡ conf (taken s there (length (lineOf s there))) (set row (s .at) blankProblem)
+      (cond (not (there .«open»)) (cond (s .writing) (storeLine (lineOf s there) (s .bytes) out) out) out)
   next-taken t z = by-turn takes (cond (not (there .«open»)) stored out) (head-moved false t z) (head-wrote false t z)
 
 -- ---- the machine whose queue is a list, over the same records
@@ -110,7 +114,8 @@ module _ (tables texts : List ℕ) (writing : Bool) (cap : ℕ) where
     abbrev s : State
     s = inRow w head
 
-    shows-full : ltb (w .rule) 14 ≡ true → ltb (length (w .waiting)) cap ≡ false → Shows (next (config w head row)) (list.full (records tables texts) writing cap w)
+    shows-full : ltb (w .rule) 14 ≡ true → ltb (length (w .waiting)) cap ≡ false
+        → Shows (next (config w head row)) (list.full (records tables texts) writing cap w)
     shows-full t l = (head, row, next-full s row (w .out) t l, r)
 
     shows-joined : ltb (w .rule) 14 ≡ true → ltb (length (w .waiting)) cap ≡ true
@@ -133,7 +138,8 @@ module _ (tables texts : List ℕ) (writing : Bool) (cap : ℕ) where
         one-more : length (w .waiting) + 1 ≡ length (w .waiting ++ childOf (tableIn tables) (w .held) (w .rule) .problem ∷ [])
         one-more = sym (length-append (w .waiting) (q ∷ []))
 
-        behind : nextPlace (place head (length (w .waiting)) cap) cap ≡ place head (length (w .waiting ++ childOf (tableIn tables) (w .held) (w .rule) .problem ∷ [])) cap
+        behind : nextPlace (place head (length (w .waiting)) cap) cap
+            ≡ place head (length (w .waiting ++ childOf (tableIn tables) (w .held) (w .rule) .problem ∷ [])) cap
         behind = place-next head (length (w .waiting)) cap (r .inside) few ∙ ap (λ (n : ℕ). place head n cap) one-more
 
         aimed : aim (w .rule) head (place head (length (w .waiting)) cap) ≡ place head (length (w .waiting)) cap
@@ -164,7 +170,8 @@ module _ (tables texts : List ℕ) (writing : Bool) (cap : ℕ) where
       shows-stopped : w .waiting ≡ [] → Shows (next (config w head row)) (list.stopped (records tables texts) writing cap w)
       shows-stopped e = (head, row, next-stopped s row (w .out) t (ap (λ (q : List Problem). eqb (length q) 0) e), r)
 
-      shows-taken : (p : Problem) (q : List Problem) → w .waiting ≡ p ∷ q → Shows (next (config w head row)) (list.taken (records tables texts) writing cap w p q)
+      shows-taken : (p : Problem) (q : List Problem) → w .waiting ≡ p ∷ q
+          → Shows (next (config w head row)) (list.taken (records tables texts) writing cap w p q)
       shows-taken p q e = (
         nextPlace head cap,
         set row head blankProblem,
@@ -205,7 +212,9 @@ module _ (tables texts : List ℕ) (writing : Bool) (cap : ℕ) where
 
           -- by the record that was read, and its place
           read-as : Problem → ℕ → Config
-          read-as p at = conf (taken s p (length (lineOf s p))) (set row at blankProblem) (cond (not (p .«open»)) (cond writing (storeLine (lineIn tables texts p) (w .bytes) (w .out)) (w .out)) (w .out))
+          read-as p at =
+              conf (taken s p (length (lineOf s p))) (set row at blankProblem)
+              (cond (not (p .«open»)) (cond writing (storeLine (lineIn tables texts p) (w .bytes) (w .out)) (w .out)) (w .out))
 
           -- by the tail, the count, and the bytes
           shape : ℕ → ℕ → List ℕ → Config
@@ -236,7 +245,8 @@ module _ (tables texts : List ℕ) (writing : Bool) (cap : ℕ) where
       where
         by : (c : Bool) → ltb (length (w .waiting)) cap ≡ c
             → Shows (next (config w head row))
-            (cond c (list.joined (records tables texts) writing cap w (childOf (tableIn tables) (w .held) (w .rule) .problem)) (list.full (records tables texts) writing cap w))
+            (cond c (list.joined (records tables texts) writing cap w (childOf (tableIn tables) (w .held) (w .rule) .problem))
+            (list.full (records tables texts) writing cap w))
         by true l = shows-joined t l
         by false l = shows-full t l
 
@@ -244,7 +254,9 @@ module _ (tables texts : List ℕ) (writing : Bool) (cap : ℕ) where
     turn-is : Shows (next (config w head row)) (list.turn (records tables texts) writing cap w)
     turn-is = by (ltb (w .rule) 14) refl
       where
-        by : (b : Bool) → ltb (w .rule) 14 ≡ b → Shows (next (config w head row)) (cond b (list.ruleTurn (records tables texts) writing cap w) (list.headTurn (records tables texts) writing cap w (w .waiting)))
+        by : (b : Bool) → ltb (w .rule) 14 ≡ b
+            → Shows (next (config w head row))
+            (cond b (list.ruleTurn (records tables texts) writing cap w) (list.headTurn (records tables texts) writing cap w (w .waiting)))
         by true t = shows-rule t
         by false t = shows-head t (w .waiting) refl
 
@@ -252,6 +264,7 @@ module _ (tables texts : List ℕ) (writing : Bool) (cap : ℕ) where
   pub leads-is : {w v : Work Problem} → Leads (records tables texts) writing cap w v → (c : Config) → Shows c w → (n : ℕ) × Shows (after n c) v
   leads-is {w = w} here c h = (0, subst (λ (d : Config). Shows d w) (sym (after-none c)) h)
   leads-is {w = w} {v = v} (onward b l) c h =
-      let k : Shows (next c) (list.turn (records tables texts) writing cap w) = subst (λ (d : Config). Shows (next d) (list.turn (records tables texts) writing cap w)) (sym (h .2)) (turn-is w (h .0) (h .1) (h .3)) in
+      let k : Shows (next c) (list.turn (records tables texts) writing cap w) =
+      subst (λ (d : Config). Shows (next d) (list.turn (records tables texts) writing cap w)) (sym (h .2)) (turn-is w (h .0) (h .1) (h .3)) in
       let m = leads-is l (next c) k in
       (suc (m .0), subst (λ (d : Config). Shows d v) (sym (after-next (m .0) c (ap (λ (d : Config). d .state .busy) (h .2) ∙ b))) (m .1))

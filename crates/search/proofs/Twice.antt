@@ -107,7 +107,10 @@ module _ (f g : Field) (row : List Problem) (out : List ℕ) where
       refused-is = ap (λ (d : Config). d .state .refused) at-once ∙ ap (λ (b : Bool). cond b (eqb (length row) 0) false) no;
       lines-is = ap (λ (d : Config). d .state .lines) at-once;
       bytes-is = ap (λ (d : Config). d .state .bytes) at-once;
-      out-is = ap (λ (d : Config). d .out) (reaches-once (writing t) v (writing t) s (still (writing t) (idle-again t))) ∙ ap (λ (d : Config). d .out) at-once ∙ none-stored out;
+      out-is =
+          ap (λ (d : Config). d .out) (reaches-once (writing t) v (writing t) s (still (writing t) (idle-again t)))
+          ∙ ap (λ (d : Config). d .out) at-once
+          ∙ none-stored out;
     }
       where
         at-once : t ≡ counting
@@ -115,8 +118,10 @@ module _ (f g : Field) (row : List Problem) (out : List ℕ) where
 
   -- ---- two accepted fields
 
-  module _ (E : Setting) (Holds : Problem → theory.Problem E → Type 0) (number : Rule → ℕ) (text : Bindings E → List ℕ) (agrees : Agrees E (records tables texts) Holds number text)
-      (bound : ℕ) (short : (p : Problem) (σ : Bindings E) (u : List (E .names .Name)) → Holds p (theory.problem theory.solved σ u) → length (text σ) ≤ bound) (low : bound * 2 ^ 34 < 2 ^ 64)
+  module _ (E : Setting) (Holds : Problem → theory.Problem E → Type 0) (number : Rule → ℕ)
+      (text : Bindings E → List ℕ) (agrees : Agrees E (records tables texts) Holds number text)
+      (bound : ℕ) (short : (p : Problem) (σ : Bindings E) (u : List (E .names .Name)) → Holds p (theory.problem theory.solved σ u) → length (text σ) ≤ bound)
+      (low : bound * 2 ^ 34 < 2 ^ 64)
       (A B : theory.Field E) (linear : Linear E A B) (a : length A ≤ 16) (b : length B ≤ 16) (is-root : Holds (rootValue tables) (root E A B))
       (both : (acceptedField f && acceptedField g) ≡ true) where
     -- ---- a row with no record: refused at once
@@ -144,12 +149,16 @@ module _ (f g : Field) (row : List Problem) (out : List ℕ) where
         writing-ends-none-there : Ends (writing t)
         writing-ends-none-there = reaches-ends (writing t) (writing t) (still (writing t) idle-then)
 
-        twice-none-there : (v : Config) → Reaches (writing t) v → Answered (isRefused E (searching E (length row) A B)) (map text (given E (searching E (length row) A B))) t v
+        twice-none-there : (v : Config) → Reaches (writing t) v
+            → Answered (isRefused E (searching E (length row) A B)) (map text (given E (searching E (length row) A B))) t v
         twice-none-there v s = subst (λ (x : Result E). Answered (isRefused E x) (map text (given E x)) t v) (sym refused-here) (record {
           refused-is = refused-at-once;
           lines-is = ap (λ (d : Config). d .state .lines) at-once;
           bytes-is = ap (λ (d : Config). d .state .bytes) at-once;
-          out-is = ap (λ (d : Config). d .out) (reaches-once (writing t) v (writing t) s (still (writing t) idle-then)) ∙ ap (λ (d : Config). d .out) at-once ∙ none-stored out;
+          out-is =
+              ap (λ (d : Config). d .out) (reaches-once (writing t) v (writing t) s (still (writing t) idle-then))
+              ∙ ap (λ (d : Config). d .out) at-once
+              ∙ none-stored out;
         })
 
     -- ---- a row with a record
@@ -158,13 +167,17 @@ module _ (f g : Field) (row : List Problem) (out : List ℕ) where
       begun-is = rw (both, lt-ltb 0 (length row) some-there, ne-eqb (length row) 0 (λ z. omega arith)) refl
 
       counted : (d : Config) × Reaches counting d × Final E text false out d (searching E (length row) A B)
-      counted = subst (λ (s : State). (d : Config) × Reaches (fromRoot (conf s row out)) d × Final E text false out d (searching E (length row) A B)) (sym begun-is)
-          (machine-finds E tables texts Holds number text agrees bound short low A B linear a b false (length row) some-there (rootValue tables) is-root row refl out)
+      counted =
+          subst (λ (s : State). (d : Config) × Reaches (fromRoot (conf s row out)) d × Final E text false out d (searching E (length row) A B)) (sym begun-is)
+          (machine-finds E tables texts Holds number text agrees bound short low A B linear a b false (length row) some-there
+          (rootValue tables) is-root row refl out)
 
       final : (t : Config) → Reaches counting t → Final E text false out t (searching E (length row) A B)
-      final t r = subst (λ (d : Config). Final E text false out d (searching E (length row) A B)) (reaches-once counting (counted .0) t (counted .1) r) (counted .2)
+      final t r =
+          subst (λ (d : Config). Final E text false out d (searching E (length row) A B)) (reaches-once counting (counted .0) t (counted .1) r) (counted .2)
 
-      again-is : (t : State) → t .refused ≡ false → leb (t .bytes) (length out) ≡ true → again (begun f g (length row)) t (length out) ≡ starts tables texts true (length row) (rootValue tables)
+      again-is : (t : State) → t .refused ≡ false → leb (t .bytes) (length out) ≡ true
+          → again (begun f g (length row)) t (length out) ≡ starts tables texts true (length row) (rootValue tables)
       again-is t e h = rw (e, h, both, lt-ltb 0 (length row) some-there, ne-eqb (length row) 0 (λ z. omega arith)) refl
 
       -- the run that writes
@@ -172,9 +185,13 @@ module _ (f g : Field) (row : List Problem) (out : List ℕ) where
         size : length (t .row) ≡ length row
         size = reaches-row counting t r ∙ length-set row 0 (rootValue tables)
 
-        wrote : t .state .refused ≡ false → leb (t .state .bytes) (length out) ≡ true → (v : Config) × Reaches (writing t) v × Final E text true (t .out) v (searching E (length row) A B)
-        wrote e h = subst (λ (s : State). (v : Config) × Reaches (fromRoot (conf s (t .row) (t .out))) v × Final E text true (t .out) v (searching E (length row) A B)) (sym (again-is (t .state) e h))
-            (machine-finds E tables texts Holds number text agrees bound short low A B linear a b true (length row) some-there (rootValue tables) is-root (t .row) size (t .out))
+        wrote : t .state .refused ≡ false → leb (t .state .bytes) (length out) ≡ true
+            → (v : Config) × Reaches (writing t) v × Final E text true (t .out) v (searching E (length row) A B)
+        wrote e h =
+            subst (λ (s : State). (v : Config) × Reaches (fromRoot (conf s (t .row) (t .out))) v × Final E text true (t .out) v (searching E (length row) A B))
+            (sym (again-is (t .state) e h))
+            (machine-finds E tables texts Holds number text agrees bound short low A B linear a b true (length row) some-there
+            (rootValue tables) is-root (t .row) size (t .out))
 
         idle-full : t .state .refused ≡ true → writing t .state .busy ≡ false
         idle-full e = ap (λ (c : Bool). cond c false (cond (leb (t .state .bytes) (length out)) (begun f g (length row) .busy) false)) e
@@ -195,7 +212,8 @@ module _ (f g : Field) (row : List Problem) (out : List ℕ) where
         as-it-was v s i o = ap (λ (d : Config). d .out) (reaches-once (writing t) v (writing t) s (still (writing t) i)) ∙ o
 
         module _ (v : Config) (s : Reaches (writing t) v) where
-          given-lines : (xs : List (Bindings E)) → searching E (length row) A B ≡ answers xs → Final E text false out t (answers xs) → v .out ≡ lent.after (bytesOf (map text xs)) out
+          given-lines : (xs : List (Bindings E)) → searching E (length row) A B ≡ answers xs
+              → Final E text false out t (answers xs) → v .out ≡ lent.after (bytesOf (map text xs)) out
           given-lines xs is fin = go (leb (t .state .bytes) (length out)) refl
             where
               as-given : (d : Config) → Final E text true (t .out) d (searching E (length row) A B) → d .out ≡ storeAll (map text xs) 0 (t .out)
@@ -204,15 +222,20 @@ module _ (f g : Field) (row : List Problem) (out : List ℕ) where
               go : (c : Bool) → leb (t .state .bytes) (length out) ≡ c → v .out ≡ lent.after (bytesOf (map text xs)) out
               go true h =
                   let w = wrote (fin .0) h in
-                  ap (λ (d : Config). d .out) (reaches-once (writing t) v (w .0) s (w .1)) ∙ as-given (w .0) (w .2) ∙ ap (storeAll (map text xs) 0) (fin .3 refl)
+                  ap (λ (d : Config). d .out) (reaches-once (writing t) v (w .0) s (w .1))
+                  ∙ as-given (w .0) (w .2)
+                  ∙ ap (storeAll (map text xs) 0) (fin .3 refl)
                   ∙ stored (map text xs) out (omega (arith, fin .2, leb-true (t .state .bytes) (length out) h))
               go false h =
                   as-it-was v s (idle-small (fin .0) h) (fin .3 refl)
-                  ∙ sym (ap (λ (c : Bool). cond c (bytesOf (map text xs) ++ drop (length (bytesOf (map text xs))) out) out) (lt-leb (length (bytesOf (map text xs))) (length out) (omega (arith, fin .2, leb-false (t .state .bytes) (length out) h))))
+                  ∙ sym (ap (λ (c : Bool). cond c (bytesOf (map text xs) ++ drop (length (bytesOf (map text xs))) out) out)
+                  (lt-leb (length (bytesOf (map text xs))) (length out) (omega (arith, fin .2, leb-false (t .state .bytes) (length out) h))))
 
           answered-by : (x : Result E) → searching E (length row) A B ≡ x → Final E text false out t x → Answered (isRefused E x) (map text (given E x)) t v
-          answered-by (answers xs) is fin = record { refused-is = fin .0; lines-is = fin .1 ∙ sym (length-map xs text); bytes-is = fin .2; out-is = given-lines xs is fin }
-          answered-by refused is fin = record { refused-is = fin .0; lines-is = fin .1; bytes-is = fin .2; out-is = as-it-was v s (idle-full (fin .0)) (fin .3 refl) ∙ none-stored out }
+          answered-by (answers xs) is fin =
+              record { refused-is = fin .0; lines-is = fin .1 ∙ sym (length-map xs text); bytes-is = fin .2; out-is = given-lines xs is fin }
+          answered-by refused is fin =
+              record { refused-is = fin .0; lines-is = fin .1; bytes-is = fin .2; out-is = as-it-was v s (idle-full (fin .0)) (fin .3 refl) ∙ none-stored out }
           answered-by unfinished is fin = absurd fin
 
           twice-some : Answered (isRefused E (searching E (length row) A B)) (map text (given E (searching E (length row) A B))) t v
@@ -234,7 +257,8 @@ module _ (f g : Field) (row : List Problem) (out : List ℕ) where
         go (inl z) = writing-ends-none-there z t r
         go (inr h) = writing-ends-some h t r
 
-    pub twice : (t v : Config) → Reaches counting t → Reaches (writing t) v → Answered (isRefused E (searching E (length row) A B)) (map text (given E (searching E (length row) A B))) t v
+    pub twice : (t v : Config) → Reaches counting t → Reaches (writing t) v
+        → Answered (isRefused E (searching E (length row) A B)) (map text (given E (searching E (length row) A B))) t v
     twice t v r s = go (one-or-none (length row))
       where
         go : (length row ≡ 0) ⊎ (1 ≤ length row) → Answered (isRefused E (searching E (length row) A B)) (map text (given E (searching E (length row) A B))) t v

@@ -104,7 +104,8 @@ fn report(t: State, room: usize) -> Searched
     Searched::TooSmall(t.lines, t.bytes)
 }
 
-// THE SEARCH for one field pair: once to count its lines, and once more to write them where the output has room. The row is blank afterwards.
+// THE SEARCH for one field pair: once to count its lines, and once more to write them where the output has room.
+// The row is blank afterwards.
 pub fn search(left: Field, right: Field, row: &mut [Problem], out: &mut [u8]) -> Searched
     ensures { λ r. ⌜ Searches left right (now (row .entry)) (now (out .entry)) r (now (row .exit)) (now (out .exit)) ⌝ }
 {

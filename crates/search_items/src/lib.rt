@@ -58,7 +58,7 @@ pub fn first(w: Items) -> u8
 }
 
 // The codes of w from place k on, behind those of x.
-pub fn push_from(x: Items, w: Items, k: usize) -> Items
+fn push_from(x: Items, w: Items, k: usize) -> Items
     ensures { λ r. ⌜ r ≡ foldl pushed x (drop k (itemsOf w)) ⌝ }
 {
     let n = used(w);

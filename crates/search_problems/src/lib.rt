@@ -11,7 +11,7 @@ ghost use Rattle.pair_row.specs.Row.{tableIn};
 ghost use Rattle.search_items.specs.Items.{pushed};
 ghost use Rattle.search_problems.specs.Values.{blankProblem};
 ghost use Rattle.search_problems.specs.Applied.{boundAtoms, boundTo, leftBy, appliedValue};
-ghost use Rattle.search_problems.specs.Steps.{failsOf, noChild, makes, childOf, givesBy, gives, nextRule};
+ghost use Rattle.search_problems.specs.Steps.{failsOf, noChild, makes, childOf, givesBy, nextRule};
 ghost use Rattle.search_problems.specs.Roots.{codesAt, listNumber, sideItems, ownItems, withOwn, rootValue};
 use pair_row::Shape;
 use pair_state::State;
@@ -113,7 +113,7 @@ fn left_by(m: Move, fresh: u8, p: Problem) -> Problem
 }
 
 // The problem that a move makes of p.
-pub fn applied(p: Problem, m: Move, fresh: u8) -> Problem
+fn applied(p: Problem, m: Move, fresh: u8) -> Problem
     ensures { λ r. ⌜ r ≡ appliedValue p m fresh ⌝ }
 {
     let q = left_by(m, fresh, p);
@@ -195,17 +195,6 @@ fn gives_by(p: Problem, a: Head, b: Head, rule: usize) -> bool
         return list_variables(p) < 64;
     }
     true
-}
-
-// Whether the rule of this number gives a child.
-pub fn gives(p: Problem, rule: usize, row: &[u8]) -> bool
-    ensures { λ r. ⌜ r ≡ gives (tableIn (now (row .entry))) p rule ⌝ }
-{
-    let left = p.left;
-    let right = p.right;
-    let a = search_rules::head_of(left, row);
-    let b = search_rules::head_of(right, row);
-    gives_by(p, a, b, rule)
 }
 
 // The first rule from k on that gives a child, by its number; 14 where none does.

@@ -34,7 +34,18 @@ counts-short r n b h k j =
     let x = countText "refusal " r in
     let y = countText " lines " n in
     let z = countText " bytes " b in
-    omega (arith, length-append (x ++ y ++ z) newline, length-append (x ++ y) z, length-append x y, length-append (ascii "refusal ") (digitsOf r), length-append (ascii " lines ") (digitsOf n), length-append (ascii " bytes ") (digitsOf b), digits-most 0 r h, digits-64 n k, digits-64 b j)
+    omega (
+      arith,
+      length-append (x ++ y ++ z) newline,
+      length-append (x ++ y) z,
+      length-append x y,
+      length-append (ascii "refusal ") (digitsOf r),
+      length-append (ascii " lines ") (digitsOf n),
+      length-append (ascii " bytes ") (digitsOf b),
+      digits-most 0 r h,
+      digits-64 n k,
+      digits-64 b j,
+    )
 
 -- the lines were written
 pub record Written (x : answers.Lines) (room n b : ℕ) : Type 0 where
@@ -156,7 +167,8 @@ module _ (f g : Field) (k room lent : ℕ) (T : List ℕ) (is-lent : lent ≡ mi
           piece-as longestBody at old (said-as (few-said x lent n b (sym (ap told h) ∙ searched)))
           (c, omega (arith, counts-short 8 n b (omega arith) n-small b-small))
 
-  pub full-put : r ≡ Full → (at : ℕ) (old : List ℕ) {p : ℕ} {l : List ℕ} → Placed (countsText 9 0 0) at old p l → Piece longestBody (foundText (min room mostBytes) x) at old p l
+  pub full-put : r ≡ Full → (at : ℕ) (old : List ℕ) {p : ℕ} {l : List ℕ}
+      → Placed (countsText 9 0 0) at old p l → Piece longestBody (foundText (min room mostBytes) x) at old p l
   full-put h at old c =
       piece-as longestBody at old (said-as (full-said x lent (sym (ap told h) ∙ searched)))
       (c, omega (arith, counts-short 9 0 0 (omega arith) (omega arith) (omega arith)))

@@ -27,7 +27,8 @@ countsText refusal count bytes = countText "refusal " refusal ++ countText " lin
 -- and 9 with "both counts .. 0"
 abbrev pub foundText : ℕ → Lines → List ℕ
 foundText room (lines ls) =
-    let text = bytesOf (lines ls) in cond (leb (length text) room) (countsText 0 (length ls) (length text) ++ text) (countsText 8 (length ls) (length text))
+    let text = bytesOf (lines ls) in
+    cond (leb (length text) room) (countsText 0 (length ls) (length text) ++ text) (countsText 8 (length ls) (length text))
 foundText room nine = countsText 9 0 0
 
 -- the counts' line of at most 64 bytes, and behind it at most `mostBytes`

@@ -10,11 +10,13 @@ use Rattle.order.specs.Order.{Order}
 use Rattle.theory.specs.Seqs.{concat-map}
 use Rattle.unifiers.specs.Shapes.{fixed, free, Vars}
 use Rattle.searching.specs.Problems.{Names, Setting, atomic, listvar, At, Tm, Field, at-eq, kindOf, put, Rest, solved, equation}
-use Rattle.searching.specs.Rules.{Rule, Remove, Decomp1, Decomp1′, Decomp2, Decomp2′, Decomp3, Decomp4, Subst1, Subst2, Subst3, Orient1, Orient2, Orient3, Orient4, occurs, bind, decomp1, bindAtom, decomp1′, decomp2, decomp2′, decomp4, subst1, subst2, subst3, rule}
+use Rattle.searching.specs.Rules.{Rule, Remove, Decomp1, Decomp1′, Decomp2, Decomp2′, Decomp3, Decomp4, Subst1, Subst2, Subst3, Orient1, Orient2, Orient3}
+use Rattle.searching.specs.Rules.{Orient4, occurs, bind, decomp1, bindAtom, decomp1′, decomp2, decomp2′, decomp4, subst1, subst2, subst3, rule}
 use Rattle.searching.specs.Answers.{listvars, isName, countOf, Linear, Fits}
 use Rattle.searching.proofs.Seqs.{all-both}
 use Rattle.searching.proofs.Terms.{atomic-once, listvar-once, atomic≢listvar}
-use Rattle.searching.proofs.Counts.{same-le, same-self, count-le, same-count, Other, put-fill-all, all-put-in, put-length, put-lists, put-count, not-occurs, without}
+use Rattle.searching.proofs.Counts.{same-le, same-self, count-le, same-count, Other, put-fill-all, all-put-in, put-length, put-lists, put-count}
+use Rattle.searching.proofs.Counts.{not-occurs, without}
 use Rattle.searching.proofs.Effects.{Bind, Does, fewer}
 use Rattle.searching.proofs.Kept.{remove-does, decomp3-does, lin-swap, orient1-does, orient2-does, orient3-does, orient4-does}
 

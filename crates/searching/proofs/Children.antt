@@ -12,14 +12,16 @@ use Rattle.theory.specs.Constants.{Consts}
 use Rattle.theory.specs.Seqs.{concat-map}
 use Rattle.unifiers.specs.Shapes.{Vars}
 use Rattle.searching.specs.Problems.{Names, Setting, atomic, listvar, Tm, Field, Bindings, Rest, equation, Problem, problem, rest, used}
-use Rattle.searching.specs.Rules.{Rule, Remove, Decomp1, Decomp1′, Decomp2, Decomp2′, Decomp3, Decomp4, Subst1, Subst2, Subst3, Orient1, Orient2, Orient3, Orient4, ruleOrder, Move, keep, bind, fails, rule, add, collect, moves, apply, childrenOf, children}
+use Rattle.searching.specs.Rules.{Rule, Remove, Decomp1, Decomp1′, Decomp2, Decomp2′, Decomp3, Decomp4, Subst1, Subst2, Subst3, Orient1, Orient2, Orient3}
+use Rattle.searching.specs.Rules.{Orient4, ruleOrder, Move, keep, bind, fails, rule, add, collect, moves, apply, childrenOf, children}
 use Rattle.searching.specs.Queue.{termsIn}
 use Rattle.searching.specs.Answers.{ground, WellTyped}
 use Rattle.searching.proofs.Seqs.{all-mapped}
 use Rattle.searching.proofs.Counts.{Other}
 use Rattle.searching.proofs.Effects.{Falls, termsLeft, Does}
 use Rattle.searching.proofs.Bound.{rule-does}
-use Rattle.searching.proofs.Invariant.{Respects, Unifies, Fixed, compose-iff, sound-move, Known, Unbound, Invariant, mem-dec, old-atom, old-mem, inv-move}
+use Rattle.searching.proofs.Invariant.{Respects, Unifies, Fixed, compose-iff, sound-move, Known, Unbound, Invariant, mem-dec, old-atom, old-mem}
+use Rattle.searching.proofs.Invariant.{inv-move}
 use Rattle.searching.proofs.Choice.{extend, extend-term, extend-field, no-fail, Agrees, Choice, choose}
 
 module _ (E : Setting) where

@@ -11,7 +11,8 @@ use Rattle.theory.specs.Constants.{Consts}
 use Rattle.theory.specs.Seqs.{concat-map}
 use Rattle.unifiers.specs.Shapes.{fixed, free, Vars}
 use Rattle.searching.specs.Problems.{Names, Setting, atomic, listvar, At, Tm, Field, at-eq, tm-eq, kindOf, fieldType, put, Rest, solved, equation}
-use Rattle.searching.specs.Rules.{Rule, Remove, Decomp1′, Decomp2, Decomp2′, Decomp3, Decomp4, Subst1, Subst2, Subst3, Orient1, Orient3, Orient4, occurs, Move, keep, bind, fails, bindAtom, rule}
+use Rattle.searching.specs.Rules.{Rule, Remove, Decomp1′, Decomp2, Decomp2′, Decomp3, Decomp4, Subst1, Subst2, Subst3, Orient1, Orient3, Orient4, occurs}
+use Rattle.searching.specs.Rules.{Move, keep, bind, fails, bindAtom, rule}
 use Rattle.searching.specs.Answers.{Linear, atomValue, ground, WellTyped}
 use Rattle.searching.proofs.Seqs.{nil-left, nil-right, either-pre, concat-map-agree}
 use Rattle.searching.proofs.Terms.{atomic-once}

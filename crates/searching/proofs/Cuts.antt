@@ -11,8 +11,11 @@ use Rattle.lists.specs.Seqs.{All, all-map}
 use Rattle.order.specs.Order.{Order, basic, list, full-le}
 use Rattle.theory.specs.Seqs.{concat-map}
 use Rattle.unifiers.specs.Shapes.{fixed, free, Vars}
-use Rattle.searching.specs.Problems.{Names, Setting, atomic, listvar, At, Tm, Field, at-eq, tm-eq, field-eq, kindOf, fieldType, put, Rest, solved, equation}
-use Rattle.searching.specs.Rules.{Rule, Remove, Decomp1, Decomp1′, Decomp2, Decomp2′, Decomp3, Decomp4, Subst1, Subst2, Subst3, Orient1, Orient2, Orient3, Orient4, below, occurs, Move, keep, bind, remove, decomp1, bindAtom, decomp1′, decomp2, decomp2′, decomp3, decomp4, subst1, subst2, subst3, orient1, orient2, orient3, orient4, rule}
+use Rattle.searching.specs.Problems.{Names, Setting, atomic, listvar, At, Tm, Field, at-eq, tm-eq, field-eq, kindOf, fieldType, put, Rest, solved}
+use Rattle.searching.specs.Problems.{equation}
+use Rattle.searching.specs.Rules.{Rule, Remove, Decomp1, Decomp1′, Decomp2, Decomp2′, Decomp3, Decomp4, Subst1, Subst2, Subst3, Orient1, Orient2, Orient3}
+use Rattle.searching.specs.Rules.{Orient4, below, occurs, Move, keep, bind, remove, decomp1, bindAtom, decomp1′, decomp2, decomp2′, decomp3, decomp4}
+use Rattle.searching.specs.Rules.{subst1, subst2, subst3, orient1, orient2, orient3, orient4, rule}
 use Rattle.searching.specs.Queue.{termsIn}
 use Rattle.searching.specs.Answers.{isName, countOf, Linear}
 use Rattle.searching.proofs.Seqs.{concat-map-self}

@@ -8,7 +8,8 @@ use Rattle.unifiers.specs.Shapes.{fixed, free, left, right, of}
 use Rattle.unifiers.proofs.Examples.{num, txt, constants}
 use Rattle.searching.specs.Problems.{Setting, atomic, listvar, Tm, Field, root}
 use Rattle.searching.specs.Fresh.{numbers}
-use Rattle.searching.specs.Rules.{Rule, Remove, Decomp1, Decomp1′, Decomp2, Decomp2′, Decomp3, Decomp4, Subst1, Subst2, Subst3, Orient1, Orient2, Orient3, children}
+use Rattle.searching.specs.Rules.{Rule, Remove, Decomp1, Decomp1′, Decomp2, Decomp2′, Decomp3, Decomp4, Subst1, Subst2, Subst3, Orient1, Orient2, Orient3}
+use Rattle.searching.specs.Rules.{children}
 use Rattle.searching.specs.Queue.{Result, answers, refused, unfinished, searching}
 use Rattle.searching.specs.Answers.{valuesIn}
 use Rattle.searching.specs.Pairs.{pairSetting}

@@ -12,8 +12,10 @@ use lib.ListN.{length}
 use Rattle.lists.specs.Seqs.{All, all-append}
 use Rattle.order.specs.Order.{Order, basic, full-le}
 use Rattle.unifiers.specs.Shapes.{fixed, free, Vars}
-use Rattle.searching.specs.Problems.{Names, Setting, atomic, listvar, At, Tm, Field, at-eq, tm-eq, field-eq, kindOf, fieldType, termType, Bindings, putIn, Rest, solved, equation, Problem, problem, rest, root}
-use Rattle.searching.specs.Rules.{Rule, ruleOrder, below, occurs, Move, keep, bind, fails, remove, bindAtom, decomp1′, decomp3, decomp4, solveBy, orient2, orient3, rule, add, collect, apply}
+use Rattle.searching.specs.Problems.{Names, Setting, atomic, listvar, At, Tm, Field, at-eq, tm-eq, field-eq, kindOf, fieldType, termType, Bindings, putIn}
+use Rattle.searching.specs.Problems.{Rest, solved, equation, Problem, problem, rest, root}
+use Rattle.searching.specs.Rules.{Rule, ruleOrder, below, occurs, Move, keep, bind, fails, remove, bindAtom, decomp1′, decomp3, decomp4, solveBy, orient2}
+use Rattle.searching.specs.Rules.{orient3, rule, add, collect, apply}
 use Rattle.searching.specs.Queue.{total, Result, answers, offspring, run, searching}
 use Rattle.searching.specs.Answers.{listvars, Linear}
 use Rattle.searching.proofs.Terms.{atomic-once, atomic≢listvar}

@@ -4,12 +4,14 @@ use mathlib.Core.Path.{_≡_, refl, sym, _∙_, ap, subst}
 use mathlib.Core.Logic.{_↔_, _⊎_, inl, inr, ite}
 use mathlib.Core.Bool.{true}
 use mathlib.Core.Option.{some}
-use mathlib.Core.List.{List, [], _∷_, _++_, append-nil, List·Memᴰ, List·Memᴰ·head, List·Memᴰ·tail, List·Memᴰ·not-nil, List·Memᴰ·cases-cons, Memᴰ·cast, Memᴰ·append-left, Memᴰ·append-right}
+use mathlib.Core.List.{List, [], _∷_, _++_, append-nil, List·Memᴰ, List·Memᴰ·head, List·Memᴰ·tail, List·Memᴰ·not-nil, List·Memᴰ·cases-cons, Memᴰ·cast}
+use mathlib.Core.List.{Memᴰ·append-left, Memᴰ·append-right}
 use Rattle.lists.specs.Seqs.{All, all-map}
 use Rattle.order.specs.Order.{Order}
 use Rattle.theory.specs.Seqs.{concat-map}
 use Rattle.unifiers.specs.Shapes.{fixed, free, Vars}
-use Rattle.searching.specs.Problems.{Names, Setting, atomic, listvar, At, Tm, Field, tm-eq, kindOf, Bindings, put, compose, equation, Problem, problem, rest, bindings, used}
+use Rattle.searching.specs.Problems.{Names, Setting, atomic, listvar, At, Tm, Field, tm-eq, kindOf, Bindings, put, compose, equation, Problem, problem}
+use Rattle.searching.specs.Problems.{rest, bindings, used}
 use Rattle.searching.specs.Rules.{Move, keep, bind, apply}
 use Rattle.searching.specs.Answers.{Fits}
 use Rattle.searching.proofs.Seqs.{all-mem, all-from, all-concat-map}

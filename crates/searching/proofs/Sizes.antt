@@ -16,9 +16,11 @@ use Rattle.order.specs.Order.{Order, basic, full-le}
 use Rattle.theory.specs.Constants.{Consts}
 use Rattle.theory.specs.Seqs.{concat-map}
 use Rattle.unifiers.specs.Shapes.{fixed, free, Vars}
-use Rattle.searching.specs.Problems.{Names, Setting, atomic, listvar, At, Tm, Field, at-eq, tm-eq, field-eq, kindOf, fieldType, termType, Bindings, putIn, Rest, solved, equation, Problem, problem, rest, bindings, used, namesIn}
+use Rattle.searching.specs.Problems.{Names, Setting, atomic, listvar, At, Tm, Field, at-eq, tm-eq, field-eq, kindOf, fieldType, termType, Bindings, putIn}
+use Rattle.searching.specs.Problems.{Rest, solved, equation, Problem, problem, rest, bindings, used, namesIn}
 use Rattle.searching.specs.Fresh.{lowest, numbers}
-use Rattle.searching.specs.Rules.{Rule, Remove, Decomp1, Decomp1′, Decomp2, Decomp2′, Decomp3, Decomp4, Subst1, Subst2, Subst3, Orient1, Orient2, Orient3, Orient4, below, occurs, Move, keep, bind, bindAtom, solveBy, rule, moves, apply, children, Met, start, step}
+use Rattle.searching.specs.Rules.{Rule, Remove, Decomp1, Decomp1′, Decomp2, Decomp2′, Decomp3, Decomp4, Subst1, Subst2, Subst3, Orient1, Orient2, Orient3}
+use Rattle.searching.specs.Rules.{Orient4, below, occurs, Move, keep, bind, bindAtom, solveBy, rule, moves, apply, children, Met, start, step}
 use Rattle.searching.specs.Queue.{termsIn}
 use Rattle.searching.specs.Answers.{listvars, Linear, Fits}
 use Rattle.searching.proofs.Seqs.{all-mem, all-mapped}

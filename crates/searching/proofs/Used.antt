@@ -3,13 +3,16 @@ use mathlib.Core.Path.{_≡_, refl, sym, _∙_, ap, subst}
 use mathlib.Core.Logic.{_≢_, _↔_, _⊎_, inl, inr, ite}
 use mathlib.Core.Bool.{Bool, true, false, cond}
 use mathlib.Core.Option.{Option, none, some}
-use mathlib.Core.List.{List, [], _∷_, _++_, append-nil, List·Memᴰ, List·Memᴰ·head, List·Memᴰ·tail, List·Memᴰ·not-nil, List·Memᴰ·cases-cons, List·Memᴰ·append-cases, Memᴰ·cast, Memᴰ·append-left, Memᴰ·append-right}
+use mathlib.Core.List.{List, [], _∷_, _++_, append-nil, List·Memᴰ, List·Memᴰ·head, List·Memᴰ·tail, List·Memᴰ·not-nil, List·Memᴰ·cases-cons}
+use mathlib.Core.List.{List·Memᴰ·append-cases, Memᴰ·cast, Memᴰ·append-left, Memᴰ·append-right}
 use Rattle.lists.specs.Seqs.{All, all-map}
 use Rattle.order.specs.Order.{Order, basic, full-le}
 use Rattle.theory.specs.Seqs.{concat-map}
 use Rattle.unifiers.specs.Shapes.{fixed, free, Vars}
-use Rattle.searching.specs.Problems.{Names, Setting, atomic, listvar, At, Tm, Field, at-eq, tm-eq, field-eq, kindOf, termType, fieldType, Bindings, put, compose, Rest, solved, equation, Problem, problem, rest, bindings, used, namesIn, root}
-use Rattle.searching.specs.Rules.{Rule, Remove, Decomp1, Decomp1′, Decomp2, Decomp2′, Decomp3, Decomp4, Subst1, Subst2, Subst3, Orient1, Orient2, Orient3, Orient4, Move, keep, bind, below, occurs, rule, bindAtom, solveBy, apply, moves, children, Met, start, step}
+use Rattle.searching.specs.Problems.{Names, Setting, atomic, listvar, At, Tm, Field, at-eq, tm-eq, field-eq, kindOf, termType, fieldType, Bindings, put}
+use Rattle.searching.specs.Problems.{compose, Rest, solved, equation, Problem, problem, rest, bindings, used, namesIn, root}
+use Rattle.searching.specs.Rules.{Rule, Remove, Decomp1, Decomp1′, Decomp2, Decomp2′, Decomp3, Decomp4, Subst1, Subst2, Subst3, Orient1, Orient2, Orient3}
+use Rattle.searching.specs.Rules.{Orient4, Move, keep, bind, below, occurs, rule, bindAtom, solveBy, apply, moves, children, Met, start, step}
 use Rattle.searching.specs.Answers.{StandsIn, InRest, ListVariableOf, Linear}
 use Rattle.searching.proofs.Seqs.{all-every, all-mem, all-from, all-mapped}
 use Rattle.searching.proofs.Terms.{listvar-once}

@@ -9,7 +9,8 @@ use Rattle.theory.specs.Constants.{Consts}
 use Rattle.theory.specs.Seqs.{concat-map}
 use Rattle.unifiers.specs.Shapes.{Vars, fixed, free, val}
 use Rattle.unifiers.specs.Overlaps.{firsts}
-use Rattle.searching.specs.Problems.{Names, Setting, atomic, listvar, At, Tm, Field, tm-eq, kindOf, Bindings, Rest, solved, equation, Problem, rest, bindings}
+use Rattle.searching.specs.Problems.{Names, Setting, atomic, listvar, At, Tm, Field, tm-eq, kindOf, Bindings, Rest, solved, equation}
+use Rattle.searching.specs.Problems.{Problem, rest, bindings}
 
 module _ (E : Setting) where
   open Setting E using (order, constants, variables, names)

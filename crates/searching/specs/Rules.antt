@@ -9,7 +9,9 @@ use mathlib.Core.List.{List, [], _∷_, _++_, map, List·Memᴰ}
 use Rattle.order.specs.Order.{Order, Full, basic, list, full-le}
 use Rattle.theory.specs.Constants.{Consts}
 use Rattle.unifiers.specs.Shapes.{Vars, fixed, free}
-use Rattle.searching.specs.Problems.{Names, Setting, atomic, listvar, At, Tm, Field, at-eq, tm-eq, field-eq, kindOf, termType, fieldType, Bindings, putIn, compose, Rest, solved, equation, Problem, problem, rest, bindings, used, root}
+use Rattle.searching.specs.Problems.{Names, Setting, atomic, listvar, At, Tm, Field, at-eq, tm-eq, field-eq, kindOf, termType}
+use Rattle.searching.specs.Problems.{fieldType, Bindings, putIn, compose, Rest, solved, equation, Problem, problem, rest, bindings}
+use Rattle.searching.specs.Problems.{used, root}
 
 -- the transformation rules' names
 pub data Rule : Type 0 where

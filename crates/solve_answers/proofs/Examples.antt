@@ -27,7 +27,9 @@ table =
     -- Figure 8 of document 001: it takes a row of 7 records and a room of 118 bytes
     record {
       line = "l0:2\ta0:l0\t007\t118";
-      said = "refusal 0 lines 5 bytes 118" ∷ "<l0=a0 >a0=a0 >l0=2" ∷ "<l0=a0:l0 >a0=a0 >l0=l0:2" ∷ "<l0=empty >a0=2 >l0=empty" ∷ "<l0=a0:l0 >a0=a0 >l0=l0:2" ∷ "<l0=a0 >a0=a0 >l0=2" ∷ [];
+      said =
+          "refusal 0 lines 5 bytes 118" ∷ "<l0=a0 >a0=a0 >l0=2" ∷ "<l0=a0:l0 >a0=a0 >l0=l0:2"
+          ∷ "<l0=empty >a0=2 >l0=empty" ∷ "<l0=a0:l0 >a0=a0 >l0=l0:2" ∷ "<l0=a0 >a0=a0 >l0=2" ∷ [];
     } ∷
     record { line = "l0:2\ta0:l0\t7\t117"; said = "refusal 8 lines 5 bytes 118" ∷ [] } ∷
     record { line = "l0:2\ta0:l0\t6\t117"; said = "refusal 9 lines 0 bytes 0" ∷ [] } ∷

@@ -31,5 +31,6 @@ unfolding solveAnswer
 cut-same n k t h = go (decLt n (length t))
   where
     go : Dec (n < length t) → solveAnswer k (take n t) ≡ solveAnswer k t
-    go (yes l) = ap (λ (s : List ℕ). titleText k ++ s) (line-long (take n t) (omega (arith, length-take-le n t (omega arith))) ∙ sym (line-long t (omega arith)))
+    go (yes l) =
+        ap (λ (s : List ℕ). titleText k ++ s) (line-long (take n t) (omega (arith, length-take-le n t (omega arith))) ∙ sym (line-long t (omega arith)))
     go (no l) = ap (solveAnswer k) (take-all n t (omega arith))

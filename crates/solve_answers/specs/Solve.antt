@@ -1,4 +1,5 @@
--- What `solve` prints for one line, which has two field texts, a row and a room with tabs between them: the lines of the search for the two fields.
+-- What `solve` prints for one line, which has two field texts, a row and a room with tabs between them:
+-- the lines of the search for the two fields.
 use mathlib.Core.Bool.{Bool, cond}
 use mathlib.Core.List.{List, [], _∷_, _++_}
 use mathlib.Core.Option.{Option, none, some}

@@ -22,7 +22,9 @@ saidRow left right row room = searchText (countedField left) (countedField right
 
 -- with all that stands behind their parts
 abbrev pub sizesText : List (List OurTerm) → List (List OurTerm) → List ℕ → List ℕ
-sizesText left right t = cond (hasTab (behind t)) (ascii "bad line" ++ newline) (searchText left right (sizeOf mostRecords (part t)) (sizeOf mostBytes (behind t)))
+sizesText left right t =
+    cond (hasTab (behind t)) (ascii "bad line" ++ newline)
+    (searchText left right (sizeOf mostRecords (part t)) (sizeOf mostBytes (behind t)))
 
 abbrev pub saidSizes : Field → Field → List ℕ → List ℕ
 saidSizes left right t = sizesText (countedField left) (countedField right) t

@@ -34,7 +34,8 @@ use Rattle.searching.specs.Problems.{atomic, listvar, Tm, Bindings}
 use Rattle.searching.specs.Queue.{answers}
 use Rattle.searching.specs.Answers.{StandsIn}
 use Rattle.searching.proofs.Origins.{answers-from}
-use Rattle.solving.specs.Answers.{setting, fieldOn, found, markOf, numberIn, shownOn, AnswerLine, bindingsPart, lineText, linesText, WritableAnswer, Gives, InstanceOfLine, answerLine}
+use Rattle.solving.specs.Answers.{setting, fieldOn, found, markOf, numberIn, shownOn, AnswerLine, bindingsPart, lineText, linesText, WritableAnswer}
+use Rattle.solving.specs.Answers.{Gives, InstanceOfLine, answerLine}
 use Rattle.solving.proofs.Search.{equation-linear}
 use Rattle.solving.proofs.Short.{Ours}
 use Rattle.solving.proofs.Shown.{termOn, stands-on, value-on, shown-solves, shown-left, shown-right, shown-complete}

@@ -6,7 +6,8 @@
 use mathlib.Core.Path.{_≡_, refl, sym, _∙_, ap, ap₂, subst}
 use mathlib.Core.Logic.{_⊎_, inl, inr, _↔_}
 use mathlib.Core.Bool.{Bool, cond}
-use mathlib.Core.List.{List, [], _∷_, _++_, map, map-append, head-eq-of-cons-eq, tail-eq-of-cons-eq, List·Memᴰ, List·Memᴰ·head, List·Memᴰ·tail, List·Memᴰ·not-nil, List·Memᴰ·cases-cons, Memᴰ·append-left, Memᴰ·append-right, Memᴰ·map}
+use mathlib.Core.List.{List, [], _∷_, _++_, map, map-append, head-eq-of-cons-eq, tail-eq-of-cons-eq, List·Memᴰ, List·Memᴰ·head, List·Memᴰ·tail}
+use mathlib.Core.List.{List·Memᴰ·not-nil, List·Memᴰ·cases-cons, Memᴰ·append-left, Memᴰ·append-right, Memᴰ·map}
 use Prim.Native.Nat.{ℕ, _+_, _-_, _<_}
 use native.Mathlib.Omega.{arith}
 use native.Mathlib.Decide.{ℕ-discrete}
@@ -41,7 +42,8 @@ use Rattle.searching.specs.Pairs as pairs
 use Rattle.searching.specs.Fresh.{numbers}
 use Rattle.searching.proofs.Seqs.{all-mem}
 use Rattle.searching.proofs.Peak.{refused-peak, refused-queued}
-use Rattle.solving.specs.Answers.{setting, fieldOn, found, markOf, valueOf, valuesOn, valuesOf, numberIn, shownOn, answerText, Lines, lines, nine, linesIn, linesOf}
+use Rattle.solving.specs.Answers.{setting, fieldOn, found, markOf, valueOf, valuesOn, valuesOf, numberIn, shownOn, answerText, Lines, lines, nine}
+use Rattle.solving.specs.Answers.{linesIn, linesOf}
 use Rattle.solving.proofs.Search.{found-ends, answers-solve, answers-complete}
 
 -- ---- the lines and the answers

@@ -11,7 +11,8 @@ use Rattle.accepted.specs.Accepted.{acceptedField}
 use Rattle.turns.specs.declared.State.{State}
 use Rattle.turns.specs.Turns.{rules, nextPlace}
 
--- the state that the search of two fields starts in: it counts. It is not busy where a field stands on no accepted rule's left side; and document 01: "a row of none refuses every pair of accepted fields"
+-- the state that the search of two fields starts in: it counts. It is not busy where a field stands on no accepted rule's left side;
+-- and document 01: "a row of none refuses every pair of accepted fields"
 abbrev pub begun : Field → Field → ℕ → State
 begun f g cap = record {
   busy = cond (acceptedField f && acceptedField g) (ltb 0 cap) false;
@@ -30,7 +31,8 @@ begun f g cap = record {
   texts = rowsIn f g .1;
 }
 
--- the state s once more, after the count ended in t: the search writes its lines, and does nothing where it was refused or `room` bytes are too few
+-- the state s once more, after the count ended in t: the search writes its lines,
+-- and does nothing where it was refused or `room` bytes are too few
 abbrev pub again : State → State → ℕ → State
 again s t room = record {
   busy = cond (t .refused) false (cond (leb (t .bytes) room) (s .busy) false);

@@ -16,7 +16,8 @@ use Rattle.text.specs.Numbers.{value}
 use Rattle.text.specs.Leftmost.{NoneOf, leftmost, LeftmostAt}
 use Rattle.text.specs.Marks.{Mark, marks, FifthField, TooMany, Over, MarkOver, IsVar, MarkVar}
 use Rattle.text.specs.Terms.{OurTerm, int, str, termOf, fieldOf, fieldsOf}
-use Rattle.text.specs.Read.{Reason, long, grammar, fields, terms, limits, linear, variable, Sort, rule, slip, Bad, bad?, placeOfMark, FirstBad, Refuses, said, Never, accepted, readSide, readSlip}
+use Rattle.text.specs.Read.{Reason, long, grammar, fields, terms, limits, linear, variable, Sort, rule, slip, Bad, bad?, placeOfMark, FirstBad, Refuses}
+use Rattle.text.specs.Read.{said, Never, accepted, readSide, readSlip}
 use Rattle.text.specs.Plain.{rawOf, rawField, plain, TermOk, RuleOk}
 use Rattle.text.specs.Limits.{TermIn, Within, Linear, IsCon, IsLeft, IsSlip}
 use Rattle.text.proofs.Parse.{parse-complete, says-one}

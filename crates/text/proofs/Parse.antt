@@ -9,9 +9,12 @@ use native.Mathlib.Decide.{ℕ-discrete, decLe}
 use Rattle.lists.specs.Seqs.{All, IsNil, IsCons}
 use Rattle.order.specs.Order.{basic, list}
 use Rattle.order.specs.Types.{integer, string, atom, Kind}
-use Rattle.text.specs.Bytes.{Digit, Inside, letter, digit?, Begins, b-digit, b-quote, b-letter, b-e, b-none, begins, Follows, f-digit, f-colon, f-bar, f-none, follows, First, n-zero, n-more, n-none, first, Holds, h-quote, h-in, h-none, holds}
-use Rattle.text.specs.Grammar.{Raw, raw-int, raw-str, raw-var, raw-empty, spell, Number, Proper, colons, spellF, bars, FieldOk, spellT, TextOk, Says, Grammar}
-use Rattle.text.specs.Machine.{State, after, digits, number, done, quoted, must, Rest, Move, push, turn, term, goA, goD, goE, goN, goQ, goM, then, move, Final, final?, thenScan, scan, whole, parse}
+use Rattle.text.specs.Bytes.{Digit, Inside, letter, digit?, Begins, b-digit, b-quote, b-letter, b-e, b-none, begins, Follows, f-digit, f-colon, f-bar}
+use Rattle.text.specs.Bytes.{f-none, follows, First, n-zero, n-more, n-none, first, Holds, h-quote, h-in, h-none, holds}
+use Rattle.text.specs.Grammar.{Raw, raw-int, raw-str, raw-var, raw-empty, spell, Number, Proper, colons, spellF, bars, FieldOk, spellT, TextOk, Says}
+use Rattle.text.specs.Grammar.{Grammar}
+use Rattle.text.specs.Machine.{State, after, digits, number, done, quoted, must, Rest, Move, push, turn, term, goA, goD, goE, goN, goQ, goM, then, move}
+use Rattle.text.specs.Machine.{Final, final?, thenScan, scan, whole, parse}
 
 -- what the rest may be in each state, and how it is spelled
 abbrev pub FitsW : State → List ℕ → List Raw → Type 0

@@ -11,7 +11,8 @@ use lib.Seq.{take-take}
 use Rattle.text.specs.Bytes.{digit?, begins, first, holds}
 use Rattle.text.specs.Grammar.{Raw, Grammar}
 use Rattle.text.specs.Place.{Viable, Stops, Answers}
-use Rattle.text.specs.Machine.{State, after, digits, number, done, quoted, must, Rest, Move, goM, then, move, Final, final?, thenScan, scan, whole, thenStop, stop, place2}
+use Rattle.text.specs.Machine.{State, after, digits, number, done, quoted, must, Rest, Move, goM, then, move, Final, final?, thenScan, scan, whole}
+use Rattle.text.specs.Machine.{thenStop, stop, place2}
 use Rattle.text.proofs.Parse.{Parsed, parsed, parse-complete}
 
 -- THE MACHINE: the states alone

@@ -13,7 +13,8 @@ use Rattle.text.specs.Machine.{parse}
 use Rattle.text.specs.Leftmost.{LeftmostAt}
 use Rattle.text.specs.Marks.{marks}
 use Rattle.text.specs.Terms.{OurTerm, fieldsOf}
-use Rattle.text.specs.Read.{Reason, long, grammar, fields, terms, limits, linear, variable, unknown, Sort, Bad, bad?, placeOfMark, FirstBad, Refuses, said, firstBad, placeOf, OutcomeOf, refused, accepted, tell, chain, NoReason, FirstReason, read}
+use Rattle.text.specs.Read.{Reason, long, grammar, fields, terms, limits, linear, variable, unknown, Sort, Bad, bad?, placeOfMark, FirstBad, Refuses}
+use Rattle.text.specs.Read.{said, firstBad, placeOf, OutcomeOf, refused, accepted, tell, chain, NoReason, FirstReason, read}
 use Rattle.text.proofs.Parse.{Parsed, parsed, says-one}
 use Rattle.text.proofs.Place.{place2-is}
 use Rattle.text.proofs.Leftmost.{leftmost-answers}

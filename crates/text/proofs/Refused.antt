@@ -7,7 +7,8 @@ use native.Mathlib.Omega.{arith}
 use native.Mathlib.Decide.{decLt}
 use lib.ListN.{length, length-append}
 use Rattle.text.specs.Grammar.{spell}
-use Rattle.text.specs.Read.{Reason, long, grammar, fields, terms, limits, linear, variable, unknown, number, Sort, rule, slip, FirstBad, Refuses, FirstReason, refused, read, readSide, readSlip}
+use Rattle.text.specs.Read.{Reason, long, grammar, fields, terms, limits, linear, variable, unknown, number, Sort, rule, slip, FirstBad, Refuses}
+use Rattle.text.specs.Read.{FirstReason, refused, read, readSide, readSlip}
 use Rattle.text.proofs.Read.{read-refused}
 use Rattle.text.proofs.Sharp.{first-bad}
 

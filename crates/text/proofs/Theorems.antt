@@ -8,7 +8,8 @@ use native.Mathlib.Omega.{arith}
 use Rattle.lists.specs.Seqs.{All}
 use Rattle.text.specs.Grammar.{Raw, Says}
 use Rattle.text.specs.Terms.{OurTerm, fieldsOf}
-use Rattle.text.specs.Read.{Reason, long, grammar, fields, terms, limits, linear, variable, unknown, number, Sort, rule, slip, Refuses, NoReason, FirstReason, refused, accepted, read, readSide, readSlip, earlier}
+use Rattle.text.specs.Read.{Reason, long, grammar, fields, terms, limits, linear, variable, unknown, number, Sort, rule, slip, Refuses, NoReason}
+use Rattle.text.specs.Read.{FirstReason, refused, accepted, read, readSide, readSlip, earlier}
 use Rattle.text.specs.Plain.{plain}
 use Rattle.text.specs.Limits.{IsLeft}
 use Rattle.text.proofs.Read.{read-refused, read-accepted}

@@ -6,7 +6,8 @@ use mathlib.Core.Option.{Option, none, some, Option·map}
 use mathlib.Core.List.{List, [], _∷_}
 use Prim.Native.Nat.{ℕ, suc}
 use native.Mathlib.Decide.{ℕ-discrete}
-use Rattle.text.specs.Bytes.{Begins, b-digit, b-quote, b-letter, b-e, b-none, begins, Follows, f-digit, f-colon, f-bar, f-none, follows, First, n-zero, n-more, n-none, first, Holds, h-quote, h-in, h-none, holds}
+use Rattle.text.specs.Bytes.{Begins, b-digit, b-quote, b-letter, b-e, b-none, begins, Follows, f-digit, f-colon, f-bar, f-none}
+use Rattle.text.specs.Bytes.{follows, First, n-zero, n-more, n-none, first, Holds, h-quote, h-in, h-none, holds}
 use Rattle.text.specs.Grammar.{Raw, raw-int, raw-str, raw-var, raw-empty}
 
 -- before a term; in an integer's or a variable's digits; before a variable's number; behind a term; in a string;

@@ -10,7 +10,8 @@ use Rattle.text.specs.Grammar.{Raw, Says}
 use Rattle.text.specs.Place.{Stops}
 use Rattle.text.specs.Machine.{parse, place2}
 use Rattle.text.specs.Leftmost.{leftmost, LeftmostAt}
-use Rattle.text.specs.Marks.{Mark, marks, FifthField, TooMany, MarkOver, NotLinear, MarkVar, fifth?, many?, markOver?, notLinear?, markVar?}
+use Rattle.text.specs.Marks.{Mark, marks, FifthField, TooMany, MarkOver, NotLinear, MarkVar, fifth?, many?, markOver?, notLinear?}
+use Rattle.text.specs.Marks.{markVar?}
 use Rattle.text.specs.Terms.{OurTerm, fieldsOf}
 
 -- why a text is refused: document 01's reasons, and document 02's "a right-side variable that the left lacks", which one side alone

@@ -7,7 +7,8 @@ use Rattle.theory.specs.Terms.{Term, con}
 use Rattle.theory.specs.Constants.{Consts, TermOver}
 use Rattle.theory.specs.Seqs.{concat-map}
 use Rattle.theory.specs.Fillings.{Filling, value, fill}
-use Rattle.theory.specs.Laws.{Expr, empty, term, _⦂_, _≈_, ≈-assoc, ≈-left, ≈-right, ≈-refl, ≈-sym, ≈-trans, ≈-cong, flat, expr, EachEqual, replace, fillExpr}
+use Rattle.theory.specs.Laws.{Expr, empty, term, _⦂_, _≈_, ≈-assoc, ≈-left, ≈-right, ≈-refl, ≈-sym, ≈-trans, ≈-cong, flat, expr, EachEqual, replace}
+use Rattle.theory.specs.Laws.{fillExpr}
 use Rattle.theory.specs.Matching.{Matches, MatchesByLaws}
 use Rattle.theory.proofs.Seqs.{concat-map-append}
 

@@ -1,5 +1,6 @@
 -- A turn of the search: what it makes of the state and of the one record that it reads.
--- The row is a ring of `cap` records: `count` problems wait from `head` on, and `tail` is the place behind them. A turn reads the record at `at` and writes that record.
+-- The row is a ring of `cap` records: `count` problems wait from `head` on, and `tail` is the place behind them.
+-- A turn reads the record at `at` and writes that record.
 --     headTurn     where no problem is held: the record at the head leaves the row
 --     ruleTurn     where one is held: its next child is put in at the tail
 --     decided      a turn
@@ -87,7 +88,8 @@ taken s p n = record {
 }
 
 abbrev pub headTurn : State → Problem → ℕ → Turn
-headTurn s p n = cond (eqb (s .count) 0) (record { problem = p; state = stopped s }) (record { problem = blankProblem; state = taken s p n })
+headTurn s p n =
+    cond (eqb (s .count) 0) (record { problem = p; state = stopped s }) (record { problem = blankProblem; state = taken s p n })
 
 -- ---- turns where a problem is held
 

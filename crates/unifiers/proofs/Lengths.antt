@@ -10,7 +10,8 @@ use Rattle.lists.specs.Seqs.{All}
 use Rattle.order.specs.Order.{Order, Full, basic, list}
 use Rattle.theory.specs.Terms.{Term, con, var}
 use Rattle.theory.specs.Constants.{Consts}
-use Rattle.unifiers.specs.Shapes.{Atom, fixed, free, Vars, Side, left, right, Variable, of, pairVars, Shape, closed, gapped, withAtom, withList, both, shapeOf, shapesOf}
+use Rattle.unifiers.specs.Shapes.{Atom, fixed, free, Vars, Side, left, right, Variable, of, pairVars, Shape, closed, gapped, withAtom, withList, both}
+use Rattle.unifiers.specs.Shapes.{shapeOf, shapesOf}
 use Rattle.unifiers.specs.Candidates.{Cand, exact, long, wide, cands}
 use Rattle.unifiers.specs.Joins.{At, State, start, resolve, joins}
 use Rattle.unifiers.specs.Entries.{equations, fieldFor, fieldsFor, entries}

@@ -19,7 +19,8 @@ use Rattle.unifiers.specs.Shapes.{Atom, fixed, free, val, Vars, Side, le
 use Rattle.unifiers.specs.Candidates.{Cand, exact, long}
 use Rattle.unifiers.specs.Joins.{At, start}
 use Rattle.unifiers.specs.Entries.{fieldsFor, entries}
-use Rattle.unifiers.specs.Overlaps.{Mark, named, place, mark-eq, termOf, fieldOf, mapShape, runOf, rename, PairShape, PairState, markedFields, markedValue, numbersOf, shown}
+use Rattle.unifiers.specs.Overlaps.{Mark, named, place, mark-eq, termOf, fieldOf, mapShape, runOf, rename, PairShape, PairState, markedFields}
+use Rattle.unifiers.specs.Overlaps.{markedValue, numbersOf, shown}
 use Rattle.unifiers.proofs.Joins.{valG, subA, kindA, Good, start-good, RespectsY}
 use Rattle.unifiers.proofs.Rows.{Inst}
 use Rattle.unifiers.proofs.Walks.{Insts, walk-back, known, picks}

@@ -3,7 +3,8 @@ use mathlib.Core.Path.{_≡_, refl, sym, _∙_, ap, ap₂, subst as along}
 use mathlib.Core.Logic.{_⊎_, inl, inr, ite, if-pos, if-neg}
 use mathlib.Core.Option.{some, Option·some-injective}
 use mathlib.Core.List.{List, [], _∷_, _++_, map, map-map, map-append}
-use mathlib.Core.List.{List·Memᴰ, List·Memᴰ·head, List·Memᴰ·tail, List·Memᴰ·not-nil, List·Memᴰ·cases-cons, Memᴰ·append-left, Memᴰ·append-right, Memᴰ·map, Memᴰ·of-map}
+use mathlib.Core.List.{List·Memᴰ, List·Memᴰ·head, List·Memᴰ·tail, List·Memᴰ·not-nil, List·Memᴰ·cases-cons, Memᴰ·append-left, Memᴰ·append-right, Memᴰ·map}
+use mathlib.Core.List.{Memᴰ·of-map}
 use Prim.Native.Nat.{ℕ, zero, suc, _+_, _≤_, _<_}
 use native.Mathlib.Omega.{arith}
 use native.Mathlib.Decide.{ℕ-discrete}
@@ -18,7 +19,8 @@ use Rattle.unifiers.specs.Shapes.{Atom, fixed, free, Side, left, right, 
 use Rattle.unifiers.specs.Candidates.{Cand, range}
 use Rattle.unifiers.specs.Joins.{resolve}
 use Rattle.unifiers.specs.Entries.{fieldsFor}
-use Rattle.unifiers.specs.Overlaps.{placeOf, without, firsts, namesOf, number, rename, Mark, named, place, mark-eq, termOf, fieldOf, mapShape, PairShape, PairState, markedFields, shown}
+use Rattle.unifiers.specs.Overlaps.{placeOf, without, firsts, namesOf, number, rename, Mark, named, place, mark-eq, termOf, fieldOf, mapShape, PairShape}
+use Rattle.unifiers.specs.Overlaps.{PairState, markedFields, shown}
 use Rattle.unifiers.proofs.Seqs.{pigeon}
 use Rattle.unifiers.proofs.Renumbered.{in-firsts, at-place, in-all-names}
 use Rattle.unifiers.proofs.Kept.{Every, OnTerm, rule-every, entry-every}

@@ -16,7 +16,8 @@ use Rattle.unifiers.specs.Shapes.{Atom, fixed, free, Side, left, right, 
 use Rattle.unifiers.specs.Candidates.{Cand}
 use Rattle.unifiers.specs.Joins.{resolve}
 use Rattle.unifiers.specs.Entries.{fieldsFor}
-use Rattle.unifiers.specs.Overlaps.{place, termOf, fieldOf, mapShape, middle, runOf, rename, PairShape, PairState, markedFields, markedValue, numbersOf, shown}
+use Rattle.unifiers.specs.Overlaps.{place, termOf, fieldOf, mapShape, middle, runOf, rename, PairShape, PairState, markedFields, markedValue, numbersOf}
+use Rattle.unifiers.specs.Overlaps.{shown}
 use Rattle.unifiers.proofs.Kept.{all-take, all-drop, Every, OnTerm, rule-every, Keeps, entry-every}
 use Rattle.unifiers.proofs.Listed.{raw}
 

@@ -11,7 +11,8 @@ use Rattle.unifiers.specs.Candidates.{Cand, exact, long, before, wide, c
 use Rattle.unifiers.specs.Entries.{row, span, cells, equations, fieldFor}
 use Rattle.unifiers.proofs.Seqs.{cut, split3, SolvesV}
 use Rattle.unifiers.proofs.Candidates.{Room, pick, Runs, pick-in, pick-of, pick-runs, exact≢long}
-use Rattle.unifiers.proofs.Rows.{Covered, merge-length, merge-fit, fit-merge, Inst, inst-room, inst-fit, fit-inst, long-drop, long-add, Reach, covered-row, row-length}
+use Rattle.unifiers.proofs.Rows.{Covered, merge-length, merge-fit, fit-merge, Inst, inst-room, inst-fit, fit-inst, long-drop, long-add, Reach}
+use Rattle.unifiers.proofs.Rows.{covered-row, row-length}
 
 module _ {A L M : Type 0} where
   pub room-of : (S₁ : Shape A L) (S₂ : Shape A M) (c : Cand) → List·Memᴰ c (cands S₁ S₂) → Room S₁ (span S₁ S₂ c) × Room S₂ (span S₁ S₂ c)

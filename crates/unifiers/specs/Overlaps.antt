@@ -10,7 +10,8 @@ use Rattle.theory.specs.Terms.{Term, con, var}
 use Rattle.theory.specs.Constants.{Consts, TermOver}
 use Rattle.theory.specs.Seqs.{concat-map}
 use Rattle.unifiers.specs.Substitutions.{Subst}
-use Rattle.unifiers.specs.Shapes.{Atom, fixed, free, Side, left, right, side-eq, Variable, of, pairVars, Shape, closed, gapped, shapesOf}
+use Rattle.unifiers.specs.Shapes.{Atom, fixed, free, Side, left, right, side-eq, Variable, of, pairVars, Shape, closed, gapped}
+use Rattle.unifiers.specs.Shapes.{shapesOf}
 use Rattle.unifiers.specs.Candidates.{Cand}
 use Rattle.unifiers.specs.Joins.{State, start, resolve}
 use Rattle.unifiers.specs.Entries.{fieldsFor, entries}

@@ -21,7 +21,11 @@ shared-slice-read-out : tie.Need-shared-slice-read-out Inv-loop μ-loop
 shared-slice-read-out c = search needs
 
 slice-write-out : tie.Need-slice-write-out Inv-loop μ-loop
-slice-write-out c = omega (arith, c .before .before .before .loop .inv .long, ltb-true (c .before .before .before .loop .p) (length (c .before .before .before .before .args .out .now)) (c .before .if1 .taken))
+slice-write-out c = omega (
+  arith,
+  c .before .before .before .loop .inv .long,
+  ltb-true (c .before .before .before .loop .p) (length (c .before .before .before .before .args .out .now)) (c .before .if1 .taken),
+)
 
 add-i : tie.Need-add-i Inv-loop μ-loop
 add-i c = search needs
@@ -35,7 +39,11 @@ loop-less c = search needs
 loop-again : tie.Need-loop-again Inv-loop μ-loop
 loop-again c =
     let L = c .before .before .before .loop in
-    byte-left _ _ _ (L .i) (L .p) (L .out) (search needs) (omega (arith, L .inv .long, ltb-true (c .before .before .before .loop .p) (length (c .before .before .before .before .args .out .now)) (c .before .if1 .taken))) (L .inv)
+    byte-left _ _ _ (L .i) (L .p) (L .out) (search needs) (omega (
+      arith,
+      L .inv .long,
+      ltb-true (c .before .before .before .loop .p) (length (c .before .before .before .before .args .out .now)) (c .before .if1 .taken),
+    )) (L .inv)
 
 same-length : tie.Need-same-length Inv-loop μ-loop
 same-length c = c .before .before .loop .inv .long
@@ -44,7 +52,8 @@ returns : tie.Need-returns Inv-loop μ-loop
 returns c =
     let L = c .before .before .loop in
     let z = c .before .before .before .args in
-    no-room-left (z .text .now) (z .at) (z .out .now) (drop (L .i) (z .text .now)) (L .p) (L .out) (omega (arith, L .inv .long, ltb-false (L .p) (length (z .out .now)) (c .if1 .left))) (L .inv)
+    no-room-left (z .text .now) (z .at) (z .out .now) (drop (L .i) (z .text .now)) (L .p) (L .out)
+    (omega (arith, L .inv .long, ltb-false (L .p) (length (z .out .now)) (c .if1 .left))) (L .inv)
 
 same-length-2 : tie.Need-same-length-2 Inv-loop μ-loop
 same-length-2 c = c .before .loop .inv .long
@@ -53,7 +62,8 @@ returns-2 : tie.Need-returns-2 Inv-loop μ-loop
 returns-2 c =
     let L = c .before .loop in
     let z = c .before .before .args in
-    none-left (z .text .now) (z .at) (z .out .now) (rest-as (z .text .now) (z .at) (z .out .now) (L .p) (L .out) (drop-of-length-le (z .text .now) {i = L .i} (search needs)) (L .inv))
+    none-left (z .text .now) (z .at) (z .out .now)
+    (rest-as (z .text .now) (z .at) (z .out .now) (L .p) (L .out) (drop-of-length-le (z .text .now) {i = L .i} (search needs)) (L .inv))
 
 pub put-bytes-spec : {M : Type 1} → statement M
 put-bytes-spec =

@@ -40,7 +40,9 @@ returns c =
     let z = c .before .before .before .before .before .before .before .before .before .before in
     let W = c .before .before .before .before .before .before .before .write-number in
     let S = c .before .before .before .before .before .size-of in
-    placed-as (z .args .at) (z .args .out .now) (sym (written-front (digitsOf (z .args .n)) (replicate 20 0) (digits-64 _ (search needs)) (S .ensures) (W .ensures))) (c .before .before .put-bytes .ensures)
+    placed-as (z .args .at) (z .args .out .now)
+    (sym (written-front (digitsOf (z .args .n)) (replicate 20 0) (digits-64 _ (search needs)) (S .ensures) (W .ensures)))
+    (c .before .before .put-bytes .ensures)
 
 pub put-number-spec : {M : Type 1} → statement M
 put-number-spec =

@@ -24,7 +24,9 @@ same-length c = search needs
 returns : tie.Need-returns
 returns c =
     let z = c .before .before .before .before .before .before .before .before .before .before .before .before .before .before .args in
-    placed-three (digitsOf (z .n)) (ascii " at ") (digitsOf (z .place)) (z .at) (z .out .now) (c .before .before .before .before .before .before .before .before .before .before .before .put-number .ensures) (c .before .before .before .before .before .before .put-bytes .ensures) (c .before .before .put-number2 .ensures)
+    placed-three (digitsOf (z .n)) (ascii " at ") (digitsOf (z .place)) (z .at) (z .out .now)
+    (c .before .before .before .before .before .before .before .before .before .before .before .put-number .ensures)
+    (c .before .before .before .before .before .before .put-bytes .ensures) (c .before .before .put-number2 .ensures)
 
 pub put-number-at-spec : {M : Type 1} → statement M
 put-number-at-spec =

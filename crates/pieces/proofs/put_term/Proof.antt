@@ -40,7 +40,9 @@ returns c =
     let z = c .before .before .before .before .before .before .before .before .before .before in
     let W = c .before .before .before .before .before .before .before .write-term in
     let S = c .before .before .before .before .before .size-of in
-    placed-as (z .args .at) (z .args .out .now) (sym (written-front (termText (viewTerm (z .args .t))) (replicate 17 0) (W .ensures .1) (S .ensures) (W .ensures .0))) (c .before .before .put-bytes .ensures)
+    placed-as (z .args .at) (z .args .out .now)
+    (sym (written-front (termText (viewTerm (z .args .t))) (replicate 17 0) (W .ensures .1) (S .ensures) (W .ensures .0)))
+    (c .before .before .put-bytes .ensures)
 
 pub put-term-spec : {M : Type 1} → statement M
 put-term-spec =

@@ -24,7 +24,8 @@ use ghost.Atoms.{Atoms}
 use contract.Monad.{Fun}
 use contract.Running.{givenOf, tables, tablesOf}
 use types.Kit.{Given, Item, ‵, _⊛_, ⋆, Sq, runs, anyQ, atRet, _$_, _∵_, !, qed, move, drop, rewrite, split, join, fsplit, fjoin, feqI, suffices, frame, done}
-use types.Run.{look, init, store, forget, stop, fld, from, load, lit, unit-lit, of-opd, bin, and-then, no-more, assigns-last, land, first, blocks, stays, leaves-loop, returns, enter, params1, pass1, pass0, exec, Below, again, loops}
+use types.Run.{look, init, store, forget, stop, fld, from, load, lit, unit-lit, of-opd, bin, and-then, no-more, assigns-last, land, first, blocks, stays}
+use types.Run.{leaves-loop, returns, enter, params1, pass1, pass0, exec, Below, again, loops}
 use types.Part.{whole, sub, look-in}
 use sound.WpLaws.{fmOf, WpFn-mono}
 use denote.RattleType.{owns}
@@ -62,7 +63,8 @@ use Rattle.search.proofs.blank.Code.Mir as body
 abbrev stayed : Stays (blank.ended .signature .params) (blank.ended .kept)
 stayed = (stay-slice (0 ∷ []) tt (plain (λ _. T.the-row)), tt)
 
-module _ {M : Type 1} (𝓤 : URA M) (H : Heap 𝓤) (A : Atoms 𝓤) (W : Given 𝓤 H A) (mem : Memory → SProp 𝓤) (run : Routine → Fun 𝓤) (κ : Lft) (q : Share) (b o : ℕ) (γ : GName) (ys : List Problem) where
+module _ {M : Type 1} (𝓤 : URA M) (H : Heap 𝓤) (A : Atoms 𝓤) (W : Given 𝓤 H A) (mem : Memory → SProp 𝓤)
+    (run : Routine → Fun 𝓤) (κ : Lft) (q : Share) (b o : ℕ) (γ : GName) (ys : List Problem) where
   abbrev r₀ : Val
   r₀ = sliceVal (b, o) (length ys)
 
@@ -79,7 +81,8 @@ module _ {M : Type 1} (𝓤 : URA M) (H : Heap 𝓤) (A : Atoms 𝓤) (W : Given
   exits : (zs : List Problem) → length zs ≡ length ys → zs ≡ blanks (length ys) → ent 𝓤 (⋆ 𝓤 H A (Row zs)) (Post vunit)
   exits zs e is =
       qed W (Row zs) ∵ suffices ! _ (ends-at 𝓤 H A blank.ended stayed (blank.clauses 𝓤 H A mem run) W bound vunit tt (zs, tt) (e, tt)) $ says ! is $
-      nothing ! $ move ! (2 ∷ 0 ∷ []) $ join ! $ frame ! $ nothing ! $ move ! (1 ∷ 0 ∷ []) $ fjoin ! $ feqI ! (List Val) (vunit ∷ []) (vunit ∷ []) refl $ move ! (1 ∷ 0 ∷ []) $ done !
+      nothing ! $ move ! (2 ∷ 0 ∷ []) $ join ! $ frame ! $ nothing ! $ move ! (1 ∷ 0 ∷ []) $
+      fjoin ! $ feqI ! (List Val) (vunit ∷ []) (vunit ∷ []) refl $ move ! (1 ∷ 0 ∷ []) $ done !
 
   -- where local n stands, behind the row and its token
   abbrev L : ℕ → ℕ
@@ -95,7 +98,8 @@ module _ {M : Type 1} (𝓤 : URA M) (H : Heap 𝓤) (A : Atoms 𝓤) (W : Given
   Nearer-wf : WellFounded Nearer
   Nearer-wf = InvImage·wf (λ (j : Round). length ys - j .0) (Nat·lt-wfRel .wf)
 
-  module _ (fits : Room T.the-row (length ys)) (𝓣 : Tables 𝓤 H) (kb : Triple 𝓤 (𝓣 .C #search-problems·blank-problem) (Blank 𝓤 H A mem run)) (kp : Triple 𝓤 (𝓣 .C #search·put) (Put 𝓤 H A mem run)) where
+  module _ (fits : Room T.the-row (length ys)) (𝓣 : Tables 𝓤 H) (kb : Triple 𝓤 (𝓣 .C #search-problems·blank-problem) (Blank 𝓤 H A mem run))
+      (kp : Triple 𝓤 (𝓣 .C #search·put) (Put 𝓤 H A mem run)) where
     abbrev C : Calls 𝓤 H
     C = 𝓣 .C
 
@@ -118,7 +122,8 @@ module _ {M : Type 1} (𝓤 : URA M) (H : Heap 𝓤) (A : Atoms 𝓤) (W : Given
       turn-by : (j : Round) (t : Bool) → ltb (j .0) (length ys) ≡ t → Sq W (At j) (runs C Λ En body.turn-1 (anyQ (Rounded j)))
       unfolding afterTurn
       turn-by j true is =
-          sets ! (of-opd ! (load ! (from ! (fld ! refl (stop !))) (look-in ! (L 1) (sub ! 1 refl (whole !))))) (init ! (L 4) refl (tt, record { fits = fits .0 })) $
+          sets ! (of-opd ! (load ! (from ! (fld ! refl (stop !))) (look-in ! (L 1) (sub ! 1 refl (whole !)))))
+          (init ! (L 4) refl (tt, record { fits = fits .0 })) $
           sets ! (bin ! (var ! (L 3) refl) (var ! (L 4) refl) tt) (init ! (L 5) refl (tt, tt)) $
           rewrite ! (L 5) (λ (t : Bool). ‵ (fat fullShare tyBool (spotOf 𝓤 H En 5 .1) 0 (vbool t))) is refl $ stays ! (var ! (L 5) refl) $
           reborrows ! (L 1) (L 7) (L 8) (fits .0) refl refl refl refl refl refl refl refl $
@@ -127,8 +132,12 @@ module _ {M : Type 1} (𝓤 : URA M) (H : Heap 𝓤) (A : Atoms 𝓤) (W : Given
           (land ! (from ! (stop !)) (init ! (L 6) refl (tt, tt)) $
           assigns-last ! (bin ! (var ! (L 3) refl) (lit ! tt) (record { fits = more })) (from ! (stop !)) (store ! (L 3) refl (tt, record { fits = more })) $
           forget ! (L 4) refl $ forget ! (L 5) refl $ forget ! (L 6) refl $ forget ! (L 7) refl $ forget ! (L 8) refl $
-          again ! Nearer At j
-          (j .0 + 1, set (j .1) (j .0) blankProblem, one-more (j .1) (j .0) (j .2) (subst (λ (n : ℕ). j .0 < n) (sym (j .3)) less), length-set (j .1) (j .0) blankProblem ∙ j .3) nearer)
+          again ! Nearer At j (
+            j .0 + 1,
+            set (j .1) (j .0) blankProblem,
+            one-more (j .1) (j .0) (j .2) (subst (λ (n : ℕ). j .0 < n) (sym (j .3)) less),
+            length-set (j .1) (j .0) blankProblem ∙ j .3,
+          ) nearer)
         where
           less : j .0 < length ys
           less = ltb→lt (j .0) (length ys) (subst T (sym is) tt)
@@ -142,19 +151,22 @@ module _ {M : Type 1} (𝓤 : URA M) (H : Heap 𝓤) (A : Atoms 𝓤) (W : Given
           nearer : length ys - (j .0 + 1) < length ys - j .0
           nearer = omega (arith, less)
       turn-by j false is =
-          sets ! (of-opd ! (load ! (from ! (fld ! refl (stop !))) (look-in ! (L 1) (sub ! 1 refl (whole !))))) (init ! (L 4) refl (tt, record { fits = fits .0 })) $
+          sets ! (of-opd ! (load ! (from ! (fld ! refl (stop !))) (look-in ! (L 1) (sub ! 1 refl (whole !)))))
+          (init ! (L 4) refl (tt, record { fits = fits .0 })) $
           sets ! (bin ! (var ! (L 3) refl) (var ! (L 4) refl) tt) (init ! (L 5) refl (tt, tt)) $
           rewrite ! (L 5) (λ (t : Bool). ‵ (fat fullShare tyBool (spotOf 𝓤 H En 5 .1) 0 (vbool t))) is refl $ leaves-loop ! (var ! (L 5) refl) $
           exec ! C Λ En body.t-4 (atRet En Post) $
           sets ! (of-opd ! (unit-lit !)) (init ! (L 0) refl (tt, tt)) $
           returns ! (look ! (L 0) refl) $ frees-all W ! (Row (j .1)) En
           (holds vunit ∷ holds r₀ ∷ holds (mach blankProblem) ∷ holds (vint w64 (j .0)) ∷ holds (vint w64 (length ys)) ∷ holds (vbool false) ∷ [])
-          (exits (j .1) (j .3) (upto-all (j .1) (j .0) (length ys) (j .2) (subst (λ (n : ℕ). n ≤ j .0) (sym (j .3)) (nltb→le (j .0) (length ys) (subst (λ (t : Bool). T (not t)) (sym is) tt))) (j .3)))
+          (exits (j .1) (j .3) (upto-all (j .1) (j .0) (length ys) (j .2)
+          (subst (λ (n : ℕ). n ≤ j .0) (sym (j .3)) (nltb→le (j .0) (length ys) (subst (λ (t : Bool). T (not t)) (sym is) tt))) (j .3)))
 
     walk : ent 𝓤 (onEntry 𝓤 H A blank.signature (κ, tt) (q, tt) (bound .0 .3) (bound .0 .4)) (WpFn 𝓤 H (𝓣 .C) (𝓣 .Λ) code.function (r₀ ∷ []) Post)
     walk =
         qed W ((‵ (flft κ q) ⊛ ‵ ftrue) ∷ ‵ (owns (MutSlice (named 0) κ T.the-row ∷ []) (bound .0 .3) (bound .0 .4)) ∷ []) ∵
-        split ! $ move ! (2 ∷ []) $ fsplit ! $ move ! (1 ∷ 3 ∷ []) $ drop ! $ drop ! $ enter ! (𝓣 .C) (𝓣 .Λ) code.function (r₀ ∷ []) _ $ allocs-all ! (code.function .locals) (λ l. params1 ! $ move ! (18 ∷ 19 ∷ []) $
+        split ! $ move ! (2 ∷ []) $ fsplit ! $ move ! (1 ∷ 3 ∷ []) $ drop ! $ drop ! $ enter ! (𝓣 .C) (𝓣 .Λ) code.function (r₀ ∷ []) _ $
+        allocs-all ! (code.function .locals) (λ l. params1 ! $ move ! (18 ∷ 19 ∷ []) $
         -- [row; the token; _8; …; _0; …]
         pass1 ! (init ! (L 1) refl (tt, (tt, (record { fits = fits .0 }, tt)))) $ pass0 ! $
         calls-blank-problem ! mem run (fmOf 𝓤 H (W .laws) 𝓣) kb (λ P. no-more !) (λ gb.
@@ -171,9 +183,12 @@ blank-spec 𝓤 H 𝓜 𝓖 𝓡 =
     let 𝓣 = tablesOf 𝓤 H 𝓜 (tables 𝓤 H 𝓜 𝓡 code.env) in
     let clauses = blank.clauses 𝓤 H A (𝓜 .mem) (𝓡 .run) in
     let goes = WpFn 𝓤 H (𝓣 .C) (𝓣 .Λ) code.function in
-    entered 𝓤 H (tripleOf 𝓤 H A blank.signature (blank.spec 𝓤 H A (𝓜 .mem) (𝓡 .run))) (tables 𝓤 H 𝓜 𝓡 code.env .C) (tables 𝓤 H 𝓜 𝓡 code.env .Λ) #search·blank code.function (code.unfolded 𝓤 H 𝓜 𝓡)
+    entered 𝓤 H (tripleOf 𝓤 H A blank.signature (blank.spec 𝓤 H A (𝓜 .mem) (𝓡 .run))) (tables 𝓤 H 𝓜 𝓡 code.env .C)
+    (tables 𝓤 H 𝓜 𝓡 code.env .Λ) #search·blank code.function (code.unfolded 𝓤 H 𝓜 𝓡)
     (walk-meets 𝓤 H A blank.ended stayed W (goes-slice 𝓤 H A W 1 0 tt (plain (λ _. T.the-row)), tt) clauses goes (WpFn-mono 𝓤 H (W .laws) 𝓣 code.function)
     (walked 𝓤 H A blank.ended stayed clauses goes (λ κs. (slice-vals, tt)) (λ κs. (mut-slice-tells (named 0) (κs .0) T.the-row, tt))
-    (λ κs qs bounds a g are. via 𝓤 _ (fst∗ 𝓤 _ (emp 𝓤)) (walk 𝓤 H A W (𝓜 .mem) (𝓡 .run) (κs .0) (qs .0) (a .0 .ptr .0) (a .0 .ptr .1) (a .0 .name) (a .0 .now) (are .0 .0 .1) 𝓣
-    (cited 𝓤 H (Blank 𝓤 H A (𝓜 .mem) (𝓡 .run)) 𝓜 𝓡 code.env #search-problems·blank-problem blank-problem-def.routine code.calls-search-problems·blank-problem (blank-problem-thm.met 𝓤 H 𝓜 𝓖 𝓡))
+    (λ κs qs bounds a g are.
+    via 𝓤 _ (fst∗ 𝓤 _ (emp 𝓤)) (walk 𝓤 H A W (𝓜 .mem) (𝓡 .run) (κs .0) (qs .0) (a .0 .ptr .0) (a .0 .ptr .1) (a .0 .name) (a .0 .now) (are .0 .0 .1) 𝓣
+    (cited 𝓤 H (Blank 𝓤 H A (𝓜 .mem) (𝓡 .run)) 𝓜 𝓡 code.env #search-problems·blank-problem blank-problem-def.routine code.calls-search-problems·blank-problem
+    (blank-problem-thm.met 𝓤 H 𝓜 𝓖 𝓡))
     (cited 𝓤 H (Put 𝓤 H A (𝓜 .mem) (𝓡 .run)) 𝓜 𝓡 code.env #search·put put-def.routine code.calls-search·put (put-thm.met 𝓤 H 𝓜 𝓖 𝓡))))))

@@ -56,7 +56,8 @@ use Rattle.search.proofs.from_root.Code as code
 abbrev stayed : Stays (from-root.ended .signature .params) (from-root.ended .kept)
 stayed = (stay-slice (0 ∷ []) tt (plain (λ _. T.the-row)), (stay-slice (1 ∷ []) tt (plain (λ _. u8)), (stay-none (λ _. S.the-row) yes, tt)))
 
-module _ {M : Type 1} (𝓤 : URA M) (H : Heap 𝓤) (A : Atoms 𝓤) (W : Given 𝓤 H A) (mem : Memory → SProp 𝓤) (run : Routine → Fun 𝓤) (κ κ′ : Lft) (q q′ : Share) (b o b′ o′ : ℕ) (γ γ′ : GName) (c : Config) where
+module _ {M : Type 1} (𝓤 : URA M) (H : Heap 𝓤) (A : Atoms 𝓤) (W : Given 𝓤 H A) (mem : Memory → SProp 𝓤)
+    (run : Routine → Fun 𝓤) (κ κ′ : Lft) (q q′ : Share) (b o b′ o′ : ℕ) (γ γ′ : GName) (c : Config) where
   -- the machine values of the row and of `out`, and of the state
   abbrev r₀ : Val
   r₀ = sliceVal (b, o) (length (c .row))
@@ -82,11 +83,14 @@ module _ {M : Type 1} (𝓤 : URA M) (H : Heap 𝓤) (A : Atoms 𝓤) (W : Given
   p = c .state .held
 
   module _ (gs : Is S.the-row (c .state) (s₀ ∷ [])) where
-    exits : (d : Config) → length (d .row) ≡ length (c .row) → length (d .out) ≡ length (c .out) → Is S.the-row (d .state) (mach-state (d .state) ∷ []) → Reaches (fromRoot c) d → ent 𝓤 (⋆ 𝓤 H A (Lists (d .row) (d .out))) (Post (mach-state (d .state)))
+    exits : (d : Config) → length (d .row) ≡ length (c .row) → length (d .out) ≡ length (c .out) → Is S.the-row (d .state) (mach-state (d .state) ∷ [])
+        → Reaches (fromRoot c) d → ent 𝓤 (⋆ 𝓤 H A (Lists (d .row) (d .out))) (Post (mach-state (d .state)))
     exits d e e′ gd is =
-        qed W (Lists (d .row) (d .out)) ∵ suffices ! _ (ends-at 𝓤 H A from-root.ended stayed (from-root.clauses 𝓤 H A mem run) W bound (mach-state (d .state)) (d .state) (d .row, (d .out, (tt, tt))) (e, (e′, (tt, tt)))) $ says ! is $
+        qed W (Lists (d .row) (d .out)) ∵ suffices ! _ (ends-at 𝓤 H A from-root.ended stayed (from-root.clauses 𝓤 H A mem run) W bound
+        (mach-state (d .state)) (d .state) (d .row, (d .out, (tt, tt))) (e, (e′, (tt, tt)))) $ says ! is $
         nothing ! $ move ! (4 ∷ 0 ∷ []) $ join ! $ move ! (2 ∷ 0 ∷ []) $ join ! $ frame ! $
-        nothing ! $ owned ! S.the-row (Is S.the-row) (LL.makes S.the-type S′.the-plain 𝓤 H A) (c .state) _ gs $ fjoin ! $ move ! (2 ∷ 0 ∷ []) $ fjoin ! $ move ! (1 ∷ 0 ∷ []) $ fjoin ! $
+        nothing ! $ owned ! S.the-row (Is S.the-row) (LL.makes S.the-type S′.the-plain 𝓤 H A) (c .state) _ gs $
+        fjoin ! $ move ! (2 ∷ 0 ∷ []) $ fjoin ! $ move ! (1 ∷ 0 ∷ []) $ fjoin ! $
         owned ! S.the-row (Is S.the-row) (LL.makes S.the-type S′.the-plain 𝓤 H A) (d .state) _ gd $ move ! (1 ∷ 0 ∷ []) $ done !
 
     -- where local n stands, behind the lists and their tokens
@@ -95,15 +99,20 @@ module _ {M : Type 1} (𝓤 : URA M) (H : Heap 𝓤) (A : Atoms 𝓤) (W : Given
 
     walk : Ends (fromRoot c) → Room T.the-row (length (c .row)) → Room u8 (length (c .out)) → (𝓣 : Tables 𝓤 H)
         → Triple 𝓤 (𝓣 .C #search·put) (Put 𝓤 H A mem run) → Triple 𝓤 (𝓣 .C #search·run) (Running 𝓤 H A)
-        → ent 𝓤 (onEntry 𝓤 H A from-root.signature (κ, (κ′, tt)) (q, (q′, tt)) (bound .0 .3) (bound .0 .4)) (WpFn 𝓤 H (𝓣 .C) (𝓣 .Λ) code.function (r₀ ∷ o₀ ∷ s₀ ∷ []) Post)
+        → ent 𝓤 (onEntry 𝓤 H A from-root.signature (κ, (κ′, tt)) (q, (q′, tt)) (bound .0 .3) (bound .0 .4))
+        (WpFn 𝓤 H (𝓣 .C) (𝓣 .Λ) code.function (r₀ ∷ o₀ ∷ s₀ ∷ []) Post)
     walk ends fits fits′ 𝓣 kp kr =
-        qed W ((‵ (flft κ q) ⊛ (‵ (flft κ′ q′) ⊛ ‵ ftrue)) ∷ ‵ (owns (MutSlice (named 0) κ T.the-row ∷ MutSlice (named 1) κ′ u8 ∷ S.the-row ∷ []) (bound .0 .3) (bound .0 .4)) ∷ []) ∵
-        split ! $ move ! (1 ∷ []) $ split ! $ move ! (1 ∷ []) $ drop ! $ move ! (2 ∷ []) $ fsplit ! $ move ! (1 ∷ []) $ fsplit ! $ move ! (1 ∷ []) $ drop ! $ move ! (1 ∷ 3 ∷ 0 ∷ 2 ∷ []) $
+        qed W ((‵ (flft κ q) ⊛ (‵ (flft κ′ q′) ⊛ ‵ ftrue))
+        ∷ ‵ (owns (MutSlice (named 0) κ T.the-row ∷ MutSlice (named 1) κ′ u8 ∷ S.the-row ∷ []) (bound .0 .3) (bound .0 .4)) ∷ []) ∵
+        split ! $ move ! (1 ∷ []) $ split ! $ move ! (1 ∷ []) $ drop ! $ move ! (2 ∷ []) $ fsplit ! $
+        move ! (1 ∷ []) $ fsplit ! $ move ! (1 ∷ []) $ drop ! $ move ! (1 ∷ 3 ∷ 0 ∷ 2 ∷ []) $
         enter ! (𝓣 .C) (𝓣 .Λ) code.function (r₀ ∷ o₀ ∷ s₀ ∷ []) _ $ allocs-all ! (code.function .locals) (λ l. params1 ! $ move ! (26 ∷ 27 ∷ 28 ∷ 29 ∷ []) $
         -- [row; its token; out; its token; _12; …; _0; …]
-        pass1 ! (init ! (L 1) refl (tt, (tt, (record { fits = fits .0 }, tt)))) $ pass1 ! (init ! (L 2) refl (tt, (tt, (record { fits = fits′ .0 }, tt)))) $ pass1 ! (init ! (L 3) refl (LL.lawful S.the-type S′.the-laws 𝓤 H A W .typed (c .state) _ gs .0)) $ pass0 ! $
+        pass1 ! (init ! (L 1) refl (tt, (tt, (record { fits = fits .0 }, tt)))) $ pass1 ! (init ! (L 2) refl (tt, (tt, (record { fits = fits′ .0 }, tt)))) $
+        pass1 ! (init ! (L 3) refl (LL.lawful S.the-type S′.the-laws 𝓤 H A W .typed (c .state) _ gs .0)) $ pass0 ! $
         -- put(row, 0, s.held)
-        sets ! (of-opd ! (load ! (from ! (fld ! refl (stop !))) (look-in ! (L 3) (sub ! 11 refl (whole !))))) (init ! (L 4) refl (LL.lawful T.the-type T′.the-laws 𝓤 H A W .typed p _ gp .0)) $
+        sets ! (of-opd ! (load ! (from ! (fld ! refl (stop !))) (look-in ! (L 3) (sub ! 11 refl (whole !)))))
+        (init ! (L 4) refl (LL.lawful T.the-type T′.the-laws 𝓤 H A W .typed p _ gp .0)) $
         reborrows ! (L 1) (L 7) (L 8) (fits .0) refl refl refl refl refl refl refl refl $
         calls-put ! mem run (fmOf 𝓤 H (W .laws) 𝓣) kp (c .row) 0 p fits refl (lit< tt) gp
         (λ P δ ν. and-then ! (var ! (L 8) refl) (and-then ! (lit ! tt) (and-then ! (var ! (L 4) refl) (no-more !))))
@@ -132,10 +141,16 @@ from-root-spec 𝓤 H 𝓜 𝓖 𝓡 =
     let 𝓣 = tablesOf 𝓤 H 𝓜 (tables 𝓤 H 𝓜 𝓡 code.env) in
     let clauses = from-root.clauses 𝓤 H A (𝓜 .mem) (𝓡 .run) in
     let goes = WpFn 𝓤 H (𝓣 .C) (𝓣 .Λ) code.function in
-    entered 𝓤 H (tripleOf 𝓤 H A from-root.signature (from-root.spec 𝓤 H A (𝓜 .mem) (𝓡 .run))) (tables 𝓤 H 𝓜 𝓡 code.env .C) (tables 𝓤 H 𝓜 𝓡 code.env .Λ) #search·from-root code.function (code.unfolded 𝓤 H 𝓜 𝓡)
-    (walk-meets 𝓤 H A from-root.ended stayed W (goes-slice 𝓤 H A W 2 0 tt (plain (λ _. T.the-row)), (goes-slice 𝓤 H A W 2 1 tt (plain (λ _. u8)), (goes-none 𝓤 H A W 2 (λ _. S.the-row) yes (λ κs x f. refl), tt))) clauses goes (WpFn-mono 𝓤 H (W .laws) 𝓣 code.function)
-    (walked 𝓤 H A from-root.ended stayed clauses goes (λ κs. (slice-vals, (slice-vals, (LL.vals S.the-type S′.the-laws, tt)))) (λ κs. (mut-slice-tells (named 0) (κs .0) T.the-row, (mut-slice-tells (named 1) (κs .1 .0) u8, (LL.tells S.the-type S′.the-laws, tt))))
+    entered 𝓤 H (tripleOf 𝓤 H A from-root.signature (from-root.spec 𝓤 H A (𝓜 .mem) (𝓡 .run))) (tables 𝓤 H 𝓜 𝓡 code.env .C)
+    (tables 𝓤 H 𝓜 𝓡 code.env .Λ) #search·from-root code.function (code.unfolded 𝓤 H 𝓜 𝓡)
+    (walk-meets 𝓤 H A from-root.ended stayed W (
+      goes-slice 𝓤 H A W 2 0 tt (plain (λ _. T.the-row)),
+      (goes-slice 𝓤 H A W 2 1 tt (plain (λ _. u8)), (goes-none 𝓤 H A W 2 (λ _. S.the-row) yes (λ κs x f. refl), tt)),
+    ) clauses goes (WpFn-mono 𝓤 H (W .laws) 𝓣 code.function)
+    (walked 𝓤 H A from-root.ended stayed clauses goes (λ κs. (slice-vals, (slice-vals, (LL.vals S.the-type S′.the-laws, tt))))
+    (λ κs. (mut-slice-tells (named 0) (κs .0) T.the-row, (mut-slice-tells (named 1) (κs .1 .0) u8, (LL.tells S.the-type S′.the-laws, tt))))
     (λ κs qs bounds a g are. needs 𝓤 (Ends (fromRoot (conf (a .1 .1 .0) (a .0 .now) (a .1 .0 .now)))) _ (λ ends.
-    walk 𝓤 H A W (𝓜 .mem) (𝓡 .run) (κs .0) (κs .1 .0) (qs .0) (qs .1 .0) (a .0 .ptr .0) (a .0 .ptr .1) (a .1 .0 .ptr .0) (a .1 .0 .ptr .1) (a .0 .name) (a .1 .0 .name) (conf (a .1 .1 .0) (a .0 .now) (a .1 .0 .now)) (are .1 .1 .0) ends (are .0 .0 .1) (are .1 .0 .0 .1) 𝓣
+    walk 𝓤 H A W (𝓜 .mem) (𝓡 .run) (κs .0) (κs .1 .0) (qs .0) (qs .1 .0) (a .0 .ptr .0) (a .0 .ptr .1) (a .1 .0 .ptr .0) (a .1 .0 .ptr .1) (a .0 .name)
+    (a .1 .0 .name) (conf (a .1 .1 .0) (a .0 .now) (a .1 .0 .now)) (are .1 .1 .0) ends (are .0 .0 .1) (are .1 .0 .0 .1) 𝓣
     (cited 𝓤 H (Put 𝓤 H A (𝓜 .mem) (𝓡 .run)) 𝓜 𝓡 code.env #search·put put-def.routine code.calls-search·put (put-thm.met 𝓤 H 𝓜 𝓖 𝓡))
     (cited 𝓤 H (Running 𝓤 H A) 𝓜 𝓡 code.env #search·run run-def.routine code.calls-search·run (run-thm.met 𝓤 H 𝓜 𝓖 𝓡))))))

@@ -1,4 +1,5 @@
--- `search::take` meets its contract: a walk of its MIR, by hand. Where the row has the place, the borrow is opened, one element is taken out of the row, read and put back, and the borrow is closed at the same list.
+-- `search::take` meets its contract: a walk of its MIR, by hand. Where the row has the place, the borrow is opened, one element is taken out of the row,
+-- read and put back, and the borrow is closed at the same list.
 -- Assumes nothing.
 use mathlib.Core.Path.{_≡_, refl, sym}
 use Prim.Native.Nat.{ℕ, _<_, _*_, _^_}
@@ -19,7 +20,8 @@ use ghost.Atoms.{Atoms}
 use contract.Monad.{Fun}
 use contract.Running.{givenOf, tables, tablesOf}
 use types.Kit.{Given, Item, ‵, _⊛_, ⋆, Sq, runs, atRet, _$_, _∵_, !, qed, move, drop, split, join, rewrite, fsplit, fjoin, suffices, frame, done}
-use types.Run.{look, look-raw, init, store, forget, stop, hop, fld, from, load, lit, of-opd, bin, no-more, assigns-last, land, first, branches, skips, exec, returns, enter, params1, pass1, pass0}
+use types.Run.{look, look-raw, init, store, forget, stop, hop, fld, from, load, lit, of-opd, bin, no-more, assigns-last, land, first, branches, skips, exec}
+use types.Run.{returns, enter, params1, pass1, pass0}
 use types.Part.{whole, sub, look-in}
 use sound.WpLaws.{fmOf, WpFn-mono}
 use denote.RattleType.{owns}
@@ -58,7 +60,8 @@ use Rattle.search.proofs.take.Code.Mir as body
 abbrev stayed : Stays (take.ended .signature .params) (take.ended .kept)
 stayed = (stay-slice (0 ∷ []) tt (plain (λ _. T.the-row)), (stay-none (λ _. usize) yes, tt))
 
-module _ {M : Type 1} (𝓤 : URA M) (H : Heap 𝓤) (A : Atoms 𝓤) (W : Given 𝓤 H A) (mem : Memory → SProp 𝓤) (run : Routine → Fun 𝓤) (κ : Lft) (q : Share) (b o : ℕ) (γ : GName) (ys : List Problem) (i : ℕ) where
+module _ {M : Type 1} (𝓤 : URA M) (H : Heap 𝓤) (A : Atoms 𝓤) (W : Given 𝓤 H A) (mem : Memory → SProp 𝓤)
+    (run : Routine → Fun 𝓤) (κ : Lft) (q : Share) (b o : ℕ) (γ : GName) (ys : List Problem) (i : ℕ) where
   abbrev s : Val
   s = sliceVal (b, o) (length ys)
 
@@ -68,15 +71,18 @@ module _ {M : Type 1} (𝓤 : URA M) (H : Heap 𝓤) (A : Atoms 𝓤) (W : Given
   abbrev Post : Val → SProp 𝓤
   Post = walkOf 𝓤 H A take.ended stayed (take.clauses 𝓤 H A mem run) .post bound
 
-  module _ (fits : Room T.the-row (length ys)) (i-fits : i < 2 ^ 64) (𝓣 : Tables 𝓤 H) (known : Triple 𝓤 (𝓣 .C #search-problems·blank-problem) (Blank 𝓤 H A mem run)) where
+  module _ (fits : Room T.the-row (length ys)) (i-fits : i < 2 ^ 64) (𝓣 : Tables 𝓤 H)
+      (known : Triple 𝓤 (𝓣 .C #search-problems·blank-problem) (Blank 𝓤 H A mem run)) where
     -- the row and its token
     abbrev Row : List (Item 𝓤)
     Row = Own 𝓤 T.the-row κ γ b o (length ys) ys ∷ ‵ (flft κ q) ∷ []
 
     exits : (p : Problem) → Is T.the-row p (mach p ∷ []) → p ≡ getD ys i blankProblem → ent 𝓤 (⋆ 𝓤 H A Row) (Post (mach p))
     exits p gp is =
-        qed W Row ∵ suffices ! _ (ends-at 𝓤 H A take.ended stayed (take.clauses 𝓤 H A mem run) W bound (mach p) p (ys, (tt, tt)) (refl, (tt, tt))) $ says ! (is, refl) $
-        nothing ! $ move ! (2 ∷ 0 ∷ []) $ join ! $ frame ! $ nothing ! $ owned ! usize (Is usize) (uint-makes 𝓤 H A W w64) i _ (refl, i-fits) $ fjoin ! $ move ! (1 ∷ 0 ∷ []) $ fjoin ! $
+        qed W Row ∵ suffices ! _ (ends-at 𝓤 H A take.ended stayed (take.clauses 𝓤 H A mem run) W bound (mach p) p (ys, (tt, tt)) (refl, (tt, tt))) $
+        says ! (is, refl) $
+        nothing ! $ move ! (2 ∷ 0 ∷ []) $ join ! $ frame ! $ nothing ! $
+        owned ! usize (Is usize) (uint-makes 𝓤 H A W w64) i _ (refl, i-fits) $ fjoin ! $ move ! (1 ∷ 0 ∷ []) $ fjoin ! $
         owned ! T.the-row (Is T.the-row) (LL.makes T.the-type T′.the-plain 𝓤 H A) p _ gp $ move ! (1 ∷ 0 ∷ []) $ done !
 
     -- where local n stands, behind the row and its token, and behind the open row
@@ -94,31 +100,43 @@ module _ {M : Type 1} (𝓤 : URA M) (H : Heap 𝓤) (A : Atoms 𝓤) (W : Given
       Cells c p = c ∷ holds s ∷ holds (vint w64 i) ∷ holds (mach p) ∷ holds (vint w64 (length ys)) ∷ holds (vbool (ltb i (length ys))) ∷ []
 
       -- after the branch
-      ends : (p : Problem) → Is T.the-row p (mach p ∷ []) → p ≡ getD ys i blankProblem → Sq W (Own 𝓤 T.the-row κ γ b o (length ys) ys ∷ ‵ (flft κ q) ∷ cells 𝓤 H A En (Cells room p)) (runs (𝓣 .C) (𝓣 .Λ) En body.t-5 (atRet En Post))
-      ends p gp is = sets ! (of-opd ! (var ! (L 3) refl)) (init ! (L 0) refl (LL.lawful T.the-type T′.the-laws 𝓤 H A W .typed p _ gp .0)) $ returns ! (look ! (L 0) refl) $ frees-all W ! Row En (Cells (holds (mach p)) p) (exits p gp is)
+      ends : (p : Problem) → Is T.the-row p (mach p ∷ []) → p ≡ getD ys i blankProblem
+          → Sq W (Own 𝓤 T.the-row κ γ b o (length ys) ys ∷ ‵ (flft κ q) ∷ cells 𝓤 H A En (Cells room p)) (runs (𝓣 .C) (𝓣 .Λ) En body.t-5 (atRet En Post))
+      ends p gp is =
+          sets ! (of-opd ! (var ! (L 3) refl)) (init ! (L 0) refl (LL.lawful T.the-type T′.the-laws 𝓤 H A W .typed p _ gp .0)) $
+          returns ! (look ! (L 0) refl) $ frees-all W ! Row En (Cells (holds (mach p)) p) (exits p gp is)
 
     walk : ent 𝓤 (onEntry 𝓤 H A take.signature (κ, tt) (q, tt) (bound .0 .3) (bound .0 .4)) (WpFn 𝓤 H (𝓣 .C) (𝓣 .Λ) code.function (s ∷ vint w64 i ∷ []) Post)
     walk =
         qed W ((‵ (flft κ q) ⊛ ‵ ftrue) ∷ ‵ (owns (MutSlice (named 0) κ T.the-row ∷ usize ∷ []) (bound .0 .3) (bound .0 .4)) ∷ []) ∵
-        split ! $ move ! (2 ∷ []) $ fsplit ! $ move ! (1 ∷ 3 ∷ []) $ drop ! $ drop ! $ enter ! (𝓣 .C) (𝓣 .Λ) code.function (s ∷ vint w64 i ∷ []) _ $ allocs-all ! (code.function .locals) (λ l. params1 ! $ move ! (18 ∷ 19 ∷ []) $
+        split ! $ move ! (2 ∷ []) $ fsplit ! $ move ! (1 ∷ 3 ∷ []) $ drop ! $ drop ! $ enter ! (𝓣 .C) (𝓣 .Λ) code.function (s ∷ vint w64 i ∷ []) _ $
+        allocs-all ! (code.function .locals) (λ l. params1 ! $ move ! (18 ∷ 19 ∷ []) $
         -- [row; the token; _8; …; _0; …]
         pass1 ! (init ! (L 1) refl (tt, (tt, (record { fits = fits .0 }, tt)))) $ pass1 ! (init ! (L 2) refl (tt, record { fits = i-fits })) $ pass0 ! $
-        calls-blank-problem ! mem run (fmOf 𝓤 H (W .laws) 𝓣) known (λ P. no-more !) (λ gb. land ! (from ! (stop !)) (init ! (L 3) refl (LL.lawful T.the-type T′.the-laws 𝓤 H A W .typed blankProblem _ gb .0)) $
-        sets ! (of-opd ! (load ! (from ! (fld ! refl (stop !))) (look-in ! (L 1) (sub ! 1 refl (whole !))))) (init ! (L 4) refl (tt, record { fits = fits .0 })) $
+        calls-blank-problem ! mem run (fmOf 𝓤 H (W .laws) 𝓣) known (λ P. no-more !)
+        (λ gb. land ! (from ! (stop !)) (init ! (L 3) refl (LL.lawful T.the-type T′.the-laws 𝓤 H A W .typed blankProblem _ gb .0)) $
+        sets !
+        (of-opd ! (load ! (from ! (fld ! refl (stop !))) (look-in ! (L 1) (sub ! 1 refl (whole !))))) (init ! (L 4) refl (tt, record { fits = fits .0 })) $
         sets ! (bin ! (var ! (L 2) refl) (var ! (L 4) refl) tt) (init ! (L 5) refl (tt, tt)) $
         first ! $ branches ! (var ! (L 5) refl)
         (λ t.
         sets ! (bin ! (var ! (L 2) refl) (lit ! tt) (record { fits = byte t })) (init ! (L 6) refl (tt, record { fits = byte t })) $
         sets ! (bin ! (load ! (from ! (fld ! refl (stop !))) (look-in ! (L 1) (sub ! 0 refl (whole !)))) (var ! (L 6) refl) tt) (init ! (L 7) refl (tt, tt)) $
         rewrite ! (L 7) (λ (k : ℕ). ‵ (fat fullShare tyPtr (spotOf 𝓤 H (En l) 7 .1) 0 (vptr b k))) (sym (place-is recordBytes o i)) refl $
-        fsplit ! $ drop ! $ fsplit ! $ opens-slice ! tt T.the-row ys b o $ elem-out ! T.the-row (Is T.the-row) (shows 𝓤 H A T.the-row) (LL.vals T.the-type T′.the-laws) (LL.tells T.the-type T′.the-laws) fullShare ys i blankProblem b o (less t) (λ gp.
+        fsplit ! $ drop ! $ fsplit ! $ opens-slice ! tt T.the-row ys b o $
+        elem-out ! T.the-row (Is T.the-row) (shows 𝓤 H A T.the-row) (LL.vals T.the-type T′.the-laws)
+        (LL.tells T.the-type T′.the-laws) fullShare ys i blankProblem b o (less t) (λ gp.
         -- [row[i]; what it owns; the others; the open borrow; obs; auth; _8; …; _0; …]
-        sets ! (of-opd ! (load ! (from ! (hop ! (look ! (O 7) refl) (stop !))) (look-raw ! 0 refl))) (init ! (O 8) refl (LL.lawful T.the-type T′.the-laws 𝓤 H A W .typed (getD ys i blankProblem) _ gp .0)) $
+        sets ! (of-opd ! (load ! (from ! (hop ! (look ! (O 7) refl) (stop !))) (look-raw ! 0 refl)))
+        (init ! (O 8) refl (LL.lawful T.the-type T′.the-laws 𝓤 H A W .typed (getD ys i blankProblem) _ gp .0)) $
         elem-back ! T.the-row fullShare ys i blankProblem (mach (getD ys i blankProblem) ∷ []) b o (less t) $ closes-slice ! tt T.the-row ys ys refl b o $
         fjoin ! $ pureI ! (at-slice T.the-row (x b o γ ys) (s ∷ [])) (tt, (tt, tt)) (refl, fits) $ fjoin ! $
-        assigns-last ! (of-opd ! (var ! (L 8) refl)) (from ! (stop !)) (store ! (L 3) refl (LL.lawful T.the-type T′.the-laws 𝓤 H A W .typed (getD ys i blankProblem) _ gp .0)) $ exec ! (𝓣 .C) (𝓣 .Λ) (En l) body.t-5 (atRet (En l) Post) $
+        assigns-last ! (of-opd ! (var ! (L 8) refl)) (from ! (stop !))
+        (store ! (L 3) refl (LL.lawful T.the-type T′.the-laws 𝓤 H A W .typed (getD ys i blankProblem) _ gp .0)) $
+        exec ! (𝓣 .C) (𝓣 .Λ) (En l) body.t-5 (atRet (En l) Post) $
         forget ! (L 6) refl $ forget ! (L 7) refl $ forget ! (L 8) refl $ ends l (getD ys i blankProblem) gp refl))
-        (λ t. skips ! $ exec ! (𝓣 .C) (𝓣 .Λ) (En l) body.t-5 (atRet (En l) Post) $ ends l blankProblem gb (sym (List·getD-eq-default ys blankProblem (nltb→le i (length ys) t))))))
+        (λ t. skips ! $ exec ! (𝓣 .C) (𝓣 .Λ) (En l) body.t-5 (atRet (En l) Post) $
+        ends l blankProblem gb (sym (List·getD-eq-default ys blankProblem (nltb→le i (length ys) t))))))
       where
         less : T (ltb i (length ys)) → i < length ys
         less t = ltb→lt i (length ys) t
@@ -134,8 +152,13 @@ take-spec 𝓤 H 𝓜 𝓖 𝓡 =
     let 𝓣 = tablesOf 𝓤 H 𝓜 (tables 𝓤 H 𝓜 𝓡 code.env) in
     let clauses = take.clauses 𝓤 H A (𝓜 .mem) (𝓡 .run) in
     let goes = WpFn 𝓤 H (𝓣 .C) (𝓣 .Λ) code.function in
-    entered 𝓤 H (tripleOf 𝓤 H A take.signature (take.spec 𝓤 H A (𝓜 .mem) (𝓡 .run))) (tables 𝓤 H 𝓜 𝓡 code.env .C) (tables 𝓤 H 𝓜 𝓡 code.env .Λ) #search·take code.function (code.unfolded 𝓤 H 𝓜 𝓡)
-    (walk-meets 𝓤 H A take.ended stayed W (goes-slice 𝓤 H A W 1 0 tt (plain (λ _. T.the-row)), (goes-none 𝓤 H A W 1 (λ _. usize) yes (λ κs x f. refl), tt)) clauses goes (WpFn-mono 𝓤 H (W .laws) 𝓣 code.function)
-    (walked 𝓤 H A take.ended stayed clauses goes (λ κs. (slice-vals, (uint-vals w64, tt))) (λ κs. (mut-slice-tells (named 0) (κs .0) T.the-row, (uint-tells w64, tt)))
-    (λ κs qs bounds a g are. via 𝓤 _ (fst∗ 𝓤 _ (emp 𝓤)) (walk 𝓤 H A W (𝓜 .mem) (𝓡 .run) (κs .0) (qs .0) (a .0 .ptr .0) (a .0 .ptr .1) (a .0 .name) (a .0 .now) (a .1 .0) (are .0 .0 .1) (are .1 .0 .1) 𝓣
-    (cited 𝓤 H (Blank 𝓤 H A (𝓜 .mem) (𝓡 .run)) 𝓜 𝓡 code.env #search-problems·blank-problem blank-problem-def.routine code.calls-search-problems·blank-problem (blank-problem-thm.met 𝓤 H 𝓜 𝓖 𝓡))))))
+    entered 𝓤 H (tripleOf 𝓤 H A take.signature (take.spec 𝓤 H A (𝓜 .mem) (𝓡 .run))) (tables 𝓤 H 𝓜 𝓡 code.env .C)
+    (tables 𝓤 H 𝓜 𝓡 code.env .Λ) #search·take code.function (code.unfolded 𝓤 H 𝓜 𝓡)
+    (walk-meets 𝓤 H A take.ended stayed W (goes-slice 𝓤 H A W 1 0 tt (plain (λ _. T.the-row)), (goes-none 𝓤 H A W 1 (λ _. usize) yes (λ κs x f. refl), tt))
+    clauses goes (WpFn-mono 𝓤 H (W .laws) 𝓣 code.function)
+    (walked 𝓤 H A take.ended stayed clauses goes (λ κs. (slice-vals, (uint-vals w64, tt)))
+    (λ κs. (mut-slice-tells (named 0) (κs .0) T.the-row, (uint-tells w64, tt)))
+    (λ κs qs bounds a g are. via 𝓤 _ (fst∗ 𝓤 _ (emp 𝓤))
+    (walk 𝓤 H A W (𝓜 .mem) (𝓡 .run) (κs .0) (qs .0) (a .0 .ptr .0) (a .0 .ptr .1) (a .0 .name) (a .0 .now) (a .1 .0) (are .0 .0 .1) (are .1 .0 .1) 𝓣
+    (cited 𝓤 H (Blank 𝓤 H A (𝓜 .mem) (𝓡 .run)) 𝓜 𝓡 code.env #search-problems·blank-problem blank-problem-def.routine code.calls-search-problems·blank-problem
+    (blank-problem-thm.met 𝓤 H 𝓜 𝓖 𝓡))))))

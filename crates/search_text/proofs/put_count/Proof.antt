@@ -17,7 +17,8 @@ same-length c = search needs
 returns : tie.Need-returns
 returns c =
     let z = c .before .before .before .before .before .before .before .before .before .before .args in
-    placed-next (z .words .now) (digitsOf (z .n)) (z .at) (z .out .now) (c .before .before .before .before .before .before .put-bytes .ensures) (c .before .before .put-number .ensures)
+    placed-next (z .words .now) (digitsOf (z .n)) (z .at) (z .out .now)
+    (c .before .before .before .before .before .before .put-bytes .ensures) (c .before .before .put-number .ensures)
 
 pub put-count-spec : {M : Type 1} → statement M
 put-count-spec = tie.close (tie.spec put-bytes-requires put-number-requires same-length returns)

@@ -36,11 +36,15 @@ same-length c = search needs
 
 returns : tie.Need-returns
 returns c =
-    let z = c .before .before .before .before .before .before .before .before .before .before .before .before .before .before .before .before .before .before .before .before .before .args in
+    let z = c .before .before .before .before .before .before .before .before .before .before
+    .before .before .before .before .before .before .before .before .before .before .before .args in
     let x = countText "refusal " (z .refusal) in
     let y = countText " lines " (z .lines) in
     let w = countText " bytes " (z .bytes) in
-    placed-next (x ++ y ++ w) newline (z .at) (z .out .now) (placed-three x y w (z .at) (z .out .now) (c .before .before .before .before .before .before .before .before .before .before .before .before .before .before .before .before .before .put-count .ensures) (c .before .before .before .before .before .before .before .before .before .before .before .before .put-count2 .ensures) (c .before .before .before .before .before .before .before .put-count3 .ensures)) (c .before .before .put-bytes .ensures)
+    placed-next (x ++ y ++ w) newline (z .at) (z .out .now) (placed-three x y w (z .at) (z .out .now) (c .before .before .before .before
+    .before .before .before .before .before .before .before .before .before .before .before .before .before .put-count .ensures)
+    (c .before .before .before .before .before .before .before .before .before .before .before .before .put-count2 .ensures)
+    (c .before .before .before .before .before .before .before .put-count3 .ensures)) (c .before .before .put-bytes .ensures)
 
 pub put-counts-spec : {M : Type 1} → statement M
 put-counts-spec =

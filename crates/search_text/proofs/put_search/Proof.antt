@@ -71,7 +71,8 @@ same-length c = search needs
 
 returns : tie.Need-returns
 returns c =
-    let z = c .before .before .before .before .before .before .before .before .before .before .before .before .before .before .before .before .before .before .args in
+    let z =
+    c .before .before .before .before .before .before .before .before .before .before .before .before .before .before .before .before .before .before .args in
     let T = c .before .before .before .before .before .before .before .before .before .before .before .before .before .before .before .before .lines-room in
     let n = c .before .before .before .before .before .before .before .before .before .before .before .before .before .before .before .at-most in
     let S = c .before .before .before .before .before .before .before .before .before .before .before .before .before .search-in in

@@ -22,7 +22,8 @@ same-length c = search needs
 returns : tie.Need-returns
 returns c =
     let z = c .before .before .before .before .before .before .before .before .args in
-    piece-as longestBody (z .at) (z .out .now) (line-long (z .line .now) (c .before .before .before .before .before .if1 .taken)) (c .before .before .put-bytes .ensures, omega arith)
+    piece-as longestBody (z .at) (z .out .now)
+    (line-long (z .line .now) (c .before .before .before .before .before .if1 .taken)) (c .before .before .put-bytes .ensures, omega arith)
 
 tab-place-requires : tie.Need-tab-place-requires
 tab-place-requires c κs = search needs
@@ -58,7 +59,9 @@ returns-2 c =
     let z = c .before .before .before .before .before .before .before .before .before .before .before .before .args in
     let T = c .before .before .before .before .before .before .before .before .tab-place in
     let D = c .before .before .before .before .before .before .before .behind in
-    piece-as longestBody (z .at) (z .out .now) (line-said (z .line .now) (T .result) (D .result) (T .ensures .0) (D .ensures) (c .before .before .before .before .before .read-field .ensures) (c .before .before .before .before .before .before .before .before .before .if1 .left)) (c .before .before .put-right .ensures)
+    piece-as longestBody (z .at) (z .out .now)
+    (line-said (z .line .now) (T .result) (D .result) (T .ensures .0) (D .ensures) (c .before .before .before .before .before .read-field .ensures)
+    (c .before .before .before .before .before .before .before .before .before .if1 .left)) (c .before .before .put-right .ensures)
 
 pub put-line-spec : {M : Type 1} → statement M
 put-line-spec =

@@ -43,7 +43,8 @@ returns c =
     let z = c .before .before .before .before .before .before .before .before .before .before .before .args in
     let T = c .before .before .before .before .before .before .before .before .tab-place in
     let D = c .before .before .before .before .before .before .before .behind in
-    piece-as longestBody (z .at) (z .out .now) (right-said (z .line .now) (T .result) (D .result) (T .ensures .0) (D .ensures) (countedField (z .left)) (c .before .before .before .before .before .read-field .ensures)) (c .before .before .put-sizes .ensures)
+    piece-as longestBody (z .at) (z .out .now) (right-said (z .line .now) (T .result) (D .result) (T .ensures .0) (D .ensures) (countedField (z .left))
+    (c .before .before .before .before .before .read-field .ensures)) (c .before .before .put-sizes .ensures)
 
 pub put-right-spec : {M : Type 1} → statement M
 put-right-spec =

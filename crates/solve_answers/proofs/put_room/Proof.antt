@@ -54,8 +54,10 @@ same-length-2 c = search needs
 returns-2 : tie.Need-returns-2
 returns-2 c =
     let z = c .before .before .before .before .before .before .before .before .before .before .args in
-    let e = size-bad (sizeOf mostBytes (z .room .now)) (sym (c .before .before .before .before .before .before .before .read-size .ensures) ∙ c .before .before .before .before .before .enum-told .given .1) in
-    piece-as longestBody (z .at) (z .out .now) (ap (searchText (countedField (z .left)) (countedField (z .right)) (some (z .row))) e) (c .before .before .put-bytes .ensures, omega arith)
+    let e = size-bad (sizeOf mostBytes (z .room .now))
+    (sym (c .before .before .before .before .before .before .before .read-size .ensures) ∙ c .before .before .before .before .before .enum-told .given .1) in
+    piece-as longestBody (z .at) (z .out .now)
+    (ap (searchText (countedField (z .left)) (countedField (z .right)) (some (z .row))) e) (c .before .before .put-bytes .ensures, omega arith)
 
 pub put-room-spec : {M : Type 1} → statement M
 put-room-spec =

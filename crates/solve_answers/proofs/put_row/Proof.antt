@@ -21,7 +21,8 @@ enum-known-records c = search needs
 
 put-room-requires : tie.Need-put-room-requires
 put-room-requires c κs =
-    size-least mostRecords (c .before .before .before .before .before .before .before .before .args .row .now) _ (size-of _ _ (sym (c .before .before .before .before .read-size .ensures) ∙ c .before .before .records .given .1))
+    size-least mostRecords (c .before .before .before .before .before .before .before .before .args .row .now)
+    _ (size-of _ _ (sym (c .before .before .before .before .read-size .ensures) ∙ c .before .before .records .given .1))
 
 enum-told : tie.Need-enum-told
 enum-told c = search needs
@@ -38,8 +39,11 @@ same-length c = search needs
 returns : tie.Need-returns
 returns c =
     let z = c .before .before .before .before .before .before .before .before .before .before .before .args in
-    let e = size-of (sizeOf mostRecords (z .row .now)) _ (sym (c .before .before .before .before .before .before .before .read-size .ensures) ∙ c .before .before .before .before .before .records .given .1) in
-    piece-as longestBody (z .at) (z .out .now) (ap (λ (o : Option ℕ). searchText (countedField (z .left)) (countedField (z .right)) o (sizeOf mostBytes (z .room .now))) e) (c .before .before .put-room .ensures)
+    let e = size-of (sizeOf mostRecords (z .row .now))
+    _ (sym (c .before .before .before .before .before .before .before .read-size .ensures) ∙ c .before .before .before .before .before .records .given .1) in
+    piece-as longestBody (z .at) (z .out .now)
+    (ap (λ (o : Option ℕ). searchText (countedField (z .left)) (countedField (z .right)) o (sizeOf mostBytes (z .room .now))) e)
+    (c .before .before .put-room .ensures)
 
 same-length-2 : tie.Need-same-length-2
 same-length-2 c = search needs
@@ -47,8 +51,11 @@ same-length-2 c = search needs
 returns-2 : tie.Need-returns-2
 returns-2 c =
     let z = c .before .before .before .before .before .before .before .before .before .before .before .args in
-    let e = size-bad (sizeOf mostRecords (z .row .now)) (sym (c .before .before .before .before .before .before .before .read-size .ensures) ∙ c .before .before .before .before .before .enum-told .given .1) in
-    piece-as longestBody (z .at) (z .out .now) (ap (λ (o : Option ℕ). searchText (countedField (z .left)) (countedField (z .right)) o (sizeOf mostBytes (z .room .now))) e) (c .before .before .put-bytes .ensures, omega arith)
+    let e = size-bad (sizeOf mostRecords (z .row .now))
+    (sym (c .before .before .before .before .before .before .before .read-size .ensures) ∙ c .before .before .before .before .before .enum-told .given .1) in
+    piece-as longestBody (z .at) (z .out .now)
+    (ap (λ (o : Option ℕ). searchText (countedField (z .left)) (countedField (z .right)) o (sizeOf mostBytes (z .room .now))) e)
+    (c .before .before .put-bytes .ensures, omega arith)
 
 pub put-row-spec : {M : Type 1} → statement M
 put-row-spec =

@@ -46,7 +46,9 @@ returns c =
     let T = c .before .before .before .before .before .before .before .before .before .tab-place in
     let D = c .before .before .before .before .before .before .before .before .behind in
     let U = c .before .before .before .before .before .before .tab-place2 in
-    piece-as longestBody (z .at) (z .out .now) (tab-there (z .line .now) (T .result) (D .result) (T .ensures .0) (D .ensures) (countedField (z .left)) (countedField (z .right)) (U .result) (U .ensures .0) (c .before .before .before .before .before .if1 .taken)) (c .before .before .put-bytes .ensures, omega arith)
+    piece-as longestBody (z .at) (z .out .now)
+    (tab-there (z .line .now) (T .result) (D .result) (T .ensures .0) (D .ensures) (countedField (z .left)) (countedField (z .right)) (U .result)
+    (U .ensures .0) (c .before .before .before .before .before .if1 .taken)) (c .before .before .put-bytes .ensures, omega arith)
 
 slice-aggregate-put-row : tie.Need-slice-aggregate-put-row
 slice-aggregate-put-row c =
@@ -74,7 +76,9 @@ returns-2 c =
     let T = c .before .before .before .before .before .before .before .before .before .before .tab-place in
     let D = c .before .before .before .before .before .before .before .before .before .behind in
     let U = c .before .before .before .before .before .before .before .tab-place2 in
-    piece-as longestBody (z .at) (z .out .now) (no-tab-there (z .line .now) (T .result) (D .result) (T .ensures .0) (D .ensures) (countedField (z .left)) (countedField (z .right)) (U .result) (U .ensures .0) (c .before .before .before .before .before .before .if1 .left)) (c .before .before .put-row .ensures)
+    piece-as longestBody (z .at) (z .out .now)
+    (no-tab-there (z .line .now) (T .result) (D .result) (T .ensures .0) (D .ensures) (countedField (z .left)) (countedField (z .right)) (U .result)
+    (U .ensures .0) (c .before .before .before .before .before .before .if1 .left)) (c .before .before .put-row .ensures)
 
 pub put-sizes-spec : {M : Type 1} → statement M
 put-sizes-spec =

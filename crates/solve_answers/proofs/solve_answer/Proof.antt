@@ -38,7 +38,8 @@ slice-aggregate-give c =
     let z = c .before .before .before .before .before .before .before .before .before .before .before .args in
     let l = c .before .before .before .before .before .before .before .before .room in
     let L = c .before .before .put-line .ensures in
-    front-size (solveAnswer (z .k) (z .line .now)) (l .result) (omega (arith, answer-short (z .k) (z .line .now) (search needs) (L .1), l .ensures)) (placed-next (titleText (z .k)) (lineText (z .line .now)) 0 (l .result) (c .before .before .before .before .before .put-title .ensures) (L .0))
+    front-size (solveAnswer (z .k) (z .line .now)) (l .result) (omega (arith, answer-short (z .k) (z .line .now) (search needs) (L .1), l .ensures))
+    (placed-next (titleText (z .k)) (lineText (z .line .now)) 0 (l .result) (c .before .before .before .before .before .put-title .ensures) (L .0))
 
 give-requires : tie.Need-give-requires
 give-requires c κs = search needs
@@ -53,8 +54,12 @@ returns c =
     let l = c .before .before .before .before .before .before .before .before .before .before .before .before .room in
     let L = c .before .before .before .before .before .before .put-line .ensures in
     let G = c .before .before .give in
-    let h = answer-short (z .k) (z .line .now) (search needs) (L .1) in
-    (subst (λ (t : List ℕ). Writes t (z .out .now) (G .result) (G .last .1 .0)) (front-is (solveAnswer (z .k) (z .line .now)) (l .result) (omega (arith, h, l .ensures)) (placed-next (titleText (z .k)) (lineText (z .line .now)) 0 (l .result) (c .before .before .before .before .before .before .before .before .before .put-title .ensures) (L .0))) (G .ensures), h)
+    let h = answer-short (z .k) (z .line .now) (search needs) (L .1) in (
+      subst (λ (t : List ℕ). Writes t (z .out .now) (G .result) (G .last .1 .0))
+          (front-is (solveAnswer (z .k) (z .line .now)) (l .result) (omega (arith, h, l .ensures)) (placed-next (titleText (z .k)) (lineText (z .line .now)) 0
+          (l .result) (c .before .before .before .before .before .before .before .before .before .put-title .ensures) (L .0))) (G .ensures),
+      h,
+    )
 
 pub solve-answer-spec : {M : Type 1} → statement M
 solve-answer-spec =

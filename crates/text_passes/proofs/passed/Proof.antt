@@ -42,7 +42,8 @@ use Rattle.text_passes.specs.Places.{spelled, behind, passed}
 use Rattle.refusals.proofs.At as P
 use Rattle.refusals.proofs.At.Laws as P′
 use Rattle.text_passes.proofs.Reader.Laws as R′
-use Rattle.text_passes.proofs.Held.{B, D, F, mach-text, mach-at, mach, Text, At-is, Reader-is, text-of-is, at-of-is, reader-is, at-typed, reader-typed, text-twice, held, text-of, mach-piece, Token, Piece-is, piece-typed}
+use Rattle.text_passes.proofs.Held.{B, D, F, mach-text, mach-at, mach, Text, At-is, Reader-is, text-of-is, at-of-is, reader-is, at-typed, reader-typed}
+use Rattle.text_passes.proofs.Held.{text-twice, held, text-of, mach-piece, Token, Piece-is, piece-typed}
 use Rattle.text_passes.proofs.behind as behind′
 use Rattle.text_passes.proofs.behind.Symbol as behind-def
 use Rattle.text_passes.proofs.behind.Symbol.{name as #text-passes·behind}

@@ -23,7 +23,8 @@ use contract.Monad.{Fun}
 use contract.Running.{givenOf, tables, tablesOf}
 use types.Kit.{Given, Item, ‵, ⋆, runs, anyQ, atRet, Sq, _$_, _∵_, !, qed, move, drop, rewrite, fsplit, fjoin, suffices, frame, done}
 use types.Part.{whole, sub, look-in}
-use types.Run.{look, init, store, forget, stop, fld, from, load, of-opd, and-then, no-more, assigns-last, land, first as first-part, blocks, stays, leaves-loop, returns, enter, params1, pass1, pass0, exec, Below, again, loops}
+use types.Run.{look, init, store, forget, stop, fld, from, load, of-opd, and-then, no-more, assigns-last, land, first as first-part, blocks, stays, leaves-loop}
+use types.Run.{returns, enter, params1, pass1, pass0, exec, Below, again, loops}
 use sound.WpLaws.{fmOf, WpFn-mono}
 use denote.RattleType.{owns}
 use denote.Laws.{Is}
@@ -58,7 +59,8 @@ use Rattle.text_passes.proofs.Reader.Laws as R′
 use Rattle.refusals.proofs.Survey as S
 use Rattle.refusals.proofs.Survey.Laws as S′
 use Rattle.text_passes.proofs.Loops.{within, fewer-left, piece-small, Walked, walked-none, walked-one, walked-all}
-use Rattle.text_passes.proofs.Held.{reader, mach-text, mach-at, mach, Text, Text-is, At-is, text-typed, at-typed, reader-typedᵉ, at-of-is, reader-is, mach-piece, Token, piece-typed}
+use Rattle.text_passes.proofs.Held.{reader, mach-text, mach-at, mach, Text, Text-is, At-is, text-typed, at-typed, reader-typedᵉ, at-of-is, reader-is}
+use Rattle.text_passes.proofs.Held.{mach-piece, Token, piece-typed}
 use Rattle.text_passes.proofs.Calls.{next-at, Start, HasTerm, Term, Passed, Kept, calls-start, calls-has-term, calls-term, calls-passed}
 use Rattle.text_passes.proofs.nothing_yet as nothing-yet
 use Rattle.text_passes.proofs.nothing_yet.Symbol as nothing-yet-def

@@ -45,7 +45,8 @@ use Rattle.walks.proofs.Returns.{Met, returns-of, calls-shared}
 use Rattle.text_passes.specs.declared.Reader.{Reader}
 use Rattle.text_passes.specs.Places.{termAt}
 use Rattle.text_passes.proofs.Reader.Laws as R′
-use Rattle.text_passes.proofs.Held.{B, D, F, mach-text, mach, Text, Reader-is, at-of-is, reader-typed, text-twice, held, text-of, mach-piece, Token, Piece-is, piece-typed}
+use Rattle.text_passes.proofs.Held.{B, D, F, mach-text, mach, Text, Reader-is, at-of-is, reader-typed, text-twice, held, text-of, mach-piece, Token}
+use Rattle.text_passes.proofs.Held.{Piece-is, piece-typed}
 use Rattle.text_passes.proofs.term.Key.{name as #text-passes·term}
 use Rattle.text_passes.proofs.term as term
 use Rattle.text_passes.proofs.term.Statement as stated

@@ -17,7 +17,9 @@ next-rule-requires c κs = search needs
 returns : tie.Need-returns
 returns c =
     let z = c .before .before .before .before .args in
-    c .next-rule .ensures ∙ sym (ap (λ (b : Bool). cond b (nextRule (tableIn (z .row .now)) (z .p) 0) rules) (sym (c .before .before .is-worked .ensures) ∙ c .before .if1 .taken))
+    c .next-rule .ensures
+    ∙ sym (ap (λ (b : Bool). cond b (nextRule (tableIn (z .row .now)) (z .p) 0) rules)
+    (sym (c .before .before .is-worked .ensures) ∙ c .before .if1 .taken))
 
 returns-2 : tie.Need-returns-2
 returns-2 c =
