@@ -2,47 +2,47 @@
 -- match, or without a right side, the slip unchanged and a no", and "refusal 11 (a result field over 64 terms) is the only one of carrying
 -- out; it leaves the slip as given".
 -- Over the definition that the contract cites, for a rule value v and a slip value s:
---     carrying::carry_out   answers `carriedOf v s`
--- `Carries` of carrying/specs says it of the values; here it is tied to texts and to matching.
+--     apply_rules::carry_out   answers `carriedOf v s`
+-- `Carries` of apply_rules/specs says it of the values; here it is tied to texts and to matching.
 use mathlib.Core.Path.{_≡_, refl, sym, _∙_, ap, subst}
 use mathlib.Core.Logic.{_↔_}
 use mathlib.Core.Bool.{Bool, true, false, cond, false≢true}
 use mathlib.Core.List.{List, [], map}
 use Prim.Native.Nat.{ℕ}
-use Rattle.lists.specs.Seqs.{IsCons}
-use Rattle.order.specs.Types.{Kind}
-use Rattle.theory.specs.Terms.{con}
-use Rattle.theory.specs.Fillings.{Filling, fill}
-use Rattle.text.specs.Terms.{Con, OurTerm}
-use Rattle.text.specs.Limits.{IsSlip}
-use Rattle.text.specs.Read.{Reason, refused, accepted, readSlip}
-use Rattle.text.proofs.Accepted.{slip-read}
-use Rattle.rules.specs.Read.{OurRule, readRule}
-use Rattle.rules.specs.Limits.{IsRule}
-use Rattle.rules.proofs.Accepted.{rule-read}
-use Rattle.instance.specs.Matching.{constants}
-use Rattle.results.specs.Carrying.{result}
-use Rattle.results.specs.Rules.{OurSlip, carried}
-use Rattle.results.specs.Carried.{CarriesOut}
-use Rattle.results.proofs.Carrying.{limited-result}
-use Rattle.results.proofs.Carried.{carries-out}
-use Rattle.terms.specs.declared.Rule.{Rule}
-use Rattle.terms.specs.declared.Slip.{Slip}
-use Rattle.terms.specs.Values.{viewSide, viewRule, viewSlip, blankRule, blankSlip, encodeRule, encodeSlip}
-use Rattle.accepted_rules.specs.Rules.{acceptedRule, countedRule}
-use Rattle.accepted_rules.proofs.Rules.{accepted-rule, rule-accepts, view-encode-rule, counted-yes}
-use Rattle.accepted_slips.specs.Slips.{acceptedSlip, countedSlip}
-use Rattle.accepted_slips.proofs.Slips.{accepted-slip, encode-accepted-slip, view-encode-slip}
-use Rattle.reading.specs.declared.RuleRead.{RuleRead}
-use Rattle.reading.specs.declared.SlipRead.{SlipRead}
-use Rattle.reading.specs.Answers.{ruleRead, slipRead, ReadsRule, ReadsSlip}
-use Rattle.matching.specs.declared.Match.{Match}
-use Rattle.matching.specs.Answers.{matchOf, noMatch}
-use Rattle.carrying.specs.declared.Carry.the-variants.{Yes, No}
-use Rattle.carrying.specs.declared.Carried.{Carried}
-use Rattle.carrying.specs.Answers.{carriedOf}
-use Rattle.carrying.specs.Carries.{Makes, CarriesOn, Carries}
-use Rattle.carrying.proofs.Carries.{carries, terms-again}
+use Rattle.base_lists.specs.Seqs.{IsCons}
+use Rattle.math_types.specs.Types.{Kind}
+use Rattle.math_terms.specs.Terms.{con}
+use Rattle.math_terms.specs.Fillings.{Filling, fill}
+use Rattle.text_grammar.specs.Terms.{Con, OurTerm}
+use Rattle.text_grammar.specs.Limits.{IsSlip}
+use Rattle.text_grammar.specs.Read.{Reason, refused, accepted, readSlip}
+use Rattle.text_grammar.proofs.Accepted.{slip-read}
+use Rattle.text_rules.specs.Read.{OurRule, readRule}
+use Rattle.text_rules.specs.Limits.{IsRule}
+use Rattle.text_rules.proofs.Accepted.{rule-read}
+use Rattle.text_constants.specs.Matching.{constants}
+use Rattle.apply_spec.specs.Carrying.{result}
+use Rattle.apply_spec.specs.Rules.{OurSlip, carried}
+use Rattle.apply_spec.specs.Carried.{CarriesOut}
+use Rattle.apply_spec.proofs.Carrying.{limited-result}
+use Rattle.apply_spec.proofs.Carried.{carries-out}
+use Rattle.text_values.specs.declared.Rule.{Rule}
+use Rattle.text_values.specs.declared.Slip.{Slip}
+use Rattle.text_values.specs.Values.{viewSide, viewRule, viewSlip, blankRule, blankSlip, encodeRule, encodeSlip}
+use Rattle.text_accepted_rules.specs.Rules.{acceptedRule, countedRule}
+use Rattle.text_accepted_rules.proofs.Rules.{accepted-rule, rule-accepts, view-encode-rule, counted-yes}
+use Rattle.text_accepted_slips.specs.Slips.{acceptedSlip, countedSlip}
+use Rattle.text_accepted_slips.proofs.Slips.{accepted-slip, encode-accepted-slip, view-encode-slip}
+use Rattle.text_read.specs.declared.RuleRead.{RuleRead}
+use Rattle.text_read.specs.declared.SlipRead.{SlipRead}
+use Rattle.text_read.specs.Answers.{ruleRead, slipRead, ReadsRule, ReadsSlip}
+use Rattle.match_rules.specs.declared.Match.{Match}
+use Rattle.match_rules.specs.Answers.{matchOf, noMatch}
+use Rattle.apply_rules.specs.declared.Carry.the-variants.{Yes, No}
+use Rattle.apply_rules.specs.declared.Carried.{Carried}
+use Rattle.apply_rules.specs.Answers.{carriedOf}
+use Rattle.apply_rules.specs.Carries.{Makes, CarriesOn, Carries}
+use Rattle.apply_rules.proofs.Carries.{carries, terms-again}
 use Rattle.demands.specs.Matching.{Matching, matching}
 
 -- the answer "the slip unchanged and a no"

@@ -1,7 +1,7 @@
 -- Document 02, E2, of matching that quits early: "It also returns how many slip items it compared, one for each atom reached, the failing
 -- one included: 0 where the field counts differ or a side has no fields. No shop should see another yes, no or filling."
 -- Over the definition that the contract cites, for a rule value v and a slip value w:
---     matching::compare_rule   answers `comparison (countedRule v .0) (countedSlip w)`
+--     match_rules::compare_rule   answers `comparison (countedRule v .0) (countedSlip w)`
 use mathlib.Core.Path.{_≡_, refl, sym, _∙_, ap, subst}
 use mathlib.Core.Logic.{_↔_, _≢_, Iff·trans}
 use mathlib.Core.Bool.{Bool, true, false, cond}
@@ -11,25 +11,25 @@ use Prim.Native.Nat.{ℕ, _≤_}
 use native.Mathlib.Omega.{arith}
 use native.Mathlib.Decide.{ℕ-discrete}
 use lib.ListN.{length, length-map}
-use Rattle.lists.specs.Seqs.{All}
-use Rattle.order.specs.Types.{basics}
-use Rattle.theory.specs.Compared.{Passes, CountIs, allAtoms}
-use Rattle.theory.proofs.Compared.{compared-exactly, compared-none, compared-yes, compared-most, yes-passes}
-use Rattle.text.specs.Terms.{Con, OurTerm}
-use Rattle.text.specs.Limits.{Linear}
-use Rattle.instance.specs.Constants.{consts}
-use Rattle.instance.specs.Matching.{constants, matcher, tests, compared}
-use Rattle.instance.proofs.Matching.{match-iff}
-use Rattle.terms.specs.declared.Rule.{Rule}
-use Rattle.terms.specs.declared.Slip.{Slip}
-use Rattle.terms.specs.Values.{viewSide, viewRule, viewSlip}
-use Rattle.accepted.proofs.Accepted.{accepted-rule}
-use Rattle.accepted_rules.specs.Rules.{acceptedRule, countedRule}
-use Rattle.accepted_rules.proofs.Rules.{accepted-is}
-use Rattle.accepted_slips.specs.Slips.{acceptedSlip, countedSlip}
-use Rattle.matching.specs.declared.Comparison.{Comparison}
-use Rattle.matching.specs.Answers.{matchOf, noComparison, comparison}
-use Rattle.matching.proofs.Accept.{no-left, no-slip}
+use Rattle.base_lists.specs.Seqs.{All}
+use Rattle.math_types.specs.Types.{basics}
+use Rattle.math_terms.specs.Compared.{Passes, CountIs, allAtoms}
+use Rattle.math_terms.proofs.Compared.{compared-exactly, compared-none, compared-yes, compared-most, yes-passes}
+use Rattle.text_grammar.specs.Terms.{Con, OurTerm}
+use Rattle.text_grammar.specs.Limits.{Linear}
+use Rattle.text_constants.specs.Constants.{consts}
+use Rattle.text_constants.specs.Matching.{constants, matcher, tests, compared}
+use Rattle.text_constants.proofs.Matching.{match-iff}
+use Rattle.text_values.specs.declared.Rule.{Rule}
+use Rattle.text_values.specs.declared.Slip.{Slip}
+use Rattle.text_values.specs.Values.{viewSide, viewRule, viewSlip}
+use Rattle.text_accepted.proofs.Accepted.{accepted-rule}
+use Rattle.text_accepted_rules.specs.Rules.{acceptedRule, countedRule}
+use Rattle.text_accepted_rules.proofs.Rules.{accepted-is}
+use Rattle.text_accepted_slips.specs.Slips.{acceptedSlip, countedSlip}
+use Rattle.match_rules.specs.declared.Comparison.{Comparison}
+use Rattle.match_rules.specs.Answers.{matchOf, noComparison, comparison}
+use Rattle.match_rules.proofs.Accept.{no-left, no-slip}
 use Rattle.demands.specs.Matching.{Matching, matching}
 
 -- WHAT MATCHING THAT QUITS EARLY ANSWERS of a rule value v and a slip value w

@@ -8,30 +8,30 @@ use Prim.Native.Nat.{ℕ, suc, _≤_, _<_}
 use native.Mathlib.Omega.{arith}
 use native.Mathlib.Decide.{ℕ-discrete}
 use lib.ListN.{length, getElem?}
-use Rattle.lists.specs.Seqs.{All, Any, IsCons}
-use Rattle.order.specs.Order.{Full, basic, list}
-use Rattle.order.specs.Types.{Kind, basics}
-use Rattle.theory.specs.Terms.{Term, con, var}
-use Rattle.theory.specs.Fillings.{Filling, Typed, fill, Occurs}
-use Rattle.theory.specs.Linear.{LeftLinear}
-use Rattle.theory.proofs.Fillings.{fills-agree}
-use Rattle.text.specs.Sizes.{largestNumber, mostFields}
-use Rattle.text.specs.Terms.{Con, OurTerm}
-use Rattle.text.specs.Limits.{TermIn, IsLeft}
-use Rattle.instance.specs.Constants.{consts, some-of, some-of-le}
-use Rattle.instance.proofs.Linear.{left-linear}
-use Rattle.unifiers.specs.Substitutions.{Subst, substitute, TermsOf, TypedSubst}
-use Rattle.unifiers.specs.Overlaps.{overlaps}
-use Rattle.unifiers.specs.Solutions as theory
-use Rattle.unifiers.proofs.Seqs.{at-in}
-use Rattle.unifiers.proofs.Overlaps as entries
-use Rattle.listing.specs.Lines.{Binding, Line}
-use Rattle.listing.specs.Variables.{Variable, numbers, every, occurs, variables}
-use Rattle.listing.specs.Overlaps.{OurEntry, entriesOf, bindingsOf, lineOf, linesOf}
-use Rattle.listing.specs.Fits.{Solution}
-use Rattle.listing.proofs.Variables.{numbers-mem, every-mem, occurs-is, in-variables}
-use Rattle.listing.proofs.Rising.{keep-mem}
-use Rattle.listing.proofs.Exact.{entries-are}
+use Rattle.base_lists.specs.Seqs.{All, Any, IsCons}
+use Rattle.math_types.specs.Order.{Full, basic, list}
+use Rattle.math_types.specs.Types.{Kind, basics}
+use Rattle.math_terms.specs.Terms.{Term, con, var}
+use Rattle.math_terms.specs.Fillings.{Filling, Typed, fill, Occurs}
+use Rattle.math_terms.specs.Linear.{LeftLinear}
+use Rattle.math_terms.proofs.Fillings.{fills-agree}
+use Rattle.text_grammar.specs.Sizes.{largestNumber, mostFields}
+use Rattle.text_grammar.specs.Terms.{Con, OurTerm}
+use Rattle.text_grammar.specs.Limits.{TermIn, IsLeft}
+use Rattle.text_constants.specs.Constants.{consts, some-of, some-of-le}
+use Rattle.text_constants.proofs.Linear.{left-linear}
+use Rattle.math_overlaps.specs.Substitutions.{Subst, substitute, TermsOf, TypedSubst}
+use Rattle.math_overlaps.specs.Overlaps.{overlaps}
+use Rattle.math_overlaps.specs.Solutions as theory
+use Rattle.math_overlaps.proofs.Seqs.{at-in}
+use Rattle.math_overlaps.proofs.Overlaps as entries
+use Rattle.overlap_spec.specs.Lines.{Binding, Line}
+use Rattle.overlap_spec.specs.Variables.{Variable, numbers, every, occurs, variables}
+use Rattle.overlap_spec.specs.Overlaps.{OurEntry, entriesOf, bindingsOf, lineOf, linesOf}
+use Rattle.overlap_spec.specs.Fits.{Solution}
+use Rattle.overlap_spec.proofs.Variables.{numbers-mem, every-mem, occurs-is, in-variables}
+use Rattle.overlap_spec.proofs.Rising.{keep-mem}
+use Rattle.overlap_spec.proofs.Exact.{entries-are}
 
 -- ---- the fillings that an entry shows
 

@@ -12,21 +12,21 @@ use native.Mathlib.Omega.{arith}
 use lib.Dec.{leb}
 use lib.ListN.{length, take, drop}
 use borrow.Author.Tests.{le-leb, lt-leb, leb-false}
-use Rattle.text.specs.Terms.{OurTerm}
-use Rattle.text.specs.Limits.{IsLeft}
-use Rattle.text.specs.Read.{Reason, long, grammar, fields, terms, limits, linear, variable, unknown, number}
-use Rattle.text.specs.Read.{OutcomeOf, refused, accepted, earlier, NoReason}
-use Rattle.text.proofs.Refused.{number-once}
-use Rattle.rules.specs.Read.{OurRule, RefusesRule, readRule}
-use Rattle.rules.proofs.Read.{rule-refused}
-use Rattle.rules.proofs.Accepted.{rule-read}
-use Rattle.listing.specs.Overlaps.{linesOf, overlapText}
-use Rattle.overlaps.proofs.Lists.{no-right}
-use Rattle.overlaps.proofs.Rules.{none-listed}
+use Rattle.text_grammar.specs.Terms.{OurTerm}
+use Rattle.text_grammar.specs.Limits.{IsLeft}
+use Rattle.text_grammar.specs.Read.{Reason, long, grammar, fields, terms, limits, linear, variable, unknown, number}
+use Rattle.text_grammar.specs.Read.{OutcomeOf, refused, accepted, earlier, NoReason}
+use Rattle.text_grammar.proofs.Refused.{number-once}
+use Rattle.text_rules.specs.Read.{OurRule, RefusesRule, readRule}
+use Rattle.text_rules.proofs.Read.{rule-refused}
+use Rattle.text_rules.proofs.Accepted.{rule-read}
+use Rattle.overlap_spec.specs.Overlaps.{linesOf, overlapText}
+use Rattle.overlap_list.proofs.Lists.{no-right}
+use Rattle.overlap_list.proofs.Rules.{none-listed}
 use Rattle.yopobrush.specs.declared.Reading.{Reading}
-use Rattle.overlaps.specs.declared.Listed.the-variants.{Lines}
-use Rattle.reading.specs.Answers.{leftSaid}
-use Rattle.overlaps.specs.Answers.{Lists}
+use Rattle.overlap_list.specs.declared.Listed.the-variants.{Lines}
+use Rattle.text_read.specs.Answers.{leftSaid}
+use Rattle.overlap_list.specs.Answers.{Lists}
 use Rattle.yopobrush.specs.declared.Listing.{Listing}
 use Rattle.yopobrush.specs.Answers.{readingOf, numbered, LibraryLists}
 use Rattle.demands.specs.Overlaps.{Demand3, rules-3}

@@ -1,8 +1,8 @@
 -- DEMAND 2, its first sentence: "A rule matches a slip exactly when some filling of its variables, each by its type, makes the two equal
 -- under GP 2's associativity and unit laws."
 -- Over the definitions that the contracts cite, for a rule value v, the value x of one side and a slip value w:
---     matching::match_rule   answers `matchOf (countedRule v .0) (countedSlip w)`
---     matching::match_side   answers `matchOf (countedLeft x) (countedSlip w)`
+--     match_rules::match_rule   answers `matchOf (countedRule v .0) (countedSlip w)`
+--     match_rules::match_side   answers `matchOf (countedLeft x) (countedSlip w)`
 -- A rule matches as its left side does; so the theorem is first had of one side, and then of the rule's left side.
 use mathlib.Core.Path.{_≡_, refl, sym, _∙_, ap, ap₂, subst}
 use mathlib.Core.Logic.{_↔_, Iff·trans, inl, inr}
@@ -12,54 +12,54 @@ use mathlib.Core.List.{List, [], _∷_, map}
 use Prim.Native.Nat.{ℕ, _≤_}
 use native.Mathlib.Omega.{arith}
 use lib.ListN.{getD}
-use Rattle.lists.specs.Seqs.{All, Any}
-use Rattle.order.specs.Order.{basic, list}
-use Rattle.order.specs.Types.{Basic, Kind, basics}
-use Rattle.theory.specs.Terms.{con, var}
-use Rattle.theory.specs.Fillings.{Filling, Typed, fill, Occurs}
-use Rattle.theory.specs.Laws.{expr}
-use Rattle.theory.specs.Matching.{MatchesByLaws}
-use Rattle.theory.specs.Matcher.{complete}
-use Rattle.text.specs.Grammar.{Raw, Says}
-use Rattle.text.specs.Sizes.{largestNumber}
-use Rattle.text.specs.Terms.{Con, OurTerm, fieldsOf}
-use Rattle.text.specs.Limits.{TermIn, IsCon, IsLeft, IsSlip}
-use Rattle.text.specs.Read.{OutcomeOf, Outcome, refused, accepted, readSide, readSlip}
-use Rattle.text.proofs.Parse.{says-one}
-use Rattle.text.proofs.Accepted.{rule-read, slip-read}
-use Rattle.text.proofs.Theorems.{rule-accepted, slip-accepted}
-use Rattle.rules.specs.Sides.{Sides, SaysRule}
-use Rattle.rules.specs.Place.{leftText}
-use Rattle.rules.specs.Marks.{leftSide}
-use Rattle.rules.specs.Read.{OurRule, readRule}
-use Rattle.rules.proofs.Accepted as rules
-use Rattle.rules.proofs.Left.{left-says, left-reads}
-use Rattle.instance.specs.Constants.{consts}
-use Rattle.instance.specs.Matching.{constants, Matches, matcher}
-use Rattle.instance.specs.Written.{writtenField}
-use Rattle.instance.proofs.Written.{written-matches, terms-matches}
-use Rattle.instance.proofs.Matching.{match-iff, match-is, match-yes, match-blank}
-use Rattle.terms.specs.declared.RuleSide.{RuleSide}
-use Rattle.terms.specs.declared.Rule.{Rule}
-use Rattle.terms.specs.declared.Slip.{Slip}
-use Rattle.terms.specs.Values.{blankTerm, encodeTerm, encodeSide, encodeRule, encodeSlip, viewSide, viewSlip}
-use Rattle.accepted.specs.Accepted.{acceptedLeft, countedLeft}
-use Rattle.accepted_rules.specs.Rules.{acceptedRule, countedRule, leftValue}
-use Rattle.accepted_rules.proofs.Rules.{left-yes, left-encode, left-accepted, left-counted}
-use Rattle.accepted_slips.specs.Slips.{acceptedSlip, countedSlip}
-use Rattle.accepted.proofs.Accepted.{rule-is, accepted-rule, encode-accepted-rule, view-encode-rule}
-use Rattle.accepted_slips.proofs.Slips.{slip-is, accepted-slip, encode-accepted-slip, view-encode-slip}
-use Rattle.verdicts.specs.declared.Verdict.the-variants.{Accepted, Refused}
-use Rattle.verdicts.specs.Verdicts.{reasonFrom}
-use Rattle.reading.specs.declared.RuleRead.{RuleRead}
-use Rattle.reading.specs.declared.SlipRead.{SlipRead}
-use Rattle.reading.specs.Answers.{ruleRead, slipRead, ReadsRule, ReadsSlip}
-use Rattle.bindings.specs.declared.Filling.{Filling as FillingValue}
-use Rattle.bindings.specs.Values.{slot, atomOf, blankRun, runOf}
-use Rattle.matching.specs.declared.Match.{Match}
-use Rattle.matching.specs.Answers.{isKnown, valueTerm, encodeValues, runsOf, itemsAt, LiesIn, noMatch, found, matchOf}
-use Rattle.matching.proofs.Accept.{with-fields, not-rule, not-slip}
-use Rattle.matching.proofs.Runs.{atom-at, known-at, run-blank, run-items, run-lies, atom-value}
+use Rattle.base_lists.specs.Seqs.{All, Any}
+use Rattle.math_types.specs.Order.{basic, list}
+use Rattle.math_types.specs.Types.{Basic, Kind, basics}
+use Rattle.math_terms.specs.Terms.{con, var}
+use Rattle.math_terms.specs.Fillings.{Filling, Typed, fill, Occurs}
+use Rattle.math_terms.specs.Laws.{expr}
+use Rattle.math_terms.specs.Matching.{MatchesByLaws}
+use Rattle.math_terms.specs.Matcher.{complete}
+use Rattle.text_grammar.specs.Grammar.{Raw, Says}
+use Rattle.text_grammar.specs.Sizes.{largestNumber}
+use Rattle.text_grammar.specs.Terms.{Con, OurTerm, fieldsOf}
+use Rattle.text_grammar.specs.Limits.{TermIn, IsCon, IsLeft, IsSlip}
+use Rattle.text_grammar.specs.Read.{OutcomeOf, Outcome, refused, accepted, readSide, readSlip}
+use Rattle.text_grammar.proofs.Parse.{says-one}
+use Rattle.text_grammar.proofs.Accepted.{rule-read, slip-read}
+use Rattle.text_grammar.proofs.Theorems.{rule-accepted, slip-accepted}
+use Rattle.text_rules.specs.Sides.{Sides, SaysRule}
+use Rattle.text_rules.specs.Place.{leftText}
+use Rattle.text_rules.specs.Marks.{leftSide}
+use Rattle.text_rules.specs.Read.{OurRule, readRule}
+use Rattle.text_rules.proofs.Accepted as rules
+use Rattle.text_rules.proofs.Left.{left-says, left-reads}
+use Rattle.text_constants.specs.Constants.{consts}
+use Rattle.text_constants.specs.Matching.{constants, Matches, matcher}
+use Rattle.text_constants.specs.Written.{writtenField}
+use Rattle.text_constants.proofs.Written.{written-matches, terms-matches}
+use Rattle.text_constants.proofs.Matching.{match-iff, match-is, match-yes, match-blank}
+use Rattle.text_values.specs.declared.RuleSide.{RuleSide}
+use Rattle.text_values.specs.declared.Rule.{Rule}
+use Rattle.text_values.specs.declared.Slip.{Slip}
+use Rattle.text_values.specs.Values.{blankTerm, encodeTerm, encodeSide, encodeRule, encodeSlip, viewSide, viewSlip}
+use Rattle.text_accepted.specs.Accepted.{acceptedLeft, countedLeft}
+use Rattle.text_accepted_rules.specs.Rules.{acceptedRule, countedRule, leftValue}
+use Rattle.text_accepted_rules.proofs.Rules.{left-yes, left-encode, left-accepted, left-counted}
+use Rattle.text_accepted_slips.specs.Slips.{acceptedSlip, countedSlip}
+use Rattle.text_accepted.proofs.Accepted.{rule-is, accepted-rule, encode-accepted-rule, view-encode-rule}
+use Rattle.text_accepted_slips.proofs.Slips.{slip-is, accepted-slip, encode-accepted-slip, view-encode-slip}
+use Rattle.text_verdicts.specs.declared.Verdict.the-variants.{Accepted, Refused}
+use Rattle.text_verdicts.specs.Verdicts.{reasonFrom}
+use Rattle.text_read.specs.declared.RuleRead.{RuleRead}
+use Rattle.text_read.specs.declared.SlipRead.{SlipRead}
+use Rattle.text_read.specs.Answers.{ruleRead, slipRead, ReadsRule, ReadsSlip}
+use Rattle.match_bindings.specs.declared.Filling.{Filling as FillingValue}
+use Rattle.match_bindings.specs.Values.{slot, atomOf, blankRun, runOf}
+use Rattle.match_rules.specs.declared.Match.{Match}
+use Rattle.match_rules.specs.Answers.{isKnown, valueTerm, encodeValues, runsOf, itemsAt, LiesIn, noMatch, found, matchOf}
+use Rattle.match_rules.proofs.Accept.{with-fields, not-rule, not-slip}
+use Rattle.match_rules.proofs.Runs.{atom-at, known-at, run-blank, run-items, run-lies, atom-value}
 
 -- ---- the answer's filling
 

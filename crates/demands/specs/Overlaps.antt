@@ -4,8 +4,8 @@
 -- count. The only premise is that the lent buffer has room for the whole list."
 -- Document 02: "Overlaps look at left sides only": the rules of the demand are the left sides, and a rule is accepted with both its sides.
 -- Over the relations that the contracts cite, for the lent bytes `old`, the answer r and the bytes `new` afterwards:
---     overlaps::list_overlaps   of rule values v and w   `Lists (countedRule v .0) (countedRule w .0) old r new`
---     overlaps::list_texts      of texts t and u         `TextsList t u old r new`
+--     overlap_list::list_overlaps   of rule values v and w   `Lists (countedRule v .0) (countedRule w .0) old r new`
+--     overlap_list::list_texts      of texts t and u         `TextsList t u old r new`
 -- src/ has functions that call these and ensure what is said here.
 use mathlib.Core.Path.{_≡_, refl, sym, _∙_, ap, ap₂, subst, subst₂}
 use mathlib.Core.Logic.{_↔_, _⊎_, inl, inr, _≢_}
@@ -19,39 +19,39 @@ use lib.Dec.{leb}
 use lib.ListN.{length, take, drop, getElem?}
 use lib.Seq.{take-at, drop-at}
 use borrow.Author.Tests.{le-leb}
-use Rattle.lists.specs.Seqs.{All}
-use Rattle.order.specs.Types.{Kind, basics}
-use Rattle.theory.specs.Fillings.{Filling, Typed, fill}
-use Rattle.text.specs.Told.{Told}
-use Rattle.text.specs.Terms.{Con, OurTerm}
-use Rattle.text.specs.Limits.{IsLeft}
-use Rattle.text.specs.Read.{Reason, OutcomeOf, refused, accepted}
-use Rattle.rules.specs.Read.{OurRule, readRule}
-use Rattle.rules.specs.Place.{leftText}
-use Rattle.rules.proofs.Accepted.{rule-read}
-use Rattle.rules.proofs.Before.{one-sided}
-use Rattle.rules.proofs.Left.{left-reads}
-use Rattle.instance.specs.Constants.{consts}
-use Rattle.instance.specs.Matching.{Matches}
-use Rattle.listing.specs.Lines.{Line, listText, WritableLine}
-use Rattle.listing.specs.Overlaps.{linesOf, overlapText}
-use Rattle.listing.specs.Fits.{OurSlip, Fits, Shows, Solution, Covers}
-use Rattle.listing.proofs.Lines.{lines-one}
-use Rattle.listing.proofs.Exact.{lines-exact, lines-once, lines-fillings, lines-slips, lines-least, lines-writable}
-use Rattle.terms.specs.declared.Rule.{Rule}
-use Rattle.terms.specs.Values.{encodeRule}
-use Rattle.accepted_rules.specs.Rules.{acceptedRule, countedRule}
-use Rattle.accepted_rules.proofs.Rules.{accepted-rule, counted-yes, counted-no, counted-encode, rule-value-iff}
-use Rattle.verdicts.specs.declared.Verdict.the-variants.{Accepted, Refused}
-use Rattle.verdicts.specs.Verdicts.{reasonFrom, verdictOf}
-use Rattle.reading.specs.Answers.{leftSaid}
-use Rattle.overlaps.specs.declared.Listed.{Listed}
-use Rattle.overlaps.specs.declared.Listed.the-variants.{Lines, TooSmall}
-use Rattle.overlaps.specs.declared.TextsListed.{TextsListed}
-use Rattle.overlaps.specs.Answers.{told, Lists, TextsList}
-use Rattle.overlaps.proofs.Answers.{eight-iff, fits-iff, counts-are, written, kept}
-use Rattle.overlaps.proofs.Lists.{no-right, lines-none}
-use Rattle.overlaps.proofs.Rules.{none-listed}
+use Rattle.base_lists.specs.Seqs.{All}
+use Rattle.math_types.specs.Types.{Kind, basics}
+use Rattle.math_terms.specs.Fillings.{Filling, Typed, fill}
+use Rattle.text_grammar.specs.Told.{Told}
+use Rattle.text_grammar.specs.Terms.{Con, OurTerm}
+use Rattle.text_grammar.specs.Limits.{IsLeft}
+use Rattle.text_grammar.specs.Read.{Reason, OutcomeOf, refused, accepted}
+use Rattle.text_rules.specs.Read.{OurRule, readRule}
+use Rattle.text_rules.specs.Place.{leftText}
+use Rattle.text_rules.proofs.Accepted.{rule-read}
+use Rattle.text_rules.proofs.Before.{one-sided}
+use Rattle.text_rules.proofs.Left.{left-reads}
+use Rattle.text_constants.specs.Constants.{consts}
+use Rattle.text_constants.specs.Matching.{Matches}
+use Rattle.overlap_spec.specs.Lines.{Line, listText, WritableLine}
+use Rattle.overlap_spec.specs.Overlaps.{linesOf, overlapText}
+use Rattle.overlap_spec.specs.Fits.{OurSlip, Fits, Shows, Solution, Covers}
+use Rattle.overlap_spec.proofs.Lines.{lines-one}
+use Rattle.overlap_spec.proofs.Exact.{lines-exact, lines-once, lines-fillings, lines-slips, lines-least, lines-writable}
+use Rattle.text_values.specs.declared.Rule.{Rule}
+use Rattle.text_values.specs.Values.{encodeRule}
+use Rattle.text_accepted_rules.specs.Rules.{acceptedRule, countedRule}
+use Rattle.text_accepted_rules.proofs.Rules.{accepted-rule, counted-yes, counted-no, counted-encode, rule-value-iff}
+use Rattle.text_verdicts.specs.declared.Verdict.the-variants.{Accepted, Refused}
+use Rattle.text_verdicts.specs.Verdicts.{reasonFrom, verdictOf}
+use Rattle.text_read.specs.Answers.{leftSaid}
+use Rattle.overlap_list.specs.declared.Listed.{Listed}
+use Rattle.overlap_list.specs.declared.Listed.the-variants.{Lines, TooSmall}
+use Rattle.overlap_list.specs.declared.TextsListed.{TextsListed}
+use Rattle.overlap_list.specs.Answers.{told, Lists, TextsList}
+use Rattle.overlap_list.proofs.Answers.{eight-iff, fits-iff, counts-are, written, kept}
+use Rattle.overlap_list.proofs.Lists.{no-right, lines-none}
+use Rattle.overlap_list.proofs.Rules.{none-listed}
 use Rattle.demands.specs.Entries.{Filled, lines-filled}
 
 -- What demand 3 says of the bytes of a list of `count` entries of the rules r₁ and r₂. A slip's fields are of any length, and the

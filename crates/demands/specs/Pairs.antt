@@ -1,5 +1,5 @@
 -- DEMAND 3 OF `pairs`: what it prints for one line is the list of demand 3 under its title, or one line in the list's place.
--- Over the relation that the contract of `pair_answers::pair_answer` cites, for line number k, the line t and the lent bytes `old`:
+-- Over the relation that the contract of `print_pairs::pair_answer` cites, for line number k, the line t and the lent bytes `old`:
 -- `Writes (pairAnswer k t) old r new`.
 use mathlib.Core.Path.{_≡_, refl, sym, _∙_, ap, ap₂, subst}
 use mathlib.Core.Bool.{Bool, true, cond}
@@ -13,20 +13,20 @@ use lib.ListN.{length, take, drop, length-take, length-drop}
 use lib.Seq.{take-at, drop-at}
 use borrow.Author.Tests.{le-leb, lt-leb, le-ltb}
 use Rattle.bytes.specs.Bytes.{indexOf}
-use Rattle.text.specs.Ascii.{ascii, newline}
-use Rattle.text.specs.Numbers.{digitsOf}
-use Rattle.text.specs.Terms.{OurTerm}
-use Rattle.text.specs.Read.{Reason, number, OutcomeOf, refused, accepted, rule}
-use Rattle.rules.specs.Read.{OurRule, readRule}
-use Rattle.rules.proofs.Read.{rule-accepted}
-use Rattle.rules.proofs.Accepted.{rule-read}
-use Rattle.writing.specs.declared.Written.{Written}
-use Rattle.writing.specs.Answers.{told, Writes}
-use Rattle.pieces.specs.Refusals.{numberAt}
-use Rattle.listing.specs.Overlaps.{linesOf, overlapText}
-use Rattle.overlap_text.specs.Texts.{mostBytes, listedText, readText}
-use Rattle.pair_answers.specs.Pairs.{longestLine, tab, leftPart, rightPart, lineText, titleText, longestAnswer, pairAnswer}
-use Rattle.pair_answers.proofs.Lengths.{line-long}
+use Rattle.text_grammar.specs.Ascii.{ascii, newline}
+use Rattle.text_grammar.specs.Numbers.{digitsOf}
+use Rattle.text_grammar.specs.Terms.{OurTerm}
+use Rattle.text_grammar.specs.Read.{Reason, number, OutcomeOf, refused, accepted, rule}
+use Rattle.text_rules.specs.Read.{OurRule, readRule}
+use Rattle.text_rules.proofs.Read.{rule-accepted}
+use Rattle.text_rules.proofs.Accepted.{rule-read}
+use Rattle.text_write.specs.declared.Written.{Written}
+use Rattle.text_write.specs.Answers.{told, Writes}
+use Rattle.text_pieces.specs.Refusals.{numberAt}
+use Rattle.overlap_spec.specs.Overlaps.{linesOf, overlapText}
+use Rattle.print_overlaps.specs.Texts.{mostBytes, listedText, readText}
+use Rattle.print_pairs.specs.Pairs.{longestLine, tab, leftPart, rightPart, lineText, titleText, longestAnswer, pairAnswer}
+use Rattle.print_pairs.proofs.Lengths.{line-long}
 use Rattle.demands.specs.Overlaps.{Demand3, of-rules}
 
 -- what is answered of a text that has room in the lent bytes: its size; they hold it in front of the old bytes

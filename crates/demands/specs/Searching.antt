@@ -2,7 +2,7 @@
 -- instance of one of them, and no answer means no solution." And demand 1 of the search: "each refusal comes in its stated case only".
 --     Demand2          what is said of the bytes of the lines
 --     SearchDemand     what is said of a call: its number, its values, the lent bytes, the lent row
---     search-demand    every call has it, by the record that the contracts of `search::search` and `solver::search_in` cite
+--     search-demand    every call has it, by the record that the contracts of `search_row::search` and `search_run::search_in` cite
 --     filled-by-laws, solved-by-laws    the equation as it is written, under GP 2's laws
 --     steps-fall, no-chain              Theorem 1 of document 001
 --     set-is                            the set of a problem's list variables
@@ -20,56 +20,56 @@ use lib.Dec.{leb}
 use lib.ListN.{length, take, drop, length-map}
 use lib.Seq.{take-at, drop-at}
 use borrow.Author.Tests.{le-leb, lt-leb}
-use Rattle.lists.specs.Seqs.{All}
-use Rattle.order.specs.Types.{Kind, basics}
-use Rattle.theory.specs.Terms.{con}
-use Rattle.theory.specs.Seqs.{concat-map}
-use Rattle.theory.specs.Fillings.{Filling, Typed, value, fill}
-use Rattle.theory.specs.Laws.{_≈_, flat, replace}
-use Rattle.theory.proofs.Laws.{laws, flat-replace}
-use Rattle.text.specs.Told.{Told}
-use Rattle.text.specs.Grammar.{Raw, Says}
-use Rattle.text.specs.Terms.{Con, OurTerm, fieldsOf}
-use Rattle.text.specs.Limits.{IsLeft}
-use Rattle.text.specs.Read.{accepted}
-use Rattle.rules.specs.Read.{readRule}
-use Rattle.rules.proofs.Before.{one-sided}
-use Rattle.text.proofs.Told.{eight-iff, fits-iff}
-use Rattle.text.proofs.Parse.{says-one}
-use Rattle.text.proofs.Theorems.{rule-accepted}
-use Rattle.instance.specs.Constants.{consts}
-use Rattle.instance.specs.Written.{writtenField}
-use Rattle.instance.proofs.Written.{flat-field}
-use Rattle.unifiers.specs.Substitutions.{Subst, image, substitute}
-use Rattle.unifiers.specs.Shapes.{left, right}
-use Rattle.listing.specs.Variables.{variables}
-use Rattle.listing.specs.Fits.{nameOf, Solution}
-use Rattle.searching.specs.Problems.{Bindings, equation, problem, rest, used}
-use Rattle.searching.specs.Problems as searching
-use Rattle.searching.specs.Rules.{Rule, children, Met}
-use Rattle.searching.specs.Termination.{Lower}
-use Rattle.searching.specs.Runs.{Queued, peak}
-use Rattle.searching.specs.Answers.{ListVariableOf}
-use Rattle.searching.proofs.Searching as theorem
-use Rattle.searching.proofs.Ends as ends
-use Rattle.searching.proofs.Used.{used-is}
-use Rattle.searching.proofs.Peak as peaks
-use Rattle.searching.proofs.Peak.{peak-most, peak-met, refused-peak}
-use Rattle.solving.specs.Answers.{setting, fieldOn, AnswerLine, lineText, linesText, WritableAnswer, Gives, InstanceOfLine, answerLine}
-use Rattle.solving.specs.Answers.{Lines as Found, lines, nine, linesFor, linesOf, bytesOf}
-use Rattle.solving.proofs.Search.{equation-linear}
-use Rattle.solving.proofs.Shown as shown
-use Rattle.solving.proofs.Shown.{lines-answers, nine-peak}
-use Rattle.solving.proofs.Lines.{answer-lines-one, lines-writable, lines-named, lines-solve, lines-complete}
-use Rattle.terms.specs.declared.Field.{Field}
-use Rattle.terms.specs.Values.{viewField, viewSide, oneField}
-use Rattle.accepted.specs.Accepted.{acceptedField, countedField}
-use Rattle.accepted.proofs.Accepted.{accepted-field}
-use Rattle.writing.specs.Answers.{after}
+use Rattle.base_lists.specs.Seqs.{All}
+use Rattle.math_types.specs.Types.{Kind, basics}
+use Rattle.math_terms.specs.Terms.{con}
+use Rattle.math_terms.specs.Seqs.{concat-map}
+use Rattle.math_terms.specs.Fillings.{Filling, Typed, value, fill}
+use Rattle.math_terms.specs.Laws.{_≈_, flat, replace}
+use Rattle.math_terms.proofs.Laws.{laws, flat-replace}
+use Rattle.text_grammar.specs.Told.{Told}
+use Rattle.text_grammar.specs.Grammar.{Raw, Says}
+use Rattle.text_grammar.specs.Terms.{Con, OurTerm, fieldsOf}
+use Rattle.text_grammar.specs.Limits.{IsLeft}
+use Rattle.text_grammar.specs.Read.{accepted}
+use Rattle.text_rules.specs.Read.{readRule}
+use Rattle.text_rules.proofs.Before.{one-sided}
+use Rattle.text_grammar.proofs.Told.{eight-iff, fits-iff}
+use Rattle.text_grammar.proofs.Parse.{says-one}
+use Rattle.text_grammar.proofs.Theorems.{rule-accepted}
+use Rattle.text_constants.specs.Constants.{consts}
+use Rattle.text_constants.specs.Written.{writtenField}
+use Rattle.text_constants.proofs.Written.{flat-field}
+use Rattle.math_overlaps.specs.Substitutions.{Subst, image, substitute}
+use Rattle.math_overlaps.specs.Shapes.{left, right}
+use Rattle.overlap_spec.specs.Variables.{variables}
+use Rattle.overlap_spec.specs.Fits.{nameOf, Solution}
+use Rattle.math_search.specs.Problems.{Bindings, equation, problem, rest, used}
+use Rattle.math_search.specs.Problems as searching
+use Rattle.math_search.specs.Rules.{Rule, children, Met}
+use Rattle.math_search.specs.Termination.{Lower}
+use Rattle.math_search.specs.Runs.{Queued, peak}
+use Rattle.math_search.specs.Answers.{ListVariableOf}
+use Rattle.math_search.proofs.Searching as theorem
+use Rattle.math_search.proofs.Ends as ends
+use Rattle.math_search.proofs.Used.{used-is}
+use Rattle.math_search.proofs.Peak as peaks
+use Rattle.math_search.proofs.Peak.{peak-most, peak-met, refused-peak}
+use Rattle.search_spec.specs.Answers.{setting, fieldOn, AnswerLine, lineText, linesText, WritableAnswer, Gives, InstanceOfLine, answerLine}
+use Rattle.search_spec.specs.Answers.{Lines as Found, lines, nine, linesFor, linesOf, bytesOf}
+use Rattle.search_spec.proofs.Search.{equation-linear}
+use Rattle.search_spec.proofs.Shown as shown
+use Rattle.search_spec.proofs.Shown.{lines-answers, nine-peak}
+use Rattle.search_spec.proofs.Lines.{answer-lines-one, lines-writable, lines-named, lines-solve, lines-complete}
+use Rattle.text_values.specs.declared.Field.{Field}
+use Rattle.text_values.specs.Values.{viewField, viewSide, oneField}
+use Rattle.text_accepted.specs.Accepted.{acceptedField, countedField}
+use Rattle.text_accepted.proofs.Accepted.{accepted-field}
+use Rattle.text_write.specs.Answers.{after}
 use Rattle.search_problems.specs.declared.Problem.{Problem}
-use Rattle.queue.specs.Row.{blanks}
-use Rattle.search.specs.declared.Searched.{Searched}
-use Rattle.search.specs.Answers.{told, searchedOf, foundIn, Searches}
+use Rattle.search_step.specs.Row.{blanks}
+use Rattle.search_row.specs.declared.Searched.{Searched}
+use Rattle.search_row.specs.Answers.{told, searchedOf, foundIn, Searches}
 
 -- What demand 2 says of the bytes of `count` lines for the fields f and g. A solution's lists are of any length.
 pub record Demand2 (f g : List OurTerm) (count : ℕ) (bytes : List ℕ) : Type 0 where

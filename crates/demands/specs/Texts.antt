@@ -1,8 +1,8 @@
 -- What is promised of reading and writing rules and slips, over the relations that the contracts cite:
---     reading::read_rule      returns r with `ReadsRule t r`
---     reading::read_slip      returns r with `ReadsSlip t r`
---     rule_text::write_rule   answers r and leaves `new` with `Writes (plainBoth (countedRule v)) old r new`
---     slip_text::write_slip   answers r and leaves `new` with `Writes (plain (countedSlip v)) old r new`
+--     text_read::read_rule      returns r with `ReadsRule t r`
+--     text_read::read_slip      returns r with `ReadsSlip t r`
+--     text_plain_rules::write_rule   answers r and leaves `new` with `Writes (plainBoth (countedRule v)) old r new`
+--     text_plain_slips::write_slip   answers r and leaves `new` with `Writes (plain (countedSlip v)) old r new`
 use mathlib.Core.Path.{_≡_, refl, sym, _∙_, ap, subst}
 use mathlib.Core.Logic.{_≢_, _↔_, _⊎_, inl, inr, Iff·trans}
 use mathlib.Core.Bool.{Bool, true, false, cond}
@@ -14,47 +14,47 @@ use lib.Dec.{leb}
 use lib.ListN.{length, take, drop}
 use lib.Seq.{take-at, drop-at}
 use borrow.Author.Tests.{le-leb, lt-leb}
-use Rattle.lists.specs.Seqs.{All, all-map}
-use Rattle.order.specs.Types.{Kind}
-use Rattle.text.specs.Told.{Told}
-use Rattle.text.specs.Grammar.{Raw, raw-var, Says}
-use Rattle.text.specs.Numbers.{value}
-use Rattle.text.specs.Terms.{OurTerm, fieldsOf}
-use Rattle.text.specs.Read.{Reason, long, grammar, fields, terms, limits, linear, variable, unknown, number, slip, earlier}
-use Rattle.text.specs.Read.{OutcomeOf, Outcome, refused, accepted, readSide, readSlip, Refuses, NoReason}
-use Rattle.text.specs.Marks.{Over, NotLinear, IsVar}
-use Rattle.text.specs.Sharp.{FirstBadMark}
-use Rattle.text.specs.Plain.{plain}
-use Rattle.text.proofs.Sharp.{first-bad}
-use Rattle.text.proofs.Told.{eight-iff, fits-iff}
-use Rattle.text.proofs.Theorems.{slip-refused, slip-never, slip-accepted}
-use Rattle.rules.specs.Sides.{Sides, SaysRule}
-use Rattle.rules.specs.Place.{cut}
-use Rattle.rules.specs.Marks.{leftSide, Has}
-use Rattle.rules.specs.Read.{OurRule, order, RefusesRule, bothFields, readRule}
-use Rattle.rules.specs.Sharp.{FirstBadTerm}
-use Rattle.rules.specs.Plain.{plainBoth}
-use Rattle.rules.specs.Judge.{asRule}
-use Rattle.rules.proofs.Read.{rule-refused, never-seven, rule-accepted}
-use Rattle.rules.proofs.Sharp.{first-in}
-use Rattle.rules.proofs.Before.{NoEqual, read-before, no-arrow}
-use Rattle.terms.specs.declared.Rule.{Rule}
-use Rattle.terms.specs.declared.Slip.{Slip}
-use Rattle.terms.specs.Values.{blankRule, blankSlip, encodeRule, encodeSlip}
-use Rattle.accepted_rules.specs.Rules.{acceptedRule, countedRule}
-use Rattle.accepted_slips.specs.Slips.{acceptedSlip, countedSlip}
-use Rattle.verdicts.specs.declared.Verdict.{Verdict}
-use Rattle.verdicts.specs.declared.Verdict.the-variants.{Accepted}
-use Rattle.verdicts.specs.Verdicts.{verdictOf, told, refusal, noRefusal}
-use Rattle.verdicts.proofs.Verdicts.{told-refused, told-number}
-use Rattle.reading.specs.declared.RuleRead.{RuleRead}
-use Rattle.reading.specs.declared.SlipRead.{SlipRead}
-use Rattle.reading.specs.Answers.{ruleRead, slipRead, ReadsRule, ReadsSlip}
-use Rattle.writing.specs.declared.Written.{Written}
-use Rattle.writing.specs.Answers.{after, Writes}
-use Rattle.writing.specs.Answers as writing
-use Rattle.rule_text.proofs.Again as rules
-use Rattle.slip_text.proofs.Again as slips
+use Rattle.base_lists.specs.Seqs.{All, all-map}
+use Rattle.math_types.specs.Types.{Kind}
+use Rattle.text_grammar.specs.Told.{Told}
+use Rattle.text_grammar.specs.Grammar.{Raw, raw-var, Says}
+use Rattle.text_grammar.specs.Numbers.{value}
+use Rattle.text_grammar.specs.Terms.{OurTerm, fieldsOf}
+use Rattle.text_grammar.specs.Read.{Reason, long, grammar, fields, terms, limits, linear, variable, unknown, number, slip, earlier}
+use Rattle.text_grammar.specs.Read.{OutcomeOf, Outcome, refused, accepted, readSide, readSlip, Refuses, NoReason}
+use Rattle.text_grammar.specs.Marks.{Over, NotLinear, IsVar}
+use Rattle.text_grammar.specs.Sharp.{FirstBadMark}
+use Rattle.text_grammar.specs.Plain.{plain}
+use Rattle.text_grammar.proofs.Sharp.{first-bad}
+use Rattle.text_grammar.proofs.Told.{eight-iff, fits-iff}
+use Rattle.text_grammar.proofs.Theorems.{slip-refused, slip-never, slip-accepted}
+use Rattle.text_rules.specs.Sides.{Sides, SaysRule}
+use Rattle.text_rules.specs.Place.{cut}
+use Rattle.text_rules.specs.Marks.{leftSide, Has}
+use Rattle.text_rules.specs.Read.{OurRule, order, RefusesRule, bothFields, readRule}
+use Rattle.text_rules.specs.Sharp.{FirstBadTerm}
+use Rattle.text_rules.specs.Plain.{plainBoth}
+use Rattle.text_rules.specs.Judge.{asRule}
+use Rattle.text_rules.proofs.Read.{rule-refused, never-seven, rule-accepted}
+use Rattle.text_rules.proofs.Sharp.{first-in}
+use Rattle.text_rules.proofs.Before.{NoEqual, read-before, no-arrow}
+use Rattle.text_values.specs.declared.Rule.{Rule}
+use Rattle.text_values.specs.declared.Slip.{Slip}
+use Rattle.text_values.specs.Values.{blankRule, blankSlip, encodeRule, encodeSlip}
+use Rattle.text_accepted_rules.specs.Rules.{acceptedRule, countedRule}
+use Rattle.text_accepted_slips.specs.Slips.{acceptedSlip, countedSlip}
+use Rattle.text_verdicts.specs.declared.Verdict.{Verdict}
+use Rattle.text_verdicts.specs.declared.Verdict.the-variants.{Accepted}
+use Rattle.text_verdicts.specs.Verdicts.{verdictOf, told, refusal, noRefusal}
+use Rattle.text_verdicts.proofs.Verdicts.{told-refused, told-number}
+use Rattle.text_read.specs.declared.RuleRead.{RuleRead}
+use Rattle.text_read.specs.declared.SlipRead.{SlipRead}
+use Rattle.text_read.specs.Answers.{ruleRead, slipRead, ReadsRule, ReadsSlip}
+use Rattle.text_write.specs.declared.Written.{Written}
+use Rattle.text_write.specs.Answers.{after, Writes}
+use Rattle.text_write.specs.Answers as writing
+use Rattle.text_plain_rules.proofs.Again as rules
+use Rattle.text_plain_slips.proofs.Again as slips
 
 -- ---- reading
 

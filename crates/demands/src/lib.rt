@@ -9,19 +9,19 @@ ghost use Rattle.demands.specs.Searching.{SearchDemand};
 ghost use Rattle.demands.specs.Overlaps.{ListsSharedSlips, TextsSharedSlips};
 ghost use Rattle.demands.specs.Pairs.{PairSharedSlips};
 ghost use Rattle.demands.specs.Library.{LibrarySharedSlips};
-use carrying::Carried;
-use matching::Comparison;
-use matching::Match;
-use overlaps::Listed;
-use overlaps::TextsListed;
-use reading::RuleRead;
-use reading::SlipRead;
-use search::Searched;
+use apply_rules::Carried;
+use match_rules::Comparison;
+use match_rules::Match;
+use overlap_list::Listed;
+use overlap_list::TextsListed;
 use search_problems::Problem;
-use terms::Field;
-use terms::Rule;
-use terms::Slip;
-use writing::Written;
+use search_row::Searched;
+use text_read::RuleRead;
+use text_read::SlipRead;
+use text_values::Field;
+use text_values::Rule;
+use text_values::Slip;
+use text_write::Written;
 use yopobrush::Listing;
 
 // ---- reading and writing
@@ -31,26 +31,26 @@ use yopobrush::Listing;
 pub fn read_rule(text: &[u8]) -> RuleRead
     ensures { λ r. ⌜ RuleReading (now (text .entry)) r ⌝ }
 {
-    reading::read_rule(text)
+    text_read::read_rule(text)
 }
 
 pub fn read_slip(text: &[u8]) -> SlipRead
     ensures { λ r. ⌜ SlipReading (now (text .entry)) r ⌝ }
 {
-    reading::read_slip(text)
+    text_read::read_slip(text)
 }
 
 // The plain text and the old bytes behind it, or refusal 8 and all old bytes; read again, the text gives the rule, or the slip.
 pub fn write_rule(r: Rule, out: &mut [u8]) -> Written
     ensures { λ w. ⌜ RuleWriting r (now (out .entry)) w (now (out .exit)) ⌝ }
 {
-    rule_text::write_rule(r, out)
+    text_plain_rules::write_rule(r, out)
 }
 
 pub fn write_slip(s: Slip, out: &mut [u8]) -> Written
     ensures { λ w. ⌜ SlipWriting s (now (out .entry)) w (now (out .exit)) ⌝ }
 {
-    slip_text::write_slip(s, out)
+    text_plain_slips::write_slip(s, out)
 }
 
 // ---- demand 2, matching
@@ -59,14 +59,14 @@ pub fn write_slip(s: Slip, out: &mut [u8]) -> Written
 pub fn match_rule(rule: Rule, slip: Slip) -> Match
     ensures { λ m. ⌜ Matching rule slip m ⌝ }
 {
-    matching::match_rule(rule, slip)
+    match_rules::match_rule(rule, slip)
 }
 
 // The same answer, found by ending at the first test that fails, and how many of the slip's items were compared until then.
 pub fn compare_rule(rule: Rule, slip: Slip) -> Comparison
     ensures { λ c. ⌜ Comparing rule slip c ⌝ }
 {
-    matching::compare_rule(rule, slip)
+    match_rules::compare_rule(rule, slip)
 }
 
 // ---- carrying out
@@ -75,7 +75,7 @@ pub fn compare_rule(rule: Rule, slip: Slip) -> Comparison
 pub fn carry_out(rule: Rule, slip: Slip) -> Carried
     ensures { λ c. ⌜ Carrying rule slip c ⌝ }
 {
-    carrying::carry_out(rule, slip)
+    apply_rules::carry_out(rule, slip)
 }
 
 // ---- demand 2, the search
@@ -84,7 +84,7 @@ pub fn carry_out(rule: Rule, slip: Slip) -> Carried
 pub fn search(left: Field, right: Field, row: &mut [Problem], out: &mut [u8]) -> Searched
     ensures { λ r. ⌜ SearchDemand left right (now (row .entry)) (now (out .entry)) r (now (row .exit)) (now (out .exit)) ⌝ }
 {
-    search::search(left, right, row, out)
+    search_row::search(left, right, row, out)
 }
 
 // ---- demand 3
@@ -93,21 +93,21 @@ pub fn search(left: Field, right: Field, row: &mut [Problem], out: &mut [u8]) ->
 pub fn list_overlaps(left: Rule, right: Rule, out: &mut [u8]) -> Listed
     ensures { λ r. ⌜ ListsSharedSlips left right (now (out .entry)) r (now (out .exit)) ⌝ }
 {
-    overlaps::list_overlaps(left, right, out)
+    overlap_list::list_overlaps(left, right, out)
 }
 
 // The list of the rules that two texts say.
 pub fn list_texts(left: &[u8], right: &[u8], out: &mut [u8]) -> TextsListed
     ensures { λ r. ⌜ TextsSharedSlips (now (left .entry)) (now (right .entry)) (now (out .entry)) r (now (out .exit)) ⌝ }
 {
-    overlaps::list_texts(left, right, out)
+    overlap_list::list_texts(left, right, out)
 }
 
 // What `pairs` prints for a line.
 pub fn pair_answer(k: u64, line: &[u8], out: &mut [u8]) -> Written
     ensures { λ r. ⌜ PairSharedSlips k (now (line .entry)) (now (out .entry)) r (now (out .exit)) ⌝ }
 {
-    pair_answers::pair_answer(k, line, out)
+    print_pairs::pair_answer(k, line, out)
 }
 
 // The static library's list of two texts.

@@ -4,14 +4,14 @@ use mathlib.Core.Option.{Option, none, some}
 use mathlib.Core.List.{List, [], _∷_, map}
 use Prim.Native.Nat.{ℕ}
 use lib.ListN.{getD}
-use Rattle.order.specs.Order.{Order}
-use Rattle.theory.specs.Constants.{Consts}
-use Rattle.theory.specs.Matcher.{andThen}
-use Rattle.unifiers.specs.Shapes.{Vars, Shape}
-use Rattle.unifiers.specs.Candidates.{Cand, cands}
-use Rattle.unifiers.specs.Joins.{At, State, start, resolve, join, joins}
-use Rattle.unifiers.specs.Entries.{equations, chosen, branch, entries, fieldsFor}
-use Rattle.unifiers.specs.Overlaps.{mapShape}
+use Rattle.math_types.specs.Order.{Order}
+use Rattle.math_terms.specs.Constants.{Consts}
+use Rattle.math_terms.specs.Matcher.{andThen}
+use Rattle.math_overlaps.specs.Shapes.{Vars, Shape}
+use Rattle.math_overlaps.specs.Candidates.{Cand, cands}
+use Rattle.math_overlaps.specs.Joins.{At, State, start, resolve, join, joins}
+use Rattle.math_overlaps.specs.Entries.{equations, chosen, branch, entries, fieldsFor}
+use Rattle.math_overlaps.specs.Overlaps.{mapShape}
 use Rattle.math_codes.specs.Tables.{Holds, Table, Ranks, Made}
 use Rattle.math_codes.specs.States.{joinPlaces, joinsPlaces}
 use Rattle.math_codes.specs.Entries.{entriesOn, codeFields}

@@ -4,12 +4,12 @@ use mathlib.Core.Path.{_≡_, refl}
 use mathlib.Core.Bool.{false}
 use mathlib.Core.List.{List, [], _∷_}
 use native.Mathlib.Decide.{ℕ-discrete, decLt}
-use Rattle.order.specs.Order.{basic, list}
-use Rattle.order.specs.Types.{integer, atom, entry}
-use Rattle.theory.specs.Terms.{con, var}
-use Rattle.text.specs.Ascii.{ascii}
-use Rattle.text.specs.Terms.{OurTerm, int}
-use Rattle.unifiers.specs.Shapes.{left, right}
+use Rattle.math_types.specs.Order.{basic, list}
+use Rattle.math_types.specs.Types.{integer, atom, entry}
+use Rattle.math_terms.specs.Terms.{con, var}
+use Rattle.text_grammar.specs.Ascii.{ascii}
+use Rattle.text_grammar.specs.Terms.{OurTerm, int}
+use Rattle.math_overlaps.specs.Shapes.{left, right}
 use Rattle.math_codes.specs.Tables.{Table}
 use Rattle.math_codes.specs.Lines.{ourTable, ourTexts}
 use Rattle.math_codes.specs.Whole.{spotsOf}

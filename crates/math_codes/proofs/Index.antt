@@ -5,21 +5,21 @@ use mathlib.Core.List.{List, [], _∷_, _++_, map, List·Memᴰ, List·Memᴰ·h
 use Prim.Native.Nat.{ℕ, zero, suc, _+_, _-_, _/_, _%_, _≤_, _<_}
 use native.Mathlib.Omega.{arith}
 use lib.ListN.{getD}
-use Rattle.lists.specs.Seqs.{All}
-use Rattle.order.specs.Order.{basic, list}
-use Rattle.order.specs.Types.{integer, string, atom, Kind, basics, entry, rank, rank-below}
-use Rattle.theory.specs.Seqs.{concat-map}
-use Rattle.theory.proofs.Seqs.{concat-map-append}
-use Rattle.text.specs.Limits.{TermIn, IsLeft}
-use Rattle.text.specs.Terms.{OurTerm}
-use Rattle.instance.specs.Constants.{consts}
-use Rattle.unifiers.specs.Shapes.{free, Side, left, right, of}
-use Rattle.unifiers.specs.Candidates.{range}
-use Rattle.listing.specs.Lines.{lineText, leftMark, rightMark}
-use Rattle.listing.specs.Overlaps.{linesOf}
-use Rattle.listing.specs.Variables.{Variable, kinds, numbersFrom, numbers, ofKind, occurs, keep, every, variables}
-use Rattle.listing.proofs.Variables.{every-mem, occurs-is, in-variables}
-use Rattle.listing.proofs.Rising.{keep-mem}
+use Rattle.base_lists.specs.Seqs.{All}
+use Rattle.math_types.specs.Order.{basic, list}
+use Rattle.math_types.specs.Types.{integer, string, atom, Kind, basics, entry, rank, rank-below}
+use Rattle.math_terms.specs.Seqs.{concat-map}
+use Rattle.math_terms.proofs.Seqs.{concat-map-append}
+use Rattle.text_grammar.specs.Limits.{TermIn, IsLeft}
+use Rattle.text_grammar.specs.Terms.{OurTerm}
+use Rattle.text_constants.specs.Constants.{consts}
+use Rattle.math_overlaps.specs.Shapes.{free, Side, left, right, of}
+use Rattle.math_overlaps.specs.Candidates.{range}
+use Rattle.overlap_spec.specs.Lines.{lineText, leftMark, rightMark}
+use Rattle.overlap_spec.specs.Overlaps.{linesOf}
+use Rattle.overlap_spec.specs.Variables.{Variable, kinds, numbersFrom, numbers, ofKind, occurs, keep, every, variables}
+use Rattle.overlap_spec.proofs.Variables.{every-mem, occurs-is, in-variables}
+use Rattle.overlap_spec.proofs.Rising.{keep-mem}
 use Rattle.math_codes.specs.Tables.{codeOf, Table, same}
 use Rattle.math_codes.specs.Names.{noNames, nameFields}
 use Rattle.math_codes.specs.Lines.{fieldsText, valueText, valuesText, pairItems, ourVars, ourRow, OurTables, ourTable, ourTexts}

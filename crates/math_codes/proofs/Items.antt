@@ -8,16 +8,16 @@ use native.Mathlib.Omega.{arith}
 use native.Mathlib.Decide.{decLt}
 use lib.ListN.{length, getD, take, drop, length-map, List·getD-map, List·getD-append}
 use lib.Seq.{getD-append-add}
-use Rattle.lists.specs.Seqs.{All, Any}
-use Rattle.order.specs.Order.{Order, Full, basic, list}
-use Rattle.theory.specs.Terms.{Term, con, var}
-use Rattle.theory.specs.Constants.{Consts, TermOver}
-use Rattle.theory.specs.Fillings.{Occurs}
-use Rattle.unifiers.specs.Shapes.{Atom, fixed, free, Side, Variable, of, Vars, pairVars, Shape, closed, gapped}
-use Rattle.unifiers.specs.Candidates.{Cand, range, exact, long}
-use Rattle.unifiers.specs.Joins.{At, resolve}
-use Rattle.unifiers.specs.Entries.{fieldsFor}
-use Rattle.unifiers.specs.Overlaps.{Mark, place, termOf, fieldOf, mapShape, middle, runOf, PairShape, PairState, markedFields, markedValue}
+use Rattle.base_lists.specs.Seqs.{All, Any}
+use Rattle.math_types.specs.Order.{Order, Full, basic, list}
+use Rattle.math_terms.specs.Terms.{Term, con, var}
+use Rattle.math_terms.specs.Constants.{Consts, TermOver}
+use Rattle.math_terms.specs.Fillings.{Occurs}
+use Rattle.math_overlaps.specs.Shapes.{Atom, fixed, free, Side, Variable, of, Vars, pairVars, Shape, closed, gapped}
+use Rattle.math_overlaps.specs.Candidates.{Cand, range, exact, long}
+use Rattle.math_overlaps.specs.Joins.{At, resolve}
+use Rattle.math_overlaps.specs.Entries.{fieldsFor}
+use Rattle.math_overlaps.specs.Overlaps.{Mark, place, termOf, fieldOf, mapShape, middle, runOf, PairShape, PairState, markedFields, markedValue}
 use Rattle.math_codes.specs.Tables.{Holds, codeOf, IsCode, same}
 use Rattle.math_codes.specs.Entries.{codeFields}
 use Rattle.math_codes.specs.Items.{shownAt, termsRow, itemsOf, entryItems, valueItems}

@@ -8,10 +8,10 @@ use Prim.Native.Nat.{ℕ}
 use native.Mathlib.Omega.{arith}
 use borrow.Author.Tests.{eq-eqb, ne-eqb}
 use lib.ListN.{length, getD, length-map}
-use Rattle.order.specs.Order.{Order}
-use Rattle.theory.specs.Constants.{Consts}
-use Rattle.unifiers.specs.Shapes.{fixed, free, Vars}
-use Rattle.unifiers.specs.Joins.{At, State, start, resolve, replace, bind, joinClasses, join}
+use Rattle.math_types.specs.Order.{Order}
+use Rattle.math_terms.specs.Constants.{Consts}
+use Rattle.math_overlaps.specs.Shapes.{fixed, free, Vars}
+use Rattle.math_overlaps.specs.Joins.{At, State, start, resolve, replace, bind, joinClasses, join}
 use Rattle.math_codes.specs.Tables.{Holds, IsCode, fixed-once, free-once, fixed≢free, Table, Ranks, same, kindA, isFree, Made}
 use Rattle.math_codes.specs.States.{swap, replaced, joinedBy, takes, joinCodes, joinPlaces}
 use Rattle.math_codes.proofs.Tables.{holds-below, is-code, same-code, same-atom, mapped-at}

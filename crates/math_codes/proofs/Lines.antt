@@ -7,31 +7,31 @@ use Prim.Native.Nat.{ℕ, _-_, _≤_}
 use native.Mathlib.Omega.{arith}
 use native.Mathlib.Decide.{ℕ-discrete}
 use lib.ListN.{length}
-use Rattle.lists.specs.Seqs.{All, Any, IsCons}
-use Rattle.order.specs.Order.{basic, list, full-eq}
-use Rattle.order.specs.Types.{integer, string, atom, Kind, basic-eq, basics, rank, rank-below, rank-once}
-use Rattle.theory.specs.Terms.{Term, con, var}
-use Rattle.theory.specs.Fillings.{Occurs}
-use Rattle.theory.specs.Seqs.{concat-map, Distinct}
-use Rattle.text.specs.Bytes.{letter}
-use Rattle.text.specs.Grammar.{colons, bars}
-use Rattle.text.specs.Numbers.{digitsOf}
-use Rattle.text.specs.Limits.{IsLeft}
-use Rattle.text.specs.Plain.{rawOf, rawField, termText, fieldText, plain}
-use Rattle.text.specs.Terms.{OurTerm}
-use Rattle.instance.specs.Constants.{con-eq, consts}
-use Rattle.unifiers.specs.Shapes.{Side, left, right, side-eq, Shape, shapesOf}
-use Rattle.unifiers.specs.Candidates.{Cand}
-use Rattle.unifiers.specs.Substitutions.{substitute}
-use Rattle.unifiers.specs.Overlaps.{mark-eq, rename, numbersOf, PairShape, PairState, markedFields, markedValue, shown, overlaps}
-use Rattle.unifiers.proofs.Linear.{shapes-count}
-use Rattle.unifiers.proofs.Named.{gaps}
-use Rattle.unifiers.proofs.Listed.{raw, marked-left, marked-right}
-use Rattle.unifiers.proofs.Parts.{part-of-rule, part-occurs}
-use Rattle.listing.specs.Lines.{nameText, bindingText, bindingsText, lineText, leftMark, rightMark}
-use Rattle.listing.specs.Variables.{Variable, variables}
-use Rattle.listing.specs.Overlaps.{entriesOf, bindingsOf, lineOf}
-use Rattle.listing.proofs.Variables.{in-variables}
+use Rattle.base_lists.specs.Seqs.{All, Any, IsCons}
+use Rattle.math_types.specs.Order.{basic, list, full-eq}
+use Rattle.math_types.specs.Types.{integer, string, atom, Kind, basic-eq, basics, rank, rank-below, rank-once}
+use Rattle.math_terms.specs.Terms.{Term, con, var}
+use Rattle.math_terms.specs.Fillings.{Occurs}
+use Rattle.math_terms.specs.Seqs.{concat-map, Distinct}
+use Rattle.text_grammar.specs.Bytes.{letter}
+use Rattle.text_grammar.specs.Grammar.{colons, bars}
+use Rattle.text_grammar.specs.Numbers.{digitsOf}
+use Rattle.text_grammar.specs.Limits.{IsLeft}
+use Rattle.text_grammar.specs.Plain.{rawOf, rawField, termText, fieldText, plain}
+use Rattle.text_grammar.specs.Terms.{OurTerm}
+use Rattle.text_constants.specs.Constants.{con-eq, consts}
+use Rattle.math_overlaps.specs.Shapes.{Side, left, right, side-eq, Shape, shapesOf}
+use Rattle.math_overlaps.specs.Candidates.{Cand}
+use Rattle.math_overlaps.specs.Substitutions.{substitute}
+use Rattle.math_overlaps.specs.Overlaps.{mark-eq, rename, numbersOf, PairShape, PairState, markedFields, markedValue, shown, overlaps}
+use Rattle.math_overlaps.proofs.Linear.{shapes-count}
+use Rattle.math_overlaps.proofs.Named.{gaps}
+use Rattle.math_overlaps.proofs.Listed.{raw, marked-left, marked-right}
+use Rattle.math_overlaps.proofs.Parts.{part-of-rule, part-occurs}
+use Rattle.overlap_spec.specs.Lines.{nameText, bindingText, bindingsText, lineText, leftMark, rightMark}
+use Rattle.overlap_spec.specs.Variables.{Variable, variables}
+use Rattle.overlap_spec.specs.Overlaps.{entriesOf, bindingsOf, lineOf}
+use Rattle.overlap_spec.proofs.Variables.{in-variables}
 use Rattle.math_codes.specs.Tables.{IsCode, Table}
 use Rattle.math_codes.specs.Names.{noNames, nameFields}
 use Rattle.math_codes.specs.Items.{entryItems, valueItems}

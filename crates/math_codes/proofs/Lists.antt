@@ -6,23 +6,23 @@ use Prim.Native.Nat.{ℕ, _+_, _*_, _≤_}
 use native.Mathlib.Omega.{arith}
 use native.Mathlib.Decide.{ℕ-discrete}
 use lib.ListN.{length, length-append, length-map}
-use Rattle.order.specs.Order.{list}
-use Rattle.order.specs.Types.{basics, entry, rank}
-use Rattle.theory.specs.Terms.{var}
-use Rattle.theory.specs.Seqs.{Distinct}
-use Rattle.text.specs.Limits.{IsLeft}
-use Rattle.text.specs.Terms.{OurTerm}
-use Rattle.instance.specs.Constants.{consts}
-use Rattle.instance.proofs.Linear.{left-linear}
-use Rattle.unifiers.specs.Shapes.{fixed, free, left, right, of, Shape, shapesOf}
-use Rattle.unifiers.specs.Candidates.{Cand, range}
-use Rattle.unifiers.specs.Joins.{start}
-use Rattle.unifiers.specs.Entries.{entries}
-use Rattle.unifiers.specs.Overlaps.{place, termOf, PairShape, shown, listed}
-use Rattle.unifiers.proofs.Linear.{linear-shapes}
-use Rattle.unifiers.proofs.Named.{gaps}
-use Rattle.listing.specs.Lines.{lineText}
-use Rattle.listing.specs.Overlaps.{entriesOf, lineOf, linesOf}
+use Rattle.math_types.specs.Order.{list}
+use Rattle.math_types.specs.Types.{basics, entry, rank}
+use Rattle.math_terms.specs.Terms.{var}
+use Rattle.math_terms.specs.Seqs.{Distinct}
+use Rattle.text_grammar.specs.Limits.{IsLeft}
+use Rattle.text_grammar.specs.Terms.{OurTerm}
+use Rattle.text_constants.specs.Constants.{consts}
+use Rattle.text_constants.proofs.Linear.{left-linear}
+use Rattle.math_overlaps.specs.Shapes.{fixed, free, left, right, of, Shape, shapesOf}
+use Rattle.math_overlaps.specs.Candidates.{Cand, range}
+use Rattle.math_overlaps.specs.Joins.{start}
+use Rattle.math_overlaps.specs.Entries.{entries}
+use Rattle.math_overlaps.specs.Overlaps.{place, termOf, PairShape, shown, listed}
+use Rattle.math_overlaps.proofs.Linear.{linear-shapes}
+use Rattle.math_overlaps.proofs.Named.{gaps}
+use Rattle.overlap_spec.specs.Lines.{lineText}
+use Rattle.overlap_spec.specs.Overlaps.{entriesOf, lineOf, linesOf}
 use Rattle.math_codes.specs.Tables.{Table, kindA, isFree}
 use Rattle.math_codes.specs.Entries.{placeShapes, entriesOn}
 use Rattle.math_codes.specs.Items.{shownAt}

@@ -9,16 +9,16 @@ use native.Mathlib.Decide.{decLt}
 use borrow.Author.Tests.{lt-ltb, le-ltb}
 use lib.Dec.{eqb}
 use lib.ListN.{length, getD, set, length-append}
-use Rattle.lists.specs.Seqs.{All}
-use Rattle.order.specs.Order.{Order}
-use Rattle.theory.specs.Constants.{Consts}
-use Rattle.theory.specs.Seqs.{concat-map}
-use Rattle.text.specs.Numbers.{dec, decC, digitsOf}
-use Rattle.unifiers.specs.Shapes.{Vars}
-use Rattle.unifiers.specs.Candidates.{Cand, range, cands}
-use Rattle.unifiers.specs.Joins.{At, State}
-use Rattle.unifiers.specs.Entries.{equations, chosen, branch}
-use Rattle.listing.specs.Lines.{leftMark, rightMark}
+use Rattle.base_lists.specs.Seqs.{All}
+use Rattle.math_types.specs.Order.{Order}
+use Rattle.math_terms.specs.Constants.{Consts}
+use Rattle.math_terms.specs.Seqs.{concat-map}
+use Rattle.text_grammar.specs.Numbers.{dec, decC, digitsOf}
+use Rattle.math_overlaps.specs.Shapes.{Vars}
+use Rattle.math_overlaps.specs.Candidates.{Cand, range, cands}
+use Rattle.math_overlaps.specs.Joins.{At, State}
+use Rattle.math_overlaps.specs.Entries.{equations, chosen, branch}
+use Rattle.overlap_spec.specs.Lines.{leftMark, rightMark}
 use Rattle.math_codes.specs.Tables.{Holds, Table}
 use Rattle.math_codes.specs.States.{replaced, joinedBy, takes, joinPlaces, joinsPlaces}
 use Rattle.math_codes.specs.Entries.{entriesOn}

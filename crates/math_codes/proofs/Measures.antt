@@ -11,15 +11,15 @@ use native.Mathlib.Decide.{ℕ-discrete}
 use lib.Dec.{ltb}
 use borrow.Author.Tests.{lt-ltb}
 use lib.ListN.{length, getD, take, drop, replicate, length-append, length-take, length-drop}
-use Rattle.lists.specs.Seqs.{All, tabulate, tabulate-long}
-use Rattle.order.specs.Order.{Full, basic, list}
-use Rattle.theory.specs.Terms.{Term, con, var}
-use Rattle.text.specs.Numbers.{digitsOf}
-use Rattle.text.specs.Limits.{IsLeft}
-use Rattle.text.specs.Terms.{OurTerm}
-use Rattle.unifiers.specs.Candidates.{Cand, exact, long, range, cands}
-use Rattle.unifiers.specs.Entries.{span}
-use Rattle.unifiers.proofs.Pairs.{room-of, reach-of, no-long₁, no-long₂}
+use Rattle.base_lists.specs.Seqs.{All, tabulate, tabulate-long}
+use Rattle.math_types.specs.Order.{Full, basic, list}
+use Rattle.math_terms.specs.Terms.{Term, con, var}
+use Rattle.text_grammar.specs.Numbers.{digitsOf}
+use Rattle.text_grammar.specs.Limits.{IsLeft}
+use Rattle.text_grammar.specs.Terms.{OurTerm}
+use Rattle.math_overlaps.specs.Candidates.{Cand, exact, long, range, cands}
+use Rattle.math_overlaps.specs.Entries.{span}
+use Rattle.math_overlaps.proofs.Pairs.{room-of, reach-of, no-long₁, no-long₂}
 use Rattle.math_codes.specs.Tables.{Table}
 use Rattle.math_codes.specs.Names.{noNames, nameFields}
 use Rattle.math_codes.specs.Lines.{pairItems, letterAt, itemText, colonsSize, itemsSize, barsSize, fieldsSize}

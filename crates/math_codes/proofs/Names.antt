@@ -11,11 +11,11 @@ use borrow.Author.Tests.{eq-eqb, ne-eqb}
 use lib.Dec.{eqb}
 use lib.ListN.{length, getD, set, length-set, length-append, length-replicate, getD-replicate}
 use lib.Seq.{getD-set-same, getD-set-other}
-use Rattle.lists.specs.Seqs.{Any}
-use Rattle.theory.specs.Terms.{Term, con, var}
-use Rattle.theory.specs.Seqs.{concat-map}
-use Rattle.theory.specs.Fillings.{Occurs}
-use Rattle.unifiers.specs.Overlaps.{placeOf, firsts, namesOf, number}
+use Rattle.base_lists.specs.Seqs.{Any}
+use Rattle.math_terms.specs.Terms.{Term, con, var}
+use Rattle.math_terms.specs.Seqs.{concat-map}
+use Rattle.math_terms.specs.Fillings.{Occurs}
+use Rattle.math_overlaps.specs.Overlaps.{placeOf, firsts, namesOf, number}
 use Rattle.math_codes.specs.Tables.{IsCode, Table}
 use Rattle.math_codes.specs.Names.{Names, noNames, counted, nameCode, nameCodes, nameFields, MadeTerms}
 use Rattle.math_codes.proofs.Tables.{holds-below, same-code, same-atom}

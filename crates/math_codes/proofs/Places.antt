@@ -7,10 +7,10 @@ use native.Mathlib.Nat.{suc-mul}
 use native.Mathlib.Omega.{arith}
 use lib.ListN.{length, getD, replicate, length-append, length-replicate, length-map}
 use lib.Seq.{getD-append-seam}
-use Rattle.lists.specs.Seqs.{All}
-use Rattle.order.specs.Order.{Full, basic, list}
-use Rattle.theory.specs.Terms.{Term, con, var}
-use Rattle.unifiers.specs.Shapes.{Atom, fixed, free, Side, left, right, Variable, of, shapeOf, shapesOf}
+use Rattle.base_lists.specs.Seqs.{All}
+use Rattle.math_types.specs.Order.{Full, basic, list}
+use Rattle.math_terms.specs.Terms.{Term, con, var}
+use Rattle.math_overlaps.specs.Shapes.{Atom, fixed, free, Side, left, right, Variable, of, shapeOf, shapesOf}
 use Rattle.math_codes.specs.Tables.{Holds}
 use Rattle.math_codes.specs.Entries.{atomOf, fieldRow, ruleRow, pairRow, placeShape, placeShapes}
 use Rattle.math_codes.proofs.Seqs.{Each, Perhaps, OnShape, with-atom, with-list, with-both}

@@ -10,16 +10,16 @@ use borrow.Author.Tests.{lt-ltb, le-ltb, le-leb, lt-leb}
 use lib.Dec.{ltb}
 use lib.ListN.{length, getD, replicate, length-append, length-map, length-replicate, getD-replicate, List·getD-append}
 use lib.Seq.{getD-append-add}
-use Rattle.lists.specs.Seqs.{tabulate, tabulated, tabulate-same}
-use Rattle.order.specs.Order.{Full, basic, list}
-use Rattle.theory.specs.Terms.{Term, con, var}
-use Rattle.theory.specs.Matcher.{andThen}
-use Rattle.unifiers.specs.Shapes.{Shape, closed, gapped, withAtom, withList}
-use Rattle.unifiers.specs.Candidates.{Cand, range, cands}
-use Rattle.unifiers.specs.Entries.{row, meeting, merge, span, cells, equations}
-use Rattle.unifiers.proofs.Candidates.{Room}
-use Rattle.unifiers.proofs.Rows.{Covered}
-use Rattle.unifiers.proofs.Pairs.{room-of, covered-of}
+use Rattle.base_lists.specs.Seqs.{tabulate, tabulated, tabulate-same}
+use Rattle.math_types.specs.Order.{Full, basic, list}
+use Rattle.math_terms.specs.Terms.{Term, con, var}
+use Rattle.math_terms.specs.Matcher.{andThen}
+use Rattle.math_overlaps.specs.Shapes.{Shape, closed, gapped, withAtom, withList}
+use Rattle.math_overlaps.specs.Candidates.{Cand, range, cands}
+use Rattle.math_overlaps.specs.Entries.{row, meeting, merge, span, cells, equations}
+use Rattle.math_overlaps.proofs.Candidates.{Room}
+use Rattle.math_overlaps.proofs.Rows.{Covered}
+use Rattle.math_overlaps.proofs.Pairs.{room-of, covered-of}
 use Rattle.math_codes.specs.Tables.{Table}
 use Rattle.math_codes.specs.States.{joinPlaces, joinsPlaces}
 use Rattle.math_codes.specs.Entries.{placeShape}

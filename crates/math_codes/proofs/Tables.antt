@@ -7,11 +7,11 @@ use Prim.Native.Nat.{ℕ, zero, suc, _≤_, _<_}
 use native.Mathlib.Omega.{arith}
 use native.Mathlib.Decide.{ℕ-discrete}
 use lib.ListN.{length, getD, length-map, List·getD-map}
-use Rattle.lists.specs.Seqs.{tabulate-long, tabulate-at}
-use Rattle.order.specs.Order.{Order}
-use Rattle.theory.specs.Constants.{Consts}
-use Rattle.unifiers.specs.Shapes.{Vars}
-use Rattle.unifiers.specs.Joins.{At}
+use Rattle.base_lists.specs.Seqs.{tabulate-long, tabulate-at}
+use Rattle.math_types.specs.Order.{Order}
+use Rattle.math_terms.specs.Constants.{Consts}
+use Rattle.math_overlaps.specs.Shapes.{Vars}
+use Rattle.math_overlaps.specs.Joins.{At}
 use Rattle.math_codes.specs.Tables.{Holds, codeOf, IsCode, codeAt, Ranks, same, rankAt, freeAt, tableOf, Made}
 
 -- ---- places

@@ -7,15 +7,15 @@ use Prim.Native.Nat.{ℕ, suc, _+_, _-_, _*_}
 use native.Mathlib.Omega.{arith}
 use native.Mathlib.Decide.{ℕ-discrete}
 use lib.ListN.{length, drop, length-append}
-use Rattle.lists.specs.Seqs.{All, IsCons}
-use Rattle.theory.specs.Terms.{con}
-use Rattle.text.specs.Bytes.{Digit}
-use Rattle.text.specs.Grammar.{Number}
-use Rattle.text.specs.Numbers.{val, value, digitsOf}
-use Rattle.text.specs.Plain.{termText}
-use Rattle.text.specs.Terms.{Con, int, str}
-use Rattle.text.proofs.Numbers.{digits-value, digits-number, digits-one}
-use Rattle.unifiers.proofs.Seqs.{cut}
+use Rattle.base_lists.specs.Seqs.{All, IsCons}
+use Rattle.math_terms.specs.Terms.{con}
+use Rattle.text_grammar.specs.Bytes.{Digit}
+use Rattle.text_grammar.specs.Grammar.{Number}
+use Rattle.text_grammar.specs.Numbers.{val, value, digitsOf}
+use Rattle.text_grammar.specs.Plain.{termText}
+use Rattle.text_grammar.specs.Terms.{Con, int, str}
+use Rattle.text_grammar.proofs.Numbers.{digits-value, digits-number, digits-one}
+use Rattle.math_overlaps.proofs.Seqs.{cut}
 use Rattle.math_codes.specs.Texts.{zeros}
 
 -- ---- leading zeros

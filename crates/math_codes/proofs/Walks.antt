@@ -6,12 +6,12 @@ use mathlib.Core.List.{List, [], _∷_, _++_, map, append-assoc, append-nil, Lis
 use Prim.Native.Nat.{ℕ, zero, suc, _+_, max}
 use native.Mathlib.Omega.{arith}
 use lib.ListN.{getD, take, drop}
-use Rattle.lists.specs.Seqs.{tabulate, tabulate-same}
-use Rattle.theory.specs.Seqs.{concat-map}
-use Rattle.unifiers.specs.Candidates.{Cand, exact, long, range, before, wide, cands}
-use Rattle.unifiers.specs.Entries.{equations, chosen, branch, span, cells, fieldFor}
-use Rattle.unifiers.specs.Overlaps.{mapShape}
-use Rattle.unifiers.proofs.Pairs.{no-long₁, no-long₂}
+use Rattle.base_lists.specs.Seqs.{tabulate, tabulate-same}
+use Rattle.math_terms.specs.Seqs.{concat-map}
+use Rattle.math_overlaps.specs.Candidates.{Cand, exact, long, range, before, wide, cands}
+use Rattle.math_overlaps.specs.Entries.{equations, chosen, branch, span, cells, fieldFor}
+use Rattle.math_overlaps.specs.Overlaps.{mapShape}
+use Rattle.math_overlaps.proofs.Pairs.{no-long₁, no-long₂}
 use Rattle.math_codes.specs.Tables.{Table}
 use Rattle.math_codes.specs.States.{joinsPlaces}
 use Rattle.math_codes.specs.Entries.{entriesOn}

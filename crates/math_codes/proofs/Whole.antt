@@ -7,20 +7,20 @@ use mathlib.Core.List.{List, [], _∷_, _++_, map, List·Memᴰ, List·Memᴰ·h
 use Prim.Native.Nat.{ℕ, suc, _+_, _-_}
 use native.Mathlib.Decide.{ℕ-discrete}
 use lib.ListN.{length, getD, take, drop}
-use Rattle.order.specs.Order.{Full, basic, list}
-use Rattle.order.specs.Types.{Kind, basics, entry}
-use Rattle.theory.specs.Terms.{Term}
-use Rattle.theory.specs.Seqs.{concat-map}
-use Rattle.text.specs.Limits.{IsLeft}
-use Rattle.text.specs.Terms.{OurTerm}
-use Rattle.instance.specs.Constants.{consts}
-use Rattle.unifiers.specs.Shapes.{Side, left, right, Shape, both}
-use Rattle.unifiers.specs.Candidates.{Cand}
-use Rattle.unifiers.specs.Entries.{fieldsFor}
-use Rattle.unifiers.specs.Overlaps.{mapShape, runOf}
-use Rattle.listing.specs.Lines.{lineText, leftMark, rightMark}
-use Rattle.listing.specs.Variables.{Variable, variables}
-use Rattle.listing.specs.Overlaps.{entriesOf, linesOf}
+use Rattle.math_types.specs.Order.{Full, basic, list}
+use Rattle.math_types.specs.Types.{Kind, basics, entry}
+use Rattle.math_terms.specs.Terms.{Term}
+use Rattle.math_terms.specs.Seqs.{concat-map}
+use Rattle.text_grammar.specs.Limits.{IsLeft}
+use Rattle.text_grammar.specs.Terms.{OurTerm}
+use Rattle.text_constants.specs.Constants.{consts}
+use Rattle.math_overlaps.specs.Shapes.{Side, left, right, Shape, both}
+use Rattle.math_overlaps.specs.Candidates.{Cand}
+use Rattle.math_overlaps.specs.Entries.{fieldsFor}
+use Rattle.math_overlaps.specs.Overlaps.{mapShape, runOf}
+use Rattle.overlap_spec.specs.Lines.{lineText, leftMark, rightMark}
+use Rattle.overlap_spec.specs.Variables.{Variable, variables}
+use Rattle.overlap_spec.specs.Overlaps.{entriesOf, linesOf}
 use Rattle.math_codes.specs.Tables.{Table}
 use Rattle.math_codes.specs.Entries.{placeShape, placeShapes, entriesOn}
 use Rattle.math_codes.specs.Names.{noNames, nameFields}

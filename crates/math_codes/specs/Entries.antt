@@ -4,13 +4,13 @@ use mathlib.Core.Option.{Option, none, some}
 use mathlib.Core.List.{List, [], _∷_, _++_, map}
 use Prim.Native.Nat.{ℕ, suc, _+_, _-_, _*_}
 use lib.ListN.{length, getD, replicate}
-use Rattle.order.specs.Order.{Full, basic, list}
-use Rattle.theory.specs.Terms.{Term, con, var}
-use Rattle.theory.specs.Seqs.{concat-map}
-use Rattle.unifiers.specs.Shapes.{Atom, fixed, free, Side, left, right, Variable, of, Shape, closed, withAtom, withList, both}
-use Rattle.unifiers.specs.Candidates.{Cand, cands}
-use Rattle.unifiers.specs.Entries.{equations, branch, fieldsFor}
-use Rattle.unifiers.specs.Overlaps.{mapShape}
+use Rattle.math_types.specs.Order.{Full, basic, list}
+use Rattle.math_terms.specs.Terms.{Term, con, var}
+use Rattle.math_terms.specs.Seqs.{concat-map}
+use Rattle.math_overlaps.specs.Shapes.{Atom, fixed, free, Side, left, right, Variable, of, Shape, closed, withAtom, withList, both}
+use Rattle.math_overlaps.specs.Candidates.{Cand, cands}
+use Rattle.math_overlaps.specs.Entries.{equations, branch, fieldsFor}
+use Rattle.math_overlaps.specs.Overlaps.{mapShape}
 use Rattle.math_codes.specs.Tables.{Table}
 use Rattle.math_codes.specs.States.{joinsPlaces}
 

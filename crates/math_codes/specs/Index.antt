@@ -5,17 +5,17 @@ use mathlib.Core.List.{List, [], _∷_, _++_}
 use Prim.Native.Nat.{ℕ, zero, suc, _+_, _-_, _*_, _/_, _%_, _≤_, _<_}
 use lib.Dec.{ltb}
 use lib.ListN.{getD, drop}
-use Rattle.order.specs.Order.{basic, list}
-use Rattle.order.specs.Types.{Kind, basics, rank, entry}
-use Rattle.theory.specs.Seqs.{concat-map}
-use Rattle.text.specs.Numbers.{digitsOf}
-use Rattle.text.specs.Sizes.{largestNumber}
-use Rattle.text.specs.Terms.{OurTerm}
-use Rattle.instance.specs.Constants.{consts}
-use Rattle.unifiers.specs.Shapes.{free, Side, of}
-use Rattle.unifiers.specs.Candidates.{Cand, range}
-use Rattle.listing.specs.Lines.{leftMark, rightMark}
-use Rattle.listing.specs.Variables.{Variable, kinds, occurs, every}
+use Rattle.math_types.specs.Order.{basic, list}
+use Rattle.math_types.specs.Types.{Kind, basics, rank, entry}
+use Rattle.math_terms.specs.Seqs.{concat-map}
+use Rattle.text_grammar.specs.Numbers.{digitsOf}
+use Rattle.text_grammar.specs.Sizes.{largestNumber}
+use Rattle.text_grammar.specs.Terms.{OurTerm}
+use Rattle.text_constants.specs.Constants.{consts}
+use Rattle.math_overlaps.specs.Shapes.{free, Side, of}
+use Rattle.math_overlaps.specs.Candidates.{Cand, range}
+use Rattle.overlap_spec.specs.Lines.{leftMark, rightMark}
+use Rattle.overlap_spec.specs.Variables.{Variable, kinds, occurs, every}
 use Rattle.math_codes.specs.Tables.{Table, codeOf, same}
 use Rattle.math_codes.specs.Names.{noNames, nameFields}
 use Rattle.math_codes.specs.Lines.{letterAt, itemsText, fieldsText, valueText}

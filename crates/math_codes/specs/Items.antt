@@ -5,13 +5,13 @@ use mathlib.Core.Option.{Option, none, some}
 use mathlib.Core.List.{List, [], _∷_, _++_, map}
 use Prim.Native.Nat.{ℕ, _+_}
 use lib.ListN.{getD}
-use Rattle.order.specs.Order.{Order, Full, basic, list}
-use Rattle.theory.specs.Terms.{Term, var}
-use Rattle.theory.specs.Constants.{Consts}
-use Rattle.unifiers.specs.Shapes.{Atom, free, Side, Variable, of, pairVars, Shape, closed, gapped}
-use Rattle.unifiers.specs.Candidates.{Cand, range}
-use Rattle.unifiers.specs.Joins.{At}
-use Rattle.unifiers.specs.Overlaps.{Mark, place, termOf, runOf}
+use Rattle.math_types.specs.Order.{Order, Full, basic, list}
+use Rattle.math_terms.specs.Terms.{Term, var}
+use Rattle.math_terms.specs.Constants.{Consts}
+use Rattle.math_overlaps.specs.Shapes.{Atom, free, Side, Variable, of, pairVars, Shape, closed, gapped}
+use Rattle.math_overlaps.specs.Candidates.{Cand, range}
+use Rattle.math_overlaps.specs.Joins.{At}
+use Rattle.math_overlaps.specs.Overlaps.{Mark, place, termOf, runOf}
 use Rattle.math_codes.specs.Tables.{codeOf, same}
 use Rattle.math_codes.specs.Entries.{codeFields}
 

@@ -6,22 +6,22 @@ use mathlib.Core.List.{List, [], _∷_, _++_, map}
 use Prim.Native.Nat.{ℕ, _+_, _-_, _*_}
 use native.Mathlib.Decide.{ℕ-discrete}
 use lib.ListN.{getD}
-use Rattle.order.specs.Order.{basic}
-use Rattle.order.specs.Types.{Kind, basics, entry, rank}
-use Rattle.theory.specs.Terms.{Term, con, var}
-use Rattle.theory.specs.Seqs.{concat-map}
-use Rattle.text.specs.Numbers.{digitsOf}
-use Rattle.text.specs.Sizes.{mostFields}
-use Rattle.text.specs.Read.{rule}
-use Rattle.text.specs.Plain.{termText}
-use Rattle.text.specs.Terms.{Con, OurTerm}
-use Rattle.instance.specs.Constants.{consts}
-use Rattle.unifiers.specs.Shapes.{Vars, Side, left, right, pairVars, Shape}
-use Rattle.unifiers.specs.Candidates.{Cand}
-use Rattle.unifiers.specs.Joins.{At}
-use Rattle.unifiers.specs.Overlaps.{Mark}
-use Rattle.listing.specs.Lines.{nameText, leftMark, rightMark}
-use Rattle.listing.specs.Variables.{Variable, variables}
+use Rattle.math_types.specs.Order.{basic}
+use Rattle.math_types.specs.Types.{Kind, basics, entry, rank}
+use Rattle.math_terms.specs.Terms.{Term, con, var}
+use Rattle.math_terms.specs.Seqs.{concat-map}
+use Rattle.text_grammar.specs.Numbers.{digitsOf}
+use Rattle.text_grammar.specs.Sizes.{mostFields}
+use Rattle.text_grammar.specs.Read.{rule}
+use Rattle.text_grammar.specs.Plain.{termText}
+use Rattle.text_grammar.specs.Terms.{Con, OurTerm}
+use Rattle.text_constants.specs.Constants.{consts}
+use Rattle.math_overlaps.specs.Shapes.{Vars, Side, left, right, pairVars, Shape}
+use Rattle.math_overlaps.specs.Candidates.{Cand}
+use Rattle.math_overlaps.specs.Joins.{At}
+use Rattle.math_overlaps.specs.Overlaps.{Mark}
+use Rattle.overlap_spec.specs.Lines.{nameText, leftMark, rightMark}
+use Rattle.overlap_spec.specs.Variables.{Variable, variables}
 use Rattle.math_codes.specs.Tables.{Holds, Table, Ranks, tableOf, Made}
 use Rattle.math_codes.specs.Entries.{pairRow, placeShapes, entriesOn}
 use Rattle.math_codes.specs.Names.{noNames, nameFields, isVar, MadeTerms}

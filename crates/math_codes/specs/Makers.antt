@@ -5,8 +5,8 @@ use mathlib.Core.List.{List, [], _∷_}
 use Prim.Native.Nat.{ℕ, _+_, _-_}
 use lib.Dec.{ltb}
 use lib.ListN.{length, getD}
-use Rattle.text.specs.Numbers.{digitsOf}
-use Rattle.unifiers.specs.Candidates.{Cand, range}
+use Rattle.text_grammar.specs.Numbers.{digitsOf}
+use Rattle.math_overlaps.specs.Candidates.{Cand, range}
 use Rattle.math_codes.specs.Tables.{Table}
 use Rattle.math_codes.specs.Names.{noNames, nameFields}
 use Rattle.math_codes.specs.Spots.{Spot, spotCands}

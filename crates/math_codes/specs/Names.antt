@@ -6,7 +6,7 @@ use mathlib.Core.List.{List, foldl}
 use Prim.Native.Nat.{ℕ, _+_}
 use lib.Dec.{eqb}
 use lib.ListN.{getD, set, replicate}
-use Rattle.theory.specs.Terms.{Term, con, var}
+use Rattle.math_terms.specs.Terms.{Term, con, var}
 use Rattle.math_codes.specs.Tables.{Holds, Table}
 
 -- by rank how many have a number; by code the number and one, 0 for none

@@ -5,11 +5,11 @@ use mathlib.Core.Option.{Option, none, some}
 use mathlib.Core.List.{List, [], _∷_, _++_, map, foldl}
 use Prim.Native.Nat.{ℕ, zero, suc, _+_, _-_, max}
 use lib.Dec.{eqb, leb, ltb}
-use Rattle.order.specs.Order.{Full, basic, list}
-use Rattle.theory.specs.Terms.{Term, con, var}
-use Rattle.theory.specs.Matcher.{andThen}
-use Rattle.unifiers.specs.Shapes.{Shape, closed, gapped}
-use Rattle.unifiers.specs.Candidates.{Cand, exact, long, range}
+use Rattle.math_types.specs.Order.{Full, basic, list}
+use Rattle.math_terms.specs.Terms.{Term, con, var}
+use Rattle.math_terms.specs.Matcher.{andThen}
+use Rattle.math_overlaps.specs.Shapes.{Shape, closed, gapped}
+use Rattle.math_overlaps.specs.Candidates.{Cand, exact, long, range}
 use Rattle.math_codes.specs.Tables.{Table}
 use Rattle.math_codes.specs.States.{joinPlaces}
 

@@ -5,7 +5,7 @@ use mathlib.Core.List.{List, [], _∷_, map}
 use Prim.Native.Nat.{ℕ}
 use lib.Dec.{eqb}
 use lib.ListN.{getD}
-use Rattle.theory.specs.Matcher.{andThen}
+use Rattle.math_terms.specs.Matcher.{andThen}
 use Rattle.math_codes.specs.Tables.{Table}
 
 -- every x becomes w

@@ -7,11 +7,11 @@ use mathlib.Core.List.{List, [], _∷_}
 use Prim.Native.Nat.{ℕ, suc}
 use native.Mathlib.Omega.{arith}
 use lib.ListN.{length, getD}
-use Rattle.lists.specs.Seqs.{tabulate}
-use Rattle.order.specs.Order.{Order}
-use Rattle.theory.specs.Constants.{Consts}
-use Rattle.unifiers.specs.Shapes.{Atom, fixed, free, Vars}
-use Rattle.unifiers.specs.Joins.{At}
+use Rattle.base_lists.specs.Seqs.{tabulate}
+use Rattle.math_types.specs.Order.{Order}
+use Rattle.math_terms.specs.Constants.{Consts}
+use Rattle.math_overlaps.specs.Shapes.{Atom, fixed, free, Vars}
+use Rattle.math_overlaps.specs.Joins.{At}
 
 -- ---- places and codes, over atoms of any kind
 

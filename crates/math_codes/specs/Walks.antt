@@ -5,9 +5,9 @@ use mathlib.Core.Option.{Option, none, some}
 use mathlib.Core.List.{List, [], _∷_, _++_}
 use Prim.Native.Nat.{ℕ, _+_, max}
 use lib.ListN.{getD}
-use Rattle.lists.specs.Seqs.{tabulate}
-use Rattle.theory.specs.Seqs.{concat-map}
-use Rattle.unifiers.specs.Candidates.{Cand, exact, long}
+use Rattle.base_lists.specs.Seqs.{tabulate}
+use Rattle.math_terms.specs.Seqs.{concat-map}
+use Rattle.math_overlaps.specs.Candidates.{Cand, exact, long}
 use Rattle.math_codes.specs.Tables.{Table}
 use Rattle.math_codes.specs.Spots.{Spot, cellAt, pickCell, joinFrom, spotCands}
 

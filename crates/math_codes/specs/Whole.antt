@@ -5,15 +5,15 @@ use mathlib.Core.List.{List, [], _∷_, _++_}
 use Prim.Native.Nat.{ℕ, suc, _+_, _-_}
 use native.Mathlib.Decide.{ℕ-discrete}
 use lib.ListN.{length, getD, take, drop}
-use Rattle.order.specs.Order.{Full, basic, list}
-use Rattle.order.specs.Types.{Kind, basics, entry}
-use Rattle.theory.specs.Terms.{Term}
-use Rattle.text.specs.Terms.{OurTerm}
-use Rattle.instance.specs.Constants.{consts}
-use Rattle.unifiers.specs.Shapes.{free, Side, left, right, of}
-use Rattle.unifiers.specs.Candidates.{Cand}
-use Rattle.listing.specs.Lines.{leftMark, rightMark}
-use Rattle.listing.specs.Variables.{Variable, variables}
+use Rattle.math_types.specs.Order.{Full, basic, list}
+use Rattle.math_types.specs.Types.{Kind, basics, entry}
+use Rattle.math_terms.specs.Terms.{Term}
+use Rattle.text_grammar.specs.Terms.{OurTerm}
+use Rattle.text_constants.specs.Constants.{consts}
+use Rattle.math_overlaps.specs.Shapes.{free, Side, left, right, of}
+use Rattle.math_overlaps.specs.Candidates.{Cand}
+use Rattle.overlap_spec.specs.Lines.{leftMark, rightMark}
+use Rattle.overlap_spec.specs.Variables.{Variable, variables}
 use Rattle.math_codes.specs.Tables.{Table, codeOf, same}
 use Rattle.math_codes.specs.Names.{noNames, nameFields}
 use Rattle.math_codes.specs.Lines.{fieldsText, valuesText, ourVars, fieldPlaces, rulePlaces, pairPlaces, pairItems, ourRow}

@@ -7,8 +7,8 @@ use Prim.Native.Nat.{ℕ, zero, suc, _+_, _-_, _<_, _≤_, max}
 use native.Mathlib.Omega.{arith}
 use lib.Dec.{eqb, leb, ltb}
 use borrow.Author.Tests.{eqb-true, eq-eqb, ne-eqb, lt-ltb, le-ltb}
-use Rattle.lists.specs.Seqs.{tabulate, tabulate-same}
-use Rattle.unifiers.specs.Candidates.{Cand, exact, long, range}
+use Rattle.base_lists.specs.Seqs.{tabulate, tabulate-same}
+use Rattle.math_overlaps.specs.Candidates.{Cand, exact, long, range}
 use Rattle.math_codes.specs.Spots.{Spot, candsFrom, spotCands}
 use Rattle.math_codes.specs.Walks.{spanOn, fieldItems}
 use Rattle.overlap_entries.specs.Entries.{only, spanFrom, spanOf, candOf, candAt, codeAt, itemCount, itemAt}

@@ -8,7 +8,7 @@ use native.Mathlib.Omega.{arith}
 use lib.Dec.{eqb}
 use lib.ListN.{getD}
 use borrow.Author.Tests.{not-false}
-use Rattle.theory.specs.Matcher.{andThen}
+use Rattle.math_terms.specs.Matcher.{andThen}
 use Rattle.math_codes.specs.Tables.{Table}
 use Rattle.math_codes.specs.Spots.{joinCells, joinFrom}
 use Rattle.pair_state.specs.declared.State.{State}

@@ -5,7 +5,7 @@ use mathlib.Core.List.{List}
 use Prim.Native.Nat.{ℕ, suc, _+_, _-_, max}
 use lib.Dec.{eqb, leb, ltb}
 use lib.ListN.{getD, set, replicate}
-use Rattle.unifiers.specs.Candidates.{Cand, exact, long}
+use Rattle.math_overlaps.specs.Candidates.{Cand, exact, long}
 use Rattle.math_codes.specs.Spots.{Spot, cellAt, pickCell}
 use Rattle.overlap_entries.specs.declared.Span.{Span}
 use Rattle.overlap_entries.specs.declared.Choice.{Choice}

@@ -1,7 +1,7 @@
 // Two fields laid over each other: the candidates, the joins of one, and the items that it gives an entry's field.
 ghost use mathlib.Core.Path.{_≡_};
 ghost use Prim.Native.Nat.{max};
-ghost use Rattle.order.specs.Types.{entry};
+ghost use Rattle.math_types.specs.Types.{entry};
 ghost use Rattle.math_codes.specs.Spots.{cellAt, pickCell, joinCells, joinFrom};
 ghost use Rattle.pair_row.specs.Row.{tableIn, spotOf};
 ghost use Rattle.pair_state.specs.States.{joinedOf};

@@ -8,8 +8,8 @@ use lib.Dec.{eqb, leb}
 use lib.ListN.{length, getD, drop, length-append, length-drop, length-replicate}
 use lib.Seq.{slice, take-all}
 use borrow.Author.Tests.{leb-true, eq-eqb, ne-eqb}
-use Rattle.lists.specs.Truths.{both-is}
-use Rattle.lists.specs.Seqs.{tabulate-at}
+use Rattle.base_lists.specs.Truths.{both-is}
+use Rattle.base_lists.specs.Seqs.{tabulate-at}
 use Rattle.math_codes.specs.Tables.{Table}
 use Rattle.math_codes.specs.Names.{Names, noNames, nameCodes, nameFields}
 use Rattle.math_codes.specs.Lines.{pairItems}

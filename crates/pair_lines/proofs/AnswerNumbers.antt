@@ -10,10 +10,10 @@ use lib.Dec.{eqb, leb, ltb}
 use lib.ListN.{length, getD, set}
 use lib.Seq.{getD-set-same, getD-set-other, set-out}
 use borrow.Author.Tests.{lt-ltb, ltb-true, leb-true, eq-eqb, ne-eqb}
-use Rattle.lists.specs.Truths.{both-is}
-use Rattle.lists.specs.Seqs.{All, all-map, all-append}
-use Rattle.theory.specs.Seqs.{concat-map}
-use Rattle.unifiers.specs.Candidates.{range}
+use Rattle.base_lists.specs.Truths.{both-is}
+use Rattle.base_lists.specs.Seqs.{All, all-map, all-append}
+use Rattle.math_terms.specs.Seqs.{concat-map}
+use Rattle.math_overlaps.specs.Candidates.{range}
 use Rattle.math_codes.specs.Tables.{Table}
 use Rattle.math_codes.specs.Names.{Names, noNames, counted, nameCode, nameCodes, nameFields}
 use Rattle.math_codes.specs.Lines.{pairItems}

@@ -9,8 +9,8 @@ use lib.Dec.{eqb, ltb}
 use lib.ListN.{length, getD, set, take, drop, take-append-drop, drop-of-length-le}
 use lib.Seq.{getD-set-same, getD-set-other, set-out, take-suc, drop-cons, take-all}
 use borrow.Author.Tests.{lt-ltb, le-ltb, lt-leb, le-leb}
-use Rattle.theory.specs.Seqs.{concat-map}
-use Rattle.unifiers.specs.Candidates.{range}
+use Rattle.math_terms.specs.Seqs.{concat-map}
+use Rattle.math_overlaps.specs.Candidates.{range}
 use Rattle.math_codes.specs.Tables.{Table}
 use Rattle.math_codes.specs.Names.{Names, counted, nameCode, nameCodes, nameFields}
 use Rattle.math_codes.specs.Lines.{pairItems}

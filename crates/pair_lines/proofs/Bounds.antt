@@ -7,7 +7,7 @@ use native.Mathlib.Omega.{arith}
 use lib.Dec.{leb}
 use lib.ListN.{length, getD, drop, length-append, length-take}
 use borrow.Author.Tests.{leb-true}
-use Rattle.lists.specs.Truths.{both-is}
+use Rattle.base_lists.specs.Truths.{both-is}
 use Rattle.math_codes.specs.Lines.{fieldsText}
 use Rattle.math_codes.specs.Whole.{runOn}
 use Rattle.math_codes.proofs.Measures.{line-bounded}

@@ -12,8 +12,8 @@ use lib.ListN.{length, length-append, getD, set, length-set, take, drop, replica
 use lib.Seq.{sets, length-sets, sets-eq, slice, slice-empty, take-set-le, take-nil, drop-drop, take-take, take-at, drop-at, length-take-le}
 use lib.Seq.{getD-set-same, getD-set-other}
 use borrow.Author.Tests.{leb-true, le-ltb, lt-ltb}
-use Rattle.lists.specs.Truths.{both-is}
-use Rattle.lists.specs.Seqs.{tabulate, tabulate-long}
+use Rattle.base_lists.specs.Truths.{both-is}
+use Rattle.base_lists.specs.Seqs.{tabulate, tabulate-long}
 use Rattle.math_codes.specs.Spots.{Spot}
 use Rattle.math_codes.specs.Names.{noNames}
 use Rattle.math_codes.specs.Lines.{pairItems}

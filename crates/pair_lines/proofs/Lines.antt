@@ -8,9 +8,9 @@ use lib.Dec.{leb}
 use lib.ListN.{length, getD, length-set}
 use lib.Seq.{getD-set-same, getD-set-other}
 use borrow.Author.Tests.{le-leb}
-use Rattle.lists.specs.Truths.{both-is}
-use Rattle.lists.specs.Seqs.{All, tabulate, tabulate-long}
-use Rattle.unifiers.specs.Candidates.{Cand, exact, long}
+use Rattle.base_lists.specs.Truths.{both-is}
+use Rattle.base_lists.specs.Seqs.{All, tabulate, tabulate-long}
+use Rattle.math_overlaps.specs.Candidates.{Cand, exact, long}
 use Rattle.math_codes.specs.Spots.{Spot, spotCands}
 use Rattle.math_codes.specs.Walks.{spanOn, fieldItems}
 use Rattle.math_codes.specs.Names.{noNames, nameFields}

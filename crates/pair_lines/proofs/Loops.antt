@@ -8,7 +8,7 @@ use lib.Dec.{leb}
 use lib.ListN.{length, getD, set, replicate, length-replicate}
 use lib.Seq.{sets, length-sets}
 use borrow.Author.Tests.{le-leb, lt-leb}
-use Rattle.lists.specs.Seqs.{tabulate, tabulate-long}
+use Rattle.base_lists.specs.Seqs.{tabulate, tabulate-long}
 use Rattle.math_codes.specs.Tables.{Table}
 use Rattle.math_codes.specs.Lines.{pairItems}
 use Rattle.math_codes.specs.Names.{Names, noNames, nameCode, nameCodes, nameFields}

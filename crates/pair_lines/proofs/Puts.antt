@@ -10,7 +10,7 @@ use lib.Dec.{ltb}
 use lib.ListN.{length, getD, set, take, drop, length-append, length-take, length-drop}
 use lib.Seq.{sets, length-sets, take-all, take-suc, getD-drop}
 use borrow.Author.Tests.{lt-ltb, le-ltb}
-use Rattle.text.specs.Numbers.{dec, decC, digitsOf}
+use Rattle.text_grammar.specs.Numbers.{dec, decC, digitsOf}
 use Rattle.pair_lines.specs.Lines.{Puts, blank, unled}
 
 sets-append : (a b l : List ℕ) (i : ℕ) → sets (sets l i a) (i + length a) b ≡ sets l i (a ++ b)

@@ -5,7 +5,7 @@ use mathlib.Core.List.{List, [], _∷_, _++_}
 use Prim.Native.Nat.{ℕ, zero, suc, _+_, _*_, _≤_, _<_}
 use native.Mathlib.Omega.{arith}
 use lib.ListN.{length, length-append, length-take, getD, drop}
-use Rattle.lists.specs.Seqs.{All, tabulate}
+use Rattle.base_lists.specs.Seqs.{All, tabulate}
 use Rattle.math_codes.proofs.Measures.{line-short}
 use Rattle.pair_row.specs.Row.{tableIn, cellBytes, bytesIn, isString, textIn, indexIn, topIn}
 use Rattle.overlap_entries.specs.declared.Choice.{Choice}

@@ -7,11 +7,11 @@ use native.Mathlib.Omega.{arith}
 use lib.Dec.{leb}
 use lib.ListN.{length, getD, take, drop, length-append, length-drop, take-append-drop}
 use lib.Seq.{take-all, take-suc}
-use Rattle.lists.specs.Seqs.{tabulate, tabulate-long, tabulate-at}
+use Rattle.base_lists.specs.Seqs.{tabulate, tabulate-long, tabulate-at}
 use borrow.Author.Tests.{eq-eqb, ne-eqb}
-use Rattle.order.specs.Order.{list}
-use Rattle.order.specs.Types.{rank}
-use Rattle.text.specs.Numbers.{digitsOf}
+use Rattle.math_types.specs.Order.{list}
+use Rattle.math_types.specs.Types.{rank}
+use Rattle.text_grammar.specs.Numbers.{digitsOf}
 use Rattle.math_codes.specs.Tables.{Table}
 use Rattle.math_codes.specs.Lines.{pairPlaces, letterAt, itemText, colonTexts, itemsText, barTexts, fieldsText}
 use Rattle.pair_row.specs.Row.{kindsAt, variablesAt, isSet, tableIn, bytesIn, textIn}

@@ -8,10 +8,10 @@ use native.Mathlib.Decide.{decLt}
 use lib.ListN.{length, getD, take, drop, length-append, length-take, drop-of-length-le}
 use lib.Seq.{slice, take-all}
 use borrow.Author.Tests.{lt-ltb, le-ltb}
-use Rattle.text.specs.Numbers.{digitsOf}
-use Rattle.theory.specs.Seqs.{concat-map}
-use Rattle.theory.proofs.Seqs.{concat-map-append}
-use Rattle.unifiers.specs.Candidates.{range}
+use Rattle.text_grammar.specs.Numbers.{digitsOf}
+use Rattle.math_terms.specs.Seqs.{concat-map}
+use Rattle.math_terms.proofs.Seqs.{concat-map-append}
+use Rattle.math_overlaps.specs.Candidates.{range}
 use Rattle.math_codes.specs.Lines.{itemText, itemsText}
 use Rattle.math_codes.specs.Index.{isThere, hasAt, nameAt, boundText, rankedValue}
 use Rattle.pair_row.specs.Row.{tableIn, textIn, indexIn, topIn}

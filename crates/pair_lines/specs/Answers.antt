@@ -4,9 +4,9 @@ use mathlib.Core.List.{List, [], _∷_}
 use Prim.Native.Nat.{ℕ, _%_}
 use lib.Dec.{eqb, leb, ltb}
 use lib.ListN.{length}
-use Rattle.lists.specs.Seqs.{tabulate}
-use Rattle.theory.specs.Seqs.{concat-map}
-use Rattle.unifiers.specs.Candidates.{range}
+use Rattle.base_lists.specs.Seqs.{tabulate}
+use Rattle.math_terms.specs.Seqs.{concat-map}
+use Rattle.math_overlaps.specs.Candidates.{range}
 use Rattle.math_codes.specs.Lines.{pairItems}
 use Rattle.math_codes.specs.Index.{hasAt, valueAt, listedValues, indexedAnswer}
 use Rattle.pair_row.specs.Row.{tableIn, textIn, indexIn, topIn}

@@ -7,9 +7,9 @@ use Prim.Native.Nat.{ℕ, zero, suc, _+_, _-_, _*_, _^_, _≤_}
 use lib.Dec.{leb, ltb}
 use lib.ListN.{length, getD, set, drop, replicate}
 use lib.Seq.{sets, slice}
-use Rattle.lists.specs.Seqs.{tabulate}
-use Rattle.unifiers.specs.Candidates.{Cand, exact, long}
-use Rattle.listing.specs.Lines.{leftMark, rightMark}
+use Rattle.base_lists.specs.Seqs.{tabulate}
+use Rattle.math_overlaps.specs.Candidates.{Cand, exact, long}
+use Rattle.overlap_spec.specs.Lines.{leftMark, rightMark}
 use Rattle.math_codes.specs.Spots.{Spot}
 use Rattle.math_codes.specs.Walks.{spanOn}
 use Rattle.math_codes.specs.Names.{Names, noNames, nameFields}

@@ -6,7 +6,7 @@ ghost use mathlib.Core.List.{List, [], _∷_, _++_};
 ghost use Prim.Native.Nat.{_+_, _-_, _*_, _^_, _≤_, _<_, min};
 ghost use lib.ListN.{length, getD, set};
 ghost use lib.Seq.{sets};
-ghost use Rattle.text.specs.Numbers.{digitsOf};
+ghost use Rattle.text_grammar.specs.Numbers.{digitsOf};
 ghost use Rattle.math_codes.specs.Names.{nameCode, nameCodes, nameFields};
 ghost use Rattle.math_codes.specs.Lines.{letterAt, itemText, itemsText, fieldsText};
 ghost use Rattle.math_codes.specs.Index.{nameAt};

@@ -5,9 +5,9 @@ use mathlib.Core.List.{List, [], _∷_, _++_}
 use Prim.Native.Nat.{ℕ, _+_, _*_}
 use lib.Dec.{eqb, leb}
 use lib.ListN.{getD, take, drop}
-use Rattle.lists.specs.Seqs.{tabulate}
-use Rattle.order.specs.Order.{basic, list}
-use Rattle.order.specs.Types.{string, rank}
+use Rattle.base_lists.specs.Seqs.{tabulate}
+use Rattle.math_types.specs.Order.{basic, list}
+use Rattle.math_types.specs.Types.{string, rank}
 use Rattle.math_codes.specs.Tables.{Table}
 use Rattle.math_codes.specs.Spots.{Spot}
 use Rattle.math_codes.specs.Lines.{fieldPlaces, pairPlaces}

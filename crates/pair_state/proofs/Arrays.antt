@@ -7,7 +7,7 @@ use native.Mathlib.Nat.{eq-or-lt-of-le}
 use native.Mathlib.Omega.{arith}
 use lib.ListN.{length, getD, set, take, drop, length-set, drop-of-length-le}
 use lib.Seq.{take-all, drop-cons, drop-set-lt, take-suc-set, append-snoc, set-getD, getD-set-same, getD-set-other}
-use Rattle.lists.specs.Seqs.{tabulate, tabulated}
+use Rattle.base_lists.specs.Seqs.{tabulate, tabulated}
 
 -- ---- filling
 

@@ -3,11 +3,11 @@ use mathlib.Core.Path.{_≡_, refl, sym, _∙_, ap, ap₂, subst}
 use mathlib.Core.Bool.{Bool, true, false, _&&_}
 use Prim.Native.Nat.{ℕ}
 use lib.Dec.{eqb}
-use Rattle.order.specs.Types.{entry}
-use Rattle.order.specs.Values.{meetRank}
-use Rattle.order.specs.declared.Met.{Met}
-use Rattle.order.specs.declared.Met.the-variants.{Is, Nothing}
-use Rattle.order.proofs.Ranks.{MeetSays, meet-says}
+use Rattle.math_types.specs.Types.{entry}
+use Rattle.math_types.specs.Values.{meetRank}
+use Rattle.math_types.specs.declared.Met.{Met}
+use Rattle.math_types.specs.declared.Met.the-variants.{Is, Nothing}
+use Rattle.math_types.proofs.Ranks.{MeetSays, meet-says}
 use Rattle.math_codes.specs.Tables.{Table}
 use Rattle.math_codes.specs.States.{takes}
 

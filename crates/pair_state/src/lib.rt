@@ -2,11 +2,11 @@
 ghost use mathlib.Core.Path.{_≡_};
 ghost use mathlib.Core.Bool.{_&&_};
 ghost use lib.Dec.{eqb};
-ghost use Rattle.order.specs.Types.{entry};
+ghost use Rattle.math_types.specs.Types.{entry};
 ghost use Rattle.math_codes.specs.States.{replaced, joinPlaces};
 ghost use Rattle.pair_row.specs.Row.{tableIn};
 ghost use Rattle.pair_state.specs.States.{joinedOf};
-use order::Met;
+use math_types::Met;
 
 // Document 01: "Each join of two atoms turns one state of the fillings into the next".
 pub struct State {
@@ -77,7 +77,7 @@ impl State {
         let mut gone = x;
         let mut kept = y;
         // The left atom's class goes over most often: its test is the meet's first.
-        match order::meet_rank(k, j) {
+        match math_types::meet_rank(k, j) {
             Met::Is(m) => {
                 if !goes_over(x, m, k, row) {
                     if !goes_over(y, m, j, row) {

@@ -4,13 +4,13 @@ use mathlib.Core.Path.{_≡_, refl}
 use mathlib.Core.Bool.{false}
 use mathlib.Core.List.{List, [], _∷_}
 use native.Mathlib.Decide.{ℕ-discrete, decLe, decLt}
-use Rattle.lists.specs.Seqs.{any?, tabulate}
-use Rattle.theory.specs.Terms.{con}
-use Rattle.text.specs.Ascii.{ascii}
-use Rattle.text.specs.Bytes.{digit?, begins, follows, first, holds}
-use Rattle.text.specs.Marks.{fifth?, many?, over?, clash?, clashOf?}
-use Rattle.text.specs.Terms.{OurTerm, int}
-use Rattle.text.specs.Read.{OurFields, accepted, readSide}
+use Rattle.base_lists.specs.Seqs.{any?, tabulate}
+use Rattle.math_terms.specs.Terms.{con}
+use Rattle.text_grammar.specs.Ascii.{ascii}
+use Rattle.text_grammar.specs.Bytes.{digit?, begins, follows, first, holds}
+use Rattle.text_grammar.specs.Marks.{fifth?, many?, over?, clash?, clashOf?}
+use Rattle.text_grammar.specs.Terms.{OurTerm, int}
+use Rattle.text_grammar.specs.Read.{OurFields, accepted, readSide}
 use Rattle.math_codes.specs.Whole.{spotsOf}
 use Rattle.pair_row.specs.Row.{textIn, spotIn}
 use Rattle.pair_table.specs.Notes.{rowsOf}

@@ -9,8 +9,8 @@ use native.Mathlib.Decide.{ℕ-discrete, decLe}
 use lib.Dec.{eqb, leb}
 use lib.ListN.{length, getD, set, List·getD-eq-default}
 use lib.Seq.{sets}
-use Rattle.lists.specs.Seqs.{tabulate, tabulate-same}
-use Rattle.lists.specs.Truths.{both-is}
+use Rattle.base_lists.specs.Seqs.{tabulate, tabulate-same}
+use Rattle.base_lists.specs.Truths.{both-is}
 use Rattle.math_codes.specs.Texts.{zeros}
 use borrow.Author.Tests.{eq-eqb, leb-true}
 use Rattle.pair_row.specs.Row.{kindsAt, membersAt, cellBytes}

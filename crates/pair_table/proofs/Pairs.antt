@@ -11,20 +11,20 @@ use lib.Dec.{eqb, ltb}
 use lib.ListN.{length, getD, replicate, length-append, length-map, length-replicate, getD-replicate, List·getD-append, List·getD-map, List·getD-eq-default}
 use lib.Seq.{getD-append-add}
 use borrow.Author.Tests.{lt-ltb, le-ltb, le-leb, lt-leb}
-use Rattle.lists.specs.Seqs.{tabulate, tabulate-long, tabulate-at}
-use Rattle.order.specs.Order.{basic, list}
-use Rattle.order.specs.Types.{Kind, basics, rank}
-use Rattle.theory.specs.Terms.{con, var}
-use Rattle.text.specs.Limits.{IsLeft}
-use Rattle.text.specs.Plain.{termText}
-use Rattle.text.specs.Read.{accepted, readSide}
-use Rattle.text.specs.Terms.{OurTerm, Con, int, str}
-use Rattle.text.proofs.Accepted.{rule-read}
-use Rattle.instance.specs.Constants.{consts, kind-of}
-use Rattle.unifiers.specs.Shapes.{fixed, free, left, right, of}
-use Rattle.unifiers.specs.Candidates.{range}
-use Rattle.unifiers.specs.Overlaps.{Mark, place, termOf}
-use Rattle.listing.specs.Variables.{inField, occurs}
+use Rattle.base_lists.specs.Seqs.{tabulate, tabulate-long, tabulate-at}
+use Rattle.math_types.specs.Order.{basic, list}
+use Rattle.math_types.specs.Types.{Kind, basics, rank}
+use Rattle.math_terms.specs.Terms.{con, var}
+use Rattle.text_grammar.specs.Limits.{IsLeft}
+use Rattle.text_grammar.specs.Plain.{termText}
+use Rattle.text_grammar.specs.Read.{accepted, readSide}
+use Rattle.text_grammar.specs.Terms.{OurTerm, Con, int, str}
+use Rattle.text_grammar.proofs.Accepted.{rule-read}
+use Rattle.text_constants.specs.Constants.{consts, kind-of}
+use Rattle.math_overlaps.specs.Shapes.{fixed, free, left, right, of}
+use Rattle.math_overlaps.specs.Candidates.{range}
+use Rattle.math_overlaps.specs.Overlaps.{Mark, place, termOf}
+use Rattle.overlap_spec.specs.Variables.{inField, occurs}
 use Rattle.math_codes.specs.Tables.{Holds, kindA, isFree, Made}
 use Rattle.math_codes.specs.Entries.{ruleRow}
 use Rattle.math_codes.specs.Items.{shownAt}

@@ -10,13 +10,13 @@ use lib.Dec.{eqb}
 use lib.ListN.{length, getD, set, take, drop, length-set, length-take, length-drop}
 use lib.Seq.{sets, length-sets, getD-set-same, getD-set-other, getD-take, getD-drop, ext-getD}
 use borrow.Author.Tests.{eq-eqb, eqb-true}
-use Rattle.lists.specs.Truths.{both-is}
-use Rattle.order.specs.Order.{basic}
-use Rattle.order.specs.Types.{rank}
-use Rattle.text.specs.Numbers.{value, digitsOf}
-use Rattle.text.specs.Terms.{Con, int, str}
-use Rattle.text.proofs.Numbers.{digits-value}
-use Rattle.instance.specs.Constants.{kind-of}
+use Rattle.base_lists.specs.Truths.{both-is}
+use Rattle.math_types.specs.Order.{basic}
+use Rattle.math_types.specs.Types.{rank}
+use Rattle.text_grammar.specs.Numbers.{value, digitsOf}
+use Rattle.text_grammar.specs.Terms.{Con, int, str}
+use Rattle.text_grammar.proofs.Numbers.{digits-value}
+use Rattle.text_constants.specs.Constants.{kind-of}
 use Rattle.pair_row.specs.Row.{kindsAt, membersAt, textsBytes, bytesIn}
 use Rattle.pair_table.specs.Notes.{celled, sameFrom, sameConstant, memberFrom}
 

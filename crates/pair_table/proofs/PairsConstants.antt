@@ -10,11 +10,11 @@ use lib.Dec.{eqb}
 use lib.ListN.{length, getD, set, length-set}
 use lib.Seq.{getD-set-same, getD-set-other}
 use borrow.Author.Tests.{eq-eqb, ne-eqb}
-use Rattle.order.specs.Order.{basic}
-use Rattle.order.specs.Types.{basics, rank}
-use Rattle.text.specs.Terms.{Con}
-use Rattle.instance.specs.Constants.{consts, kind-of}
-use Rattle.unifiers.specs.Shapes.{fixed}
+use Rattle.math_types.specs.Order.{basic}
+use Rattle.math_types.specs.Types.{basics, rank}
+use Rattle.text_grammar.specs.Terms.{Con}
+use Rattle.text_constants.specs.Constants.{consts, kind-of}
+use Rattle.math_overlaps.specs.Shapes.{fixed}
 use Rattle.math_codes.specs.Tables.{Holds, fixed-once}
 use Rattle.math_codes.specs.Tables.{same as alike}
 use Rattle.math_codes.specs.Lines.{ourVars, OurAtom}

@@ -10,13 +10,13 @@ use native.Mathlib.Decide.{decLt}
 use lib.Dec.{eqb}
 use lib.ListN.{getD}
 use borrow.Author.Tests.{eqb-true, eq-eqb}
-use Rattle.lists.specs.Truths.{both-is}
-use Rattle.order.specs.Order.{basic, list}
-use Rattle.order.specs.Types.{Basic, Kind, rank, rank-below, rank-once, same, same-is}
-use Rattle.theory.specs.Terms.{con, var}
-use Rattle.text.specs.Terms.{OurTerm, Con}
-use Rattle.unifiers.specs.Shapes.{free, Side, left, right, Variable, of, kindIn}
-use Rattle.listing.specs.Variables.{isVariable, inField}
+use Rattle.base_lists.specs.Truths.{both-is}
+use Rattle.math_types.specs.Order.{basic, list}
+use Rattle.math_types.specs.Types.{Basic, Kind, rank, rank-below, rank-once, same, same-is}
+use Rattle.math_terms.specs.Terms.{con, var}
+use Rattle.text_grammar.specs.Terms.{OurTerm, Con}
+use Rattle.math_overlaps.specs.Shapes.{free, Side, left, right, Variable, of, kindIn}
+use Rattle.overlap_spec.specs.Variables.{isVariable, inField}
 use Rattle.math_codes.specs.Tables.{Holds}
 use Rattle.math_codes.specs.Lines.{OurAtom}
 use Rattle.pair_row.specs.Row.{indexesAt, topsAt, countAt}

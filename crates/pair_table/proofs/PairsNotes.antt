@@ -8,11 +8,11 @@ use Prim.Native.Nat.{ℕ, suc, _+_, _≤_, _<_}
 use native.Mathlib.Omega.{arith}
 use native.Mathlib.Decide.{ℕ-discrete, decLt}
 use lib.ListN.{length, getD}
-use Rattle.order.specs.Order.{basic}
-use Rattle.order.specs.Types.{basics, rank}
-use Rattle.text.specs.Terms.{Con}
-use Rattle.instance.specs.Constants.{consts}
-use Rattle.unifiers.specs.Shapes.{fixed}
+use Rattle.math_types.specs.Order.{basic}
+use Rattle.math_types.specs.Types.{basics, rank}
+use Rattle.text_grammar.specs.Terms.{Con}
+use Rattle.text_constants.specs.Constants.{consts}
+use Rattle.math_overlaps.specs.Shapes.{fixed}
 use Rattle.math_codes.specs.Tables.{Holds, codeOf, kindA, isFree}
 use Rattle.math_codes.specs.Tables.{same as alike}
 use Rattle.math_codes.specs.Lines.{ourVars, OurAtom}

@@ -10,10 +10,10 @@ use lib.Dec.{eqb, leb, ltb}
 use lib.ListN.{length, getD, set, length-set}
 use lib.Seq.{getD-set-same, getD-set-other}
 use borrow.Author.Tests.{lt-ltb, eq-eqb, ne-eqb, lt-leb, leb-true, leb-false}
-use Rattle.order.specs.Order.{basic, list}
-use Rattle.order.specs.Types.{integer, string, atom, Kind, same}
-use Rattle.theory.specs.Terms.{con, var}
-use Rattle.text.specs.Terms.{OurTerm}
+use Rattle.math_types.specs.Order.{basic, list}
+use Rattle.math_types.specs.Types.{integer, string, atom, Kind, same}
+use Rattle.math_terms.specs.Terms.{con, var}
+use Rattle.text_grammar.specs.Terms.{OurTerm}
 use Rattle.math_codes.specs.Spots.{Spot, scanAt, scanTerm, spotOf}
 use Rattle.pair_row.specs.Row.{kindsAt, variablesAt, shapesAt, countAt, membersAt, rowBytes, isSet}
 use Rattle.pair_table.specs.Notes.{classed, joinedMember, indexed, topped, more, shapeNoted, termsIn}

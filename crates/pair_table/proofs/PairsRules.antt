@@ -7,17 +7,17 @@ use Prim.Native.Nat.{ℕ, zero, suc, _+_, _-_, _*_, _≤_, _<_}
 use native.Mathlib.Omega.{arith}
 use lib.ListN.{length, getD, replicate, length-append, length-map, length-replicate, getD-replicate, List·getD-append, List·getD-eq-default}
 use lib.Seq.{getD-append-add}
-use Rattle.lists.specs.Seqs.{All, all-left, all-right}
-use Rattle.text.specs.Grammar.{Raw, spellF, FieldOk}
-use Rattle.text.specs.Marks.{marksF, marksT, marks, Over, MarkOver}
-use Rattle.text.specs.Terms.{OurTerm, fieldOf, fieldsOf}
-use Rattle.text.specs.Read.{limits, accepted, readSide}
-use Rattle.text.proofs.Walk.{walk-says}
-use Rattle.text.proofs.Leftmost.{none-all}
-use Rattle.text.proofs.Fields.{each}
-use Rattle.text.proofs.Accepted.{clean-to, rule-read}
-use Rattle.text.proofs.Theorems.{rule-accepted}
-use Rattle.unifiers.specs.Shapes.{Side}
+use Rattle.base_lists.specs.Seqs.{All, all-left, all-right}
+use Rattle.text_grammar.specs.Grammar.{Raw, spellF, FieldOk}
+use Rattle.text_grammar.specs.Marks.{marksF, marksT, marks, Over, MarkOver}
+use Rattle.text_grammar.specs.Terms.{OurTerm, fieldOf, fieldsOf}
+use Rattle.text_grammar.specs.Read.{limits, accepted, readSide}
+use Rattle.text_grammar.proofs.Walk.{walk-says}
+use Rattle.text_grammar.proofs.Leftmost.{none-all}
+use Rattle.text_grammar.proofs.Fields.{each}
+use Rattle.text_grammar.proofs.Accepted.{clean-to, rule-read}
+use Rattle.text_grammar.proofs.Theorems.{rule-accepted}
+use Rattle.math_overlaps.specs.Shapes.{Side}
 use Rattle.math_codes.specs.Entries.{atomOf, fieldRow, ruleRow}
 use Rattle.math_codes.specs.Lines.{OurAtom}
 use Rattle.math_codes.proofs.Places.{StandAll}

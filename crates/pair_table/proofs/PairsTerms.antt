@@ -8,12 +8,12 @@ use Prim.Native.Nat.{ℕ, suc, _+_, _*_, _≤_, _<_}
 use native.Mathlib.Omega.{arith}
 use native.Mathlib.Decide.{decLt, ℕ-discrete}
 use lib.ListN.{length, getD, length-append}
-use Rattle.order.specs.Order.{basic, list}
-use Rattle.order.specs.Types.{Basic, Kind, rank}
-use Rattle.theory.specs.Terms.{con, var}
-use Rattle.text.specs.Terms.{OurTerm, Con}
-use Rattle.instance.specs.Constants.{kind-of}
-use Rattle.unifiers.specs.Shapes.{fixed, free, Side, of}
+use Rattle.math_types.specs.Order.{basic, list}
+use Rattle.math_types.specs.Types.{Basic, Kind, rank}
+use Rattle.math_terms.specs.Terms.{con, var}
+use Rattle.text_grammar.specs.Terms.{OurTerm, Con}
+use Rattle.text_constants.specs.Constants.{kind-of}
+use Rattle.math_overlaps.specs.Shapes.{fixed, free, Side, of}
 use Rattle.math_codes.specs.Tables.{Holds, fixed≢free}
 use Rattle.math_codes.specs.Entries.{atomOf}
 use Rattle.math_codes.specs.Spots.{Spot, scanTerm, spotOf}

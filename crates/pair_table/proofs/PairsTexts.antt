@@ -10,27 +10,27 @@ use lib.Dec.{leb, ltb}
 use lib.ListN.{length, getD, drop, length-append, length-drop, List·getD-append}
 use lib.Seq.{getD-append-add, getD-drop}
 use borrow.Author.Tests.{lt-ltb, le-leb}
-use Rattle.lists.specs.Seqs.{All, all-append, tabulated}
-use Rattle.order.specs.Order.{basic, list}
-use Rattle.order.specs.Types.{Kind, rank, same}
-use Rattle.order.specs.Values.{kindOf-from}
-use Rattle.theory.specs.Terms.{con}
-use Rattle.text.specs.Grammar.{Raw, raw-int, raw-str, raw-var, raw-empty, spell, Proper, colons, spellF, bars, spellT}
-use Rattle.text.specs.Numbers.{value, digitsOf}
-use Rattle.text.specs.Sizes.{mostDigits, largestInteger}
-use Rattle.text.specs.Marks.{Mark, marksF, marksT, marks, Over}
-use Rattle.text.specs.Terms.{OurTerm, Con, int, str, termOf, fieldOf}
-use Rattle.text.proofs.Walk.{spell-some}
-use Rattle.text.proofs.Numbers.{digits-one, digits-ten}
-use Rattle.instance.specs.Constants.{kind-of}
-use Rattle.unifiers.specs.Shapes.{Side}
+use Rattle.base_lists.specs.Seqs.{All, all-append, tabulated}
+use Rattle.math_types.specs.Order.{basic, list}
+use Rattle.math_types.specs.Types.{Kind, rank, same}
+use Rattle.math_types.specs.Values.{kindOf-from}
+use Rattle.math_terms.specs.Terms.{con}
+use Rattle.text_grammar.specs.Grammar.{Raw, raw-int, raw-str, raw-var, raw-empty, spell, Proper, colons, spellF, bars, spellT}
+use Rattle.text_grammar.specs.Numbers.{value, digitsOf}
+use Rattle.text_grammar.specs.Sizes.{mostDigits, largestInteger}
+use Rattle.text_grammar.specs.Marks.{Mark, marksF, marksT, marks, Over}
+use Rattle.text_grammar.specs.Terms.{OurTerm, Con, int, str, termOf, fieldOf}
+use Rattle.text_grammar.proofs.Walk.{spell-some}
+use Rattle.text_grammar.proofs.Numbers.{digits-one, digits-ten}
+use Rattle.text_constants.specs.Constants.{kind-of}
+use Rattle.math_overlaps.specs.Shapes.{Side}
 use Rattle.math_codes.specs.Texts.{zeros}
 use Rattle.math_codes.specs.Entries.{atomOf}
 use Rattle.math_codes.specs.Lines.{OurAtom}
 use Rattle.math_codes.proofs.Places.{Stands}
 use Rattle.math_codes.proofs.Texts.{plain-digits}
-use Rattle.scanning.specs.declared.Piece.{Piece}
-use Rattle.scanning.specs.Pieces.{capped, pieceOf}
+use Rattle.text_scan.specs.declared.Piece.{Piece}
+use Rattle.text_scan.specs.Pieces.{capped, pieceOf}
 use Rattle.pair_row.specs.Row as row
 use Rattle.pair_table.specs.Notes.{partOf, celled, constantNoted, variableNoted, shapeNoted, isField, termsIn, noteBy, notePiece, noteMark}
 use Rattle.pair_table.proofs.PairsRow.{list-is}

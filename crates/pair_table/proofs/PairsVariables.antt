@@ -8,13 +8,13 @@ use Prim.Native.Nat.{ℕ, zero, suc, _+_, _*_, _≤_, _<_}
 use native.Mathlib.Omega.{arith}
 use native.Mathlib.Decide.{ℕ-discrete}
 use lib.ListN.{length, getD}
-use Rattle.order.specs.Order.{basic, list}
-use Rattle.order.specs.Types.{Basic, Kind, basics, rank, rank-below}
-use Rattle.theory.specs.Terms.{var}
-use Rattle.text.specs.Terms.{OurTerm, Con}
-use Rattle.instance.specs.Constants.{consts}
-use Rattle.unifiers.specs.Shapes.{fixed, free, of}
-use Rattle.listing.specs.Variables.{isVariable, inField}
+use Rattle.math_types.specs.Order.{basic, list}
+use Rattle.math_types.specs.Types.{Basic, Kind, basics, rank, rank-below}
+use Rattle.math_terms.specs.Terms.{var}
+use Rattle.text_grammar.specs.Terms.{OurTerm, Con}
+use Rattle.text_constants.specs.Constants.{consts}
+use Rattle.math_overlaps.specs.Shapes.{fixed, free, of}
+use Rattle.overlap_spec.specs.Variables.{isVariable, inField}
 use Rattle.math_codes.specs.Tables.{Holds, kindA, isFree, fixed≢free, free-once}
 use Rattle.math_codes.specs.Tables.{same as alike}
 use Rattle.math_codes.specs.Entries.{atomOf}

@@ -6,17 +6,17 @@ use Prim.Native.Nat.{ℕ, zero, suc, _+_, _-_, _*_, _%_}
 use lib.Dec.{eqb, leb, ltb}
 use lib.ListN.{length, getD, set, replicate}
 use lib.Seq.{sets}
-use Rattle.lists.specs.Seqs.{tabulate}
-use Rattle.order.specs.Order.{list, basic}
-use Rattle.order.specs.Types.{rank, same, integer, string}
-use Rattle.order.specs.Values.{kindOf}
-use Rattle.text.specs.Marks.{Mark}
-use Rattle.text.specs.Walk.{walked}
+use Rattle.base_lists.specs.Seqs.{tabulate}
+use Rattle.math_types.specs.Order.{list, basic}
+use Rattle.math_types.specs.Types.{rank, same, integer, string}
+use Rattle.math_types.specs.Values.{kindOf}
+use Rattle.text_grammar.specs.Marks.{Mark}
+use Rattle.text_grammar.specs.Walk.{walked}
 use Rattle.math_codes.specs.Texts.{zeros}
-use Rattle.scanning.specs.declared.Piece.{Piece}
-use Rattle.scanning.specs.declared.Spelled.{Spelled}
-use Rattle.scanning.specs.declared.Spelled.the-variants.{Int, Str, Var, Empty}
-use Rattle.scanning.specs.Pieces.{pieceOf}
+use Rattle.text_scan.specs.declared.Piece.{Piece}
+use Rattle.text_scan.specs.declared.Spelled.{Spelled}
+use Rattle.text_scan.specs.declared.Spelled.the-variants.{Int, Str, Var, Empty}
+use Rattle.text_scan.specs.Pieces.{pieceOf}
 use Rattle.pair_row.specs.Row.{kindsAt, variablesAt, shapesAt, indexesAt, topsAt, countAt, membersAt, cellBytes, rowBytes, textsBytes}
 use Rattle.pair_row.specs.Row.{fieldOf, isSet}
 

@@ -4,9 +4,9 @@ use mathlib.Core.Bool.{true, false}
 use mathlib.Core.List.{List}
 use Prim.Native.Nat.{ℕ, _*_, _≤_}
 use lib.ListN.{length, getD}
-use Rattle.lists.specs.Seqs.{tabulate}
-use Rattle.text.specs.Terms.{OurTerm}
-use Rattle.unifiers.specs.Shapes.{left, right}
+use Rattle.base_lists.specs.Seqs.{tabulate}
+use Rattle.text_grammar.specs.Terms.{OurTerm}
+use Rattle.math_overlaps.specs.Shapes.{left, right}
 use Rattle.math_codes.specs.Lines.{OurTables, fieldPlaces, rulePlaces}
 use Rattle.math_codes.specs.Whole.{spotsOf}
 use Rattle.math_codes.specs.Index.{Indexes, Tops}

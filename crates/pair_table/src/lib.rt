@@ -3,19 +3,19 @@
 ghost use mathlib.Core.Path.{_≡_};
 ghost use Prim.Native.Nat.{_+_, _-_, _*_, _≤_, _<_};
 ghost use lib.ListN.{length, getD, set};
-ghost use Rattle.lists.specs.Seqs.{tabulate};
-ghost use Rattle.order.specs.Order.{list};
-ghost use Rattle.order.specs.Types.{rank, same};
-ghost use Rattle.order.specs.Values.{kindOf};
+ghost use Rattle.base_lists.specs.Seqs.{tabulate};
+ghost use Rattle.math_types.specs.Order.{list};
+ghost use Rattle.math_types.specs.Types.{rank, same};
+ghost use Rattle.math_types.specs.Values.{kindOf};
 ghost use Rattle.math_codes.specs.Texts.{zeros};
 ghost use Rattle.pair_row.specs.Row.{fieldOf};
 ghost use Rattle.pair_table.specs.Notes.{partOf, isField, termsIn, classed, celled, sameConstant, codeIn, joinedMember};
 ghost use Rattle.pair_table.specs.Notes.{constantNoted, sideOf, indexed, topped, variableNoted, more, shapeNoted, noteBy};
 ghost use Rattle.pair_table.specs.Notes.{notePiece};
-use order::Kind;
+use math_types::Kind;
 use pair_row::byte_at;
-use scanning::Piece;
-use scanning::Spelled;
+use text_scan::Piece;
+use text_scan::Spelled;
 
 // A place that the row lacks stays unwritten.
 fn put_byte(row: &mut [u8], i: usize, b: u8)

@@ -1,13 +1,13 @@
 // Shows for each line of standard input, two rules with a tab between them, the overlaps of the rules.
-use lines::Output;
-use lines::State;
-use writing::Written;
+use line_io::Output;
+use line_io::State;
+use text_write::Written;
 
 // Puts the answer to line number k behind those that wait. It has room in the 65,562 bytes of the text: no answer has more
 // (`pair_answer` ensures it).
 fn answer(k: u64, line: &[u8], text: &mut [u8], buffer: &mut [u8], output: Output) -> Output {
-    match pair_answers::pair_answer(k, line, text) {
-        Written::Bytes(n) => lines::put(&text[..n], buffer, output),
+    match print_pairs::pair_answer(k, line, text) {
+        Written::Bytes(n) => line_io::put(&text[..n], buffer, output),
         Written::TooSmall(_) => output,
     }
 }
@@ -21,7 +21,7 @@ fn step(
     text: &mut [u8],
     buffer: &mut [u8],
 ) -> State {
-    let t = lines::next_line(s, chunk, line, buffer);
+    let t = line_io::next_line(s, chunk, line, buffer);
     let l = t.line;
     if !l.found {
         return t;
@@ -39,16 +39,16 @@ fn step(
 // A proved loop has to end, so the lines are counted to a number that no run reaches.
 fn answer_all(chunk: &mut [u8], line: &mut [u8], text: &mut [u8], buffer: &mut [u8]) {
     let mut k: u64 = 0;
-    let mut s = lines::start();
-    while k < u64::MAX && lines::is_open(s) {
+    let mut s = line_io::start();
+    while k < u64::MAX && line_io::is_open(s) {
         k += 1;
         s = step(k, s, chunk, line, text, buffer);
     }
-    lines::finish(s, buffer);
+    line_io::finish(s, buffer);
 }
 
 // The buffers are made once, and lent for every line.
-// Of a line no more than 8,194 bytes are kept: with more it is too long whatever they are (`cut-same` of pair_answers' proofs/Lengths).
+// Of a line no more than 8,194 bytes are kept: with more it is too long whatever they are (`cut-same` of print_pairs' proofs/Lengths).
 fn main() {
     let mut chunk = io::large_buffer();
     let mut line = [0u8; 8194];

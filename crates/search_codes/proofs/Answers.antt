@@ -5,23 +5,23 @@ use mathlib.Core.List.{List, [], _∷_, _++_, map, List·Memᴰ, Memᴰ·append-
 use Prim.Native.Nat.{ℕ, _+_}
 use native.Mathlib.Omega.{arith}
 use lib.ListN.{length, getD, drop}
-use Rattle.lists.specs.Seqs.{All, Any}
-use Rattle.order.specs.Order.{basic, list}
-use Rattle.order.specs.Types.{Basic, Kind, basics}
-use Rattle.theory.specs.Fillings.{Occurs}
-use Rattle.text.specs.Limits.{IsLeft}
-use Rattle.text.specs.Terms.{OurTerm}
-use Rattle.instance.specs.Constants.{consts}
-use Rattle.unifiers.specs.Shapes.{free, Side, left, right, Variable, of}
-use Rattle.unifiers.specs.Joins.{State}
-use Rattle.listing.specs.Lines.{leftMark, rightMark, bindingsText}
-use Rattle.listing.specs.Overlaps.{bindingsOf}
-use Rattle.listing.specs.Variables as listed
-use Rattle.listing.specs.Variables.{variables}
-use Rattle.listing.proofs.Variables.{in-variables}
-use Rattle.searching.specs.Problems.{atomic, listvar, Tm, Field, Bindings}
-use Rattle.searching.specs.Pairs.{sixteenAbove}
-use Rattle.searching.proofs.Seqs.{all-mem}
+use Rattle.base_lists.specs.Seqs.{All, Any}
+use Rattle.math_types.specs.Order.{basic, list}
+use Rattle.math_types.specs.Types.{Basic, Kind, basics}
+use Rattle.math_terms.specs.Fillings.{Occurs}
+use Rattle.text_grammar.specs.Limits.{IsLeft}
+use Rattle.text_grammar.specs.Terms.{OurTerm}
+use Rattle.text_constants.specs.Constants.{consts}
+use Rattle.math_overlaps.specs.Shapes.{free, Side, left, right, Variable, of}
+use Rattle.math_overlaps.specs.Joins.{State}
+use Rattle.overlap_spec.specs.Lines.{leftMark, rightMark, bindingsText}
+use Rattle.overlap_spec.specs.Overlaps.{bindingsOf}
+use Rattle.overlap_spec.specs.Variables as listed
+use Rattle.overlap_spec.specs.Variables.{variables}
+use Rattle.overlap_spec.proofs.Variables.{in-variables}
+use Rattle.math_search.specs.Problems.{atomic, listvar, Tm, Field, Bindings}
+use Rattle.math_search.specs.Pairs.{sixteenAbove}
+use Rattle.math_search.proofs.Seqs.{all-mem}
 use Rattle.math_codes.specs.Tables.{IsCode, Table, codeOf, same}
 use Rattle.math_codes.specs.Names.{noNames, nameFields}
 use Rattle.math_codes.specs.Lines.{ourVars, OurMarked, pairPlaces, listItems, pairItems, valuesText, ourRow, ourTerms, OurTables}
@@ -35,7 +35,7 @@ use Rattle.math_codes.proofs.Items.{atom-item, list-item, there}
 use Rattle.math_codes.proofs.Lines.{Met, met-fields, marked-eq, values-text}
 use Rattle.math_codes.proofs.Lists.{row-long, terms-long}
 use Rattle.math_codes.proofs.Index.{values-indexed, values-ranked, values-listed}
-use Rattle.solving.specs.Answers.{setting, markOf, valueOf, valuesOn, valuesOf, shownOn, answerText}
+use Rattle.search_spec.specs.Answers.{setting, markOf, valueOf, valuesOn, valuesOf, shownOn, answerText}
 use Rattle.search_codes.specs.Codes.{codeTm, codesOf, On}
 
 module _ (f g : List OurTerm) (T : Table) (texts : ℕ → List ℕ) (ot : OurTables (f ∷ []) (g ∷ []) T texts) (ok₁ : IsLeft (f ∷ []))

@@ -10,15 +10,15 @@ use native.Mathlib.Omega.{arith}
 use lib.Dec.{eqb, leb}
 use lib.ListN.{length}
 use borrow.Author.Tests.{eq-eqb, ne-eqb, le-leb, lt-leb}
-use Rattle.order.specs.Order.{list}
-use Rattle.order.specs.Types.{basics, rank}
-use Rattle.instance.specs.Constants.{consts}
-use Rattle.unifiers.specs.Shapes.{fixed, free}
-use Rattle.searching.specs.Problems.{atomic, listvar, At, Tm, tm-eq, termType}
+use Rattle.math_types.specs.Order.{list}
+use Rattle.math_types.specs.Types.{basics, rank}
+use Rattle.text_constants.specs.Constants.{consts}
+use Rattle.math_overlaps.specs.Shapes.{fixed, free}
+use Rattle.math_search.specs.Problems.{atomic, listvar, At, Tm, tm-eq, termType}
 use Rattle.math_codes.specs.Tables.{Holds, codeOf, same, Table, Made}
 use Rattle.math_codes.specs.Lines.{OurAtom, ourVars, ourRanks, pairPlaces, listItems}
 use Rattle.math_codes.proofs.Tables.{holds-below, code-holds, code-first, code-once}
-use Rattle.solving.specs.Answers.{setting}
+use Rattle.search_spec.specs.Answers.{setting}
 use Rattle.search_codes.specs.Codes.{codeTm, On}
 
 -- ---- decisions as Bools

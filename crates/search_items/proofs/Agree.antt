@@ -9,13 +9,13 @@ use native.Mathlib.Omega.{arith}
 use lib.Dec.{eqb}
 use lib.ListN.{length, getD, drop, length-map}
 use borrow.Author.Tests.{eq-eqb, eqb-true}
-use Rattle.lists.specs.Seqs.{All}
-use Rattle.lists.specs.Truths.{both-is, false-is}
-use Rattle.theory.specs.Seqs.{concat-map}
-use Rattle.searching.specs.Problems.{Tm, Field, tm-eq, field-eq, put, putIn}
-use Rattle.searching.specs.Rules.{occurs}
+use Rattle.base_lists.specs.Seqs.{All}
+use Rattle.base_lists.specs.Truths.{both-is, false-is}
+use Rattle.math_terms.specs.Seqs.{concat-map}
+use Rattle.math_search.specs.Problems.{Tm, Field, tm-eq, field-eq, put, putIn}
+use Rattle.math_search.specs.Rules.{occurs}
 use Rattle.math_codes.specs.Lines.{OurAtom, pairPlaces}
-use Rattle.solving.specs.Answers.{setting}
+use Rattle.search_spec.specs.Answers.{setting}
 use Rattle.search_codes.specs.Codes.{codeTm, codesOf, On}
 use Rattle.search_codes.proofs.Codes.{decided, cond-decided, code-tm-once, code-same}
 use Rattle.search_items.specs.Items.{mostItems, itemsOf, collect}

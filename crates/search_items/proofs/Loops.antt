@@ -6,7 +6,7 @@ use native.Mathlib.Numerals.{add-one}
 use native.Mathlib.Omega.{arith}
 use lib.ListN.{length, getD, take, drop, length-take, drop-of-length-le}
 use lib.Seq.{drop-cons, getD-take}
-use Rattle.theory.specs.Seqs.{concat-map}
+use Rattle.math_terms.specs.Seqs.{concat-map}
 
 -- the next used place
 pub next : {B : Type 0} (n : ℕ) (s : List B) (w i : ℕ) (d : B) → length s ≡ w → i < min n w → drop i (take n s) ≡ getD s i d ∷ drop (i + 1) (take n s)

@@ -4,7 +4,7 @@ ghost use mathlib.Core.Path.{_≡_};
 ghost use mathlib.Core.List.{[], _∷_, foldl};
 ghost use Prim.Native.Nat.{min};
 ghost use lib.ListN.{getD, drop};
-ghost use Rattle.theory.specs.Seqs.{concat-map};
+ghost use Rattle.math_terms.specs.Seqs.{concat-map};
 ghost use Rattle.search_items.specs.Items.{blankItems, itemsOf, pushed, collect};
 ghost use Rattle.search_items.specs.Substitution.{putCode, sameCodes, occursIn};
 

@@ -7,17 +7,17 @@ use Prim.Native.Nat.{ℕ, _≤_, _<_}
 use native.Mathlib.Omega.{arith}
 use lib.ListN.{length, getD}
 use borrow.Author.Tests.{lt-leb}
-use Rattle.order.specs.Types.{basics}
-use Rattle.instance.specs.Constants.{consts}
-use Rattle.searching.specs.Problems.{Field, Bindings, solved, equation, problem}
-use Rattle.searching.specs.Fresh.{lowest}
-use Rattle.searching.specs.Rules.{Rule, keep, bind, fails, rule, apply}
-use Rattle.searching.specs.Rules as rules
-use Rattle.searching.proofs.Sizes.{sides-short}
-use Rattle.names.specs.Sets.{digits, freshValue, listVariables}
+use Rattle.math_types.specs.Types.{basics}
+use Rattle.text_constants.specs.Constants.{consts}
+use Rattle.math_search.specs.Problems.{Field, Bindings, solved, equation, problem}
+use Rattle.math_search.specs.Fresh.{lowest}
+use Rattle.math_search.specs.Rules.{Rule, keep, bind, fails, rule, apply}
+use Rattle.math_search.specs.Rules as rules
+use Rattle.math_search.proofs.Sizes.{sides-short}
+use Rattle.search_variables.specs.Sets.{digits, freshValue, listVariables}
 use Rattle.math_codes.specs.Tables.{Table, Made}
 use Rattle.math_codes.specs.Lines.{OurAtom, ourVars, ourRanks, pairPlaces}
-use Rattle.solving.specs.Answers.{setting}
+use Rattle.search_spec.specs.Answers.{setting}
 use Rattle.pair_row.specs.Row.{tableIn}
 use Rattle.search_items.specs.declared.Items.{Items}
 use Rattle.search_rules.specs.declared.Move.{Move}

@@ -10,21 +10,21 @@ use native.Mathlib.Decide.{ℕ-discrete}
 use lib.Dec.{eqb, leb}
 use lib.ListN.{length, getD}
 use borrow.Author.Tests.{eqb-true}
-use Rattle.lists.specs.Seqs.{All}
-use Rattle.order.specs.Types.{Basic, basic-eq, basics}
-use Rattle.instance.specs.Constants.{consts}
-use Rattle.unifiers.specs.Shapes.{fixed, free, side-eq, Variable, variable-eq}
-use Rattle.unifiers.specs.Joins.{resolve, replace, bind}
-use Rattle.searching.specs.Problems.{atomic, listvar, Tm, Field, tm-eq, Bindings, put, putIn, compose, free-once}
-use Rattle.searching.specs.Answers.{Fits}
-use Rattle.searching.proofs.Terms.{atomic-once, atomic≢listvar}
-use Rattle.searching.proofs.Counts.{put-self, put-ne}
+use Rattle.base_lists.specs.Seqs.{All}
+use Rattle.math_types.specs.Types.{Basic, basic-eq, basics}
+use Rattle.text_constants.specs.Constants.{consts}
+use Rattle.math_overlaps.specs.Shapes.{fixed, free, side-eq, Variable, variable-eq}
+use Rattle.math_overlaps.specs.Joins.{resolve, replace, bind}
+use Rattle.math_search.specs.Problems.{atomic, listvar, Tm, Field, tm-eq, Bindings, put, putIn, compose, free-once}
+use Rattle.math_search.specs.Answers.{Fits}
+use Rattle.math_search.proofs.Terms.{atomic-once, atomic≢listvar}
+use Rattle.math_search.proofs.Counts.{put-self, put-ne}
 use Rattle.math_codes.specs.Tables.{same}
 use Rattle.math_codes.specs.States.{swap, replaced}
 use Rattle.math_codes.specs.Lines.{OurAtom, ourVars, pairPlaces}
 use Rattle.math_codes.proofs.Tables.{is-code}
 use Rattle.math_codes.proofs.Joins.{Codes, Represents, represents-bind}
-use Rattle.solving.specs.Answers.{setting}
+use Rattle.search_spec.specs.Answers.{setting}
 use Rattle.pair_state.specs.declared.State.{State}
 use Rattle.search_codes.specs.Codes.{codeTm, On}
 use Rattle.search_codes.proofs.Codes.{code-list}

@@ -5,21 +5,21 @@ use mathlib.Core.Option.{Option}
 use mathlib.Core.List.{List, [], _∷_}
 use Prim.Native.Nat.{ℕ, _≤_}
 use lib.ListN.{length}
-use Rattle.lists.specs.Seqs.{All}
-use Rattle.order.specs.Types.{Basic, basics}
-use Rattle.instance.specs.Constants.{consts}
-use Rattle.unifiers.specs.Shapes.{free, Variable}
-use Rattle.unifiers.specs.Joins.{State}
-use Rattle.searching.specs.Problems.{atomic, listvar, Tm, Field, Bindings, Rest, solved, equation, rest, bindings, namesIn}
-use Rattle.searching.specs.Problems as search
-use Rattle.searching.specs.Rules.{Met}
-use Rattle.searching.specs.Answers.{StandsIn, Linear}
-use Rattle.searching.proofs.Effects.{AllRest}
-use Rattle.searching.proofs.Cuts.{leftOf, rightOf}
-use Rattle.names.specs.Sets.{setOf}
+use Rattle.base_lists.specs.Seqs.{All}
+use Rattle.math_types.specs.Types.{Basic, basics}
+use Rattle.text_constants.specs.Constants.{consts}
+use Rattle.math_overlaps.specs.Shapes.{free, Variable}
+use Rattle.math_overlaps.specs.Joins.{State}
+use Rattle.math_search.specs.Problems.{atomic, listvar, Tm, Field, Bindings, Rest, solved, equation, rest, bindings, namesIn}
+use Rattle.math_search.specs.Problems as search
+use Rattle.math_search.specs.Rules.{Met}
+use Rattle.math_search.specs.Answers.{StandsIn, Linear}
+use Rattle.math_search.proofs.Effects.{AllRest}
+use Rattle.math_search.proofs.Cuts.{leftOf, rightOf}
+use Rattle.search_variables.specs.Sets.{setOf}
 use Rattle.math_codes.specs.Lines.{OurAtom, ourVars}
 use Rattle.math_codes.proofs.Joins.{Represents}
-use Rattle.solving.specs.Answers.{setting}
+use Rattle.search_spec.specs.Answers.{setting}
 use Rattle.search_codes.specs.Codes.{On}
 use Rattle.search_items.specs.declared.Items.{Items}
 use Rattle.search_items.specs.Items.{blankItems}

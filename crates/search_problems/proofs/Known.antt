@@ -6,16 +6,16 @@ use mathlib.Core.List.{List, [], _∷_, append-nil}
 use Prim.Native.Nat.{ℕ, _≤_}
 use native.Mathlib.Omega.{arith}
 use lib.ListN.{length, getD}
-use Rattle.lists.specs.Seqs.{All}
-use Rattle.order.specs.Types.{Basic}
-use Rattle.theory.specs.Seqs.{concat-map}
-use Rattle.unifiers.specs.Shapes.{free, Variable}
-use Rattle.searching.specs.Problems.{atomic, listvar, Field, Bindings, bindings, namesIn}
-use Rattle.searching.specs.Problems as search
-use Rattle.searching.proofs.Root.{names-listvars}
-use Rattle.searching.proofs.Tree.{met-fine}
+use Rattle.base_lists.specs.Seqs.{All}
+use Rattle.math_types.specs.Types.{Basic}
+use Rattle.math_terms.specs.Seqs.{concat-map}
+use Rattle.math_overlaps.specs.Shapes.{free, Variable}
+use Rattle.math_search.specs.Problems.{atomic, listvar, Field, Bindings, bindings, namesIn}
+use Rattle.math_search.specs.Problems as search
+use Rattle.math_search.proofs.Root.{names-listvars}
+use Rattle.math_search.proofs.Tree.{met-fine}
 use Rattle.math_codes.specs.Lines.{OurAtom}
-use Rattle.solving.specs.Answers.{setting}
+use Rattle.search_spec.specs.Answers.{setting}
 use Rattle.search_codes.specs.Codes.{codesOf, On}
 use Rattle.search_items.specs.declared.Items.{Items}
 use Rattle.search_items.specs.Items.{mostItems, blankItems, itemsOf}

@@ -8,25 +8,25 @@ use Prim.Native.Nat.{ℕ, _≤_, _<_}
 use native.Mathlib.Omega.{arith}
 use native.Mathlib.Decide.{ℕ-discrete}
 use lib.ListN.{length}
-use Rattle.lists.specs.Seqs.{All, all-map}
-use Rattle.order.specs.Types.{basics}
-use Rattle.instance.specs.Constants.{consts}
-use Rattle.unifiers.specs.Overlaps.{firsts}
-use Rattle.searching.specs.Problems.{Tm, Field, Bindings, compose, Rest, solved, equation, problem, namesIn}
-use Rattle.searching.specs.Problems as search
-use Rattle.searching.specs.Fresh.{lowest, lowest-new}
-use Rattle.searching.specs.Rules.{Rule, Move, keep, bind, fails, rule, apply, Met, step}
-use Rattle.searching.specs.Answers.{StandsIn}
-use Rattle.searching.proofs.Counts.{Other, all-put-in}
-use Rattle.searching.proofs.Effects.{AllRest, Bind}
-use Rattle.searching.proofs.Children.{move-does, rule-child}
-use Rattle.searching.proofs.Tree.{Fine, met-fine}
-use Rattle.searching.proofs.Searching.{fresh-small}
-use Rattle.searching.proofs.Sizes.{New, sides-short, value-short, fresh-below, names-below}
-use Rattle.names.specs.Sets.{digits, setOf, withName, freshValue, listVariables}
-use Rattle.names.proofs.Laws.{with-one, fresh-lowest, variables-distinct, some-left}
+use Rattle.base_lists.specs.Seqs.{All, all-map}
+use Rattle.math_types.specs.Types.{basics}
+use Rattle.text_constants.specs.Constants.{consts}
+use Rattle.math_overlaps.specs.Overlaps.{firsts}
+use Rattle.math_search.specs.Problems.{Tm, Field, Bindings, compose, Rest, solved, equation, problem, namesIn}
+use Rattle.math_search.specs.Problems as search
+use Rattle.math_search.specs.Fresh.{lowest, lowest-new}
+use Rattle.math_search.specs.Rules.{Rule, Move, keep, bind, fails, rule, apply, Met, step}
+use Rattle.math_search.specs.Answers.{StandsIn}
+use Rattle.math_search.proofs.Counts.{Other, all-put-in}
+use Rattle.math_search.proofs.Effects.{AllRest, Bind}
+use Rattle.math_search.proofs.Children.{move-does, rule-child}
+use Rattle.math_search.proofs.Tree.{Fine, met-fine}
+use Rattle.math_search.proofs.Searching.{fresh-small}
+use Rattle.math_search.proofs.Sizes.{New, sides-short, value-short, fresh-below, names-below}
+use Rattle.search_variables.specs.Sets.{digits, setOf, withName, freshValue, listVariables}
+use Rattle.search_variables.proofs.Laws.{with-one, fresh-lowest, variables-distinct, some-left}
 use Rattle.math_codes.specs.Lines.{OurAtom, ourVars, pairPlaces}
-use Rattle.solving.specs.Answers.{setting}
+use Rattle.search_spec.specs.Answers.{setting}
 use Rattle.search_codes.specs.Codes.{codeTm, On}
 use Rattle.search_items.specs.declared.Items.{Items}
 use Rattle.search_items.specs.Values.{itemsValue}

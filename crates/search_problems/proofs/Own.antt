@@ -6,13 +6,13 @@ use mathlib.Core.List.{List, [], _∷_, List·Memᴰ, List·Memᴰ·head, List·
 use Prim.Native.Nat.{ℕ, _≤_, _<_}
 use native.Mathlib.Omega.{arith}
 use lib.ListN.{length}
-use Rattle.lists.specs.Seqs.{All}
-use Rattle.searching.specs.Problems.{atomic, listvar, Field, Bindings, bindings, namesIn}
-use Rattle.searching.specs.Problems as search
-use Rattle.searching.proofs.Sizes.{list-values-short}
+use Rattle.base_lists.specs.Seqs.{All}
+use Rattle.math_search.specs.Problems.{atomic, listvar, Field, Bindings, bindings, namesIn}
+use Rattle.math_search.specs.Problems as search
+use Rattle.math_search.proofs.Sizes.{list-values-short}
 use Rattle.search_items.specs.Items.{mostItems}
 use Rattle.math_codes.specs.Lines.{OurAtom}
-use Rattle.solving.specs.Answers.{setting}
+use Rattle.search_spec.specs.Answers.{setting}
 use Rattle.search_codes.specs.Codes.{On}
 use Rattle.search_problems.specs.declared.Problem.{Problem}
 use Rattle.search_problems.proofs.Holds.{Equation, Holds}

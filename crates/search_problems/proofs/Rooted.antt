@@ -9,27 +9,27 @@ use native.Mathlib.Nat.{mod-eq-of-lt}
 use native.Mathlib.Omega.{arith}
 use native.Mathlib.Decide.{ℕ-discrete}
 use lib.ListN.{length, getD, length-map}
-use Rattle.lists.specs.Seqs.{All, tabulate-at}
-use Rattle.order.specs.Order.{basic, list}
-use Rattle.order.specs.Types.{basics}
-use Rattle.theory.specs.Terms.{con, var}
-use Rattle.theory.specs.Linear.{lists, OneList}
-use Rattle.text.specs.Terms.{OurTerm}
-use Rattle.text.specs.Limits.{TermIn, IsLeft}
-use Rattle.instance.specs.Constants.{consts}
-use Rattle.instance.proofs.Linear.{left-linear}
-use Rattle.unifiers.specs.Shapes.{fixed, free, of, Side, left, right, Shape, closed, gapped, withAtom, withList}
-use Rattle.unifiers.specs.Candidates.{range}
-use Rattle.searching.specs.Problems.{atomic, listvar, Tm, Field, unbound, namesIn, root}
-use Rattle.searching.specs.Fresh.{numbers}
-use Rattle.searching.specs.Rules.{start}
-use Rattle.searching.specs.Answers.{StandsIn}
-use Rattle.searching.specs.Pairs.{sixteenAbove}
-use Rattle.searching.specs.Pairs as pairs
-use Rattle.searching.proofs.Seqs.{all-mem}
-use Rattle.searching.proofs.Slips.{fields-linear, sixteen-apart}
-use Rattle.names.specs.Sets.{setOf, withName}
-use Rattle.names.proofs.Laws.{with-one}
+use Rattle.base_lists.specs.Seqs.{All, tabulate-at}
+use Rattle.math_types.specs.Order.{basic, list}
+use Rattle.math_types.specs.Types.{basics}
+use Rattle.math_terms.specs.Terms.{con, var}
+use Rattle.math_terms.specs.Linear.{lists, OneList}
+use Rattle.text_grammar.specs.Terms.{OurTerm}
+use Rattle.text_grammar.specs.Limits.{TermIn, IsLeft}
+use Rattle.text_constants.specs.Constants.{consts}
+use Rattle.text_constants.proofs.Linear.{left-linear}
+use Rattle.math_overlaps.specs.Shapes.{fixed, free, of, Side, left, right, Shape, closed, gapped, withAtom, withList}
+use Rattle.math_overlaps.specs.Candidates.{range}
+use Rattle.math_search.specs.Problems.{atomic, listvar, Tm, Field, unbound, namesIn, root}
+use Rattle.math_search.specs.Fresh.{numbers}
+use Rattle.math_search.specs.Rules.{start}
+use Rattle.math_search.specs.Answers.{StandsIn}
+use Rattle.math_search.specs.Pairs.{sixteenAbove}
+use Rattle.math_search.specs.Pairs as pairs
+use Rattle.math_search.proofs.Seqs.{all-mem}
+use Rattle.math_search.proofs.Slips.{fields-linear, sixteen-apart}
+use Rattle.search_variables.specs.Sets.{setOf, withName}
+use Rattle.search_variables.proofs.Laws.{with-one}
 use Rattle.math_codes.specs.Tables.{Holds, Made}
 use Rattle.math_codes.specs.Entries.{placeShape}
 use Rattle.math_codes.specs.Spots.{spotShape, spotOf}
@@ -38,7 +38,7 @@ use Rattle.math_codes.proofs.Tables.{holds-below}
 use Rattle.math_codes.proofs.Joins.{represents-start}
 use Rattle.math_codes.proofs.Places.{Stands}
 use Rattle.math_codes.proofs.Spots.{scan-agrees}
-use Rattle.solving.specs.Answers.{setting, fieldOn}
+use Rattle.search_spec.specs.Answers.{setting, fieldOn}
 use Rattle.pair_row.specs.declared.Shape as row-shape
 use Rattle.pair_row.specs.Row.{tableIn, shapeIn, spotIn}
 use Rattle.pair_row.specs.Row as rows

@@ -4,8 +4,8 @@ use mathlib.Core.List.{map}
 use Prim.Native.Nat.{ℕ}
 use lib.Dec.{leb}
 use lib.ListN.{getD}
-use Rattle.theory.specs.Seqs.{concat-map}
-use Rattle.names.specs.Sets.{withName}
+use Rattle.math_terms.specs.Seqs.{concat-map}
+use Rattle.search_variables.specs.Sets.{withName}
 use Rattle.math_codes.specs.States.{replaced}
 use Rattle.math_codes.specs.Lines.{pairPlaces}
 use Rattle.pair_state.specs.declared.State.{State}

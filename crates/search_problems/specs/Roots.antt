@@ -4,8 +4,8 @@ use mathlib.Core.Bool.{Bool, true, false, cond}
 use mathlib.Core.List.{List, [], _∷_, _++_, map}
 use Prim.Native.Nat.{ℕ, suc, _+_, _%_}
 use lib.ListN.{getD}
-use Rattle.unifiers.specs.Candidates.{range}
-use Rattle.names.specs.Sets.{withName}
+use Rattle.math_overlaps.specs.Candidates.{range}
+use Rattle.search_variables.specs.Sets.{withName}
 use Rattle.math_codes.specs.Lines.{pairPlaces}
 use Rattle.pair_row.specs.declared.Shape.{Shape}
 use Rattle.pair_row.specs.Row.{tableIn, shapeIn}

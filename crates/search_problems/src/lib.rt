@@ -6,7 +6,7 @@ ghost use mathlib.Core.Path.{_≡_};
 ghost use mathlib.Core.Bool.{cond};
 ghost use mathlib.Core.List.{foldl};
 ghost use Prim.Native.Nat.{_-_};
-ghost use Rattle.names.specs.Sets.{withName, listVariables};
+ghost use Rattle.search_variables.specs.Sets.{withName, listVariables};
 ghost use Rattle.pair_row.specs.Row.{tableIn};
 ghost use Rattle.search_items.specs.Items.{pushed};
 ghost use Rattle.search_problems.specs.Values.{blankProblem};
@@ -50,7 +50,7 @@ pub fn blank_problem() -> Problem
 pub fn list_variables(p: Problem) -> u32
     ensures { λ r. ⌜ r ≡ listVariables (p .used) ⌝ }
 {
-    names::list_variables(p.used)
+    search_variables::list_variables(p.used)
 }
 
 // ---- what a move makes of a record
@@ -91,7 +91,7 @@ fn used_by(brings: bool, used: u64, fresh: u8) -> u64
     if !brings {
         return used;
     }
-    names::with_name(used, fresh)
+    search_variables::with_name(used, fresh)
 }
 
 // What the move leaves of the equation, the bindings as they were.
@@ -171,7 +171,7 @@ pub fn child_of(p: Problem, rule: usize, row: &[u8]) -> Child
 {
     let left = p.left;
     let right = p.right;
-    let fresh = names::fresh(p.used);
+    let fresh = search_variables::fresh(p.used);
     let m = search_rules::move_of(rule, left, right, fresh, row);
     if is_made(p, m) {
         return Child {
@@ -270,7 +270,7 @@ fn with_own(set: u64, right: bool, s: Shape) -> u64
     if !s.gapped {
         return set;
     }
-    names::with_name(set, list_number(right, s.list))
+    search_variables::with_name(set, list_number(right, s.list))
 }
 
 // The equation of the first field of the left rule and the first of the right one, where each variable stands for itself.

@@ -8,18 +8,18 @@ use Prim.Native.Nat.{ℕ, _≤_}
 use lib.Dec.{eqb}
 use lib.ListN.{length}
 use borrow.Author.Tests.{eq-eqb, ne-eqb}
-use Rattle.lists.specs.Seqs.{All}
-use Rattle.order.specs.Order.{Full}
-use Rattle.order.specs.Types.{Basic, basics, rank, entry}
-use Rattle.text.specs.Terms.{Con}
-use Rattle.instance.specs.Constants.{consts, con-eq}
-use Rattle.unifiers.specs.Shapes.{fixed, free}
-use Rattle.searching.specs.Problems.{atomic, listvar, Tm, Field, field-eq, termType, fieldType, fixed-once}
-use Rattle.searching.specs.Rules as rules
-use Rattle.searching.proofs.Terms.{atomic-once}
+use Rattle.base_lists.specs.Seqs.{All}
+use Rattle.math_types.specs.Order.{Full}
+use Rattle.math_types.specs.Types.{Basic, basics, rank, entry}
+use Rattle.text_grammar.specs.Terms.{Con}
+use Rattle.text_constants.specs.Constants.{consts, con-eq}
+use Rattle.math_overlaps.specs.Shapes.{fixed, free}
+use Rattle.math_search.specs.Problems.{atomic, listvar, Tm, Field, field-eq, termType, fieldType, fixed-once}
+use Rattle.math_search.specs.Rules as rules
+use Rattle.math_search.proofs.Terms.{atomic-once}
 use Rattle.math_codes.specs.Tables.{Made}
 use Rattle.math_codes.specs.Lines.{OurAtom, ourVars, ourRanks, pairPlaces}
-use Rattle.solving.specs.Answers.{setting}
+use Rattle.search_spec.specs.Answers.{setting}
 use Rattle.pair_row.specs.Row.{tableIn}
 use Rattle.search_codes.specs.Codes.{codeTm, codesOf, On}
 use Rattle.search_codes.proofs.Codes.{decided, code-tm-once}

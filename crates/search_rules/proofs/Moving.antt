@@ -9,19 +9,19 @@ use native.Mathlib.Nat.{mod-eq-of-lt}
 use lib.Dec.{eqb}
 use lib.ListN.{length, getD}
 use borrow.Author.Tests.{eq-eqb, ne-eqb}
-use Rattle.lists.specs.Seqs.{All}
-use Rattle.order.specs.Order.{Full, basic, list, full-le}
-use Rattle.order.specs.Types.{Basic, basics, basic-eq, rank, entry}
-use Rattle.instance.specs.Constants.{consts}
-use Rattle.unifiers.specs.Shapes.{fixed, free, Variable, kindIn}
-use Rattle.searching.specs.Problems.{atomic, listvar, At, Tm, Field, at-eq, tm-eq, field-eq, termType, fieldType, putIn, solved, equation}
-use Rattle.searching.specs.Rules.{Rule, keep, bind, rule, Remove, Decomp1, Decomp1′, Decomp2, Decomp2′, Decomp3, Decomp4}
-use Rattle.searching.specs.Rules.{Subst1, Subst2, Subst3, Orient1, Orient2, Orient3, Orient4}
-use Rattle.searching.specs.Rules as rules
-use Rattle.searching.proofs.Terms.{atomic-once}
+use Rattle.base_lists.specs.Seqs.{All}
+use Rattle.math_types.specs.Order.{Full, basic, list, full-le}
+use Rattle.math_types.specs.Types.{Basic, basics, basic-eq, rank, entry}
+use Rattle.text_constants.specs.Constants.{consts}
+use Rattle.math_overlaps.specs.Shapes.{fixed, free, Variable, kindIn}
+use Rattle.math_search.specs.Problems.{atomic, listvar, At, Tm, Field, at-eq, tm-eq, field-eq, termType, fieldType, putIn, solved, equation}
+use Rattle.math_search.specs.Rules.{Rule, keep, bind, rule, Remove, Decomp1, Decomp1′, Decomp2, Decomp2′, Decomp3, Decomp4}
+use Rattle.math_search.specs.Rules.{Subst1, Subst2, Subst3, Orient1, Orient2, Orient3, Orient4}
+use Rattle.math_search.specs.Rules as rules
+use Rattle.math_search.proofs.Terms.{atomic-once}
 use Rattle.math_codes.specs.Tables.{Made}
 use Rattle.math_codes.specs.Lines.{OurAtom, ourVars, ourRanks, pairPlaces}
-use Rattle.solving.specs.Answers.{setting}
+use Rattle.search_spec.specs.Answers.{setting}
 use Rattle.pair_row.specs.Row.{tableIn}
 use Rattle.search_codes.specs.Codes.{codeTm, codesOf, On}
 use Rattle.search_codes.proofs.Codes.{decided, listTm, code-tm-once, code-same, code-list}

@@ -8,8 +8,8 @@ use mathlib.Core.List.{List, [], _∷_}
 use Prim.Native.Nat.{ℕ}
 use lib.Dec.{eqb}
 use lib.ListN.{getD, drop}
-use Rattle.order.specs.Types.{entry}
-use Rattle.theory.specs.Seqs.{concat-map}
+use Rattle.math_types.specs.Types.{entry}
+use Rattle.math_terms.specs.Seqs.{concat-map}
 use Rattle.math_codes.specs.Tables.{Table}
 use Rattle.search_items.specs.declared.Items.{Items}
 use Rattle.search_items.specs.Items.{blankItems, itemsOf, collect}

@@ -3,7 +3,7 @@ use mathlib.Core.Bool.{Bool, false, cond, _&&_, not}
 use mathlib.Core.List.{List, [], _∷_}
 use Prim.Native.Nat.{ℕ, _+_, _%_}
 use lib.Dec.{eqb, leb}
-use Rattle.order.specs.Types.{entry}
+use Rattle.math_types.specs.Types.{entry}
 use Rattle.math_codes.specs.Lines.{pairPlaces}
 use Rattle.search_rules.specs.declared.Head.{Head}
 

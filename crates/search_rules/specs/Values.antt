@@ -3,13 +3,13 @@ use mathlib.Core.Bool.{Bool, true, false}
 use mathlib.Core.Option.{Option, none, some}
 use mathlib.Core.List.{List, [], _∷_}
 use Prim.Native.Nat.{ℕ}
-use Rattle.searching.specs.Problems.{solved, equation}
-use Rattle.searching.specs.Rules.{Rule, keep, bind}
-use Rattle.searching.specs.Rules.{Remove, Decomp1, Decomp1′, Decomp2, Decomp2′, Decomp3, Decomp4}
-use Rattle.searching.specs.Rules.{Subst1, Subst2, Subst3, Orient1, Orient2, Orient3, Orient4}
-use Rattle.searching.specs.Rules as rules
+use Rattle.math_search.specs.Problems.{solved, equation}
+use Rattle.math_search.specs.Rules.{Rule, keep, bind}
+use Rattle.math_search.specs.Rules.{Remove, Decomp1, Decomp1′, Decomp2, Decomp2′, Decomp3, Decomp4}
+use Rattle.math_search.specs.Rules.{Subst1, Subst2, Subst3, Orient1, Orient2, Orient3, Orient4}
+use Rattle.math_search.specs.Rules as rules
 use Rattle.math_codes.specs.Lines.{OurAtom}
-use Rattle.solving.specs.Answers.{setting}
+use Rattle.search_spec.specs.Answers.{setting}
 use Rattle.search_codes.specs.Codes.{codeTm}
 use Rattle.search_items.specs.Values.{itemsValue}
 use Rattle.search_rules.specs.declared.Move.{Move}

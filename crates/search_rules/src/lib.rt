@@ -4,7 +4,7 @@ ghost use mathlib.Core.Path.{_≡_};
 ghost use mathlib.Core.Bool.{false};
 ghost use mathlib.Core.List.{_∷_};
 ghost use lib.ListN.{getD, drop};
-ghost use Rattle.theory.specs.Seqs.{concat-map};
+ghost use Rattle.math_terms.specs.Seqs.{concat-map};
 ghost use Rattle.pair_row.specs.Row.{tableIn};
 ghost use Rattle.search_items.specs.Items.{itemsOf, collect};
 ghost use Rattle.search_items.specs.Substitution.{putCode};
@@ -114,7 +114,7 @@ fn clash4(a: Head, b: Head) -> bool
 {
     let j = a.kind;
     let k = b.whole;
-    a.variable & !a.longer & !order::below_rank(j, k) & !order::below_rank(k, j)
+    a.variable & !a.longer & !math_types::below_rank(j, k) & !math_types::below_rank(k, j)
 }
 
 // Whether a failure rule applies to left = right.
@@ -138,7 +138,7 @@ fn replaces(a: Head, b: Head) -> bool
     let j = a.kind;
     let k = b.kind;
     if b.some & !b.list {
-        return (y != x) & order::below_rank(k, j);
+        return (y != x) & math_types::below_rank(k, j);
     }
     false
 }
@@ -147,7 +147,7 @@ fn replaces(a: Head, b: Head) -> bool
 fn strictly(j: u8, k: u8) -> bool
     ensures { λ r. ⌜ r ≡ strictly j k ⌝ }
 {
-    order::below_rank(j, k) & !order::below_rank(k, j)
+    math_types::below_rank(j, k) & !math_types::below_rank(k, j)
 }
 
 // Whether a side is a term and a list variable.
@@ -177,7 +177,7 @@ fn is_subst1(r: Items, a: Head, b: Head) -> bool
     let j = b.whole;
     let k = a.kind;
     if a.variable & !a.longer {
-        return order::below_rank(j, k) & !search_items::occurs(x, r);
+        return math_types::below_rank(j, k) & !search_items::occurs(x, r);
     }
     false
 }

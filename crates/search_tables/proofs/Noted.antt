@@ -5,16 +5,16 @@ use mathlib.Core.List.{List, [], _∷_}
 use Prim.Native.Nat.{ℕ}
 use native.Mathlib.Omega.{arith}
 use lib.ListN.{length}
-use Rattle.text.specs.Terms.{OurTerm}
-use Rattle.text.specs.Plain.{plain}
-use Rattle.text.specs.Limits.{IsLeft}
-use Rattle.text.specs.Read.{readSide, accepted}
-use Rattle.text.proofs.Accepted.{rule-plain}
-use Rattle.terms.specs.declared.Field.{Field}
-use Rattle.terms.specs.Values.{viewSide, encodeField, oneField}
-use Rattle.accepted.specs.Accepted.{countedField}
-use Rattle.accepted.proofs.Accepted.{encode-accepted-field, view-encode-rule}
-use Rattle.plain_text.proofs.Lengths.{plain-short}
+use Rattle.text_grammar.specs.Terms.{OurTerm}
+use Rattle.text_grammar.specs.Plain.{plain}
+use Rattle.text_grammar.specs.Limits.{IsLeft}
+use Rattle.text_grammar.specs.Read.{readSide, accepted}
+use Rattle.text_grammar.proofs.Accepted.{rule-plain}
+use Rattle.text_values.specs.declared.Field.{Field}
+use Rattle.text_values.specs.Values.{viewSide, encodeField, oneField}
+use Rattle.text_accepted.specs.Accepted.{countedField}
+use Rattle.text_accepted.proofs.Accepted.{encode-accepted-field, view-encode-rule}
+use Rattle.text_plain.proofs.Lengths.{plain-short}
 use Rattle.pair_table.specs.Notes.{sideNoted, blankRows}
 use Rattle.pair_table.specs.Pairs.{PairIn}
 use Rattle.pair_table.proofs.Pairs.{pair-noted}

@@ -2,9 +2,9 @@
 use mathlib.Core.Bool.{true, false}
 use mathlib.Core.List.{List}
 use Prim.Native.Nat.{ℕ}
-use Rattle.text.specs.Plain.{plain}
-use Rattle.terms.specs.declared.Field.{Field}
-use Rattle.accepted.specs.Accepted.{countedField}
+use Rattle.text_grammar.specs.Plain.{plain}
+use Rattle.text_values.specs.declared.Field.{Field}
+use Rattle.text_accepted.specs.Accepted.{countedField}
 use Rattle.pair_table.specs.Notes.{blankRows}
 use Rattle.text_passes.specs.Notes.{notedIn}
 use Rattle.search_tables.specs.declared.Tables.{Tables}

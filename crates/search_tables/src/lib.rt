@@ -2,7 +2,7 @@
 ghost use mathlib.Core.Path.{_≡_};
 ghost use Rattle.text_passes.specs.Notes.{notedIn};
 ghost use Rattle.search_tables.specs.Tables.{textOf, tablesOf};
-use terms::Field;
+use text_values::Field;
 
 // The row of the tables, and the constants' bytes.
 pub struct Tables {
@@ -16,7 +16,7 @@ fn note_field(f: Field, right: bool, row: &mut [u8], texts: &mut [u8])
     ensures { λ _. ⌜ now (texts .exit) ≡ (notedIn right (textOf f) (now (row .entry)) (now (texts .entry))) .1 ⌝ }
 {
     let mut text = [0u8; 1151];
-    let n = pieces::size_of(plain_text::write_side(terms::one_field(f), &mut text));
+    let n = text_pieces::size_of(text_plain::write_side(text_values::one_field(f), &mut text));
     text_passes::note_side(&text[..n], right, row, texts);
 }
 

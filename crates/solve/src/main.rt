@@ -1,21 +1,21 @@
 // Shows for each line of standard input, two field texts, a row and a room with tabs between them,
 // the lines of the search for the two fields.
-use lines::Output;
-use lines::State;
-use writing::Written;
+use line_io::Output;
+use line_io::State;
+use text_write::Written;
 
 // Puts the answer to line number k behind those that wait. It has room: no answer has more than 131,164 bytes (`solve_answer` ensures it).
 fn answer(k: u64, line: &[u8], buffer: &mut [u8], output: Output) -> Output {
     let mut text = [0u8; 131164];
-    match solve_answers::solve_answer(k, line, &mut text) {
-        Written::Bytes(n) => lines::put(&text[..n], buffer, output),
+    match print_solve::solve_answer(k, line, &mut text) {
+        Written::Bytes(n) => line_io::put(&text[..n], buffer, output),
         Written::TooSmall(_) => output,
     }
 }
 
 // Takes a line and answers it.
 fn step(k: u64, s: State, chunk: &mut [u8], line: &mut [u8], buffer: &mut [u8]) -> State {
-    let t = lines::next_line(s, chunk, line, buffer);
+    let t = line_io::next_line(s, chunk, line, buffer);
     let l = t.line;
     if !l.found {
         return t;
@@ -33,15 +33,15 @@ fn step(k: u64, s: State, chunk: &mut [u8], line: &mut [u8], buffer: &mut [u8]) 
 // A proved loop has to end, so the lines are counted to a number that no run reaches.
 fn answer_all(chunk: &mut [u8], line: &mut [u8], buffer: &mut [u8]) {
     let mut k: u64 = 0;
-    let mut s = lines::start();
-    while k < u64::MAX && lines::is_open(s) {
+    let mut s = line_io::start();
+    while k < u64::MAX && line_io::is_open(s) {
         k += 1;
         s = step(k, s, chunk, line, buffer);
     }
-    lines::finish(s, buffer);
+    line_io::finish(s, buffer);
 }
 
-// Of a line no more than 8,205 bytes are kept: with more it is too long whatever they are (`cut-same` of solve_answers' proofs/Lengths).
+// Of a line no more than 8,205 bytes are kept: with more it is too long whatever they are (`cut-same` of print_solve' proofs/Lengths).
 fn main() {
     let mut chunk = io::large_buffer();
     let mut line = [0u8; 8205];

@@ -10,22 +10,22 @@ use borrow.Author.Tests.{lt-ltb, ne-eqb}
 use lib.Dec.{ltb}
 use lib.ListN.{length, set, replicate, length-append, length-map}
 use lib.Seq.{take-all}
-use Rattle.lists.specs.Seqs.{All}
-use Rattle.order.specs.Values.{kindFrom}
-use Rattle.text.specs.Sizes.{largestInteger, longestString, largestNumber, mostFields}
-use Rattle.text.specs.Grammar.{Raw, raw-int, raw-str, raw-var, raw-empty, spell, spellF, FieldOk, TextOk}
-use Rattle.text.specs.Numbers.{value}
-use Rattle.text.specs.Marks.{Mark, marks, marksF, marksT, Over}
-use Rattle.text.specs.Terms.{OurTerm, termOf, fieldOf, fieldsOf}
-use Rattle.text.specs.Read.{rule, slip}
-use Rattle.terms.specs.declared.Term.{Term}
-use Rattle.terms.specs.declared.Form.the-variants.{Int, Str, Var}
-use Rattle.terms.specs.declared.Field.{Field}
-use Rattle.terms.specs.declared.SlipField.{SlipField}
-use Rattle.terms.specs.Values.{pad, blankTerm, blankField, blankSlipField, encodeTerm, encodeField, encodeSide, encodeSlipField, encodeSlip}
-use Rattle.scanning.specs.Pieces.{capped}
-use Rattle.text_terms.specs.Terms.{termFrom}
-use Rattle.text_terms.proofs.Copies.{pad-set}
+use Rattle.base_lists.specs.Seqs.{All}
+use Rattle.math_types.specs.Values.{kindFrom}
+use Rattle.text_grammar.specs.Sizes.{largestInteger, longestString, largestNumber, mostFields}
+use Rattle.text_grammar.specs.Grammar.{Raw, raw-int, raw-str, raw-var, raw-empty, spell, spellF, FieldOk, TextOk}
+use Rattle.text_grammar.specs.Numbers.{value}
+use Rattle.text_grammar.specs.Marks.{Mark, marks, marksF, marksT, Over}
+use Rattle.text_grammar.specs.Terms.{OurTerm, termOf, fieldOf, fieldsOf}
+use Rattle.text_grammar.specs.Read.{rule, slip}
+use Rattle.text_values.specs.declared.Term.{Term}
+use Rattle.text_values.specs.declared.Form.the-variants.{Int, Str, Var}
+use Rattle.text_values.specs.declared.Field.{Field}
+use Rattle.text_values.specs.declared.SlipField.{SlipField}
+use Rattle.text_values.specs.Values.{pad, blankTerm, blankField, blankSlipField, encodeTerm, encodeField, encodeSide, encodeSlipField, encodeSlip}
+use Rattle.text_scan.specs.Pieces.{capped}
+use Rattle.text_term_at.specs.Terms.{termFrom}
+use Rattle.text_term_at.proofs.Copies.{pad-set}
 use Rattle.text_passes.specs.Build.{isEmpty, addRaw, pushField, addItem, pushSlipField, turns, turned, put, whole, builtSide, builtSlip}
 
 -- one more in the place behind the used ones, of what a list of A is encoded as

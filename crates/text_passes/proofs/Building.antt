@@ -33,18 +33,18 @@ use denote.Slice.{sliceTy}
 use denote.Struct.Laws as LL
 use denote.Triple.Statement.{Contract, Triple}
 use lib.Ieee.Bits.{is-true, is-false}
-use Rattle.text.specs.Grammar.{Raw}
-use Rattle.text.specs.Walk.{walked as terms-of}
-use Rattle.scanning.specs.declared.Piece.{Piece}
-use Rattle.scanning.specs.Pieces.{pieceOf}
-use Rattle.scanning.proofs.Piece.Laws as O′
-use Rattle.walks.proofs.Walk.{Spots, room, holds, envOf, cells, pos, allocs-all, frees-all, var, sets}
-use Rattle.walks.proofs.Returns.{Spelt, Good, Returns, Met, returns-plain, calls-plain, calls-shared}
-use Rattle.refusals.specs.declared.At.{At}
+use Rattle.text_grammar.specs.Grammar.{Raw}
+use Rattle.text_grammar.specs.Walk.{walked as terms-of}
+use Rattle.text_scan.specs.declared.Piece.{Piece}
+use Rattle.text_scan.specs.Pieces.{pieceOf}
+use Rattle.text_scan.proofs.Piece.Laws as O′
+use Rattle.base_walks.proofs.Walk.{Spots, room, holds, envOf, cells, pos, allocs-all, frees-all, var, sets}
+use Rattle.base_walks.proofs.Returns.{Spelt, Good, Returns, Met, returns-plain, calls-plain, calls-shared}
+use Rattle.text_refusals.specs.declared.At.{At}
 use Rattle.text_passes.specs.Places.{first, termAt, markAt}
 use Rattle.text_passes.specs.Build.{turns, turned, put, whole as whole-of}
-use Rattle.refusals.proofs.At as P
-use Rattle.refusals.proofs.At.Laws as P′
+use Rattle.text_refusals.proofs.At as P
+use Rattle.text_refusals.proofs.At.Laws as P′
 use Rattle.text_passes.proofs.Reader.Laws as R′
 use Rattle.text_passes.proofs.Build.{turned-yes, turned-no, put-is}
 use Rattle.text_passes.proofs.Loops.{within, within-fits, fewer-left, piece-small, Walked, walked-none, walked-one, walked-all}

@@ -25,12 +25,12 @@ use denote.Struct.Laws as LL
 use denote.Struct.Rest.{rest}
 use denote.Triple.Statement.{Contract, Triple}
 use denote.Triple.Walked.{says}
-use Rattle.scanning.specs.declared.Piece.{Piece}
-use Rattle.scanning.specs.Pieces.{pieceOf}
-use Rattle.scanning.proofs.Piece as O
-use Rattle.scanning.proofs.Piece.Laws as O′
-use Rattle.walks.proofs.Returns.{Met, returns-of, calls-shared}
-use Rattle.refusals.specs.declared.At.{At}
+use Rattle.text_scan.specs.declared.Piece.{Piece}
+use Rattle.text_scan.specs.Pieces.{pieceOf}
+use Rattle.text_scan.proofs.Piece as O
+use Rattle.text_scan.proofs.Piece.Laws as O′
+use Rattle.base_walks.proofs.Returns.{Met, returns-of, calls-shared}
+use Rattle.text_refusals.specs.declared.At.{At}
 use Rattle.text_passes.specs.Places.{first, spelled, behind, termAt}
 use Rattle.text_passes.proofs.Held.{B, D, F, reader, mach-text, mach, mach-piece, Text, Token, At-is, Piece-is, Reader-is, text-twice, held}
 use Rattle.text_passes.proofs.start as start

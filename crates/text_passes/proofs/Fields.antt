@@ -8,19 +8,19 @@ use native.Mathlib.Omega.{arith}
 use native.Mathlib.Decide.{decLt}
 use borrow.Author.Tests.{lt-ltb, le-ltb, eq-eqb, ne-eqb}
 use lib.ListN.{length, getD, length-map, List·getD-eq-default}
-use Rattle.lists.specs.Seqs.{All}
-use Rattle.text.specs.Sizes.{mostFields}
-use Rattle.text.specs.Grammar.{Raw, spell, spellF, FieldOk, Says}
-use Rattle.text.specs.Marks.{marks, marksF, marksT, Over, FifthField, TooMany, MarkOver}
-use Rattle.text.specs.Terms.{OurTerm, termOf, fieldOf, fieldsOf}
-use Rattle.text.specs.Walk.{walked}
-use Rattle.text.specs.Read.{fields, terms, limits, Sort, rule, slip, said, OurFields, accepted, readSide, readSlip}
-use Rattle.text.proofs.Walk.{walk-says}
-use Rattle.text.proofs.Leftmost.{none-all}
-use Rattle.text.proofs.Fields.{few-to, width-to, each}
-use Rattle.text.proofs.Read.{read-accepted}
-use Rattle.text.proofs.Accepted.{Base, in-grammar, said-is, clean-to}
-use Rattle.terms.specs.Values.{blankField, blankSlipField, encodeField, encodeSlipField}
+use Rattle.base_lists.specs.Seqs.{All}
+use Rattle.text_grammar.specs.Sizes.{mostFields}
+use Rattle.text_grammar.specs.Grammar.{Raw, spell, spellF, FieldOk, Says}
+use Rattle.text_grammar.specs.Marks.{marks, marksF, marksT, Over, FifthField, TooMany, MarkOver}
+use Rattle.text_grammar.specs.Terms.{OurTerm, termOf, fieldOf, fieldsOf}
+use Rattle.text_grammar.specs.Walk.{walked}
+use Rattle.text_grammar.specs.Read.{fields, terms, limits, Sort, rule, slip, said, OurFields, accepted, readSide, readSlip}
+use Rattle.text_grammar.proofs.Walk.{walk-says}
+use Rattle.text_grammar.proofs.Leftmost.{none-all}
+use Rattle.text_grammar.proofs.Fields.{few-to, width-to, each}
+use Rattle.text_grammar.proofs.Read.{read-accepted}
+use Rattle.text_grammar.proofs.Accepted.{Base, in-grammar, said-is, clean-to}
+use Rattle.text_values.specs.Values.{blankField, blankSlipField, encodeField, encodeSlipField}
 use Rattle.text_passes.specs.Build.{addRaw, addItem}
 use Rattle.text_passes.specs.Fields.{lastField, fieldCount, addTo, pickField, sideField, slipField}
 use Rattle.text_passes.proofs.Build.{adds, add-rule, add-slip, Fits}

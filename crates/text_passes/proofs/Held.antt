@@ -26,13 +26,13 @@ use denote.Struct.Declared.{Declared}
 use denote.Struct.Laws as LL
 use denote.Struct.Rest.{all-own, ownAt, rest, own-open, own-out, own-shut}
 use denote.Struct.Values.{Values}
-use Rattle.scanning.specs.declared.Piece.{Piece}
-use Rattle.scanning.proofs.Piece as O
-use Rattle.scanning.proofs.Piece.Laws as O′
-use Rattle.refusals.specs.declared.At.{At}
+use Rattle.text_scan.specs.declared.Piece.{Piece}
+use Rattle.text_scan.proofs.Piece as O
+use Rattle.text_scan.proofs.Piece.Laws as O′
+use Rattle.text_refusals.specs.declared.At.{At}
 use Rattle.text_passes.specs.declared.Reader.{Reader}
-use Rattle.refusals.proofs.At as P
-use Rattle.refusals.proofs.At.Laws as P′
+use Rattle.text_refusals.proofs.At as P
+use Rattle.text_refusals.proofs.At.Laws as P′
 use Rattle.text_passes.proofs.Reader as R
 use Rattle.text_passes.proofs.Reader.Laws as R′
 

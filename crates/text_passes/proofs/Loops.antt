@@ -5,11 +5,11 @@ use mathlib.Core.List.{List, foldl}
 use Prim.Native.Nat.{ℕ, _+_, _-_, _<_, _≤_, _^_}
 use native.Mathlib.Omega.{arith}
 use lib.ListN.{length, drop, length-drop}
-use Rattle.text.specs.Marks.{Mark}
-use Rattle.text.specs.Walk.{front, walk, walked}
-use Rattle.scanning.specs.declared.Piece.{Piece}
-use Rattle.scanning.specs.Pieces.{pieceOf}
-use Rattle.refusals.specs.declared.At.{At}
+use Rattle.text_grammar.specs.Marks.{Mark}
+use Rattle.text_grammar.specs.Walk.{front, walk, walked}
+use Rattle.text_scan.specs.declared.Piece.{Piece}
+use Rattle.text_scan.specs.Pieces.{pieceOf}
+use Rattle.text_refusals.specs.declared.At.{At}
 use Rattle.text_passes.specs.Places.{first, spelled, colonAt, behind, markAt, termAt, marksFrom}
 use Rattle.text_passes.proofs.Places.{spelled-is, size-fits, marks-none, marks-step}
 

@@ -5,7 +5,7 @@ use Prim.Native.Nat.{ℕ, _≤_, _<_}
 use mathlib.Core.List.{List}
 use lib.ListN.{length}
 use borrow.Author.Tests.{lt-ltb, le-ltb}
-use Rattle.text.specs.Read.{slip}
+use Rattle.text_grammar.specs.Read.{slip}
 use Rattle.text_passes.specs.Passes.{tooLong}
 
 pub is-long : (t : List ℕ) → slip .bytes < length t → tooLong t ≡ true

@@ -9,15 +9,15 @@ use native.Mathlib.Decide.{ℕ-discrete}
 use borrow.Author.Tests.{ltb-true, ne-eqb}
 use lib.Dec.{eqb, ltb}
 use lib.ListN.{length, drop, set}
-use Rattle.text.specs.Grammar.{Raw, spell}
-use Rattle.text.specs.Walk.{front, walkOn, walk, walked}
-use Rattle.terms.specs.declared.Term.{Term}
-use Rattle.terms.specs.declared.Field.{Field}
-use Rattle.terms.specs.declared.SlipField.{SlipField}
-use Rattle.scanning.specs.declared.Piece.{Piece}
-use Rattle.scanning.specs.Pieces.{pieceOf}
-use Rattle.text_terms.specs.Terms.{termFrom}
-use Rattle.refusals.specs.declared.At.{At}
+use Rattle.text_grammar.specs.Grammar.{Raw, spell}
+use Rattle.text_grammar.specs.Walk.{front, walkOn, walk, walked}
+use Rattle.text_values.specs.declared.Term.{Term}
+use Rattle.text_values.specs.declared.Field.{Field}
+use Rattle.text_values.specs.declared.SlipField.{SlipField}
+use Rattle.text_scan.specs.declared.Piece.{Piece}
+use Rattle.text_scan.specs.Pieces.{pieceOf}
+use Rattle.text_term_at.specs.Terms.{termFrom}
+use Rattle.text_refusals.specs.declared.At.{At}
 use Rattle.text_passes.specs.Places.{markAt, termAt}
 use Rattle.text_passes.specs.Build.{isEmpty}
 use Rattle.text_passes.specs.Fields.{addTo, stores}

@@ -11,17 +11,17 @@ use borrow.Author.Tests.{lt-ltb, le-ltb, eq-eqb, ne-eqb}
 use lib.Dec.{eqb}
 use lib.ListN.{length, getD, drop, length-append, length-drop, drop-of-length-le}
 use lib.Seq.{drop-cons, drop-drop}
-use Rattle.lists.specs.Seqs.{IsCons}
-use Rattle.text.specs.Bytes.{Digit, digit?, Begins, b-digit, b-quote, b-letter, b-e, b-none, begins}
-use Rattle.text.specs.Grammar.{Raw, raw-int, raw-str, raw-var, raw-empty, spell}
-use Rattle.text.specs.Marks.{Mark}
-use Rattle.text.specs.Walk.{digits1, leadingDigits, quote1, untilQuote, frontB, front, walkOn, walk}
-use Rattle.text.proofs.Walk.{walk-step}
-use Rattle.scanning.specs.declared.Piece.{Piece}
-use Rattle.scanning.specs.declared.Spelled.{Spelled}
-use Rattle.scanning.specs.declared.Spelled.the-variants.{Int, Str, Var, Empty}
-use Rattle.scanning.specs.Pieces.{pieceOf}
-use Rattle.refusals.specs.declared.At.{At}
+use Rattle.base_lists.specs.Seqs.{IsCons}
+use Rattle.text_grammar.specs.Bytes.{Digit, digit?, Begins, b-digit, b-quote, b-letter, b-e, b-none, begins}
+use Rattle.text_grammar.specs.Grammar.{Raw, raw-int, raw-str, raw-var, raw-empty, spell}
+use Rattle.text_grammar.specs.Marks.{Mark}
+use Rattle.text_grammar.specs.Walk.{digits1, leadingDigits, quote1, untilQuote, frontB, front, walkOn, walk}
+use Rattle.text_grammar.proofs.Walk.{walk-step}
+use Rattle.text_scan.specs.declared.Piece.{Piece}
+use Rattle.text_scan.specs.declared.Spelled.{Spelled}
+use Rattle.text_scan.specs.declared.Spelled.the-variants.{Int, Str, Var, Empty}
+use Rattle.text_scan.specs.Pieces.{pieceOf}
+use Rattle.text_refusals.specs.declared.At.{At}
 use Rattle.text_passes.specs.Places.{spelledBy, spelled, colonAt, behind, markAt, termAt, marksFrom}
 
 -- the length of a written term, from its piece

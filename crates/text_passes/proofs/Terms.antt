@@ -1,8 +1,8 @@
 -- Whether a written term is `empty`, as code tells it from its piece.
 use mathlib.Core.Path.{_≡_, refl, _∙_, ap}
-use Rattle.text.specs.Grammar.{Raw, raw-int, raw-str, raw-var, raw-empty}
-use Rattle.scanning.specs.declared.Piece.{Piece}
-use Rattle.scanning.specs.Pieces.{pieceOf}
+use Rattle.text_grammar.specs.Grammar.{Raw, raw-int, raw-str, raw-var, raw-empty}
+use Rattle.text_scan.specs.declared.Piece.{Piece}
+use Rattle.text_scan.specs.Pieces.{pieceOf}
 use Rattle.text_passes.specs.Build.{isEmpty, emptyBy}
 
 pub empty-is : (p : Piece) (r : Raw) → p ≡ pieceOf r → emptyBy (p .what) ≡ isEmpty r

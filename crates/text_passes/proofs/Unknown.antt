@@ -5,16 +5,16 @@ use mathlib.Core.Option.{some}
 use mathlib.Core.List.{List, [], _∷_, foldl}
 use Prim.Native.Nat.{ℕ, _≤_}
 use lib.ListN.{length}
-use Rattle.text.specs.Grammar.{Raw, Says}
-use Rattle.text.specs.Marks.{Mark}
-use Rattle.text.specs.Read.{slip, OurFields}
-use Rattle.text.proofs.Walk.{walk-says}
-use Rattle.rules.specs.Judge.{lackingAt}
-use Rattle.scanning.specs.declared.Found.the-variants.{At, Nothing}
-use Rattle.scanning.specs.Places.{foundOf}
-use Rattle.scanning.specs.Pieces.{pieceOf}
-use Rattle.unknown.specs.Unknown.{unknownPiece, unknownAt}
-use Rattle.unknown.proofs.Unknown.{NumbersIn, unknown-is}
+use Rattle.text_grammar.specs.Grammar.{Raw, Says}
+use Rattle.text_grammar.specs.Marks.{Mark}
+use Rattle.text_grammar.specs.Read.{slip, OurFields}
+use Rattle.text_grammar.proofs.Walk.{walk-says}
+use Rattle.text_rules.specs.Judge.{lackingAt}
+use Rattle.text_scan.specs.declared.Found.the-variants.{At, Nothing}
+use Rattle.text_scan.specs.Places.{foundOf}
+use Rattle.text_scan.specs.Pieces.{pieceOf}
+use Rattle.text_unknown.specs.Unknown.{unknownPiece, unknownAt}
+use Rattle.text_unknown.proofs.Unknown.{NumbersIn, unknown-is}
 use Rattle.text_passes.specs.Unknown.{unknownMark}
 use Rattle.text_passes.specs.Passes.{unknownIn}
 use Rattle.text_passes.proofs.Passes.{is-short}

@@ -5,19 +5,19 @@ use mathlib.Core.List.{List, foldl}
 use Prim.Native.Nat.{ℕ, _+_}
 use lib.Dec.{eqb, ltb}
 use lib.ListN.{set}
-use Rattle.text.specs.Sizes.{mostFields}
-use Rattle.text.specs.Grammar.{Raw, raw-int, raw-str, raw-var, raw-empty}
-use Rattle.text.specs.Marks.{Mark}
-use Rattle.text.specs.Read.{rule, slip}
-use Rattle.terms.specs.declared.Term.{Term}
-use Rattle.terms.specs.declared.Field.{Field}
-use Rattle.terms.specs.declared.RuleSide.{RuleSide}
-use Rattle.terms.specs.declared.SlipField.{SlipField}
-use Rattle.terms.specs.declared.Slip.{Slip}
-use Rattle.terms.specs.Values.{blankField, blankSide, blankSlipField, blankSlip}
-use Rattle.scanning.specs.declared.Spelled.{Spelled}
-use Rattle.scanning.specs.declared.Spelled.the-variants as spelled
-use Rattle.text_terms.specs.Terms.{termFrom}
+use Rattle.text_grammar.specs.Sizes.{mostFields}
+use Rattle.text_grammar.specs.Grammar.{Raw, raw-int, raw-str, raw-var, raw-empty}
+use Rattle.text_grammar.specs.Marks.{Mark}
+use Rattle.text_grammar.specs.Read.{rule, slip}
+use Rattle.text_values.specs.declared.Term.{Term}
+use Rattle.text_values.specs.declared.Field.{Field}
+use Rattle.text_values.specs.declared.RuleSide.{RuleSide}
+use Rattle.text_values.specs.declared.SlipField.{SlipField}
+use Rattle.text_values.specs.declared.Slip.{Slip}
+use Rattle.text_values.specs.Values.{blankField, blankSide, blankSlipField, blankSlip}
+use Rattle.text_scan.specs.declared.Spelled.{Spelled}
+use Rattle.text_scan.specs.declared.Spelled.the-variants as spelled
+use Rattle.text_term_at.specs.Terms.{termFrom}
 
 abbrev pub isEmpty : Raw → Bool
 isEmpty (raw-int ds) = false

@@ -4,14 +4,14 @@ use mathlib.Core.Bool.{Bool, cond, not, _&&_}
 use mathlib.Core.List.{List, foldl}
 use Prim.Native.Nat.{ℕ, _+_, min}
 use lib.Dec.{eqb, ltb}
-use Rattle.text.specs.Sizes.{mostFields}
-use Rattle.text.specs.Grammar.{Raw}
-use Rattle.text.specs.Marks.{Mark}
-use Rattle.text.specs.Walk.{walked}
-use Rattle.terms.specs.declared.Field.{Field}
-use Rattle.terms.specs.declared.SlipField.{SlipField}
-use Rattle.terms.specs.Values.{blankField, blankSlipField}
-use Rattle.scanning.specs.declared.Piece.{Piece}
+use Rattle.text_grammar.specs.Sizes.{mostFields}
+use Rattle.text_grammar.specs.Grammar.{Raw}
+use Rattle.text_grammar.specs.Marks.{Mark}
+use Rattle.text_grammar.specs.Walk.{walked}
+use Rattle.text_values.specs.declared.Field.{Field}
+use Rattle.text_values.specs.declared.SlipField.{SlipField}
+use Rattle.text_values.specs.Values.{blankField, blankSlipField}
+use Rattle.text_scan.specs.declared.Piece.{Piece}
 use Rattle.text_passes.specs.Build.{emptyBy, addRaw, addItem}
 use Rattle.text_passes.specs.Passes.{tooLong}
 

@@ -4,18 +4,18 @@ use mathlib.Core.List.{List, foldl}
 use Prim.Native.Nat.{ℕ}
 use lib.Dec.{ltb}
 use lib.ListN.{length}
-use Rattle.text.specs.Read.{slip, OurFields}
-use Rattle.text.specs.Walk.{walked}
-use Rattle.terms.specs.declared.RuleSide.{RuleSide}
-use Rattle.terms.specs.declared.Slip.{Slip}
-use Rattle.terms.specs.Values.{blankSide, blankSlip}
-use Rattle.scanning.specs.declared.Found.{Found}
-use Rattle.scanning.specs.declared.Found.the-variants.{Nothing}
-use Rattle.verdicts.specs.Verdicts.{sortOf}
-use Rattle.refusals.specs.declared.Survey.{Survey}
-use Rattle.refusals.specs.Refusals.{surveyMark, nothingYet}
-use Rattle.scanning.specs.Places.{foundOf}
-use Rattle.unknown.specs.Unknown.{unknownAt}
+use Rattle.text_grammar.specs.Read.{slip, OurFields}
+use Rattle.text_grammar.specs.Walk.{walked}
+use Rattle.text_values.specs.declared.RuleSide.{RuleSide}
+use Rattle.text_values.specs.declared.Slip.{Slip}
+use Rattle.text_values.specs.Values.{blankSide, blankSlip}
+use Rattle.text_scan.specs.declared.Found.{Found}
+use Rattle.text_scan.specs.declared.Found.the-variants.{Nothing}
+use Rattle.text_verdicts.specs.Verdicts.{sortOf}
+use Rattle.text_refusals.specs.declared.Survey.{Survey}
+use Rattle.text_refusals.specs.Refusals.{surveyMark, nothingYet}
+use Rattle.text_scan.specs.Places.{foundOf}
+use Rattle.text_unknown.specs.Unknown.{unknownAt}
 use Rattle.text_passes.specs.Build.{builtSide, builtSlip}
 
 -- more bytes than document 01 lets a slip have, the longer of the two

@@ -4,14 +4,14 @@ use mathlib.Core.List.{List}
 use Prim.Native.Nat.{ℕ, _+_, _-_}
 use lib.Dec.{eqb, ltb}
 use lib.ListN.{length, getD, drop}
-use Rattle.text.specs.Grammar.{Raw}
-use Rattle.text.specs.Marks.{Mark}
-use Rattle.text.specs.Walk.{front, walk}
-use Rattle.scanning.specs.declared.Piece.{Piece}
-use Rattle.scanning.specs.declared.Spelled.{Spelled}
-use Rattle.scanning.specs.declared.Spelled.the-variants.{Int, Str, Var, Empty}
+use Rattle.text_grammar.specs.Grammar.{Raw}
+use Rattle.text_grammar.specs.Marks.{Mark}
+use Rattle.text_grammar.specs.Walk.{front, walk}
+use Rattle.text_scan.specs.declared.Piece.{Piece}
+use Rattle.text_scan.specs.declared.Spelled.{Spelled}
+use Rattle.text_scan.specs.declared.Spelled.the-variants.{Int, Str, Var, Empty}
 use denote.Ref.{RefT, now}
-use Rattle.refusals.specs.declared.At.{At}
+use Rattle.text_refusals.specs.declared.At.{At}
 use Rattle.text_passes.specs.declared.Reader.{Reader}
 
 -- the first term

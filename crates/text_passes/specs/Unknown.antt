@@ -1,13 +1,13 @@
 -- Refusal 10 from term to term: the first place that was found stays. `unknown-folds` of proofs/Unknown says what this comes to.
 use mathlib.Core.Bool.{cond}
 use Prim.Native.Nat.{ℕ}
-use Rattle.text.specs.Marks.{Mark}
-use Rattle.text.specs.Read.{OurFields}
-use Rattle.scanning.specs.declared.Found.{Found}
-use Rattle.scanning.specs.declared.Found.the-variants.{At, Nothing}
-use Rattle.scanning.specs.declared.Piece.{Piece}
-use Rattle.scanning.specs.Pieces.{pieceOf}
-use Rattle.unknown.specs.Unknown.{unknownPiece}
+use Rattle.text_grammar.specs.Marks.{Mark}
+use Rattle.text_grammar.specs.Read.{OurFields}
+use Rattle.text_scan.specs.declared.Found.{Found}
+use Rattle.text_scan.specs.declared.Found.the-variants.{At, Nothing}
+use Rattle.text_scan.specs.declared.Piece.{Piece}
+use Rattle.text_scan.specs.Pieces.{pieceOf}
+use Rattle.text_unknown.specs.Unknown.{unknownPiece}
 
 -- with the term p more, which stands at this place
 abbrev pub unknownWith : OurFields → Found → ℕ → Piece → Found

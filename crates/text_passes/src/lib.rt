@@ -6,12 +6,12 @@ ghost use mathlib.Core.List.{foldl};
 ghost use Prim.Native.Nat.{_+_, _≤_, _<_};
 ghost use lib.Dec.{ltb};
 ghost use lib.ListN.{length, drop};
-ghost use Rattle.text.specs.Walk.{front, walked};
-ghost use Rattle.terms.specs.Values.{viewSide};
-ghost use Rattle.scanning.specs.declared.Found.the-variants.{Nothing};
-ghost use Rattle.scanning.specs.Pieces.{pieceOf};
-ghost use Rattle.verdicts.specs.Verdicts.{sortOf};
-ghost use Rattle.refusals.specs.Refusals.{surveyMark, nothingYet};
+ghost use Rattle.text_grammar.specs.Walk.{front, walked};
+ghost use Rattle.text_values.specs.Values.{viewSide};
+ghost use Rattle.text_scan.specs.declared.Found.the-variants.{Nothing};
+ghost use Rattle.text_scan.specs.Pieces.{pieceOf};
+ghost use Rattle.text_verdicts.specs.Verdicts.{sortOf};
+ghost use Rattle.text_refusals.specs.Refusals.{surveyMark, nothingYet};
 ghost use Rattle.text_passes.specs.Places.{first, spelled, colonAt, behind, termAt, started, passed};
 ghost use Rattle.text_passes.specs.Build.{emptyBy, pushTerm, addRaw, pushField, pushItem, addItem, pushSlipField, turns};
 ghost use Rattle.text_passes.specs.Build.{builtSide, builtSlip};
@@ -19,18 +19,18 @@ ghost use Rattle.text_passes.specs.Unknown.{unknownWith, unknownMark};
 ghost use Rattle.text_passes.specs.Passes.{surveyIn, unknownIn, sideIn, slipIn};
 ghost use Rattle.text_passes.specs.Fields.{stores, fieldCount, sideField, slipField};
 ghost use Rattle.text_passes.specs.Notes.{notedIn};
-use linearity::Lists;
-use refusals::At;
-use refusals::Survey;
-use scanning::Found;
-use scanning::Piece;
-use scanning::Spelled;
-use terms::Field;
-use terms::RuleSide;
-use terms::Slip;
-use terms::SlipField;
-use terms::Term;
-use verdicts::Verdict;
+use text_linearity::Lists;
+use text_refusals::At;
+use text_refusals::Survey;
+use text_scan::Found;
+use text_scan::Piece;
+use text_scan::Spelled;
+use text_values::Field;
+use text_values::RuleSide;
+use text_values::Slip;
+use text_values::SlipField;
+use text_values::Term;
+use text_verdicts::Verdict;
 
 // A text with the place where it is read. Document 01: "the reading place travels together with the text it reads".
 struct Reader<'a> {
@@ -107,7 +107,7 @@ fn has_term<'a>(r: Reader<'a>) -> bool
 fn term<'a>(r: Reader<'a>) -> Piece
     ensures { λ p. ⌜ p ≡ pieceOf (termAt (now (r .entry .text)) (r .entry .at)) ⌝ }
 {
-    scanning::piece_at(r.text, r.at.place)
+    text_scan::piece_at(r.text, r.at.place)
 }
 
 // The reader moved behind the term p, which stands at its place.
@@ -138,7 +138,7 @@ fn survey_of(text: &[u8], slip: bool) -> Survey
     let mut r = start(text);
     while has_term(r) {
         let p = term(r);
-        let t = refusals::note(s, slip, r.at, p);
+        let t = text_refusals::note(s, slip, r.at, p);
         let q = passed(r, p);
         s = t;
         r = q;
@@ -159,7 +159,7 @@ fn note_unknown(found: Found, left: RuleSide, place: usize, p: Piece) -> Found
     match found {
         Found::At(_) => found,
         Found::Nothing => {
-            if unknown::is_unknown(left, p) {
+            if text_unknown::is_unknown(left, p) {
                 return Found::At(place);
             }
             Found::Nothing
@@ -204,7 +204,7 @@ fn with_term(f: Field, text: &[u8], place: usize, p: Piece) -> Field
     if is_empty(p) {
         return f;
     }
-    let t = text_terms::term_at(text, place);
+    let t = text_term_at::term_at(text, place);
     push_term(f, t)
 }
 
@@ -241,7 +241,7 @@ fn with_item(f: SlipField, text: &[u8], place: usize, p: Piece) -> SlipField
     if is_empty(p) {
         return f;
     }
-    let t = text_terms::term_at(text, place);
+    let t = text_term_at::term_at(text, place);
     push_item(f, t)
 }
 
@@ -286,14 +286,14 @@ fn build_side(text: &[u8]) -> RuleSide
     requires { ⌜ length (now text) ≤ 8192 ⌝ }
     ensures { λ r. ⌜ r ≡ builtSide (walked (now (text .entry))) ⌝ }
 {
-    let mut rule = terms::blank_side();
-    let mut field = terms::blank_field();
+    let mut rule = text_values::blank_side();
+    let mut field = text_values::blank_field();
     let mut r = start(text);
     while has_term(r) {
         let p = term(r);
         if is_turn(r.at) {
             rule = push_field(rule, field);
-            let next = terms::blank_field();
+            let next = text_values::blank_field();
             field = next;
         }
         field = with_term(field, r.text, r.at.place, p);
@@ -308,14 +308,14 @@ fn build_slip(text: &[u8]) -> Slip
     requires { ⌜ length (now text) ≤ 8192 ⌝ }
     ensures { λ r. ⌜ r ≡ builtSlip (walked (now (text .entry))) ⌝ }
 {
-    let mut slip = terms::blank_slip();
-    let mut field = terms::blank_slip_field();
+    let mut slip = text_values::blank_slip();
+    let mut field = text_values::blank_slip_field();
     let mut r = start(text);
     while has_term(r) {
         let p = term(r);
         if is_turn(r.at) {
             slip = push_slip_field(slip, field);
-            let next = terms::blank_slip_field();
+            let next = text_values::blank_slip_field();
             field = next;
         }
         field = with_item(field, r.text, r.at.place, p);
@@ -352,7 +352,7 @@ pub fn side_in(text: &[u8]) -> RuleSide
     ensures { λ r. ⌜ r ≡ sideIn (now (text .entry)) ⌝ }
 {
     if 8192 < text.len() {
-        return terms::blank_side();
+        return text_values::blank_side();
     }
     build_side(text)
 }
@@ -362,7 +362,7 @@ pub fn slip_in(text: &[u8]) -> Slip
     ensures { λ r. ⌜ r ≡ slipIn (now (text .entry)) ⌝ }
 {
     if 8192 < text.len() {
-        return terms::blank_slip();
+        return text_values::blank_slip();
     }
     build_slip(text)
 }
@@ -404,7 +404,7 @@ pub fn field_count(text: &[u8]) -> usize
     let mut a = first();
     while a.place < text.len() {
         n = a.field;
-        let p = scanning::piece_at(text, a.place);
+        let p = text_scan::piece_at(text, a.place);
         a = behind(text, a, p);
     }
     if 4 < n {
@@ -417,7 +417,7 @@ pub fn field_count(text: &[u8]) -> usize
 pub fn side_field(text: &[u8], j: usize) -> Field
     ensures { λ f. ⌜ f ≡ sideField (now (text .entry)) j ⌝ }
 {
-    let mut f = terms::blank_field();
+    let mut f = text_values::blank_field();
     if 8192 < text.len() {
         return f;
     }
@@ -428,9 +428,9 @@ pub fn side_field(text: &[u8], j: usize) -> Field
     let mut n: usize = 0;
     let mut a = first();
     while a.place < text.len() && a.field <= wanted {
-        let p = scanning::piece_at(text, a.place);
+        let p = text_scan::piece_at(text, a.place);
         if stores(p, a.field, wanted, n, 16) {
-            f.terms[n] = text_terms::term_at(text, a.place);
+            f.terms[n] = text_term_at::term_at(text, a.place);
             n += 1;
         }
         a = behind(text, a, p);
@@ -443,7 +443,7 @@ pub fn side_field(text: &[u8], j: usize) -> Field
 pub fn slip_field(text: &[u8], j: usize) -> SlipField
     ensures { λ f. ⌜ f ≡ slipField (now (text .entry)) j ⌝ }
 {
-    let mut f = terms::blank_slip_field();
+    let mut f = text_values::blank_slip_field();
     if 8192 < text.len() {
         return f;
     }
@@ -454,9 +454,9 @@ pub fn slip_field(text: &[u8], j: usize) -> SlipField
     let mut n: usize = 0;
     let mut a = first();
     while a.place < text.len() && a.field <= wanted {
-        let p = scanning::piece_at(text, a.place);
+        let p = text_scan::piece_at(text, a.place);
         if stores(p, a.field, wanted, n, 64) {
-            f.terms[n] = text_terms::term_at(text, a.place);
+            f.terms[n] = text_term_at::term_at(text, a.place);
             n += 1;
         }
         a = behind(text, a, p);
@@ -478,7 +478,7 @@ pub fn note_side(text: &[u8], right: bool, row: &mut [u8], texts: &mut [u8]) -> 
     let mut a = first();
     while a.place < text.len() {
         n = a.field;
-        let p = scanning::piece_at(text, a.place);
+        let p = text_scan::piece_at(text, a.place);
         pair_table::note(row, texts, right, text, a.place, a.field, p);
         a = behind(text, a, p);
     }

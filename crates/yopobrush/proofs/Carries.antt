@@ -3,35 +3,35 @@ use mathlib.Core.Path.{_≡_, refl, sym, ap, ap₂, _∙_, subst}
 use mathlib.Core.List.{List, [], _∷_, map}
 use Prim.Native.Nat.{ℕ}
 use lib.ListN.{length}
-use Rattle.theory.specs.Terms.{con}
-use Rattle.text.specs.Told.{Told, byRoom}
-use Rattle.text.specs.Plain.{plain}
-use Rattle.text.specs.Limits.{IsSlip}
-use Rattle.text.specs.Read.{OutcomeOf, Outcome, OurFields, refused, accepted, readSlip}
-use Rattle.text.proofs.Accepted.{slip-read}
-use Rattle.rules.specs.Read.{OurRule, readRule}
-use Rattle.rules.proofs.Accepted.{rule-read}
-use Rattle.instance.specs.Matching.{constants}
-use Rattle.results.specs.Carrying.{Carried, result, unmatched, tooLong}
-use Rattle.results.specs.Rules.{OurSlip, carried}
-use Rattle.results.proofs.Carrying.{unmatched≢result}
-use Rattle.results.proofs.Rules.{no-slip}
-use Rattle.terms.specs.declared.Slip.{Slip}
-use Rattle.terms.specs.Values.{encodeSlip}
-use Rattle.accepted_rules.specs.Rules.{countedRule}
-use Rattle.accepted_rules.proofs.Rules.{counted-encode}
-use Rattle.accepted_slips.specs.Slips.{countedSlip}
-use Rattle.accepted_slips.proofs.Slips.{view-encode-slip, encode-accepted-slip}
-use Rattle.carrying.specs.declared.Carried.{Carried as CarriedValue}
-use Rattle.carrying.specs.Answers.{answerOf, carriedOf}
-use Rattle.carrying.proofs.Carries.{result-slip}
-use Rattle.reading.specs.declared.RuleRead.{RuleRead}
-use Rattle.reading.specs.declared.SlipRead.{SlipRead}
-use Rattle.reading.specs.Answers.{ruleRead, slipRead, sideSaid}
-use Rattle.verdicts.specs.Verdicts.{verdictOf}
-use Rattle.writing.specs.declared.Written.{Written}
-use Rattle.writing.specs.declared.Written.the-variants.{Bytes, TooSmall}
-use Rattle.writing.specs.Answers.{told, Writes}
+use Rattle.math_terms.specs.Terms.{con}
+use Rattle.text_grammar.specs.Told.{Told, byRoom}
+use Rattle.text_grammar.specs.Plain.{plain}
+use Rattle.text_grammar.specs.Limits.{IsSlip}
+use Rattle.text_grammar.specs.Read.{OutcomeOf, Outcome, OurFields, refused, accepted, readSlip}
+use Rattle.text_grammar.proofs.Accepted.{slip-read}
+use Rattle.text_rules.specs.Read.{OurRule, readRule}
+use Rattle.text_rules.proofs.Accepted.{rule-read}
+use Rattle.text_constants.specs.Matching.{constants}
+use Rattle.apply_spec.specs.Carrying.{Carried, result, unmatched, tooLong}
+use Rattle.apply_spec.specs.Rules.{OurSlip, carried}
+use Rattle.apply_spec.proofs.Carrying.{unmatched≢result}
+use Rattle.apply_spec.proofs.Rules.{no-slip}
+use Rattle.text_values.specs.declared.Slip.{Slip}
+use Rattle.text_values.specs.Values.{encodeSlip}
+use Rattle.text_accepted_rules.specs.Rules.{countedRule}
+use Rattle.text_accepted_rules.proofs.Rules.{counted-encode}
+use Rattle.text_accepted_slips.specs.Slips.{countedSlip}
+use Rattle.text_accepted_slips.proofs.Slips.{view-encode-slip, encode-accepted-slip}
+use Rattle.apply_rules.specs.declared.Carried.{Carried as CarriedValue}
+use Rattle.apply_rules.specs.Answers.{answerOf, carriedOf}
+use Rattle.apply_rules.proofs.Carries.{result-slip}
+use Rattle.text_read.specs.declared.RuleRead.{RuleRead}
+use Rattle.text_read.specs.declared.SlipRead.{SlipRead}
+use Rattle.text_read.specs.Answers.{ruleRead, slipRead, sideSaid}
+use Rattle.text_verdicts.specs.Verdicts.{verdictOf}
+use Rattle.text_write.specs.declared.Written.{Written}
+use Rattle.text_write.specs.declared.Written.the-variants.{Bytes, TooSmall}
+use Rattle.text_write.specs.Answers.{told, Writes}
 use Rattle.yopobrush.specs.declared.Reading.{Reading}
 use Rattle.yopobrush.specs.declared.Carrying.{Carrying}
 use Rattle.yopobrush.specs.Answers.{readingOf}

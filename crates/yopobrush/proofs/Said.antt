@@ -3,18 +3,18 @@ use mathlib.Core.Path.{_≡_, refl, sym, ap, ap₂, _∙_}
 use mathlib.Core.List.{List, [], _∷_}
 use Prim.Native.Nat.{ℕ}
 use lib.ListN.{length}
-use Rattle.text.specs.Told.{Told, byRoom}
-use Rattle.text.specs.Read.{OutcomeOf, refused, accepted}
-use Rattle.rules.specs.Read.{OurRule, readRule}
-use Rattle.reading.specs.declared.RuleRead.{RuleRead}
-use Rattle.verdicts.specs.Verdicts.{verdictOf}
-use Rattle.reading.specs.Answers.{ruleRead, leftSaid}
-use Rattle.verdicts.proofs.Verdicts.{number-is}
-use Rattle.listing.specs.Overlaps.{linesOf, overlapText}
-use Rattle.overlaps.specs.declared.Listed.{Listed}
-use Rattle.overlaps.specs.declared.Listed.the-variants.{Lines, TooSmall}
-use Rattle.overlaps.specs.declared.TextsListed.{TextsListed}
-use Rattle.overlaps.specs.Answers.{told, TextsList}
+use Rattle.text_grammar.specs.Told.{Told, byRoom}
+use Rattle.text_grammar.specs.Read.{OutcomeOf, refused, accepted}
+use Rattle.text_rules.specs.Read.{OurRule, readRule}
+use Rattle.text_read.specs.declared.RuleRead.{RuleRead}
+use Rattle.text_verdicts.specs.Verdicts.{verdictOf}
+use Rattle.text_read.specs.Answers.{ruleRead, leftSaid}
+use Rattle.text_verdicts.proofs.Verdicts.{number-is}
+use Rattle.overlap_spec.specs.Overlaps.{linesOf, overlapText}
+use Rattle.overlap_list.specs.declared.Listed.{Listed}
+use Rattle.overlap_list.specs.declared.Listed.the-variants.{Lines, TooSmall}
+use Rattle.overlap_list.specs.declared.TextsListed.{TextsListed}
+use Rattle.overlap_list.specs.Answers.{told, TextsList}
 use Rattle.yopobrush.specs.declared.Reading.{Reading}
 use Rattle.yopobrush.specs.declared.Listing.{Listing}
 use Rattle.yopobrush.specs.Answers.{readingOf, listingOf}

@@ -5,12 +5,12 @@ use mathlib.Core.List.{List, [], _∷_}
 use mathlib.Core.Option.{Option, none, some}
 use Prim.Native.Nat.{ℕ}
 use lib.ListN.{length}
-use Rattle.text.specs.Told.{byRoom}
-use Rattle.text.specs.Read.{number, OutcomeOf, refused, accepted}
-use Rattle.rules.specs.Read.{OurRule, readRule}
-use Rattle.writing.specs.Answers.{after}
-use Rattle.listing.specs.Overlaps.{linesOf, overlapText}
-use Rattle.reading.specs.Answers.{leftSaid}
+use Rattle.text_grammar.specs.Told.{byRoom}
+use Rattle.text_grammar.specs.Read.{number, OutcomeOf, refused, accepted}
+use Rattle.text_rules.specs.Read.{OurRule, readRule}
+use Rattle.text_write.specs.Answers.{after}
+use Rattle.overlap_spec.specs.Overlaps.{linesOf, overlapText}
+use Rattle.text_read.specs.Answers.{leftSaid}
 use Rattle.yopobrush.specs.declared.Reading.{Reading}
 use Rattle.yopobrush.specs.declared.Listing.{Listing}
 

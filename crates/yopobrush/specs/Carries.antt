@@ -4,23 +4,23 @@ use mathlib.Core.List.{List, [], _∷_, map}
 use mathlib.Core.Option.{Option, none, some}
 use Prim.Native.Nat.{ℕ}
 use lib.ListN.{length}
-use Rattle.theory.specs.Terms.{con}
-use Rattle.text.specs.Told.{byRoom}
-use Rattle.text.specs.Plain.{plain}
-use Rattle.text.specs.Read.{OutcomeOf, Outcome, OurFields, refused, accepted, readSlip}
-use Rattle.rules.specs.Read.{OurRule, readRule}
-use Rattle.instance.specs.Matching.{constants}
-use Rattle.results.specs.Carrying.{Carried, result, unmatched, tooLong}
-use Rattle.results.specs.Rules.{OurSlip, carried}
-use Rattle.reading.specs.Answers.{sideSaid}
-use Rattle.carrying.specs.declared.Carry.the-variants.{TooLong}
-use Rattle.carrying.specs.Answers.{told}
-use Rattle.writing.specs.Answers.{after}
+use Rattle.math_terms.specs.Terms.{con}
+use Rattle.text_grammar.specs.Told.{byRoom}
+use Rattle.text_grammar.specs.Plain.{plain}
+use Rattle.text_grammar.specs.Read.{OutcomeOf, Outcome, OurFields, refused, accepted, readSlip}
+use Rattle.text_rules.specs.Read.{OurRule, readRule}
+use Rattle.text_constants.specs.Matching.{constants}
+use Rattle.apply_spec.specs.Carrying.{Carried, result, unmatched, tooLong}
+use Rattle.apply_spec.specs.Rules.{OurSlip, carried}
+use Rattle.text_read.specs.Answers.{sideSaid}
+use Rattle.apply_rules.specs.declared.Carry.the-variants.{TooLong}
+use Rattle.apply_rules.specs.Answers.{told}
+use Rattle.text_write.specs.Answers.{after}
 use Rattle.yopobrush.specs.declared.Carrying.{Carrying}
 use Rattle.yopobrush.specs.Answers.{readingOf, numbered}
 
 -- document 01: "A refusal returns its number, its place and the rule with no fields"; and a slip text that is refused says none
--- (`sideSaid` of reading/specs): "The slip with no fields is returned"
+-- (`sideSaid` of text_read/specs): "The slip with no fields is returned"
 abbrev pub ruleSaid : OutcomeOf OurRule → OurRule
 ruleSaid (refused r p) = ([], [])
 ruleSaid (accepted w) = w

@@ -1,12 +1,12 @@
 -- The same answers, from what reading, carrying out and writing return: `texts-carried` of proofs/Carries says that they are the same.
 use Prim.Native.Nat.{ℕ}
-use Rattle.text.specs.Told.{Told}
-use Rattle.carrying.specs.declared.Carry.{Carry}
-use Rattle.carrying.specs.declared.Carry.the-variants.{Yes, No, TooLong}
-use Rattle.carrying.specs.Answers as carrying
-use Rattle.writing.specs.declared.Written.{Written}
-use Rattle.writing.specs.declared.Written.the-variants.{Bytes, TooSmall}
-use Rattle.writing.specs.Answers.{told}
+use Rattle.text_grammar.specs.Told.{Told}
+use Rattle.apply_rules.specs.declared.Carry.{Carry}
+use Rattle.apply_rules.specs.declared.Carry.the-variants.{Yes, No, TooLong}
+use Rattle.apply_rules.specs.Answers as carrying
+use Rattle.text_write.specs.declared.Written.{Written}
+use Rattle.text_write.specs.declared.Written.the-variants.{Bytes, TooSmall}
+use Rattle.text_write.specs.Answers.{told}
 use Rattle.yopobrush.specs.declared.Reading.{Reading}
 use Rattle.yopobrush.specs.declared.Carrying.{Carrying}
 use Rattle.yopobrush.specs.Answers.{numbered}

@@ -1,12 +1,12 @@
 -- The same answers, from what reading and listing return: `text-said` and `texts-said` of proofs/Said say that they are the same.
 use Prim.Native.Nat.{ℕ}
-use Rattle.text.specs.Told.{Told}
-use Rattle.verdicts.specs.declared.Verdict.{Verdict}
-use Rattle.verdicts.specs.declared.Verdict.the-variants.{Accepted, Refused}
-use Rattle.verdicts.specs.Verdicts.{numberOf}
-use Rattle.overlaps.specs.declared.Listed.{Listed}
-use Rattle.overlaps.specs.declared.Listed.the-variants.{Lines, TooSmall}
-use Rattle.overlaps.specs.Answers.{told}
+use Rattle.text_grammar.specs.Told.{Told}
+use Rattle.text_verdicts.specs.declared.Verdict.{Verdict}
+use Rattle.text_verdicts.specs.declared.Verdict.the-variants.{Accepted, Refused}
+use Rattle.text_verdicts.specs.Verdicts.{numberOf}
+use Rattle.overlap_list.specs.declared.Listed.{Listed}
+use Rattle.overlap_list.specs.declared.Listed.the-variants.{Lines, TooSmall}
+use Rattle.overlap_list.specs.Answers.{told}
 use Rattle.yopobrush.specs.Answers.{numbered}
 use Rattle.yopobrush.specs.declared.Reading.{Reading}
 use Rattle.yopobrush.specs.declared.Listing.{Listing}

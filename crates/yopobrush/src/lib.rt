@@ -3,15 +3,15 @@
 // Numbers and byte slices cross the boundary, and structs of numbers in C's layout; to C a slice is a pointer and a length.
 // A name belongs to the whole program, as in C, so each begins with the library's.
 ghost use mathlib.Core.Path.{_≡_};
-ghost use Rattle.rules.specs.Read.{readRule};
+ghost use Rattle.text_rules.specs.Read.{readRule};
 ghost use Rattle.yopobrush.specs.Answers.{readingOf, LibraryLists};
 ghost use Rattle.yopobrush.specs.Values.{readingBy, listingBy};
 ghost use Rattle.yopobrush.specs.Carries.{LibraryCarries};
 ghost use Rattle.yopobrush.specs.CarryValues.{numberBy, carryingBy};
-use carrying::Carry;
-use overlaps::Listed;
-use verdicts::Verdict;
-use writing::Written;
+use apply_rules::Carry;
+use overlap_list::Listed;
+use text_verdicts::Verdict;
+use text_write::Written;
 
 // How a rule text is read: the refusal's number and its place, or 0 and 0 where there is none.
 #[repr(C)]
@@ -39,7 +39,7 @@ fn reading_of(v: Verdict) -> Reading
             place: 0,
         },
         Verdict::Refused(reason, place) => Reading {
-            refusal: verdicts::number(reason) as u64,
+            refusal: text_verdicts::number(reason) as u64,
             place: place as u64,
         },
     }
@@ -71,7 +71,7 @@ fn listing_of(left: Reading, right: Reading, listed: Listed) -> Listing
 pub extern "C" fn yopobrush_read_rule(text: &[u8]) -> Reading
     ensures { λ r. ⌜ r ≡ readingOf (readRule (now (text .entry))) ⌝ }
 {
-    let read = reading::read_rule(text);
+    let read = text_read::read_rule(text);
     let verdict = read.verdict;
     reading_of(verdict)
 }
@@ -81,7 +81,7 @@ pub extern "C" fn yopobrush_read_rule(text: &[u8]) -> Reading
 pub extern "C" fn yopobrush_list_overlaps(left: &[u8], right: &[u8], out: &mut [u8]) -> Listing
     ensures { λ r. ⌜ LibraryLists (now (left .entry)) (now (right .entry)) (now (out .entry)) r (now (out .exit)) ⌝ }
 {
-    let said = overlaps::list_texts(left, right, out);
+    let said = overlap_list::list_texts(left, right, out);
     let left_verdict = said.left;
     let right_verdict = said.right;
     let listed = said.listed;
@@ -135,14 +135,14 @@ fn carrying_of(rule: Reading, slip: Reading, answer: u64, written: Written) -> C
 pub extern "C" fn yopobrush_carry_out(rule: &[u8], slip: &[u8], out: &mut [u8]) -> Carrying
     ensures { λ r. ⌜ LibraryCarries (now (rule .entry)) (now (slip .entry)) (now (out .entry)) r (now (out .exit)) ⌝ }
 {
-    let r = reading::read_rule(rule);
-    let s = reading::read_slip(slip);
+    let r = text_read::read_rule(rule);
+    let s = text_read::read_slip(slip);
     let rule_verdict = r.verdict;
     let slip_verdict = s.verdict;
-    let c = carrying::carry_out(r.rule, s.slip);
+    let c = apply_rules::carry_out(r.rule, s.slip);
     let answer = c.answer;
     let given = c.slip;
-    let written = slip_text::write_slip(given, out);
+    let written = text_plain_slips::write_slip(given, out);
     carrying_of(
         reading_of(rule_verdict),
         reading_of(slip_verdict),

@@ -4,8 +4,8 @@ use native.Mathlib.Omega.{arith}
 use lib.ListN.{replicate}
 use lib.Seq.{length-take-le}
 use borrow.Author.Needs.{needs}
-use Rattle.pieces.proofs.Pieces.{written-in}
-use Rattle.carry_answers.specs.Carry.{carryAnswer}
+use Rattle.text_pieces.proofs.Pieces.{written-in}
+use Rattle.print_carry.specs.Carry.{carryAnswer}
 use Rattle.carry.proofs.answer.Statement.{statement}
 use Rattle.carry.proofs.answer.Tie as tie
 

@@ -31,23 +31,23 @@ use denote.Triple.Statement.{Triple}
 use denote.Triple.Table.{entered, cited}
 use denote.Triple.Walked.{says, Stays, stay-slice, stay-none, walkOf, goes-slice, goes-none, ends-at, walked, walk-meets}
 use denote.Exit.{yes}
-use Rattle.terms.specs.declared.Field.{Field}
-use Rattle.terms.proofs.Field as F
-use Rattle.terms.proofs.Field.Laws as F′
+use Rattle.text_values.specs.declared.Field.{Field}
+use Rattle.text_values.proofs.Field as F
+use Rattle.text_values.proofs.Field.Laws as F′
 use Rattle.search_problems.specs.declared.Problem.{Problem}
 use Rattle.search_problems.specs.Values.{blankProblem}
 use Rattle.search_problems.proofs.Problem as T
-use Rattle.walks.proofs.Walk.{holds, envOf, pos, allocs-all, frees-all, var, reborrows}
-use Rattle.search.proofs.Lending.{x, Own, lend, unlend}
-use Rattle.search.specs.declared.Searched.{Searched}
-use Rattle.search.specs.Answers.{Searches}
-use Rattle.search.proofs.Searched as N
-use Rattle.search.proofs.Searched.Laws as N′
-use Rattle.search.proofs.Calls.{mach-field, mach-answer}
-use Rattle.search.proofs.search.Symbol as search-def
-use Rattle.search.proofs.search.Symbol.{name as #search·search}
-use Rattle.search.proofs.search.Met as search-thm
-use Rattle.solver.proofs.Calls.{Search, calls-search}
+use Rattle.base_walks.proofs.Walk.{holds, envOf, pos, allocs-all, frees-all, var, reborrows}
+use Rattle.search_row.proofs.Lending.{x, Own, lend, unlend}
+use Rattle.search_row.specs.declared.Searched.{Searched}
+use Rattle.search_row.specs.Answers.{Searches}
+use Rattle.search_row.proofs.Searched as N
+use Rattle.search_row.proofs.Searched.Laws as N′
+use Rattle.search_row.proofs.Calls.{mach-field, mach-answer}
+use Rattle.search_row.proofs.search.Symbol as search-def
+use Rattle.search_row.proofs.search.Symbol.{name as #search-row·search}
+use Rattle.search_row.proofs.search.Met as search-thm
+use Rattle.search_run.proofs.Calls.{Search, calls-search}
 use Rattle.demands.specs.Searching.{SearchDemand, search-demand}
 use Rattle.demands.proofs.search.Key.{name as #demands·search}
 use Rattle.demands.proofs.search as search′
@@ -115,7 +115,7 @@ module _ {M : Type 1} (𝓤 : URA M) (H : Heap 𝓤) (A : Atoms 𝓤) (W : Given
     abbrev L′ : ℕ → ℕ
     L′ n = pos 3 9 n
 
-    walk : Room T.the-row (length ys) → Room u8 (length os) → (𝓣 : Tables 𝓤 H) → Triple 𝓤 (𝓣 .C #search·search) (Search 𝓤 H A mem run)
+    walk : Room T.the-row (length ys) → Room u8 (length os) → (𝓣 : Tables 𝓤 H) → Triple 𝓤 (𝓣 .C #search-row·search) (Search 𝓤 H A mem run)
         → ent 𝓤 (onEntry 𝓤 H A search′.signature (κ, (κ′, tt)) (q, (q′, tt)) (bound .0 .3) (bound .0 .4))
         (WpFn 𝓤 H (𝓣 .C) (𝓣 .Λ) code.function (mach-field f ∷ mach-field g ∷ r₀ ∷ o₀ ∷ []) Post)
     walk fits fits′ 𝓣 ks =
@@ -174,4 +174,4 @@ search-spec 𝓤 H 𝓜 𝓖 𝓡 =
     (walk 𝓤 H A W (𝓜 .mem) (𝓡 .run) (κs .0) (κs .1 .0) (qs .0) (qs .1 .0) (a .1 .1 .0 .ptr .0) (a .1 .1 .0 .ptr .1) (a .1 .1 .1 .0 .ptr .0)
     (a .1 .1 .1 .0 .ptr .1) (a .1 .1 .0 .name) (a .1 .1 .1 .0 .name) (a .0) (a .1 .0) (a .1 .1 .0 .now) (a .1 .1 .1 .0 .now) (are .0) (are .1 .0)
     (are .1 .1 .0 .0 .1) (are .1 .1 .1 .0 .0 .1) 𝓣
-    (cited 𝓤 H (Search 𝓤 H A (𝓜 .mem) (𝓡 .run)) 𝓜 𝓡 code.env #search·search search-def.routine code.calls-search·search (search-thm.met 𝓤 H 𝓜 𝓖 𝓡))))))
+    (cited 𝓤 H (Search 𝓤 H A (𝓜 .mem) (𝓡 .run)) 𝓜 𝓡 code.env #search-row·search search-def.routine code.calls-search-row·search (search-thm.met 𝓤 H 𝓜 𝓖 𝓡))))))

@@ -3,8 +3,8 @@ use mathlib.Core.Path.{sym}
 use native.Mathlib.Omega.{arith}
 use lib.Seq.{length-take-le}
 use borrow.Author.Needs.{needs}
-use Rattle.pieces.proofs.Pieces.{written-in}
-use Rattle.match_answers.specs.Matches.{matchAnswer}
+use Rattle.text_pieces.proofs.Pieces.{written-in}
+use Rattle.print_matches.specs.Matches.{matchAnswer}
 use Rattle.matches.proofs.answer.Statement.{statement}
 use Rattle.matches.proofs.answer.Tie as tie
 

@@ -4,7 +4,7 @@ use mathlib.Core.Logic.{⊎-elim}
 use Prim.Native.Nat.{_+_, _-_}
 use borrow.Author.Needs.{needs}
 use borrow.Author.Tests.{not-true, not-false}
-use Rattle.order.specs.Types.{entry}
+use Rattle.math_types.specs.Types.{entry}
 use Rattle.math_codes.specs.Spots.{cellAt}
 use Rattle.pair_row.specs.Row.{tableIn, spotOf}
 use Rattle.pair_state.specs.declared.State.{State}

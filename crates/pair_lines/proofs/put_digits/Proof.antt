@@ -4,7 +4,7 @@ use mathlib.Core.List.{[], _∷_, _++_}
 use Prim.Native.Nat.{_+_, _/_, _%_}
 use native.Mathlib.Omega.{arith}
 use lib.ListN.{length}
-use Rattle.text.specs.Numbers.{digitsOf}
+use Rattle.text_grammar.specs.Numbers.{digitsOf}
 use borrow.Author.Needs.{needs}
 use Rattle.pair_lines.proofs.Puts.{puts-as, puts-next, digits-one, digits-two, digits-three}
 use Rattle.pair_lines.proofs.put_digits.Statement.{statement}

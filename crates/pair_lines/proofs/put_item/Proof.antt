@@ -6,7 +6,7 @@ use Prim.Native.Nat.{ℕ, _+_, _-_}
 use native.Mathlib.Omega.{arith}
 use lib.ListN.{length, getD, length-append}
 use borrow.Author.Needs.{needs}
-use Rattle.text.specs.Numbers.{digitsOf}
+use Rattle.text_grammar.specs.Numbers.{digitsOf}
 use Rattle.math_codes.specs.Lines.{letterAt, itemText}
 use Rattle.pair_row.specs.Row.{tableIn, bytesIn, textIn}
 use Rattle.pair_lines.proofs.Puts.{puts-as, puts-next}

@@ -5,7 +5,7 @@ use mathlib.Core.List.{[], _∷_, _++_}
 use Prim.Native.Nat.{ℕ}
 use native.Mathlib.Omega.{arith}
 use borrow.Author.Needs.{needs}
-use Rattle.text.specs.Numbers.{digitsOf}
+use Rattle.text_grammar.specs.Numbers.{digitsOf}
 use Rattle.math_codes.specs.Lines.{letterAt}
 use Rattle.pair_lines.specs.Lines.{markOf, blank}
 use Rattle.pair_lines.proofs.Puts.{puts-as, puts-next, blank-few, blank-led}

@@ -6,9 +6,9 @@ use Prim.Native.Nat.{ℕ, _+_, _-_, _*_, _≤_, _<_}
 use native.Mathlib.Omega.{arith}
 use lib.ListN.{length}
 use borrow.Author.Needs.{needs}
-use Rattle.text.specs.Numbers.{digitsOf}
-use Rattle.theory.specs.Seqs.{concat-map}
-use Rattle.unifiers.specs.Candidates.{range}
+use Rattle.text_grammar.specs.Numbers.{digitsOf}
+use Rattle.math_terms.specs.Seqs.{concat-map}
+use Rattle.math_overlaps.specs.Candidates.{range}
 use Rattle.math_codes.specs.Lines.{itemsText}
 use Rattle.math_codes.specs.Index.{nameAt}
 use Rattle.pair_row.specs.Row.{tableIn, textIn, indexIn, topIn}

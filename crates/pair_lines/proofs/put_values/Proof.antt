@@ -3,8 +3,8 @@ use mathlib.Core.Path.{_≡_, sym, ap}
 use Prim.Native.Nat.{ℕ, _-_, _≤_}
 use native.Mathlib.Omega.{arith}
 use borrow.Author.Needs.{needs}
-use Rattle.theory.specs.Seqs.{concat-map}
-use Rattle.unifiers.specs.Candidates.{range}
+use Rattle.math_terms.specs.Seqs.{concat-map}
+use Rattle.math_overlaps.specs.Candidates.{range}
 use Rattle.pair_lines.specs.Lines.{Puts, runBy, unled, rankIn, valuesIn}
 use Rattle.pair_lines.proofs.Puts.{puts-none, puts-as, puts-long, unled-none, unled-few, unled-next}
 use Rattle.pair_lines.proofs.Values.{rank-led, all-led, texts-one, texts-room}

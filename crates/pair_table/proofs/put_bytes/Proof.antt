@@ -5,7 +5,7 @@ use Prim.Native.Nat.{ℕ, _+_, _-_, _*_, _≤_}
 use native.Mathlib.Omega.{arith}
 use lib.ListN.{length, getD, set, length-set}
 use lib.Seq.{sets}
-use Rattle.lists.specs.Seqs.{tabulate-long}
+use Rattle.base_lists.specs.Seqs.{tabulate-long}
 use Rattle.pair_table.specs.Notes.{partOf}
 use Rattle.pair_table.proofs.Loops.{part-none, put-one, put-all}
 use borrow.Author.Needs.{needs}

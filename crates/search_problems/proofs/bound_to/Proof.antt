@@ -1,7 +1,7 @@
 -- `search_problems::bound_to` meets its contract. Assumes nothing.
 use mathlib.Core.Path.{ap₂}
 use mathlib.Core.List.{List}
-use Rattle.lists.specs.Seqs.{long-mapped}
+use Rattle.base_lists.specs.Seqs.{long-mapped}
 use Rattle.pair_state.specs.declared.State.{State}
 use Rattle.search_items.specs.declared.Items.{Items}
 use Rattle.search_problems.specs.Applied.{putItems}

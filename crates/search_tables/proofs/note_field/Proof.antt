@@ -3,11 +3,11 @@ use mathlib.Core.Path.{_≡_, _∙_, ap}
 use mathlib.Core.List.{List}
 use Prim.Native.Nat.{ℕ}
 use lib.ListN.{replicate}
-use Rattle.text.specs.Plain.{plain}
-use Rattle.accepted.specs.Accepted.{countedLeft}
-use Rattle.terms.specs.declared.RuleSide.{RuleSide}
-use Rattle.pieces.proofs.Pieces.{written-long, written-count, written-front}
-use Rattle.plain_text.proofs.Lengths.{plain-short}
+use Rattle.text_grammar.specs.Plain.{plain}
+use Rattle.text_accepted.specs.Accepted.{countedLeft}
+use Rattle.text_values.specs.declared.RuleSide.{RuleSide}
+use Rattle.text_pieces.proofs.Pieces.{written-long, written-count, written-front}
+use Rattle.text_plain.proofs.Lengths.{plain-short}
 use Rattle.text_passes.specs.Notes.{notedIn}
 use borrow.Author.Needs.{needs}
 use Rattle.search_tables.proofs.note_field.Statement.{statement}

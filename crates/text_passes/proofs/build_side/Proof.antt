@@ -32,28 +32,28 @@ use denote.Triple.Spec.{tripleOf}
 use denote.Triple.Table.{entered, cited}
 use denote.Triple.Walked.{says, needs, Stays, stay-none-slice, walkOf, goes-none-slice, ends-at, walked, walk-meets}
 use denote.Exit.{yes}
-use Rattle.text.specs.Walk.{walked as terms-of}
-use Rattle.terms.specs.declared.RuleSide.{RuleSide}
-use Rattle.terms.specs.declared.Field.{Field}
-use Rattle.terms.specs.Values.{blankSide, blankField}
-use Rattle.terms.proofs.RuleSide as N
-use Rattle.terms.proofs.RuleSide.Laws as N′
-use Rattle.terms.proofs.Field as G
-use Rattle.terms.proofs.Field.Laws as G′
-use Rattle.terms.proofs.blank_side as blank-whole
-use Rattle.terms.proofs.blank_side.Symbol as blank-whole-def
-use Rattle.terms.proofs.blank_side.Symbol.{name as #terms·blank-side}
-use Rattle.terms.proofs.blank_side.Met as blank-whole-thm
-use Rattle.terms.proofs.blank_field as blank-field
-use Rattle.terms.proofs.blank_field.Symbol as blank-field-def
-use Rattle.terms.proofs.blank_field.Symbol.{name as #terms·blank-field}
-use Rattle.terms.proofs.blank_field.Met as blank-field-thm
-use Rattle.scanning.specs.declared.Piece.{Piece}
-use Rattle.scanning.specs.Pieces.{pieceOf}
-use Rattle.scanning.proofs.Piece as O
-use Rattle.scanning.proofs.Piece.Laws as O′
-use Rattle.walks.proofs.Returns.{Spelt, Good, Returns, Met, returns-of, returns-plain}
-use Rattle.refusals.specs.declared.At.{At}
+use Rattle.text_grammar.specs.Walk.{walked as terms-of}
+use Rattle.text_values.specs.declared.RuleSide.{RuleSide}
+use Rattle.text_values.specs.declared.Field.{Field}
+use Rattle.text_values.specs.Values.{blankSide, blankField}
+use Rattle.text_values.proofs.RuleSide as N
+use Rattle.text_values.proofs.RuleSide.Laws as N′
+use Rattle.text_values.proofs.Field as G
+use Rattle.text_values.proofs.Field.Laws as G′
+use Rattle.text_values.proofs.blank_side as blank-whole
+use Rattle.text_values.proofs.blank_side.Symbol as blank-whole-def
+use Rattle.text_values.proofs.blank_side.Symbol.{name as #text-values·blank-side}
+use Rattle.text_values.proofs.blank_side.Met as blank-whole-thm
+use Rattle.text_values.proofs.blank_field as blank-field
+use Rattle.text_values.proofs.blank_field.Symbol as blank-field-def
+use Rattle.text_values.proofs.blank_field.Symbol.{name as #text-values·blank-field}
+use Rattle.text_values.proofs.blank_field.Met as blank-field-thm
+use Rattle.text_scan.specs.declared.Piece.{Piece}
+use Rattle.text_scan.specs.Pieces.{pieceOf}
+use Rattle.text_scan.proofs.Piece as O
+use Rattle.text_scan.proofs.Piece.Laws as O′
+use Rattle.base_walks.proofs.Returns.{Spelt, Good, Returns, Met, returns-of, returns-plain}
+use Rattle.text_refusals.specs.declared.At.{At}
 use Rattle.text_passes.specs.Places.{termAt}
 use Rattle.text_passes.specs.Build.{addRaw, pushField, builtSide}
 use Rattle.text_passes.proofs.Held.{mach-text, mach-piece, Text, Token, Piece-is}
@@ -132,16 +132,16 @@ module _ {M : Type 1} (𝓤 : URA M) (H : Heap 𝓤) (A : Atoms 𝓤) (W : Given
 
     module _ (C : Calls 𝓤 H) where
       -- what the callees return
-      blank-rule-returns : Triple 𝓤 (C #terms·blank-side) (Met 𝓤 H A blank-whole.ended (blank-whole.clauses 𝓤 H A mem run))
-          → Returns 𝓤 H A C #terms·blank-side [] N.the-row blankSide [] (raw (emp 𝓤))
+      blank-rule-returns : Triple 𝓤 (C #text-values·blank-side) (Met 𝓤 H A blank-whole.ended (blank-whole.clauses 𝓤 H A mem run))
+          → Returns 𝓤 H A C #text-values·blank-side [] N.the-row blankSide [] (raw (emp 𝓤))
       blank-rule-returns known =
-          returns-plain 𝓤 H A blank-whole.ended (blank-whole.clauses 𝓤 H A mem run) C #terms·blank-side known (tt, tt, tt, tt, tt) tt blankSide
+          returns-plain 𝓤 H A blank-whole.ended (blank-whole.clauses 𝓤 H A mem run) C #text-values·blank-side known (tt, tt, tt, tt, tt) tt blankSide
           (λ z ws. id⊢ 𝓤 _) W (id⊢ 𝓤 _) (id⊢ 𝓤 _) (id⊢ 𝓤 _) tt tt
 
-      blank-field-returns : Triple 𝓤 (C #terms·blank-field) (Met 𝓤 H A blank-field.ended (blank-field.clauses 𝓤 H A mem run))
-          → Returns 𝓤 H A C #terms·blank-field [] G.the-row blankField [] (raw (emp 𝓤))
+      blank-field-returns : Triple 𝓤 (C #text-values·blank-field) (Met 𝓤 H A blank-field.ended (blank-field.clauses 𝓤 H A mem run))
+          → Returns 𝓤 H A C #text-values·blank-field [] G.the-row blankField [] (raw (emp 𝓤))
       blank-field-returns known =
-          returns-plain 𝓤 H A blank-field.ended (blank-field.clauses 𝓤 H A mem run) C #terms·blank-field known (tt, tt, tt, tt, tt) tt blankField
+          returns-plain 𝓤 H A blank-field.ended (blank-field.clauses 𝓤 H A mem run) C #text-values·blank-field known (tt, tt, tt, tt, tt) tt blankField
           (λ z ws. id⊢ 𝓤 _) W (id⊢ 𝓤 _) (id⊢ 𝓤 _) (id⊢ 𝓤 _) tt tt
 
       push-field-returns : Triple 𝓤 (C #text-passes·push-field) (Met 𝓤 H A push.ended (push.clauses 𝓤 H A mem run))
@@ -184,7 +184,7 @@ build-side-spec 𝓤 H 𝓜 𝓖 𝓡 =
     (WpFn-mono 𝓤 H (W .laws) 𝓣 code.function)
     (walked 𝓤 H A build.ended stayed clauses goes (λ κs. (slice-vals, tt)) (λ κs. (shr-slice-tells (named 0) (κs .0) u8, tt))
     (λ κs qs bounds a g are. needs 𝓤 _ _ (λ short. via 𝓤 _ (entry 𝓤 H A W (𝓜 .mem) (𝓡 .run) (κs .0) (qs .0) (a .0))
-    (walk 𝓤 H A W (𝓜 .mem) (𝓡 .run) (κs .0) (qs .0) (a .0) #terms·blank-side #terms·blank-field #text-passes·push-field #text-passes·with-term (X 𝓤 H A W)
+    (walk 𝓤 H A W (𝓜 .mem) (𝓡 .run) (κs .0) (qs .0) (a .0) #text-values·blank-side #text-values·blank-field #text-passes·push-field #text-passes·with-term (X 𝓤 H A W)
     (Y 𝓤 H A W) blankSide blankField addRaw pushField
     (Post 𝓤 H A W (𝓜 .mem) (𝓡 .run) (κs .0) (qs .0) (a .0)) (exits 𝓤 H A W (𝓜 .mem) (𝓡 .run) (κs .0) (qs .0) (a .0)) (are .0) short 𝓣
     (cited 𝓤 H (Start 𝓤 H A (𝓜 .mem) (𝓡 .run)) 𝓜 𝓡 code.env #text-passes·start start-def.routine code.calls-text-passes·start (start-thm.met 𝓤 H 𝓜 𝓖 𝓡))
@@ -196,10 +196,10 @@ build-side-spec 𝓤 H 𝓜 𝓖 𝓡 =
     (cited 𝓤 H (Passed 𝓤 H A (𝓜 .mem) (𝓡 .run)) 𝓜 𝓡 code.env #text-passes·passed passed-def.routine code.calls-text-passes·passed (passed-thm.met 𝓤 H 𝓜 𝓖 𝓡))
     (blank-rule-returns 𝓤 H A W (𝓜 .mem) (𝓡 .run) (κs .0) (qs .0) (a .0) (𝓣 .C)
     (cited 𝓤 H (Met 𝓤 H A blank-whole.ended (blank-whole.clauses 𝓤 H A (𝓜 .mem) (𝓡 .run))) 𝓜 𝓡 code.env
-    #terms·blank-side blank-whole-def.routine code.calls-terms·blank-side (blank-whole-thm.met 𝓤 H 𝓜 𝓖 𝓡)))
+    #text-values·blank-side blank-whole-def.routine code.calls-text-values·blank-side (blank-whole-thm.met 𝓤 H 𝓜 𝓖 𝓡)))
     (blank-field-returns 𝓤 H A W (𝓜 .mem) (𝓡 .run) (κs .0) (qs .0) (a .0) (𝓣 .C)
     (cited 𝓤 H (Met 𝓤 H A blank-field.ended (blank-field.clauses 𝓤 H A (𝓜 .mem) (𝓡 .run))) 𝓜 𝓡 code.env
-    #terms·blank-field blank-field-def.routine code.calls-terms·blank-field (blank-field-thm.met 𝓤 H 𝓜 𝓖 𝓡)))
+    #text-values·blank-field blank-field-def.routine code.calls-text-values·blank-field (blank-field-thm.met 𝓤 H 𝓜 𝓖 𝓡)))
     (push-field-returns 𝓤 H A W (𝓜 .mem) (𝓡 .run) (κs .0) (qs .0) (a .0) (𝓣 .C)
     (cited 𝓤 H (Met 𝓤 H A push.ended (push.clauses 𝓤 H A (𝓜 .mem) (𝓡 .run))) 𝓜 𝓡 code.env
     #text-passes·push-field push-def.routine code.calls-text-passes·push-field (push-thm.met 𝓤 H 𝓜 𝓖 𝓡)))

@@ -32,28 +32,28 @@ use denote.Triple.Spec.{tripleOf}
 use denote.Triple.Table.{entered, cited}
 use denote.Triple.Walked.{says, needs, Stays, stay-none-slice, walkOf, goes-none-slice, ends-at, walked, walk-meets}
 use denote.Exit.{yes}
-use Rattle.text.specs.Walk.{walked as terms-of}
-use Rattle.terms.specs.declared.Slip.{Slip}
-use Rattle.terms.specs.declared.SlipField.{SlipField}
-use Rattle.terms.specs.Values.{blankSlip, blankSlipField}
-use Rattle.terms.proofs.Slip as N
-use Rattle.terms.proofs.Slip.Laws as N′
-use Rattle.terms.proofs.SlipField as G
-use Rattle.terms.proofs.SlipField.Laws as G′
-use Rattle.terms.proofs.blank_slip as blank-whole
-use Rattle.terms.proofs.blank_slip.Symbol as blank-whole-def
-use Rattle.terms.proofs.blank_slip.Symbol.{name as #terms·blank-slip}
-use Rattle.terms.proofs.blank_slip.Met as blank-whole-thm
-use Rattle.terms.proofs.blank_slip_field as blank-field
-use Rattle.terms.proofs.blank_slip_field.Symbol as blank-field-def
-use Rattle.terms.proofs.blank_slip_field.Symbol.{name as #terms·blank-slip-field}
-use Rattle.terms.proofs.blank_slip_field.Met as blank-field-thm
-use Rattle.scanning.specs.declared.Piece.{Piece}
-use Rattle.scanning.specs.Pieces.{pieceOf}
-use Rattle.scanning.proofs.Piece as O
-use Rattle.scanning.proofs.Piece.Laws as O′
-use Rattle.walks.proofs.Returns.{Spelt, Good, Returns, Met, returns-of, returns-plain}
-use Rattle.refusals.specs.declared.At.{At}
+use Rattle.text_grammar.specs.Walk.{walked as terms-of}
+use Rattle.text_values.specs.declared.Slip.{Slip}
+use Rattle.text_values.specs.declared.SlipField.{SlipField}
+use Rattle.text_values.specs.Values.{blankSlip, blankSlipField}
+use Rattle.text_values.proofs.Slip as N
+use Rattle.text_values.proofs.Slip.Laws as N′
+use Rattle.text_values.proofs.SlipField as G
+use Rattle.text_values.proofs.SlipField.Laws as G′
+use Rattle.text_values.proofs.blank_slip as blank-whole
+use Rattle.text_values.proofs.blank_slip.Symbol as blank-whole-def
+use Rattle.text_values.proofs.blank_slip.Symbol.{name as #text-values·blank-slip}
+use Rattle.text_values.proofs.blank_slip.Met as blank-whole-thm
+use Rattle.text_values.proofs.blank_slip_field as blank-field
+use Rattle.text_values.proofs.blank_slip_field.Symbol as blank-field-def
+use Rattle.text_values.proofs.blank_slip_field.Symbol.{name as #text-values·blank-slip-field}
+use Rattle.text_values.proofs.blank_slip_field.Met as blank-field-thm
+use Rattle.text_scan.specs.declared.Piece.{Piece}
+use Rattle.text_scan.specs.Pieces.{pieceOf}
+use Rattle.text_scan.proofs.Piece as O
+use Rattle.text_scan.proofs.Piece.Laws as O′
+use Rattle.base_walks.proofs.Returns.{Spelt, Good, Returns, Met, returns-of, returns-plain}
+use Rattle.text_refusals.specs.declared.At.{At}
 use Rattle.text_passes.specs.Places.{termAt}
 use Rattle.text_passes.specs.Build.{addItem, pushSlipField, builtSlip}
 use Rattle.text_passes.proofs.Held.{mach-text, mach-piece, Text, Token, Piece-is}
@@ -132,16 +132,16 @@ module _ {M : Type 1} (𝓤 : URA M) (H : Heap 𝓤) (A : Atoms 𝓤) (W : Given
 
     module _ (C : Calls 𝓤 H) where
       -- what the callees return
-      blank-slip-returns : Triple 𝓤 (C #terms·blank-slip) (Met 𝓤 H A blank-whole.ended (blank-whole.clauses 𝓤 H A mem run))
-          → Returns 𝓤 H A C #terms·blank-slip [] N.the-row blankSlip [] (raw (emp 𝓤))
+      blank-slip-returns : Triple 𝓤 (C #text-values·blank-slip) (Met 𝓤 H A blank-whole.ended (blank-whole.clauses 𝓤 H A mem run))
+          → Returns 𝓤 H A C #text-values·blank-slip [] N.the-row blankSlip [] (raw (emp 𝓤))
       blank-slip-returns known =
-          returns-plain 𝓤 H A blank-whole.ended (blank-whole.clauses 𝓤 H A mem run) C #terms·blank-slip known (tt, tt, tt, tt, tt) tt blankSlip
+          returns-plain 𝓤 H A blank-whole.ended (blank-whole.clauses 𝓤 H A mem run) C #text-values·blank-slip known (tt, tt, tt, tt, tt) tt blankSlip
           (λ z ws. id⊢ 𝓤 _) W (id⊢ 𝓤 _) (id⊢ 𝓤 _) (id⊢ 𝓤 _) tt tt
 
-      blank-slip-field-returns : Triple 𝓤 (C #terms·blank-slip-field) (Met 𝓤 H A blank-field.ended (blank-field.clauses 𝓤 H A mem run))
-          → Returns 𝓤 H A C #terms·blank-slip-field [] G.the-row blankSlipField [] (raw (emp 𝓤))
+      blank-slip-field-returns : Triple 𝓤 (C #text-values·blank-slip-field) (Met 𝓤 H A blank-field.ended (blank-field.clauses 𝓤 H A mem run))
+          → Returns 𝓤 H A C #text-values·blank-slip-field [] G.the-row blankSlipField [] (raw (emp 𝓤))
       blank-slip-field-returns known =
-          returns-plain 𝓤 H A blank-field.ended (blank-field.clauses 𝓤 H A mem run) C #terms·blank-slip-field known (tt, tt, tt, tt, tt) tt blankSlipField
+          returns-plain 𝓤 H A blank-field.ended (blank-field.clauses 𝓤 H A mem run) C #text-values·blank-slip-field known (tt, tt, tt, tt, tt) tt blankSlipField
           (λ z ws. id⊢ 𝓤 _) W (id⊢ 𝓤 _) (id⊢ 𝓤 _) (id⊢ 𝓤 _) tt tt
 
       push-slip-field-returns : Triple 𝓤 (C #text-passes·push-slip-field) (Met 𝓤 H A push.ended (push.clauses 𝓤 H A mem run))
@@ -184,7 +184,7 @@ build-slip-spec 𝓤 H 𝓜 𝓖 𝓡 =
     (WpFn-mono 𝓤 H (W .laws) 𝓣 code.function)
     (walked 𝓤 H A build.ended stayed clauses goes (λ κs. (slice-vals, tt)) (λ κs. (shr-slice-tells (named 0) (κs .0) u8, tt))
     (λ κs qs bounds a g are. needs 𝓤 _ _ (λ short. via 𝓤 _ (entry 𝓤 H A W (𝓜 .mem) (𝓡 .run) (κs .0) (qs .0) (a .0))
-    (walk 𝓤 H A W (𝓜 .mem) (𝓡 .run) (κs .0) (qs .0) (a .0) #terms·blank-slip #terms·blank-slip-field #text-passes·push-slip-field #text-passes·with-item
+    (walk 𝓤 H A W (𝓜 .mem) (𝓡 .run) (κs .0) (qs .0) (a .0) #text-values·blank-slip #text-values·blank-slip-field #text-passes·push-slip-field #text-passes·with-item
     (X 𝓤 H A W) (Y 𝓤 H A W) blankSlip blankSlipField addItem pushSlipField
     (Post 𝓤 H A W (𝓜 .mem) (𝓡 .run) (κs .0) (qs .0) (a .0)) (exits 𝓤 H A W (𝓜 .mem) (𝓡 .run) (κs .0) (qs .0) (a .0)) (are .0) short 𝓣
     (cited 𝓤 H (Start 𝓤 H A (𝓜 .mem) (𝓡 .run)) 𝓜 𝓡 code.env #text-passes·start start-def.routine code.calls-text-passes·start (start-thm.met 𝓤 H 𝓜 𝓖 𝓡))
@@ -196,10 +196,10 @@ build-slip-spec 𝓤 H 𝓜 𝓖 𝓡 =
     (cited 𝓤 H (Passed 𝓤 H A (𝓜 .mem) (𝓡 .run)) 𝓜 𝓡 code.env #text-passes·passed passed-def.routine code.calls-text-passes·passed (passed-thm.met 𝓤 H 𝓜 𝓖 𝓡))
     (blank-slip-returns 𝓤 H A W (𝓜 .mem) (𝓡 .run) (κs .0) (qs .0) (a .0) (𝓣 .C)
     (cited 𝓤 H (Met 𝓤 H A blank-whole.ended (blank-whole.clauses 𝓤 H A (𝓜 .mem) (𝓡 .run))) 𝓜 𝓡 code.env
-    #terms·blank-slip blank-whole-def.routine code.calls-terms·blank-slip (blank-whole-thm.met 𝓤 H 𝓜 𝓖 𝓡)))
+    #text-values·blank-slip blank-whole-def.routine code.calls-text-values·blank-slip (blank-whole-thm.met 𝓤 H 𝓜 𝓖 𝓡)))
     (blank-slip-field-returns 𝓤 H A W (𝓜 .mem) (𝓡 .run) (κs .0) (qs .0) (a .0) (𝓣 .C)
     (cited 𝓤 H (Met 𝓤 H A blank-field.ended (blank-field.clauses 𝓤 H A (𝓜 .mem) (𝓡 .run))) 𝓜 𝓡 code.env
-    #terms·blank-slip-field blank-field-def.routine code.calls-terms·blank-slip-field (blank-field-thm.met 𝓤 H 𝓜 𝓖 𝓡)))
+    #text-values·blank-slip-field blank-field-def.routine code.calls-text-values·blank-slip-field (blank-field-thm.met 𝓤 H 𝓜 𝓖 𝓡)))
     (push-slip-field-returns 𝓤 H A W (𝓜 .mem) (𝓡 .run) (κs .0) (qs .0) (a .0) (𝓣 .C)
     (cited 𝓤 H (Met 𝓤 H A push.ended (push.clauses 𝓤 H A (𝓜 .mem) (𝓡 .run))) 𝓜 𝓡 code.env
     #text-passes·push-slip-field push-def.routine code.calls-text-passes·push-slip-field (push-thm.met 𝓤 H 𝓜 𝓖 𝓡)))

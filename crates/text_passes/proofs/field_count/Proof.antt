@@ -5,8 +5,8 @@ use Prim.Native.Nat.{_-_, _≤_}
 use native.Mathlib.Omega.{arith}
 use borrow.Author.Needs.{needs}
 use lib.ListN.{length}
-use Rattle.text.specs.Walk.{walked}
-use Rattle.refusals.specs.declared.At.{At}
+use Rattle.text_grammar.specs.Walk.{walked}
+use Rattle.text_refusals.specs.declared.At.{At}
 use Rattle.text_passes.specs.Fields.{lastField}
 use Rattle.text_passes.proofs.Passes.{is-long, is-short}
 use Rattle.text_passes.proofs.Loops.{may-pass, nearer, Walked, walked-none, walked-one, walked-all}

@@ -32,7 +32,7 @@ use denote.Triple.Spec.{tripleOf}
 use denote.Triple.Table.{entered}
 use denote.Triple.Walked.{says, Stays, stay-none, walkOf, goes-none, ends-at, walked, walk-meets}
 use denote.Exit.{yes}
-use Rattle.walks.proofs.Walk.{holds, envOf, pos, allocs-all, frees-all, var, sets}
+use Rattle.base_walks.proofs.Walk.{holds, envOf, pos, allocs-all, frees-all, var, sets}
 use Rattle.text_passes.specs.declared.Reader.{Reader}
 use Rattle.text_passes.proofs.Reader.Laws as R′
 use Rattle.text_passes.proofs.Held.{B, D, F, mach, Token, reader-typed}

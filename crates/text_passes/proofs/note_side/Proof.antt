@@ -4,9 +4,9 @@ use mathlib.Core.List.{List, foldl}
 use Prim.Native.Nat.{ℕ, _-_, _≤_}
 use native.Mathlib.Omega.{arith}
 use lib.ListN.{length}
-use Rattle.text.specs.Walk.{walked}
-use Rattle.scanning.specs.declared.Piece.{Piece}
-use Rattle.refusals.specs.declared.At.{At}
+use Rattle.text_grammar.specs.Walk.{walked}
+use Rattle.text_scan.specs.declared.Piece.{Piece}
+use Rattle.text_refusals.specs.declared.At.{At}
 use Rattle.pair_table.specs.Notes.{notePiece, noteMark, sideNoted}
 use Rattle.text_passes.specs.Places.{markAt, termAt}
 use Rattle.text_passes.specs.Fields.{lastField}

@@ -31,16 +31,16 @@ use denote.Triple.Spec.{tripleOf}
 use denote.Triple.Table.{entered, cited}
 use denote.Triple.Walked.{says, needs, Stays, stay-none, walkOf, goes-none, ends-at, walked, walk-meets}
 use denote.Exit.{yes}
-use Rattle.scanning.specs.declared.Piece.{Piece}
-use Rattle.scanning.proofs.Piece as O
-use Rattle.scanning.proofs.Piece.Laws as O′
-use Rattle.walks.proofs.Walk.{holds, envOf, pos, allocs-all, frees-all, var, sets}
-use Rattle.walks.proofs.Returns.{Met, returns-of, calls-shared}
-use Rattle.refusals.specs.declared.At.{At}
+use Rattle.text_scan.specs.declared.Piece.{Piece}
+use Rattle.text_scan.proofs.Piece as O
+use Rattle.text_scan.proofs.Piece.Laws as O′
+use Rattle.base_walks.proofs.Walk.{holds, envOf, pos, allocs-all, frees-all, var, sets}
+use Rattle.base_walks.proofs.Returns.{Met, returns-of, calls-shared}
+use Rattle.text_refusals.specs.declared.At.{At}
 use Rattle.text_passes.specs.declared.Reader.{Reader}
 use Rattle.text_passes.specs.Places.{spelled, behind, passed}
-use Rattle.refusals.proofs.At as P
-use Rattle.refusals.proofs.At.Laws as P′
+use Rattle.text_refusals.proofs.At as P
+use Rattle.text_refusals.proofs.At.Laws as P′
 use Rattle.text_passes.proofs.Reader.Laws as R′
 use Rattle.text_passes.proofs.Held.{B, D, F, mach-text, mach-at, mach, Text, At-is, Reader-is, text-of-is, at-of-is, reader-is, at-typed, reader-typed}
 use Rattle.text_passes.proofs.Held.{text-twice, held, text-of, mach-piece, Token, Piece-is, piece-typed}

@@ -6,9 +6,9 @@ use native.Mathlib.Omega.{arith}
 use borrow.Author.Needs.{needs}
 use borrow.Author.Tests.{lt-ltb, le-ltb, leb-false}
 use lib.ListN.{length}
-use Rattle.terms.specs.declared.Field.{Field}
-use Rattle.terms.specs.Values.{blankField}
-use Rattle.refusals.specs.declared.At.{At}
+use Rattle.text_values.specs.declared.Field.{Field}
+use Rattle.text_values.specs.Values.{blankField}
+use Rattle.text_refusals.specs.declared.At.{At}
 use Rattle.text_passes.specs.Places.{first, markAt, termAt}
 use Rattle.text_passes.specs.Build.{addRaw}
 use Rattle.text_passes.specs.Fields.{addTo}

@@ -29,7 +29,7 @@ use denote.Triple.Spec.{tripleOf}
 use denote.Triple.Table.{entered}
 use denote.Triple.Walked.{says, Stays, stay-none-slice, walkOf, goes-none-slice, ends-at, walked, walk-meets}
 use denote.Exit.{yes}
-use Rattle.walks.proofs.Walk.{holds, envOf, pos, allocs-all, frees-all, var, sets}
+use Rattle.base_walks.proofs.Walk.{holds, envOf, pos, allocs-all, frees-all, var, sets}
 use Rattle.text_passes.specs.Places.{first}
 use Rattle.text_passes.proofs.Held.{Token, reader, mach-text, mach-at, mach, Text, Text-is, At-is, at-is, reader-is, text-typed, at-typed, reader-typed}
 use Rattle.text_passes.proofs.Held.{text-twice, held}

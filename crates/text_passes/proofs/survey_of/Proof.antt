@@ -41,23 +41,23 @@ use denote.Triple.Spec.{tripleOf}
 use denote.Triple.Table.{entered, cited}
 use denote.Triple.Walked.{says, needs, Stays, stay-none, stay-none-slice, walkOf, goes-none, goes-none-slice, ends-at, walked, walk-meets}
 use denote.Exit.{yes}
-use Rattle.text.specs.Walk.{walked as terms-of}
-use Rattle.scanning.specs.declared.Piece.{Piece}
-use Rattle.scanning.specs.Pieces.{pieceOf}
-use Rattle.scanning.proofs.Piece as O
-use Rattle.scanning.proofs.Piece.Laws as O′
-use Rattle.walks.proofs.Walk.{Spots, room, holds, envOf, cells, pos, allocs-all, frees-all, var, sets}
-use Rattle.walks.proofs.Returns.{Met, returns-plain, calls-plain}
-use Rattle.verdicts.specs.Verdicts.{sortOf}
-use Rattle.refusals.specs.declared.At.{At}
-use Rattle.refusals.specs.declared.Survey.{Survey}
+use Rattle.text_grammar.specs.Walk.{walked as terms-of}
+use Rattle.text_scan.specs.declared.Piece.{Piece}
+use Rattle.text_scan.specs.Pieces.{pieceOf}
+use Rattle.text_scan.proofs.Piece as O
+use Rattle.text_scan.proofs.Piece.Laws as O′
+use Rattle.base_walks.proofs.Walk.{Spots, room, holds, envOf, cells, pos, allocs-all, frees-all, var, sets}
+use Rattle.base_walks.proofs.Returns.{Met, returns-plain, calls-plain}
+use Rattle.text_verdicts.specs.Verdicts.{sortOf}
+use Rattle.text_refusals.specs.declared.At.{At}
+use Rattle.text_refusals.specs.declared.Survey.{Survey}
 use Rattle.text_passes.specs.Places.{first, termAt}
-use Rattle.refusals.specs.Refusals.{surveyed, surveyMark, nothingYet}
-use Rattle.refusals.proofs.At as P
-use Rattle.refusals.proofs.At.Laws as P′
+use Rattle.text_refusals.specs.Refusals.{surveyed, surveyMark, nothingYet}
+use Rattle.text_refusals.proofs.At as P
+use Rattle.text_refusals.proofs.At.Laws as P′
 use Rattle.text_passes.proofs.Reader.Laws as R′
-use Rattle.refusals.proofs.Survey as S
-use Rattle.refusals.proofs.Survey.Laws as S′
+use Rattle.text_refusals.proofs.Survey as S
+use Rattle.text_refusals.proofs.Survey.Laws as S′
 use Rattle.text_passes.proofs.Loops.{within, fewer-left, piece-small, Walked, walked-none, walked-one, walked-all}
 use Rattle.text_passes.proofs.Held.{reader, mach-text, mach-at, mach, Text, Text-is, At-is, text-typed, at-typed, reader-typedᵉ, at-of-is, reader-is}
 use Rattle.text_passes.proofs.Held.{mach-piece, Token, piece-typed}
@@ -75,10 +75,10 @@ use Rattle.text_passes.proofs.has_term.Met as has-term-thm
 use Rattle.text_passes.proofs.term.Symbol as term-def
 use Rattle.text_passes.proofs.term.Symbol.{name as #text-passes·term}
 use Rattle.text_passes.proofs.term.Met as term-thm
-use Rattle.refusals.proofs.note as note
-use Rattle.refusals.proofs.note.Symbol as note-def
-use Rattle.refusals.proofs.note.Symbol.{name as #refusals·note}
-use Rattle.refusals.proofs.note.Met as note-thm
+use Rattle.text_refusals.proofs.note as note
+use Rattle.text_refusals.proofs.note.Symbol as note-def
+use Rattle.text_refusals.proofs.note.Symbol.{name as #text-refusals·note}
+use Rattle.text_refusals.proofs.note.Met as note-thm
 use Rattle.text_passes.proofs.passed.Symbol as passed-def
 use Rattle.text_passes.proofs.passed.Symbol.{name as #text-passes·passed}
 use Rattle.text_passes.proofs.passed.Met as passed-thm
@@ -161,7 +161,7 @@ module _ {M : Type 1} (𝓤 : URA M) (H : Heap 𝓤) (A : Atoms 𝓤) (W : Given
 
     module _ (𝓣 : Tables 𝓤 H) (k-none : Triple 𝓤 (𝓣 .C #text-passes·nothing-yet) Nothing-yet)
         (k-start : Triple 𝓤 (𝓣 .C #text-passes·start) (Start 𝓤 H A mem run)) (k-has : Triple 𝓤 (𝓣 .C #text-passes·has-term) (HasTerm 𝓤 H A mem run))
-        (k-term : Triple 𝓤 (𝓣 .C #text-passes·term) (Term 𝓤 H A mem run)) (k-note : Triple 𝓤 (𝓣 .C #refusals·note) Note)
+        (k-term : Triple 𝓤 (𝓣 .C #text-passes·term) (Term 𝓤 H A mem run)) (k-note : Triple 𝓤 (𝓣 .C #text-refusals·note) Note)
         (k-passed : Triple 𝓤 (𝓣 .C #text-passes·passed) (Passed 𝓤 H A mem run)) where
       abbrev C : Calls 𝓤 H
       C = 𝓣 .C
@@ -196,7 +196,7 @@ module _ {M : Type 1} (𝓤 : URA M) (H : Heap 𝓤) (A : Atoms 𝓤) (W : Given
             sets ! (of-opd ! (load ! (from ! (fld ! refl (stop !))) (look-in ! (L 4) (sub ! 1 refl (whole !)))))
             (init ! (L 11) refl (at-typed 𝓤 H A W (j .0) (j .3))) $
             calls-plain ! (fmOf 𝓤 H (W .laws) 𝓣) S.the-row mach-survey (LL.tells S.the-type S′.the-laws) (x′ j)
-            (returns-plain 𝓤 H A note.ended (note.clauses 𝓤 H A mem run) C #refusals·note k-note (
+            (returns-plain 𝓤 H A note.ended (note.clauses 𝓤 H A mem run) C #text-refusals·note k-note (
               tt,
               tt,
               tt,
@@ -288,7 +288,7 @@ survey-of-spec 𝓤 H 𝓜 𝓖 𝓡 =
     (cited 𝓤 H (HasTerm 𝓤 H A (𝓜 .mem) (𝓡 .run)) 𝓜 𝓡 code.env #text-passes·has-term has-term-def.routine code.calls-text-passes·has-term
     (has-term-thm.met 𝓤 H 𝓜 𝓖 𝓡))
     (cited 𝓤 H (Term 𝓤 H A (𝓜 .mem) (𝓡 .run)) 𝓜 𝓡 code.env #text-passes·term term-def.routine code.calls-text-passes·term (term-thm.met 𝓤 H 𝓜 𝓖 𝓡))
-    (cited 𝓤 H (Met 𝓤 H A note.ended (note.clauses 𝓤 H A (𝓜 .mem) (𝓡 .run))) 𝓜 𝓡 code.env #refusals·note note-def.routine code.calls-refusals·note
+    (cited 𝓤 H (Met 𝓤 H A note.ended (note.clauses 𝓤 H A (𝓜 .mem) (𝓡 .run))) 𝓜 𝓡 code.env #text-refusals·note note-def.routine code.calls-text-refusals·note
     (note-thm.met 𝓤 H 𝓜 𝓖 𝓡))
     (cited 𝓤 H (Passed 𝓤 H A (𝓜 .mem) (𝓡 .run)) 𝓜 𝓡 code.env #text-passes·passed passed-def.routine code.calls-text-passes·passed
     (passed-thm.met 𝓤 H 𝓜 𝓖 𝓡))))))

@@ -1,4 +1,4 @@
--- `text_passes::term` meets its contract: a walk of its MIR, by hand. The reader is taken apart, and `scanning::piece_at` is called on the text and the place.
+-- `text_passes::term` meets its contract: a walk of its MIR, by hand. The reader is taken apart, and `text_scan::piece_at` is called on the text and the place.
 -- Assumes nothing.
 use mathlib.Core.Path.{refl}
 use Prim.Native.Nat.{ℕ, _<_, _^_}
@@ -32,16 +32,16 @@ use denote.Triple.Spec.{tripleOf}
 use denote.Triple.Table.{entered, cited}
 use denote.Triple.Walked.{says, Stays, stay-none, walkOf, goes-none, ends-at, walked, walk-meets}
 use denote.Exit.{yes}
-use Rattle.scanning.specs.declared.Piece.{Piece}
-use Rattle.scanning.specs.Pieces.{pieceOf}
-use Rattle.scanning.proofs.Piece as O
-use Rattle.scanning.proofs.Piece.Laws as O′
-use Rattle.scanning.proofs.piece_at as piece-at
-use Rattle.scanning.proofs.piece_at.Symbol as piece-at-def
-use Rattle.scanning.proofs.piece_at.Symbol.{name as #scanning·piece-at}
-use Rattle.scanning.proofs.piece_at.Met as piece-at-thm
-use Rattle.walks.proofs.Walk.{holds, envOf, pos, allocs-all, frees-all, var, sets}
-use Rattle.walks.proofs.Returns.{Met, returns-of, calls-shared}
+use Rattle.text_scan.specs.declared.Piece.{Piece}
+use Rattle.text_scan.specs.Pieces.{pieceOf}
+use Rattle.text_scan.proofs.Piece as O
+use Rattle.text_scan.proofs.Piece.Laws as O′
+use Rattle.text_scan.proofs.piece_at as piece-at
+use Rattle.text_scan.proofs.piece_at.Symbol as piece-at-def
+use Rattle.text_scan.proofs.piece_at.Symbol.{name as #text-scan·piece-at}
+use Rattle.text_scan.proofs.piece_at.Met as piece-at-thm
+use Rattle.base_walks.proofs.Walk.{holds, envOf, pos, allocs-all, frees-all, var, sets}
+use Rattle.base_walks.proofs.Returns.{Met, returns-of, calls-shared}
 use Rattle.text_passes.specs.declared.Reader.{Reader}
 use Rattle.text_passes.specs.Places.{termAt}
 use Rattle.text_passes.proofs.Reader.Laws as R′
@@ -92,7 +92,7 @@ module _ {M : Type 1} (𝓤 : URA M) (H : Heap 𝓤) (A : Atoms 𝓤) (W : Given
     L k = pos 2 4 k
 
     walk : Holds (hasTy (R′.mir (named 0)) (mach r)) × WT (mach r) → (𝓣 : Tables 𝓤 H)
-        → Triple 𝓤 (𝓣 .C #scanning·piece-at) (Met 𝓤 H A piece-at.ended (piece-at.clauses 𝓤 H A mem run))
+        → Triple 𝓤 (𝓣 .C #text-scan·piece-at) (Met 𝓤 H A piece-at.ended (piece-at.clauses 𝓤 H A mem run))
         → ent 𝓤 (onEntry 𝓤 H A term.signature (κ, tt) (q, tt) (r, tt) (mach r ∷ [], tt)) (WpFn 𝓤 H (𝓣 .C) (𝓣 .Λ) code.function (mach r ∷ []) Post)
     walk wt 𝓣 known =
         qed W (Token 𝓤 κ q ∷ ‵ (owns (B (κ, tt) ∷ []) (r, tt) (mach r ∷ [], tt)) ∷ []) ∵ move ! (1 ∷ []) $
@@ -104,7 +104,7 @@ module _ {M : Type 1} (𝓤 : URA M) (H : Heap 𝓤) (A : Atoms 𝓤) (W : Given
         (init ! (L 3) refl (tt, wt .1 .1 .0 .0)) $
         calls-shared ! (fmOf 𝓤 H (W .laws) 𝓣) O.the-row mach-piece (LL.tells O.the-type O′.the-laws) p (‵ (Text κ (r .text))) (Token 𝓤 κ q)
         (text-twice 𝓤 H A W κ (r .text))
-        (returns-of 𝓤 H A piece-at.ended (piece-at.clauses 𝓤 H A mem run) (𝓣 .C) #scanning·piece-at known (to .0) tt p (λ z ws. id⊢ 𝓤 _)
+        (returns-of 𝓤 H A piece-at.ended (piece-at.clauses 𝓤 H A mem run) (𝓣 .C) #text-scan·piece-at known (to .0) tt p (λ z ws. id⊢ 𝓤 _)
         (‵ (Text κ (r .text)) ∷ Token 𝓤 κ q ∷ []) (Token 𝓤 κ q) (gives (wt .1 .1 .0 .0 .fits)) (id⊢ 𝓤 _))
         (λ Q. and-then ! (var ! (L 2) refl) (and-then ! (var ! (L 3) refl) (no-more !)))
         (λ gp. land ! (from ! (stop !)) (init ! (L 0) refl (piece-typed 𝓤 H A W p gp)) $
@@ -127,4 +127,4 @@ term-spec 𝓤 H 𝓜 𝓖 𝓡 =
     (λ κs qs bounds a g are.
     via 𝓤 _ (fst∗ 𝓤 _ (emp 𝓤)) (walk 𝓤 H A W (𝓜 .mem) (𝓡 .run) (κs .0) (qs .0) (a .0) (are .0) (reader-typed 𝓤 H A W (κs .0) (a .0) (are .0)) 𝓣
     (cited 𝓤 H (Met 𝓤 H A piece-at.ended (piece-at.clauses 𝓤 H A (𝓜 .mem) (𝓡 .run))) 𝓜 𝓡 code.env
-    #scanning·piece-at piece-at-def.routine code.calls-scanning·piece-at (piece-at-thm.met 𝓤 H 𝓜 𝓖 𝓡))))))
+    #text-scan·piece-at piece-at-def.routine code.calls-text-scan·piece-at (piece-at-thm.met 𝓤 H 𝓜 𝓖 𝓡))))))

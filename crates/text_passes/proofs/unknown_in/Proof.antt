@@ -1,7 +1,7 @@
 -- `text_passes::unknown_in` meets its contract.
 use mathlib.Core.Path.{_∙_}
 use borrow.Author.Needs.{needs}
-use Rattle.text.specs.Walk.{walked}
+use Rattle.text_grammar.specs.Walk.{walked}
 use Rattle.text_passes.proofs.Unknown.{unknown-folds}
 use Rattle.text_passes.proofs.Passes.{is-long, is-short}
 use Rattle.text_passes.proofs.unknown_in.Statement.{statement}

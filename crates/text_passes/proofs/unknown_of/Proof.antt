@@ -42,26 +42,26 @@ use denote.Triple.Spec.{tripleOf}
 use denote.Triple.Table.{entered, cited}
 use denote.Triple.Walked.{says, needs, Stays, stay-none, stay-none-slice, walkOf, goes-none, goes-none-slice, ends-at, walked, walk-meets}
 use denote.Exit.{yes}
-use Rattle.text.specs.Marks.{Mark}
-use Rattle.text.specs.Walk.{walked as terms-of}
-use Rattle.scanning.specs.declared.Piece.{Piece}
-use Rattle.scanning.specs.Pieces.{pieceOf}
-use Rattle.scanning.proofs.Piece as O
-use Rattle.scanning.proofs.Piece.Laws as O′
-use Rattle.walks.proofs.Walk.{Spots, room, holds, envOf, cells, pos, allocs-all, frees-all, var, sets}
-use Rattle.walks.proofs.Returns.{Met, returns-plain, calls-plain}
-use Rattle.refusals.specs.declared.At.{At}
+use Rattle.text_grammar.specs.Marks.{Mark}
+use Rattle.text_grammar.specs.Walk.{walked as terms-of}
+use Rattle.text_scan.specs.declared.Piece.{Piece}
+use Rattle.text_scan.specs.Pieces.{pieceOf}
+use Rattle.text_scan.proofs.Piece as O
+use Rattle.text_scan.proofs.Piece.Laws as O′
+use Rattle.base_walks.proofs.Walk.{Spots, room, holds, envOf, cells, pos, allocs-all, frees-all, var, sets}
+use Rattle.base_walks.proofs.Returns.{Met, returns-plain, calls-plain}
+use Rattle.text_refusals.specs.declared.At.{At}
 use Rattle.text_passes.specs.Places.{first, termAt}
 use Rattle.text_passes.specs.Unknown.{unknownWith, unknownMark}
 use Rattle.text_passes.proofs.Reader.Laws as R′
-use Rattle.terms.specs.declared.RuleSide.{RuleSide}
-use Rattle.terms.specs.Values.{viewSide}
-use Rattle.terms.proofs.RuleSide as N
-use Rattle.terms.proofs.RuleSide.Laws as N′
-use Rattle.scanning.specs.declared.Found.{Found}
-use Rattle.scanning.specs.declared.Found.the-variants.{Nothing}
-use Rattle.scanning.proofs.Found as F
-use Rattle.scanning.proofs.Found.Laws as F′
+use Rattle.text_values.specs.declared.RuleSide.{RuleSide}
+use Rattle.text_values.specs.Values.{viewSide}
+use Rattle.text_values.proofs.RuleSide as N
+use Rattle.text_values.proofs.RuleSide.Laws as N′
+use Rattle.text_scan.specs.declared.Found.{Found}
+use Rattle.text_scan.specs.declared.Found.the-variants.{Nothing}
+use Rattle.text_scan.proofs.Found as F
+use Rattle.text_scan.proofs.Found.Laws as F′
 use Rattle.text_passes.proofs.Loops.{within, within-fits, fewer-left, piece-small, Walked, walked-none, walked-one, walked-all}
 use Rattle.text_passes.proofs.Held.{reader, mach-text, mach, Text, Text-is, At-is}
 use Rattle.text_passes.proofs.Held.{text-typed, reader-typedᵉ, at-of-is, reader-is, mach-piece, Token, piece-typed}

@@ -3,8 +3,8 @@ use mathlib.Core.Path.{sym}
 use native.Mathlib.Omega.{arith}
 use lib.Seq.{length-take-le}
 use borrow.Author.Needs.{needs}
-use Rattle.answers.specs.Texts.{textsAnswer}
-use Rattle.pieces.proofs.Pieces.{written-in}
+use Rattle.print_texts.specs.Texts.{textsAnswer}
+use Rattle.text_pieces.proofs.Pieces.{written-in}
 use Rattle.texts.proofs.answer.Statement.{statement}
 use Rattle.texts.proofs.answer.Tie as tie
 

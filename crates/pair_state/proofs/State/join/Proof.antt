@@ -3,7 +3,7 @@ use mathlib.Core.Path.{sym, _∙_}
 use mathlib.Core.Logic.{⊎-elim}
 use borrow.Author.Needs.{needs}
 use borrow.Author.Tests.{not-true, not-false}
-use Rattle.order.specs.Types.{entry}
+use Rattle.math_types.specs.Types.{entry}
 use Rattle.pair_row.specs.Row.{tableIn}
 use Rattle.pair_state.proofs.Cases.{join-same, join-clash, join-left, join-right}
 use Rattle.pair_state.proofs.Meets.{meet-left, meet-right, none-left, none-right}

@@ -1,0 +1,56 @@
+-- What listing overlaps answers, and what it leaves in the lent bytes. Document 01: "The lines written are those of the entries, in their
+-- order. The entry count, which is their number, and the byte count, which is the length of all their lines, are returned.
+-- 8: as in searching, with the entry count and the needed byte count, the old bytes left."
+use mathlib.Core.Path.{_≡_}
+use mathlib.Core.List.{List, [], _∷_}
+use mathlib.Core.Option.{none, some}
+use Prim.Native.Nat.{ℕ}
+use lib.ListN.{length}
+use Rattle.text_grammar.specs.Told.{Told, byRoom}
+use Rattle.text_grammar.specs.Terms.{OurTerm}
+use Rattle.text_grammar.specs.Read.{OurFields, readSide, accepted}
+use Rattle.text_rules.specs.Read.{readRule}
+use Rattle.text_verdicts.specs.Verdicts.{verdictOf}
+use Rattle.text_read.specs.Answers.{leftSaid, sideSaid}
+use Rattle.text_write.specs.Answers.{after}
+use Rattle.text_pieces.specs.Stored.{bytesOf}
+use Rattle.overlap_spec.specs.Overlaps.{linesOf, overlapText}
+use Rattle.overlap_list.specs.declared.Listed.{Listed}
+use Rattle.overlap_list.specs.declared.Listed.the-variants.{Lines, TooSmall}
+use Rattle.overlap_list.specs.declared.TextsListed.{TextsListed}
+
+-- document 01's number and values of each answer: "The entry count .. and the byte count .. are returned. 8: as in searching, with the
+-- entry count and the needed byte count"
+abbrev pub told : Listed → Told
+told (Lines n b) = record { number = none; values = n ∷ b ∷ [] }
+told (TooSmall n b) = record { number = some 8; values = n ∷ b ∷ [] }
+
+-- WHAT LISTING PROMISES of the rules with the left sides x and y and the lent bytes `old`: the answer, and what the bytes are afterwards
+pub record Lists (x y : List (List OurTerm)) (old : List ℕ) (r : Listed) (new : List ℕ) : Type 0 where
+  pub answer : told r ≡ byRoom (length (overlapText x y)) (length old) (length (linesOf x y) ∷ length (overlapText x y) ∷ [])
+  pub bytes : new ≡ after (overlapText x y) old
+
+-- ---- of texts
+
+-- WHAT LISTING PROMISES of the texts t and u: how each is read, and the list of the left sides of the rules that they say
+pub record TextsList (t u old : List ℕ) (r : TextsListed) (new : List ℕ) : Type 0 where
+  pub left : r .left ≡ verdictOf (readRule t)
+  pub right : r .right ≡ verdictOf (readRule u)
+  pub listed : Lists (leftSaid (readRule t)) (leftSaid (readRule u)) old (r .listed) new
+
+-- texts of two left sides that are accepted
+pub record Accepts (t u : List ℕ) : Type 0 where
+  pub left : OurFields
+  pub right : OurFields
+  pub reads-left : readSide t ≡ accepted left
+  pub reads-right : readSide u ≡ accepted right
+
+-- the list of what the texts of two left sides say
+abbrev pub SidesList : List ℕ → List ℕ → List ℕ → Listed → List ℕ → Type 0
+SidesList t u old r new = Lists (sideSaid (readSide t)) (sideSaid (readSide u)) old r new
+
+-- ---- of lines as bytes: `lines-list` of proofs/ says that they are listed as `Lists` has it
+
+pub record ListsLines (ls : List (List ℕ)) (old : List ℕ) (r : Listed) (new : List ℕ) : Type 0 where
+  pub answer : told r ≡ byRoom (length (bytesOf ls)) (length old) (length ls ∷ length (bytesOf ls) ∷ [])
+  pub bytes : new ≡ after (bytesOf ls) old

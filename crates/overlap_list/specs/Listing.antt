@@ -1,0 +1,99 @@
+-- Listing overlaps as code does it, on the tables of a pair: "Choosing a length for one field leads to the next field's choices; the first
+-- field varies slowest." `all-lines` of proofs/ says that the lines are those of the overlap list.
+use mathlib.Core.Path.{_≡_}
+use mathlib.Core.Bool.{true, false, cond, _&&_}
+use mathlib.Core.List.{List, [], _∷_, _++_}
+use Prim.Native.Nat.{ℕ, zero, suc, _+_, _-_, _*_, _≤_}
+use lib.Dec.{eqb}
+use lib.ListN.{length}
+use lib.Seq.{sets}
+use Rattle.math_types.specs.Types.{entry}
+use Rattle.math_codes.specs.Spots.{cellAt, joinFrom}
+use Rattle.text_pieces.specs.Stored.{bytesOf}
+use Rattle.pair_row.specs.Row.{tableIn, spotIn}
+use Rattle.pair_state.specs.declared.State.{State}
+use Rattle.pair_state.specs.declared.Joined.{Joined}
+use Rattle.pair_state.specs.States.{joinedOf}
+use Rattle.overlap_entries.specs.declared.Span.{Span}
+use Rattle.overlap_entries.specs.declared.Choice.{Choice}
+use Rattle.overlap_entries.specs.Entries.{spanOf, noChoice, chosenAt}
+use Rattle.pair_lines.specs.Lines.{lineIn, lineBound}
+use Rattle.overlap_list.specs.declared.Tally.{Tally}
+use Rattle.overlap_list.specs.declared.Candidate.{Candidate}
+
+-- ---- the candidates of a field pair
+
+abbrev pub spanAt : List ℕ → ℕ → Span
+spanAt row j = spanOf (spotIn row false j) (spotIn row true j)
+
+-- the candidate that comes next where k are left
+abbrev pub candidateOf : Span → ℕ → Candidate
+candidateOf s k = record { items = s .least + (s .count - k); long = s .long && eqb k 1 }
+
+-- the joins of field j with n atoms
+abbrev pub joinsAt : List ℕ → ℕ → ℕ → State → Joined
+joinsAt row j n st =
+    joinedOf st (joinFrom entry (tableIn row) (cellAt (spotIn row false j) n) (cellAt (spotIn row true j) n) n 0 (st .atoms))
+
+-- ---- the lines of all choices, in their order
+
+-- what follows a join, nothing where it clashes
+abbrev pub afterJoin : Joined → (State → List (List ℕ)) → List (List ℕ)
+afterJoin j next = cond (j .ok) (next (j .next)) []
+
+-- the lines of one candidate for field j; `next` lists what follows it
+abbrev pub candidateLines : (Choice → State → List (List ℕ)) → List ℕ → ℕ → Candidate → Choice → State → List (List ℕ)
+candidateLines next row j c ch st = afterJoin (joinsAt row j (c .items) st) (next (chosenAt ch j (c .items) (c .long)))
+
+-- k candidates are left for field j
+abbrev pub choiceLines : (Choice → State → List (List ℕ)) → List ℕ → ℕ → ℕ → Choice → State → List (List ℕ)
+choiceLines next row j zero ch st = []
+choiceLines next row j (suc k) ch st =
+    candidateLines next row j (candidateOf (spanAt row j) (suc k)) ch st ++ choiceLines next row j k ch st
+
+-- m of the n fields are left, the first of them field j
+abbrev pub linesFrom : ℕ → List ℕ → List ℕ → ℕ → ℕ → Choice → State → List (List ℕ)
+linesFrom zero row texts n j ch st = lineIn row texts n ch (st .atoms) ∷ []
+linesFrom (suc m) row texts n j ch st = choiceLines (linesFrom m row texts n (j + 1)) row j (spanAt row j .count) ch st
+
+abbrev pub linesIn : List ℕ → List ℕ → ℕ → ℕ → Choice → State → List (List ℕ)
+linesIn row texts n j ch st = linesFrom (n - j) row texts n j ch st
+
+-- the candidates of field j, and what follows each
+abbrev pub choicesIn : List ℕ → List ℕ → ℕ → ℕ → Choice → State → List (List ℕ)
+choicesIn row texts n j ch st = choiceLines (linesFrom (n - (j + 1)) row texts n (j + 1)) row j (spanAt row j .count) ch st
+
+-- ALL LINES, from the first field on: each atom stands for itself
+abbrev pub allLines : List ℕ → List ℕ → ℕ → List (List ℕ)
+allLines row texts n = linesFrom n row texts n 0 noChoice (record { atoms = tableIn row .first })
+
+-- how many choices there are of n fields, from field j on: the product of their candidates; no list has more lines (`few-lines` of proofs/)
+abbrev pub choices : List ℕ → ℕ → ℕ → ℕ
+choices row j zero = 1
+choices row j (suc n) = spanAt row j .count * choices row (j + 1) n
+
+-- the most bytes that the line of an entry of two rules has: none has more (`pair-short` of proofs/)
+abbrev pub longestLine : ℕ
+longestLine = 24285
+
+-- ---- counts
+
+abbrev pub noTally : Tally
+noTally = record { entries = 0; bytes = 0 }
+
+abbrev pub tallied : Tally → List (List ℕ) → Tally
+tallied t ls = record { entries = t .entries + length ls; bytes = t .bytes + length (bytesOf ls) }
+
+-- lines put behind those before, as far as there is room: what is counted, and the bytes
+abbrev pub Stores : List (List ℕ) → Tally → List ℕ → Tally → List ℕ → Type 0
+Stores ls t old u new = (u ≡ tallied t ls) × (new ≡ sets old (t .bytes) (bytesOf ls))
+
+-- the counts can be held: no field pair of two rules has more than 17 candidates, and no line more bytes than `lineBound`
+abbrev pub mostEntries : ℕ
+mostEntries = 83521
+
+abbrev pub Moderate : Tally → Type 0
+Moderate t = t .bytes ≤ lineBound * t .entries
+
+abbrev pub Countable : Tally → List (List ℕ) → Type 0
+Countable t ls = Moderate t × (t .entries + length ls ≤ mostEntries)

@@ -1,0 +1,34 @@
+-- THE OVERLAP LIST of two of document 01's rules: its entries, their lines, its bytes.
+use mathlib.Core.List.{List, [], _∷_, map}
+use Prim.Native.Nat.{ℕ}
+use native.Mathlib.Decide.{ℕ-discrete}
+use Rattle.math_types.specs.Types.{Kind, basics}
+use Rattle.text_grammar.specs.Terms.{Con, OurTerm}
+use Rattle.text_constants.specs.Constants.{consts}
+use Rattle.math_overlaps.specs.Substitutions.{Subst}
+use Rattle.math_overlaps.specs.Overlaps.{Entry, overlaps}
+use Rattle.overlap_spec.specs.Lines.{Binding, Line, listText}
+use Rattle.overlap_spec.specs.Variables.{variables}
+
+abbrev pub OurEntry : Type 0
+OurEntry = Entry basics consts ℕ
+
+-- document 01: "A rule with no fields counts as having no entries"
+abbrev pub entriesOf : List (List OurTerm) → List (List OurTerm) → List OurEntry
+entriesOf [] r₂ = []
+entriesOf (f ∷ r₁) r₂ = overlaps basics consts ℕ-discrete (f ∷ r₁) r₂
+
+-- "for each variable of the [..] rule [..] name, `=`, value"
+abbrev pub bindingsOf : List (List OurTerm) → Subst Con Kind ℕ ℕ → List Binding
+bindingsOf rule σ = map (λ v. record { kind = v .0; number = v .1; value = σ (v .0) (v .1) }) (variables rule)
+
+abbrev pub lineOf : List (List OurTerm) → List (List OurTerm) → OurEntry → Line
+lineOf r₁ r₂ e = record { fields = e .fields; left = bindingsOf r₁ (e .left); right = bindingsOf r₂ (e .right) }
+
+-- "The lines written are those of the entries, in their order"
+abbrev pub linesOf : List (List OurTerm) → List (List OurTerm) → List Line
+linesOf r₁ r₂ = map (lineOf r₁ r₂) (entriesOf r₁ r₂)
+
+-- the bytes of the whole list
+abbrev pub overlapText : List (List OurTerm) → List (List OurTerm) → List ℕ
+overlapText r₁ r₂ = listText (linesOf r₁ r₂)

@@ -1,0 +1,83 @@
+-- What is said of the values that reading and carrying out answer is what is said of the rule and the slip. Assumes nothing.
+use mathlib.Core.Path.{_≡_, refl, sym, ap, ap₂, _∙_}
+use mathlib.Core.Bool.{Bool, cond}
+use mathlib.Core.List.{List, _++_, map}
+use Prim.Native.Nat.{ℕ, suc, _+_, _-_, _≤_, min}
+use native.Mathlib.Omega.{arith}
+use native.Mathlib.Decide.{decLe, decLt}
+use borrow.Author.Tests.{le-ltb}
+use lib.ListN.{length, take, drop, length-drop, drop-of-length-le}
+use lib.Seq.{take-all}
+use Rattle.bytes.specs.Bytes.{indexOf}
+use Rattle.math_terms.specs.Terms.{con}
+use Rattle.text_grammar.specs.Ascii.{ascii}
+use Rattle.text_grammar.specs.Plain.{plain}
+use Rattle.text_grammar.specs.Limits.{IsSlip}
+use Rattle.text_grammar.specs.Read.{OutcomeOf, Outcome, OurFields, refused, accepted, readSlip}
+use Rattle.text_grammar.proofs.Accepted.{slip-read}
+use Rattle.text_rules.specs.Read.{OurRule, readRule}
+use Rattle.text_rules.specs.Limits.{IsRule}
+use Rattle.text_rules.proofs.Accepted.{rule-read}
+use Rattle.text_constants.specs.Matching.{constants}
+use Rattle.apply_spec.specs.Carrying.{Carried, result, unmatched, tooLong}
+use Rattle.apply_spec.specs.Rules.{OurSlip, carried}
+use Rattle.text_values.specs.Values.{encodeRule, encodeSlip}
+use Rattle.text_accepted_rules.proofs.Rules.{counted-encode}
+use Rattle.text_accepted_slips.specs.Slips.{countedSlip}
+use Rattle.text_accepted_slips.proofs.Slips.{view-encode-slip, encode-accepted-slip}
+use Rattle.apply_rules.specs.Answers.{answerOf, carriedOf}
+use Rattle.apply_rules.proofs.Carries.{result-slip}
+use Rattle.text_read.specs.declared.RuleRead.{RuleRead}
+use Rattle.text_read.specs.declared.SlipRead.{SlipRead}
+use Rattle.text_read.specs.Answers.{ruleRead, slipRead}
+use Rattle.text_verdicts.proofs.Verdicts.{number-is}
+use Rattle.text_pieces.specs.Refusals.{numberAt}
+use Rattle.print_carry.specs.Carry.{longestLine, rulePart, slipPart, carriedText, carryText, lineText}
+use Rattle.print_carry.specs.Values.{saidCarried, saidReads}
+
+-- ---- the answer
+
+module _ (x : OurRule) (y : OurFields) (is-rule : IsRule x) (is-slip : IsSlip y) where
+  counted-slip : countedSlip (encodeSlip y) ≡ y
+  counted-slip = rw (encode-accepted-slip y is-slip, view-encode-slip y is-slip)
+
+  carried-said : saidCarried (carriedOf (encodeRule x) (encodeSlip y)) ≡ carriedText y (carried x (map constants y))
+  unfolding decLt
+  carried-said =
+      ap₂ (λ (r : OurRule) (s : OurFields). saidCarried (answerOf (encodeSlip y) (carried r (map constants s)))) (counted-encode x is-rule) counted-slip
+      ∙ go (carried x (map constants y)) refl
+    where
+      go : (a : Carried OurSlip) → carried x (map constants y) ≡ a → saidCarried (answerOf (encodeSlip y) a) ≡ carriedText y a
+      go (result u) e = ap (λ (s : OurFields). ascii "yes " ++ plain s) (view-encode-slip (map (map con) u) (result-slip x y is-rule is-slip u e))
+      go unmatched e = ap (λ (s : OurFields). ascii "no " ++ plain s) (view-encode-slip y is-slip)
+      go tooLong e = ap (λ (s : OurFields). ascii "refusal 11 " ++ plain s) (view-encode-slip y is-slip)
+
+pub reads-said : (t u : List ℕ) → saidReads (ruleRead (readRule t)) (slipRead (readSlip u)) ≡ carryText (readRule t) (readSlip u)
+reads-said t u = go (readRule t) (readSlip u) refl refl
+  where
+    go : (o : OutcomeOf OurRule) (p : Outcome) → readRule t ≡ o → readSlip u ≡ p → saidReads (ruleRead o) (slipRead p) ≡ carryText o p
+    go (refused r i) p e f = ap (λ (n : ℕ). ascii "refused rule " ++ numberAt n i) (number-is r)
+    go (accepted x) (refused r i) e f = ap (λ (n : ℕ). ascii "refused slip " ++ numberAt n i) (number-is r)
+    go (accepted x) (accepted y) e f = carried-said x y (rule-read t x e) (slip-read u y f)
+
+-- ---- a line
+
+module _ (t : List ℕ) (tab rest : ℕ) (is-tab : tab ≡ indexOf 9 t) (is-rest : rest ≡ min (tab + 1) (length t)) where
+  -- what is lent from the place behind the tab on
+  slip-part : take (length t - rest) (drop rest t) ≡ slipPart t
+  slip-part = take-all (length t - rest) (drop rest t) (omega (arith, length-drop rest t)) ∙ go (decLe (tab + 1) (length t))
+    where
+      go : Dec (tab + 1 ≤ length t) → drop rest t ≡ slipPart t
+      go (yes h) = ap (λ (i : ℕ). drop i t) (let e : rest ≡ suc (indexOf 9 t) = omega arith in e)
+      go (no h) = drop-of-length-le t {i = rest} (omega arith) ∙ sym (drop-of-length-le t {i = suc (indexOf 9 t)} (omega arith))
+
+  pub line-said : (r : RuleRead) (s : SlipRead)
+      → length t ≤ longestLine
+      → r ≡ ruleRead (readRule (take tab t))
+      → s ≡ slipRead (readSlip (take (length t - rest) (drop rest t)))
+      → lineText t ≡ saidReads r s
+  unfolding lineText
+  line-said r s h is-r is-s =
+      ap (λ (b : Bool). cond b (ascii "line too long") (carryText (readRule (rulePart t)) (readSlip (slipPart t)))) (le-ltb longestLine (length t) h)
+      ∙ sym (reads-said (rulePart t) (slipPart t))
+      ∙ ap₂ saidReads (sym (is-r ∙ ap (λ (i : ℕ). ruleRead (readRule (take i t))) is-tab)) (sym (is-s ∙ ap (λ (u : List ℕ). slipRead (readSlip u)) slip-part))

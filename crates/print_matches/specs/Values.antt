@@ -1,0 +1,25 @@
+-- The same texts, as code makes them of the two texts of a line. `slip-said`, `rule-said` of proofs/Said say that they are the same.
+use mathlib.Core.List.{List, _++_}
+use Prim.Native.Nat.{ℕ}
+use Rattle.text_grammar.specs.Ascii.{ascii}
+use Rattle.text_grammar.specs.Read.{readSlip}
+use Rattle.text_verdicts.specs.declared.Verdict.{Verdict}
+use Rattle.text_verdicts.specs.declared.Verdict.the-variants.{Accepted, Refused}
+use Rattle.text_verdicts.specs.Verdicts.{numberOf, verdictOf}
+use Rattle.text_pieces.specs.Refusals.{numberAt}
+use Rattle.match_rules.specs.Answers.{comparisonOn}
+use Rattle.match_texts.specs.Texts.{sideFields, slipFields}
+use Rattle.print_match.specs.Values.{saidMatch}
+
+-- a refusal with the words before it, or the text t where there is none
+abbrev pub verdictText : List ℕ → Verdict → List ℕ → List ℕ
+verdictText words Accepted t = t
+verdictText words (Refused r p) t = words ++ numberAt (numberOf r) p
+
+-- the text t of a left side against the text u of a slip
+abbrev pub saidTexts : List ℕ → List ℕ → List ℕ
+saidTexts t u = saidMatch (sideFields t) (slipFields u) (comparisonOn (sideFields t) (slipFields u))
+
+-- the same, or how the slip is refused
+abbrev pub saidSlip : List ℕ → List ℕ → List ℕ
+saidSlip t u = verdictText (ascii "refused slip ") (verdictOf (readSlip u)) (saidTexts t u)

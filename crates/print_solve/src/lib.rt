@@ -1,0 +1,131 @@
+// The text that `solve` prints for one line, into lent bytes: the lines of the search for the line's two fields.
+// It is put together piece behind piece in room that is known to be enough, and then given whole or not at all.
+ghost use mathlib.Core.Path.{_≡_};
+ghost use mathlib.Core.List.{[]};
+ghost use Prim.Native.Nat.{_≤_};
+ghost use lib.ListN.{length};
+ghost use Rattle.text_rules.specs.Read.{readRule};
+ghost use Rattle.text_accepted.specs.Accepted.{countedField};
+ghost use Rattle.text_write.specs.Answers.{Writes};
+ghost use Rattle.text_pieces.specs.Placed.{Placed};
+ghost use Rattle.print_search.specs.Found.{mostRecords, longestBody};
+ghost use Rattle.print_solve.specs.Solve.{fieldIn, lineText, longestAnswer, solveAnswer};
+ghost use Rattle.print_solve.specs.Values.{saidRoom, saidRow, saidSizes, saidRight};
+use print_sizes::Size;
+use text_values::Field;
+use text_write::Written;
+
+// ---- the parts of a line
+
+// A field of more terms than it can have: no accepted rule has it.
+fn no_field() -> Field
+    ensures { λ f. ⌜ countedField f ≡ [] ⌝ }
+{
+    let blank = text_values::blank_field();
+    let terms = blank.terms;
+    Field {
+        n: 17,
+        terms: terms,
+    }
+}
+
+// The one field of a rule text without right side. A refused text says the rule with no fields.
+fn read_field(text: &[u8]) -> Field
+    ensures { λ f. ⌜ countedField f ≡ fieldIn (readRule (now (text .entry))) ⌝ }
+{
+    let read = text_read::read_rule(text);
+    let rule = read.rule;
+    let left = rule.left;
+    let right = rule.right;
+    if right.n != 0 {
+        return no_field();
+    }
+    if left.n == 1 {
+        return left.fields[0];
+    }
+    no_field()
+}
+
+// ---- pieces: each is put at a place of the room, and returns the place behind it
+
+// The last part, with a row that was read.
+fn put_room(left: Field, right: Field, row: usize, room: &[u8], out: &mut [u8], at: usize) -> usize
+    requires { ⌜ row ≤ mostRecords ⌝ }
+    ensures { λ p. ⌜ Placed (saidRoom left right row (now (room .entry))) at (now (out .entry)) p (now (out .exit)) ⌝ }
+    ensures { λ _. ⌜ length (saidRoom left right row (now (room .entry))) ≤ longestBody ⌝ }
+{
+    match print_sizes::read_size(131072, room) {
+        Size::Of(bytes) => print_search::put_search(left, right, row, bytes, out, at),
+        Size::Bad => text_pieces::put_bytes(b"bad room\n", out, at),
+    }
+}
+
+// The last two parts.
+fn put_row(left: Field, right: Field, row: &[u8], room: &[u8], out: &mut [u8], at: usize) -> usize
+    ensures { λ p. ⌜ Placed (saidRow left right (now (row .entry)) (now (room .entry))) at (now (out .entry)) p (now (out .exit)) ⌝ }
+    ensures { λ _. ⌜ length (saidRow left right (now (row .entry)) (now (room .entry))) ≤ longestBody ⌝ }
+{
+    match print_sizes::read_size(640, row) {
+        Size::Of(records) => put_room(left, right, records, room, out, at),
+        Size::Bad => text_pieces::put_bytes(b"bad row\n", out, at),
+    }
+}
+
+// What stands behind both fields.
+fn put_sizes(left: Field, right: Field, line: &[u8], out: &mut [u8], at: usize) -> usize
+    ensures { λ p. ⌜ Placed (saidSizes left right (now (line .entry))) at (now (out .entry)) p (now (out .exit)) ⌝ }
+    ensures { λ _. ⌜ length (saidSizes left right (now (line .entry))) ≤ longestBody ⌝ }
+{
+    let n = line.len();
+    let tab = text_pieces::tab_place(line);
+    let rest = print_parts::behind(tab, n);
+    if text_pieces::tab_place(&line[rest..]) < n - rest {
+        return text_pieces::put_bytes(b"bad line\n", out, at);
+    }
+    put_row(left, right, &line[..tab], &line[rest..], out, at)
+}
+
+// What stands behind the left field.
+fn put_right(left: Field, line: &[u8], out: &mut [u8], at: usize) -> usize
+    ensures { λ p. ⌜ Placed (saidRight left (now (line .entry))) at (now (out .entry)) p (now (out .exit)) ⌝ }
+    ensures { λ _. ⌜ length (saidRight left (now (line .entry))) ≤ longestBody ⌝ }
+{
+    let n = line.len();
+    let tab = text_pieces::tab_place(line);
+    let rest = print_parts::behind(tab, n);
+    let right = read_field(&line[..tab]);
+    put_sizes(left, right, &line[rest..], out, at)
+}
+
+// What is said of a line. Two of the longest rules, three tabs, `640` and `131072` have 8,204 bytes.
+fn put_line(line: &[u8], out: &mut [u8], at: usize) -> usize
+    ensures { λ p. ⌜ Placed (lineText (now (line .entry))) at (now (out .entry)) p (now (out .exit)) ⌝ }
+    ensures { λ _. ⌜ length (lineText (now (line .entry))) ≤ longestBody ⌝ }
+{
+    let n = line.len();
+    if 8204 < n {
+        return text_pieces::put_bytes(b"line too long\n", out, at);
+    }
+    let tab = text_pieces::tab_place(line);
+    let rest = print_parts::behind(tab, n);
+    let left = read_field(&line[..tab]);
+    put_right(left, &line[rest..], out, at)
+}
+
+// Room for any answer: a title of at most 28 bytes, counts of at most 64 and lines of at most 131,072.
+fn room() -> [u8; 131164]
+    ensures { λ r. ⌜ length r ≡ longestAnswer ⌝ }
+{
+    [0; 131164]
+}
+
+// The lines that `solve` prints for line number k.
+pub fn solve_answer(k: u64, line: &[u8], out: &mut [u8]) -> Written
+    ensures { λ w. ⌜ Writes (solveAnswer k (now (line .entry))) (now (out .entry)) w (now (out .exit)) ⌝ }
+    ensures { λ _. ⌜ length (solveAnswer k (now (line .entry))) ≤ longestAnswer ⌝ }
+{
+    let mut text = room();
+    let a = print_parts::put_title(b"search ", k, &mut text, 0);
+    let b = put_line(line, &mut text, a);
+    text_pieces::give(&text[..b], out)
+}

@@ -1,0 +1,30 @@
+-- What `texts` prints for one line: how the line is read as a rule, and how as a slip.
+use mathlib.Core.List.{List, _++_}
+use Prim.Native.Nat.{ℕ}
+use Rattle.text_grammar.specs.Read.{Reason, number, OutcomeOf, Outcome, refused, accepted, readSlip}
+use Rattle.text_rules.specs.Read.{OurRule, readRule}
+use Rattle.text_rules.specs.Plain.{plainBoth}
+use Rattle.text_grammar.specs.Ascii.{ascii, newline}
+use Rattle.text_pieces.specs.Refusals.{numberAt}
+
+abbrev pub refusalText : Reason → ℕ → List ℕ
+refusalText r p = ascii "refused " ++ numberAt (number r) p
+
+-- a rule that is read is shown by "its one plain text", with both sides where it has two
+abbrev pub ruleText : OutcomeOf OurRule → List ℕ
+ruleText (refused r p) = refusalText r p
+ruleText (accepted w) = plainBoth w
+
+abbrev pub slipText : Outcome → List ℕ
+slipText (refused r p) = refusalText r p
+slipText (accepted x) = ascii "read"
+
+unfoldable pub ruleAnswer : List ℕ → List ℕ
+ruleAnswer t = ascii "rule " ++ ruleText (readRule t) ++ newline
+
+unfoldable pub slipAnswer : List ℕ → List ℕ
+slipAnswer t = ascii "slip " ++ slipText (readSlip t) ++ newline
+
+-- THE ANSWER: two lines
+unfoldable pub textsAnswer : List ℕ → List ℕ
+textsAnswer t = ruleAnswer t ++ slipAnswer t

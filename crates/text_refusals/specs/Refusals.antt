@@ -1,0 +1,94 @@
+-- All refusals from 3 on in one pass: the first of them that some term meets, and the place of the first that meets it.
+-- `survey-is` of proofs/Refusals says that this is the first refusal that applies, at its leftmost place.
+use mathlib.Core.Bool.{Bool, true, false, cond, not, _||_}
+use Prim.Native.Nat.{ℕ}
+use lib.Dec.{eqb, ltb}
+use Rattle.math_types.specs.Order.{basic, list}
+use Rattle.math_types.specs.Types.{Kind}
+use Rattle.math_types.specs.Values.{kindOf}
+use Rattle.text_grammar.specs.Sizes.{mostDigits, largestInteger, longestString, largestNumber, mostFields}
+use Rattle.text_grammar.specs.Marks.{Mark}
+use Rattle.text_linearity.specs.declared.Lists.{Lists}
+use Rattle.text_linearity.specs.Lists.{noLists, nextField, stillOk, addList}
+use Rattle.text_scan.specs.declared.Piece.{Piece}
+use Rattle.text_scan.specs.declared.Spelled.{Spelled}
+use Rattle.text_scan.specs.declared.Spelled.the-variants.{Int, Str, Var, Empty}
+use Rattle.text_scan.specs.Pieces.{pieceOf}
+use Rattle.text_verdicts.specs.declared.Reason.{Reason}
+use Rattle.text_verdicts.specs.declared.Reason.the-variants.{Fields, Terms, Limits, Linear, Variable}
+use Rattle.text_verdicts.specs.declared.Verdict.{Verdict}
+use Rattle.text_verdicts.specs.declared.Verdict.the-variants.{Accepted, Refused}
+use Rattle.text_verdicts.specs.Verdicts.{firstOf}
+use Rattle.text_refusals.specs.declared.At.{At}
+use Rattle.text_refusals.specs.declared.Survey.{Survey}
+
+-- refusal 5
+abbrev pub overBy : Spelled → ℕ → ℕ → Bool
+overBy Int n v = ltb mostDigits n || ltb largestInteger v
+overBy Str n v = ltb longestString n
+overBy (Var k) n v = ltb largestNumber v
+overBy Empty n v = false
+
+abbrev pub overPiece : Piece → Bool
+overPiece p = overBy (p .what) (p .size) (p .value)
+
+abbrev pub isList : Kind → Bool
+isList (basic k) = false
+isList list = true
+
+-- refusal 6: a list variable with which left-linearity is lost
+abbrev pub clashBy : Spelled → ℕ → Lists → Bool
+clashBy Int v l = false
+clashBy Str v l = false
+clashBy (Var k) v l = cond (isList (kindOf k)) (not (stillOk l v)) false
+clashBy Empty v l = false
+
+-- refusal 7: a variable
+abbrev pub variableBy : Spelled → Bool
+variableBy Int = false
+variableBy Str = false
+variableBy (Var k) = true
+variableBy Empty = false
+
+-- the refusal that is tried last: of a slip 7, of a rule 6
+abbrev pub lastBad : Bool → Piece → Lists → Bool
+lastBad true p l = variableBy (p .what)
+lastBad false p l = clashBy (p .what) (p .value) l
+
+abbrev pub lastReason : Bool → Reason
+lastReason true = Variable
+lastReason false = Linear
+
+-- the first refusal that a term meets, at its place
+abbrev pub met : Bool → ℕ → At → Piece → Lists → Verdict
+met slip w a p l =
+    cond (ltb mostFields (a .field)) (Refused Fields (a .place))
+    (cond (ltb w (a .index)) (Refused Terms (a .place))
+    (cond (overPiece p) (Refused Limits (a .place)) (cond (lastBad slip p l) (Refused (lastReason slip) (a .place)) Accepted)))
+
+-- the list variables with this term
+abbrev pub addBy : Spelled → ℕ → Lists → Lists
+addBy Int v l = l
+addBy Str v l = l
+addBy (Var k) v l = cond (isList (kindOf k)) (addList l v) l
+addBy Empty v l = l
+
+-- the list variables where a field begins
+abbrev pub listsAt : At → Lists → Lists
+listsAt a l = cond (eqb (a .index) 1) (nextField l) l
+
+-- the survey with one term more
+abbrev pub surveyed : Bool → ℕ → Survey → At → Piece → Survey
+surveyed slip w s a p =
+    let l = listsAt a (s .lists) in
+    record { verdict = firstOf (s .verdict) (met slip w a p l); lists = addBy (p .what) (p .value) l }
+
+abbrev pub atOf : Mark → At
+atOf m = record { place = m .place; field = m .inField; index = m .index }
+
+abbrev pub surveyMark : Bool → ℕ → Survey → Mark → Survey
+surveyMark slip w s m = surveyed slip w s (atOf m) (pieceOf (m .raw))
+
+-- before the first term
+abbrev pub nothingYet : Survey
+nothingYet = record { verdict = Accepted; lists = noLists }

@@ -1,0 +1,178 @@
+// Which refusal from 3 on a written term meets, and the first that is tried over the terms of a text so far.
+ghost use mathlib.Core.Path.{_≡_};
+ghost use Rattle.math_types.specs.Values.{kindOf};
+ghost use Rattle.text_verdicts.specs.Verdicts.{sortOf};
+ghost use Rattle.text_refusals.specs.Refusals.{overPiece, isList, clashBy, variableBy, lastBad, lastReason, met, addBy, listsAt};
+ghost use Rattle.text_refusals.specs.Refusals.{surveyed};
+use math_types::Kind;
+use text_linearity::Lists;
+use text_scan::Piece;
+use text_scan::Spelled;
+use text_verdicts::Reason;
+use text_verdicts::Verdict;
+
+// Where a term stands: its first byte, the number of its field and its number there, both from 1.
+pub struct At {
+    pub place: usize,
+    pub field: usize,
+    pub index: usize,
+}
+
+// The first refusal from 3 on that a term has met, at the place of the first term that met it, and the list variables so far.
+pub struct Survey {
+    pub verdict: Verdict,
+    pub lists: Lists,
+}
+
+// Refusal 5: a value, digit count, variable number or string length over its limit.
+fn is_over(p: Piece) -> bool
+    ensures { λ r. ⌜ r ≡ overPiece p ⌝ }
+{
+    let what = p.what;
+    let n = p.size;
+    let v = p.value;
+    match what {
+        Spelled::Int => {
+            if 10 < n {
+                return true;
+            }
+            2147483647 < v
+        }
+        Spelled::Str => 15 < n,
+        Spelled::Var(_) => 15 < v,
+        Spelled::Empty => false,
+    }
+}
+
+fn is_list(k: Kind) -> bool
+    ensures { λ r. ⌜ r ≡ isList (kindOf k) ⌝ }
+{
+    match k {
+        Kind::Integer => false,
+        Kind::String => false,
+        Kind::Atom => false,
+        Kind::List => true,
+    }
+}
+
+// Refusal 6: a list variable that loses left-linearity.
+fn is_clash(p: Piece, l: Lists) -> bool
+    ensures { λ r. ⌜ r ≡ clashBy (p .what) (p .value) l ⌝ }
+{
+    let what = p.what;
+    let v = p.value;
+    match what {
+        Spelled::Int => false,
+        Spelled::Str => false,
+        Spelled::Var(k) => {
+            if !is_list(k) {
+                return false;
+            }
+            !l.add(v as usize).ok
+        }
+        Spelled::Empty => false,
+    }
+}
+
+// Refusal 7: a variable in a slip.
+fn is_variable(p: Piece) -> bool
+    ensures { λ r. ⌜ r ≡ variableBy (p .what) ⌝ }
+{
+    let what = p.what;
+    match what {
+        Spelled::Int => false,
+        Spelled::Str => false,
+        Spelled::Var(_) => true,
+        Spelled::Empty => false,
+    }
+}
+
+// Whether a term meets the refusal that is tried last: of a slip 7, of a rule 6.
+fn is_last(slip: bool, p: Piece, l: Lists) -> bool
+    ensures { λ r. ⌜ r ≡ lastBad slip p l ⌝ }
+{
+    if slip {
+        return is_variable(p);
+    }
+    is_clash(p, l)
+}
+
+fn last_reason(slip: bool) -> Reason
+    ensures { λ r. ⌜ r ≡ lastReason slip ⌝ }
+{
+    if slip {
+        Reason::Variable
+    } else {
+        Reason::Linear
+    }
+}
+
+// The first refusal from 3 on that a term meets, at its place.
+fn met(slip: bool, width: usize, a: At, p: Piece, l: Lists) -> Verdict
+    ensures { λ r. ⌜ r ≡ met slip width a p l ⌝ }
+{
+    if 4 < a.field {
+        return Verdict::Refused(Reason::Fields, a.place);
+    }
+    if width < a.index {
+        return Verdict::Refused(Reason::Terms, a.place);
+    }
+    if is_over(p) {
+        return Verdict::Refused(Reason::Limits, a.place);
+    }
+    if is_last(slip, p, l) {
+        return Verdict::Refused(last_reason(slip), a.place);
+    }
+    Verdict::Accepted
+}
+
+fn add_piece(l: Lists, p: Piece) -> Lists
+    ensures { λ r. ⌜ r ≡ addBy (p .what) (p .value) l ⌝ }
+{
+    let what = p.what;
+    let v = p.value;
+    match what {
+        Spelled::Int => l,
+        Spelled::Str => l,
+        Spelled::Var(k) => {
+            if is_list(k) {
+                return l.add(v as usize);
+            }
+            l
+        }
+        Spelled::Empty => l,
+    }
+}
+
+fn lists_at(a: At, l: Lists) -> Lists
+    ensures { λ r. ⌜ r ≡ listsAt a l ⌝ }
+{
+    if a.index == 1 {
+        return l.next_field();
+    }
+    l
+}
+
+// How many terms a field may have.
+fn width_of(slip: bool) -> usize
+    ensures { λ r. ⌜ r ≡ (sortOf slip) .width ⌝ }
+{
+    if slip { 64 } else { 16 }
+}
+
+// The survey with the term p, which stands at a.
+pub fn note(s: Survey, slip: bool, a: At, p: Piece) -> Survey
+    ensures { λ r. ⌜ r ≡ surveyed slip ((sortOf slip) .width) s a p ⌝ }
+{
+    let before = s.lists;
+    let lists = lists_at(a, before);
+    let width = width_of(slip);
+    let here = met(slip, width, a, p, lists);
+    let so_far = s.verdict;
+    let verdict = text_verdicts::first(so_far, here);
+    let after = add_piece(lists, p);
+    Survey {
+        verdict,
+        lists: after,
+    }
+}

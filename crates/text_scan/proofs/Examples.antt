@@ -1,0 +1,48 @@
+-- Terms as the code answers them, at the edges of document 01, computed from the definitions.
+use mathlib.Core.Path.{_≡_, refl}
+use mathlib.Core.List.{_∷_, [], map}
+use Prim.Native.Nat.{ℕ}
+use Prim.Native.String.{String}
+use native.Mathlib.Decide.{ℕ-discrete, decLe}
+use Rattle.math_types.specs.declared.Kind.the-variants.{Integer, List}
+use Rattle.text_grammar.specs.Bytes.{digit?, begins}
+use Rattle.text_grammar.specs.Walk.{front}
+use Rattle.text_grammar.proofs.Examples.{bytes}
+use Rattle.text_scan.specs.Pieces.{pieceOf}
+use Rattle.text_scan.specs.declared.Piece.{Piece}
+use Rattle.text_scan.specs.declared.Spelled.{Spelled}
+use Rattle.text_scan.specs.declared.Spelled.the-variants.{Int, Str, Var, Empty}
+
+abbrev made : Spelled → ℕ → ℕ → Piece
+made w n v = record { what = w; size = n; value = v }
+
+-- the largest integer and the next, both exact; a larger one, capped; leading zeros; strings; variables; `empty`, and what begins no term
+pub pieces :
+    map (λ (t : String). pieceOf (front (bytes t))) (
+    "2147483647"
+    ∷ "2147483648"
+    ∷ "99999999999999999999999"
+    ∷ "007:1"
+    ∷ "\"\""
+    ∷ "\"ab\"|1"
+    ∷ "i01"
+    ∷ "l15:2"
+    ∷ "empty"
+    ∷ ":"
+    ∷ ""
+    ∷ []
+    )
+    ≡ made Int 10 2147483647
+    ∷ made Int 10 2147483648
+    ∷ made Int 23 2147483648
+    ∷ made Int 3 7
+    ∷ made Str 0 0
+    ∷ made Str 2 0
+    ∷ made (Var Integer) 2 1
+    ∷ made (Var List) 2 15
+    ∷ made Empty 0 0
+    ∷ made Empty 0 0
+    ∷ made Empty 0 0
+    ∷ []
+unfolding bytes begins digit? decLe ℕ-discrete
+pieces = refl

@@ -1,0 +1,14 @@
+-- `text_scan::class_of` meets its contract. Assumes nothing.
+use borrow.Author.Needs.{needs}
+use Rattle.text_scan.proofs.ClassTable.{class-at}
+use Rattle.text_scan.proofs.class_of.Statement.{statement}
+use Rattle.text_scan.proofs.class_of.Tie as tie
+
+array-read-result : tie.Need-array-read-result
+array-read-result c = search needs
+
+returns : tie.Need-returns
+returns c = class-at (c .args .b) (search needs)
+
+pub class-of-spec : {M : Type 1} → statement M
+class-of-spec = tie.close (tie.spec array-read-result returns)

@@ -1,0 +1,98 @@
+-- Values and what they stand for: the view of a value in the mathematics, and the one value of each term, field, rule and slip.
+use mathlib.Core.List.{List, [], _∷_, _++_, map}
+use Prim.Native.Nat.{ℕ, _-_}
+use lib.ListN.{length, take, replicate}
+use Rattle.math_types.specs.Values.{kindOf, kindFrom}
+use Rattle.math_terms.specs.Terms.{con, var}
+use Rattle.text_grammar.specs.Terms.{OurTerm, int, str}
+use Rattle.text_grammar.specs.Sizes.{longestString, mostFields}
+use Rattle.text_grammar.specs.Read.{rule, slip, OurFields}
+use Rattle.text_values.specs.declared.Form.{Form}
+use Rattle.text_values.specs.declared.Form.the-variants.{Int, Str, Var}
+use Rattle.text_values.specs.declared.Term.{Term}
+use Rattle.text_values.specs.declared.Field.{Field}
+use Rattle.text_values.specs.declared.RuleSide.{RuleSide}
+use Rattle.text_values.specs.declared.Rule.{Rule}
+use Rattle.text_values.specs.declared.SlipField.{SlipField}
+use Rattle.text_values.specs.declared.Slip.{Slip}
+
+-- ---- what a value stands for
+
+abbrev pub viewForm : Form → List ℕ → OurTerm
+viewForm (Int n) s = con (int n)
+viewForm (Str k) s = con (str (take k s))
+viewForm (Var k n) s = var (kindOf k) n
+
+abbrev pub viewTerm : Term → OurTerm
+viewTerm t = viewForm (t .form) (t .text)
+
+abbrev pub viewTerms : ℕ → List Term → List OurTerm
+viewTerms n ts = map viewTerm (take n ts)
+
+abbrev pub viewField : Field → List OurTerm
+viewField f = viewTerms (f .n) (f .terms)
+
+abbrev pub viewSide : RuleSide → List (List OurTerm)
+viewSide r = map viewField (take (r .n) (r .fields))
+
+-- both sides; a right side with no fields is none
+abbrev pub viewRule : Rule → OurFields × OurFields
+viewRule r = (viewSide (r .left), viewSide (r .right))
+
+abbrev pub viewSlipField : SlipField → List OurTerm
+viewSlipField f = viewTerms (f .n) (f .terms)
+
+abbrev pub viewSlip : Slip → List (List OurTerm)
+viewSlip s = map viewSlipField (take (s .n) (s .fields))
+
+-- ---- the one value for each
+
+-- s, then as many d as the array of w places has left
+abbrev pub pad : {A : Type 0} → ℕ → A → List A → List A
+pad w d s = s ++ replicate (w - length s) d
+
+-- document 01: "every number zero"
+abbrev pub blankTerm : Term
+blankTerm = record { form = Int 0; text = replicate longestString 0 }
+
+abbrev pub blankField : Field
+blankField = record { n = 0; terms = replicate (rule .width) blankTerm }
+
+abbrev pub blankSide : RuleSide
+blankSide = record { n = 0; fields = replicate mostFields blankField }
+
+abbrev pub blankRule : Rule
+blankRule = record { left = blankSide; right = blankSide }
+
+abbrev pub blankSlipField : SlipField
+blankSlipField = record { n = 0; terms = replicate (slip .width) blankTerm }
+
+abbrev pub blankSlip : Slip
+blankSlip = record { n = 0; fields = replicate mostFields blankSlipField }
+
+abbrev pub encodeTerm : OurTerm → Term
+encodeTerm (con (int n)) = record { form = Int n; text = replicate longestString 0 }
+encodeTerm (con (str s)) = record { form = Str (length s); text = pad longestString 0 s }
+encodeTerm (var k n) = record { form = Var (kindFrom k) n; text = replicate longestString 0 }
+
+abbrev pub encodeTerms : ℕ → List OurTerm → List Term
+encodeTerms w ts = pad w blankTerm (map encodeTerm ts)
+
+abbrev pub encodeField : List OurTerm → Field
+encodeField ts = record { n = length ts; terms = encodeTerms (rule .width) ts }
+
+abbrev pub encodeSide : List (List OurTerm) → RuleSide
+encodeSide r = record { n = length r; fields = pad mostFields blankField (map encodeField r) }
+
+abbrev pub encodeRule : OurFields × OurFields → Rule
+encodeRule r = record { left = encodeSide (r .0); right = encodeSide (r .1) }
+
+abbrev pub encodeSlipField : List OurTerm → SlipField
+encodeSlipField ts = record { n = length ts; terms = encodeTerms (slip .width) ts }
+
+abbrev pub encodeSlip : List (List OurTerm) → Slip
+encodeSlip s = record { n = length s; fields = pad mostFields blankSlipField (map encodeSlipField s) }
+
+-- the rule with one field
+abbrev pub oneField : Field → RuleSide
+oneField f = record { n = 1; fields = f ∷ (blankField ∷ (blankField ∷ (blankField ∷ []))) }

@@ -1,0 +1,49 @@
+-- Laws of a term's text, by the form of the value. Assumes nothing.
+use mathlib.Core.Path.{_≡_, refl, sym, ap, _∙_}
+use mathlib.Core.List.{List, [], _∷_, _++_}
+use Prim.Native.Nat.{ℕ, _+_, min}
+use native.Mathlib.Omega.{arith}
+use lib.ListN.{length, take, set, length-append, length-take}
+use lib.Seq.{sets}
+use Rattle.math_types.specs.declared.Kind.{Kind}
+use Rattle.math_types.specs.Values.{kindOf}
+use Rattle.text_grammar.specs.Bytes.{letter}
+use Rattle.text_grammar.specs.Grammar.{raw-str, spell}
+use Rattle.text_grammar.specs.Numbers.{digitsOf}
+use Rattle.text_grammar.specs.Plain.{termText}
+use Rattle.text_values.specs.declared.Form.{Form}
+use Rattle.text_values.specs.declared.Form.the-variants.{Int, Str, Var}
+use Rattle.text_values.specs.Values.{viewForm}
+use Rattle.text_write.specs.Room.{Put}
+use Rattle.text_write.proofs.Arrays.{take-most}
+use Rattle.text_write.proofs.Stores.{put-behind, put-cons, put-as}
+
+module _ (k : ℕ) (s : List ℕ) (long : length s ≡ 15) where
+  pub quoted-length : length (spell (raw-str (take k s))) ≡ min k 15 + 2
+  quoted-length = omega (arith, length-append (take k s) (34 ∷ []), length-take k s)
+
+  -- a quote, the bytes, a quote
+  pub put-quoted : (n : ℕ) (l : List ℕ) (at : ℕ) {p : ℕ} {m : List ℕ} → n ≡ min k 15
+      → p ≡ at + 1 + length (take n s) → m ≡ sets (set l at 34) (at + 1) (take n s)
+      → Put (spell (raw-str (take k s))) at l (p + 1) (set m p 34)
+  put-quoted n l at h hp hm =
+      let b = put-behind (take n s) (34 ∷ []) (set l at 34) (at + 1) hp hm refl refl in (
+        omega (arith, quoted-length, length-take n s),
+        b .1 ∙ put-cons 34 (take n s ++ 34 ∷ []) l at ∙ ap (λ (t : List ℕ). sets l at (spell (raw-str t))) (sym (take-most k n 15 s long h)),
+      )
+
+module _ (f : Form) (s : List ℕ) where
+  pub int-text : (n : ℕ) → f ≡ Int n → termText (viewForm f s) ≡ digitsOf n
+  int-text n e = rw e
+
+  pub str-text : (k : ℕ) → f ≡ Str k → termText (viewForm f s) ≡ spell (raw-str (take k s))
+  str-text k e = rw e
+
+  pub var-text : (k : Kind) (n : ℕ) → f ≡ Var k n → termText (viewForm f s) ≡ letter (kindOf k) ∷ digitsOf n
+  var-text k n e = rw e
+
+  pub put-var : (k : Kind) (n : ℕ) (l : List ℕ) (at : ℕ) {b r : ℕ} {m : List ℕ} → f ≡ Var k n → b ≡ letter (kindOf k) → r ≡ at + 1 + length (digitsOf n)
+      → m ≡ sets (set l at b) (at + 1) (digitsOf n) → Put (termText (viewForm f s)) at l r m
+  put-var k n l at e hb hr hm =
+      put-as l at (var-text k n e)
+      (omega arith, hm ∙ ap (λ (x : ℕ). sets (set l at x) (at + 1) (digitsOf n)) hb ∙ put-cons (letter (kindOf k)) (digitsOf n) l at)

@@ -1,0 +1,152 @@
+// Writing: a number's digits and a term's text, into lent bytes.
+// The bytes are counted first, so that a buffer that is too small keeps its old bytes (refusal 8);
+// then they are written into room that is known.
+ghost use mathlib.Core.Path.{_≡_};
+ghost use Prim.Native.Nat.{_≤_, min};
+ghost use lib.ListN.{length, take};
+ghost use Rattle.math_types.specs.Values.{kindOf};
+ghost use Rattle.text_grammar.specs.Bytes.{letter};
+ghost use Rattle.text_grammar.specs.Grammar.{raw-str, spell};
+ghost use Rattle.text_grammar.specs.Numbers.{digitsOf};
+ghost use Rattle.text_grammar.specs.Plain.{termText};
+ghost use Rattle.text_values.specs.Values.{viewTerm};
+ghost use Rattle.text_write.specs.Room.{Room, Put};
+ghost use Rattle.text_write.specs.Answers.{Writes};
+use math_types::Kind;
+use text_values::Form;
+use text_values::Term;
+
+// The answer of a writer. `refusal` of specs/Answers has document 01's number of each.
+pub enum Written {
+    // so many bytes were written
+    Bytes(usize),
+    // so many would be needed, and none was written
+    TooSmall(usize),
+}
+
+// How many of n: the views end a count where its array ends, and so does the code.
+fn at_most(n: usize, most: usize) -> usize
+    ensures { λ r. ⌜ r ≡ min n most ⌝ }
+{
+    if n < most { n } else { most }
+}
+
+// ---- how many bytes. Each count has a bound beside it, so that the sums of counts can't wrap.
+
+// Document 01: "integers without leading zeros".
+fn digits_size(n: u64) -> usize
+    ensures { λ r. ⌜ (r ≡ length (digitsOf n)) × (r ≤ 20) ⌝ }
+{
+    let mut size: usize = 1;
+    let mut m = n;
+    while 9 < m {
+        m = m / 10;
+        size += 1;
+    }
+    size
+}
+
+pub fn term_size(t: Term) -> usize
+    ensures { λ r. ⌜ (r ≡ length (termText (viewTerm t))) × (r ≤ 17) ⌝ }
+{
+    let form = t.form;
+    match form {
+        Form::Int(n) => digits_size(n as u64),
+        Form::Str(k) => at_most(k as usize, 15) + 2,
+        Form::Var(_, n) => digits_size(n as u64) + 1,
+    }
+}
+
+// ---- the bytes, into room that is known; each returns the place behind them
+
+fn put_digits(n: u64, out: &mut [u8], at: usize) -> usize
+    requires { ⌜ Room (digitsOf n) at (now out) ⌝ }
+    ensures { λ r. ⌜ Put (digitsOf n) at (now (out .entry)) r (now (out .exit)) ⌝ }
+{
+    if n < 10 {
+        out[at] = 48 + (n as u8);
+        return at + 1;
+    }
+    let p = put_digits(n / 10, out, at);
+    out[p] = 48 + ((n % 10) as u8);
+    p + 1
+}
+
+fn put_bytes(bytes: &[u8], out: &mut [u8], at: usize) -> usize
+    requires { ⌜ Room (now bytes) at (now out) ⌝ }
+    ensures { λ r. ⌜ Put (now (bytes .entry)) at (now (out .entry)) r (now (out .exit)) ⌝ }
+{
+    let mut i: usize = 0;
+    while i < bytes.len() {
+        out[at + i] = bytes[i];
+        i += 1;
+    }
+    at + i
+}
+
+// A string between its quotes.
+fn put_string(text: [u8; 15], k: u8, out: &mut [u8], at: usize) -> usize
+    requires { ⌜ Room (spell (raw-str (take k text))) at (now out) ⌝ }
+    ensures { λ r. ⌜ Put (spell (raw-str (take k text))) at (now (out .entry)) r (now (out .exit)) ⌝ }
+{
+    let n = at_most(k as usize, 15);
+    out[at] = b'"';
+    let p = put_bytes(&text[..n], out, at + 1);
+    out[p] = b'"';
+    p + 1
+}
+
+// Document 01: "a letter for its type (`i` integer, `s` string, `a` atom, `l` list)".
+fn letter(k: Kind) -> u8
+    ensures { λ r. ⌜ r ≡ letter (kindOf k) ⌝ }
+{
+    match k {
+        Kind::Integer => b'i',
+        Kind::String => b's',
+        Kind::Atom => b'a',
+        Kind::List => b'l',
+    }
+}
+
+fn put_term(t: Term, out: &mut [u8], at: usize) -> usize
+    requires { ⌜ Room (termText (viewTerm t)) at (now out) ⌝ }
+    ensures { λ r. ⌜ Put (termText (viewTerm t)) at (now (out .entry)) r (now (out .exit)) ⌝ }
+{
+    let form = t.form;
+    match form {
+        Form::Int(n) => put_digits(n as u64, out, at),
+        Form::Str(k) => {
+            let text = t.text;
+            put_string(text, k, out, at)
+        }
+        Form::Var(k, n) => {
+            out[at] = letter(k);
+            put_digits(n as u64, out, at + 1)
+        }
+    }
+}
+
+// ---- the public functions
+
+// A term's text, which has at most 17 bytes.
+pub fn write_term(t: Term, out: &mut [u8]) -> Written
+    ensures { λ w. ⌜ Writes (termText (viewTerm t)) (now (out .entry)) w (now (out .exit)) ⌝ }
+    ensures { λ _. ⌜ length (termText (viewTerm t)) ≤ 17 ⌝ }
+{
+    let long = term_size(t);
+    if out.len() < long {
+        return Written::TooSmall(long);
+    }
+    Written::Bytes(put_term(t, out, 0))
+}
+
+// A number's digits, without leading zeros.
+pub fn write_number(n: u64, out: &mut [u8]) -> Written
+    ensures { λ w. ⌜ Writes (digitsOf n) (now (out .entry)) w (now (out .exit)) ⌝ }
+{
+    let size = digits_size(n);
+    if out.len() < size {
+        return Written::TooSmall(size);
+    }
+    Written::Bytes(put_digits(n, out, 0))
+}
