@@ -14,7 +14,7 @@ use Rattle.pair_lines.specs.Lines.{numbersFew}
 
 -- ---- values
 
--- at most 31 items, none behind the list variables
+-- at most 31 items, each a code or a list variable: these have room for a number
 abbrev pub valueItems : ℕ
 valueItems = 31
 
@@ -53,6 +53,6 @@ wholeAnswer row texts atoms left right =
     indexedAnswer (tableIn row) (textIn row texts) (indexIn row false) (topIn row false) (λ l. left) (indexIn row true) (topIn row true)
     (λ l. right) atoms
 
--- THE LINE of an answer; one whose values are too long has none
+-- THE LINE of an answer; one whose values no search has, or of tables with too many variables, has none
 unfoldable pub answerIn : List ℕ → List ℕ → List ℕ → List ℕ → List ℕ → List ℕ
 answerIn row texts atoms left right = cond (answerFits row left right) (wholeAnswer row texts atoms left right) []

@@ -1,4 +1,4 @@
-// The line of an entry: its items, the numbers that their variables get, and its bytes.
+// The line of an entry: its items, the numbers that their variables get, and its bytes. And that of an answer of the search.
 // The writers store a byte where there is room and go on counting where there is none: with no room a line is measured.
 ghost use mathlib.Core.Path.{_≡_};
 ghost use mathlib.Core.Bool.{true, false};
@@ -551,7 +551,7 @@ pub fn put_line(
 
 // ---- the line of an answer of the search
 
-// Whether a list variable's value is one that an answer has: at most 31 items.
+// Whether a list variable's value is one that an answer has: at most 31 items, each a code or a list variable, of which there are 160.
 fn value_fits(items: &[u8]) -> bool
     ensures { λ r. ⌜ r ≡ valueFits (now (items .entry)) ⌝ }
 {
@@ -710,7 +710,8 @@ fn whole_runs(n: u8) -> [u8; 32]
 }
 
 // The line of an answer: the values of the left rule's variables, then of the right one's, by what the atoms stand for and the items that
-// the list variables of each side stand for; and its size. Values of more than 31 items have no line.
+// the list variables of each side stand for; and its size. Values that no search has, of more than 31 items, have no line, nor have tables
+// with too many variables.
 pub fn put_answer(
     row: &[u8],
     texts: &[u8],
