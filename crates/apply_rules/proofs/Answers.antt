@@ -15,10 +15,10 @@ use Rattle.math_terms.specs.Terms.{con}
 use Rattle.math_terms.specs.Fillings.{Filling, fill}
 use Rattle.math_terms.specs.Matcher.{complete}
 use Rattle.text_grammar.specs.Terms.{Con, OurTerm}
-use Rattle.text_constants.specs.Constants.{consts}
-use Rattle.text_constants.specs.Matching.{constants, matcher}
-use Rattle.text_rules.specs.Read.{OurRule}
-use Rattle.text_rules.specs.Limits.{IsRule}
+use Rattle.text_grammar.specs.constants.Constants.{consts}
+use Rattle.text_grammar.specs.constants.Matching.{constants, matcher}
+use Rattle.text_grammar.specs.rules.Read.{OurRule}
+use Rattle.text_grammar.specs.rules.Limits.{IsRule}
 use Rattle.apply_spec.specs.Carrying.{Short, short?, result, unmatched, tooLong, limited}
 use Rattle.apply_spec.specs.Rules.{OurSlip, carried}
 use Rattle.text_values.specs.declared.Rule.{Rule}
@@ -27,16 +27,16 @@ use Rattle.text_values.specs.declared.Slip.{Slip}
 use Rattle.text_values.specs.Values.{blankSlip, viewField, viewSide, viewRule, viewSlip, encodeSide, encodeSlip}
 use Rattle.text_accepted.specs.Accepted.{countedLeft}
 use Rattle.text_accepted.proofs.Accepted.{rule-is}
-use Rattle.text_accepted_rules.specs.Rules.{acceptedRule}
-use Rattle.text_accepted_rules.proofs.Rules.{accepted-is, accepted-rule, counted-yes, counted-no}
-use Rattle.text_accepted_slips.specs.Slips.{acceptedSlip, countedSlip}
-use Rattle.text_accepted_slips.proofs.Slips.{accepted-slip}
-use Rattle.match_bindings.specs.declared.Filling.{Filling as FillingValue}
+use Rattle.text_accepted.specs.rules.Rules.{acceptedRule}
+use Rattle.text_accepted.proofs.rules.Rules.{accepted-is, accepted-rule, counted-yes, counted-no}
+use Rattle.text_accepted.specs.slips.Slips.{acceptedSlip, countedSlip}
+use Rattle.text_accepted.proofs.slips.Slips.{accepted-slip}
+use Rattle.match_fields.specs.declared.bindings.Filling.{Filling as FillingValue}
 use Rattle.match_rules.specs.declared.Match.{Match}
 use Rattle.match_rules.specs.Answers.{encodeValues, runsOf, found, matchOf}
-use Rattle.apply_filling.specs.declared.Filled.{Filled}
-use Rattle.apply_filling.specs.Filled.{allShort, filledSide}
-use Rattle.apply_filling.proofs.Fills.{filledWith}
+use Rattle.apply_rules.specs.declared.filling.Filled.{Filled}
+use Rattle.apply_rules.specs.filling.Filled.{allShort, filledSide}
+use Rattle.apply_rules.proofs.filling.Fills.{filledWith}
 use Rattle.apply_rules.specs.declared.Carry.the-variants.{Yes, No, TooLong}
 use Rattle.apply_rules.specs.declared.Carried.{Carried as CarriedValue}
 use Rattle.apply_rules.specs.Answers.{answerOf, carriedOf}

@@ -11,10 +11,10 @@ use Rattle.math_terms.specs.Terms.{con}
 use Rattle.math_terms.specs.Fillings.{Filling, fill}
 use Rattle.text_grammar.specs.Terms.{Con, OurTerm}
 use Rattle.text_grammar.specs.Limits.{IsCon, IsSlip}
-use Rattle.text_constants.specs.Matching.{constants}
-use Rattle.text_constants.proofs.Matching.{constants-are}
-use Rattle.text_rules.specs.Read.{OurRule}
-use Rattle.text_rules.specs.Limits.{IsRule}
+use Rattle.text_grammar.specs.constants.Matching.{constants}
+use Rattle.text_grammar.proofs.constants.Matching.{constants-are}
+use Rattle.text_grammar.specs.rules.Read.{OurRule}
+use Rattle.text_grammar.specs.rules.Limits.{IsRule}
 use Rattle.apply_spec.specs.Carrying.{Short, Carried, result, unmatched, tooLong}
 use Rattle.apply_spec.specs.Rules.{OurSlip, Readable, carried}
 use Rattle.apply_spec.specs.Carried.{CarriesOut}
@@ -25,10 +25,10 @@ use Rattle.text_values.specs.declared.Rule.{Rule}
 use Rattle.text_values.specs.declared.Slip.{Slip}
 use Rattle.text_values.specs.Values.{viewSide, viewRule, viewSlip, encodeSlip}
 use Rattle.text_accepted.proofs.Accepted.{rule-is}
-use Rattle.text_accepted_rules.specs.Rules.{acceptedRule, countedRule}
-use Rattle.text_accepted_rules.proofs.Rules.{accepted-rule, counted-yes}
-use Rattle.text_accepted_slips.specs.Slips.{acceptedSlip, countedSlip}
-use Rattle.text_accepted_slips.proofs.Slips.{accepted-slip, encode-accepted-slip}
+use Rattle.text_accepted.specs.rules.Rules.{acceptedRule, countedRule}
+use Rattle.text_accepted.proofs.rules.Rules.{accepted-rule, counted-yes}
+use Rattle.text_accepted.specs.slips.Slips.{acceptedSlip, countedSlip}
+use Rattle.text_accepted.proofs.slips.Slips.{accepted-slip, encode-accepted-slip}
 use Rattle.apply_rules.specs.declared.Carry.the-variants.{Yes, No}
 use Rattle.apply_rules.specs.declared.Carried.{Carried as CarriedValue}
 use Rattle.apply_rules.specs.Answers.{told, answerOf, carriedOf}

@@ -14,17 +14,17 @@ use Rattle.math_terms.specs.Fillings.{Filling, fill, Occurs}
 use Rattle.math_terms.specs.Matcher.{complete, orSome}
 use Rattle.text_grammar.specs.Terms.{Con, OurTerm}
 use Rattle.text_grammar.specs.Limits.{TermIn, IsLeft, IsSlip}
-use Rattle.text_constants.specs.Constants.{consts}
-use Rattle.text_constants.specs.Matching.{constants, matcher}
+use Rattle.text_grammar.specs.constants.Constants.{consts}
+use Rattle.text_grammar.specs.constants.Matching.{constants, matcher}
 use Rattle.text_values.specs.declared.Term.{Term}
 use Rattle.text_values.specs.Values.{encodeSide, encodeSlip}
-use Rattle.match_bindings.specs.declared.Filling.{Filling as FillingValue}
-use Rattle.match_bindings.specs.Values.{runOf}
+use Rattle.match_fields.specs.declared.bindings.Filling.{Filling as FillingValue}
+use Rattle.match_fields.specs.bindings.Values.{runOf}
 use Rattle.match_rules.specs.Answers.{valueTerm, encodeValues, runsOf}
 use Rattle.match_rules.proofs.Runs.{run-items, atom-at, atom-value}
 use Rattle.match_rules.proofs.Items.{run-terms}
-use Rattle.apply_filling.specs.Filled.{filledSide}
-use Rattle.apply_filling.proofs.Fills.{enc, Gives, filledWith, fills}
+use Rattle.apply_rules.specs.filling.Filled.{filledSide}
+use Rattle.apply_rules.proofs.filling.Fills.{enc, Gives, filledWith, fills}
 
 -- a variable of a rule has a number from 0 to 15
 field-number : (k : Kind) (n : ℕ) (f : List OurTerm) → All TermIn f → Occurs k n f → n ≤ 15

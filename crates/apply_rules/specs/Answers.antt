@@ -5,14 +5,14 @@ use mathlib.Core.List.{[], map}
 use mathlib.Core.Option.{none, some}
 use Rattle.math_terms.specs.Terms.{con}
 use Rattle.text_grammar.specs.Told.{Told}
-use Rattle.text_constants.specs.Matching.{constants}
+use Rattle.text_grammar.specs.constants.Matching.{constants}
 use Rattle.apply_spec.specs.Carrying.{Carried, result, unmatched, tooLong}
 use Rattle.apply_spec.specs.Rules.{OurSlip, carried}
 use Rattle.text_values.specs.declared.Rule.{Rule}
 use Rattle.text_values.specs.declared.Slip.{Slip}
 use Rattle.text_values.specs.Values.{encodeSlip}
-use Rattle.text_accepted_rules.specs.Rules.{countedRule}
-use Rattle.text_accepted_slips.specs.Slips.{countedSlip}
+use Rattle.text_accepted.specs.rules.Rules.{countedRule}
+use Rattle.text_accepted.specs.slips.Slips.{countedSlip}
 use Rattle.apply_rules.specs.declared.Carry.{Carry}
 use Rattle.apply_rules.specs.declared.Carry.the-variants.{Yes, No, TooLong}
 use Rattle.apply_rules.specs.declared.Carried.{Carried as CarriedValue}

@@ -11,15 +11,15 @@ use Rattle.math_types.specs.Types.{Kind, basics}
 use Rattle.math_terms.specs.Terms.{con}
 use Rattle.math_terms.specs.Fillings.{Filling, Typed, fill}
 use Rattle.text_grammar.specs.Terms.{Con, OurTerm}
-use Rattle.text_constants.specs.Constants.{consts}
-use Rattle.text_constants.specs.Matching.{constants, Matches}
+use Rattle.text_grammar.specs.constants.Constants.{consts}
+use Rattle.text_grammar.specs.constants.Matching.{constants, Matches}
 use Rattle.apply_spec.specs.Carrying.{Short, Over}
 use Rattle.apply_spec.specs.Rules.{mostItems}
 use Rattle.text_values.specs.declared.Rule.{Rule}
 use Rattle.text_values.specs.declared.Slip.{Slip}
 use Rattle.text_values.specs.Values.{viewSide, viewSlip, encodeSlip}
-use Rattle.text_accepted_rules.specs.Rules.{acceptedRule}
-use Rattle.text_accepted_slips.specs.Slips.{acceptedSlip}
+use Rattle.text_accepted.specs.rules.Rules.{acceptedRule}
+use Rattle.text_accepted.specs.slips.Slips.{acceptedSlip}
 use Rattle.apply_rules.specs.declared.Carry.the-variants.{Yes, No}
 use Rattle.apply_rules.specs.declared.Carried.{Carried}
 use Rattle.apply_rules.specs.Answers.{told}

@@ -1,6 +1,9 @@
 // Carrying out a rule on a slip: the right side with the filling put in.
 ghost use mathlib.Core.Path.{_≡_};
 ghost use Rattle.apply_rules.specs.Answers.{carriedOf};
+
+mod filling; // a filling put into a side
+
 use text_values::Rule;
 use text_values::Slip;
 
@@ -20,7 +23,7 @@ pub struct Carried {
 pub fn carry_out(rule: Rule, slip: Slip) -> Carried
     ensures { λ c. ⌜ c ≡ carriedOf rule slip ⌝ }
 {
-    if !text_accepted_rules::is_rule(rule) {
+    if !text_accepted::rules::is_rule(rule) {
         return Carried {
             answer: Carry::No,
             slip: slip,
@@ -41,7 +44,7 @@ pub fn carry_out(rule: Rule, slip: Slip) -> Carried
             slip: slip,
         };
     }
-    let f = apply_filling::fill_side(right, m.filling, slip);
+    let f = crate::filling::fill_side(right, m.filling, slip);
     if !f.ok {
         return Carried {
             answer: Carry::TooLong,

@@ -7,10 +7,10 @@ use Rattle.base_lists.specs.Seqs.{IsCons}
 use Rattle.math_types.specs.Types.{Kind, basics}
 use Rattle.math_terms.specs.Fillings.{Filling, Typed, fill}
 use Rattle.text_grammar.specs.Terms.{Con, OurTerm}
-use Rattle.text_constants.specs.Constants.{consts}
-use Rattle.text_constants.specs.Matching.{Matches}
-use Rattle.text_rules.specs.Read.{OurRule}
-use Rattle.text_rules.specs.Limits.{IsRule}
+use Rattle.text_grammar.specs.constants.Constants.{consts}
+use Rattle.text_grammar.specs.constants.Matching.{Matches}
+use Rattle.text_grammar.specs.rules.Read.{OurRule}
+use Rattle.text_grammar.specs.rules.Limits.{IsRule}
 use Rattle.apply_spec.specs.Carrying.{Carried, result, unmatched, tooLong, limited, Short, Over}
 use Rattle.apply_spec.specs.Rules.{OurSlip, mostItems, carried}
 use Rattle.apply_spec.specs.Carried.{CarriesOut}

@@ -9,13 +9,13 @@ use Rattle.base_lists.specs.Seqs.{all?, any?}
 use Rattle.math_terms.specs.Terms.{con}
 use Rattle.text_grammar.specs.Ascii.{ascii}
 use Rattle.text_grammar.specs.Bytes.{digit?, begins, follows, first, holds}
-use Rattle.text_grammar.specs.Marks.{fifth?, many?, over?, clash?, clashOf?}
+use Rattle.text_grammar.specs.Tokens.{fifth?, many?, over?, clash?, clashOf?}
 use Rattle.text_grammar.specs.Terms.{int}
 use Rattle.text_grammar.specs.Read.{OutcomeOf, Outcome, refused, accepted, readSlip}
 use Rattle.text_grammar.specs.Plain.{plain}
-use Rattle.text_constants.specs.Matching.{constants}
-use Rattle.text_rules.specs.Marks.{occurs?, has?}
-use Rattle.text_rules.specs.Read.{OurRule, readRule}
+use Rattle.text_grammar.specs.constants.Matching.{constants}
+use Rattle.text_grammar.specs.rules.Tokens.{occurs?, has?}
+use Rattle.text_grammar.specs.rules.Read.{OurRule, readRule}
 use Rattle.apply_spec.specs.Carrying.{Carried, result, unmatched, tooLong}
 use Rattle.apply_spec.specs.Rules.{OurSlip, carried}
 

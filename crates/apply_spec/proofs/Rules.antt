@@ -12,12 +12,12 @@ use Rattle.math_types.specs.Types.{Kind, basics}
 use Rattle.math_terms.specs.Fillings.{Filling, Typed, fill}
 use Rattle.math_terms.specs.Linear.{LeftLinear}
 use Rattle.text_grammar.specs.Terms.{Con, OurTerm}
-use Rattle.text_constants.specs.Constants.{consts}
-use Rattle.text_constants.specs.Matching.{Matches, matcher}
-use Rattle.text_constants.proofs.Linear.{left-linear}
+use Rattle.text_grammar.specs.constants.Constants.{consts}
+use Rattle.text_grammar.specs.constants.Matching.{Matches, matcher}
+use Rattle.text_grammar.proofs.constants.Linear.{left-linear}
 use Rattle.overlap_spec.specs.Fits.{OurCon}
-use Rattle.text_rules.specs.Read.{OurRule}
-use Rattle.text_rules.specs.Limits.{IsRule}
+use Rattle.text_grammar.specs.rules.Read.{OurRule}
+use Rattle.text_grammar.specs.rules.Limits.{IsRule}
 use Rattle.apply_spec.specs.Carrying.{Short, Over, result, unmatched, tooLong, limited}
 use Rattle.apply_spec.specs.Rules.{OurSlip, Readable, mostItems, carried}
 use Rattle.apply_spec.proofs.Fills.{cons-map, values-in, fills-in}

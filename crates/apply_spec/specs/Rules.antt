@@ -7,8 +7,8 @@ use Rattle.math_terms.specs.Terms.{con}
 use Rattle.text_grammar.specs.Terms.{Con}
 use Rattle.text_grammar.specs.Limits.{IsSlip}
 use Rattle.text_grammar.specs.Read.{slip}
-use Rattle.text_constants.specs.Constants.{consts}
-use Rattle.text_rules.specs.Read.{OurRule}
+use Rattle.text_grammar.specs.constants.Constants.{consts}
+use Rattle.text_grammar.specs.rules.Read.{OurRule}
 use Rattle.apply_spec.specs.Carrying as theory
 
 -- a slip: its fields, without variables

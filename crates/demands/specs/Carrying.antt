@@ -17,10 +17,10 @@ use Rattle.text_grammar.specs.Terms.{Con, OurTerm}
 use Rattle.text_grammar.specs.Limits.{IsSlip}
 use Rattle.text_grammar.specs.Read.{Reason, refused, accepted, readSlip}
 use Rattle.text_grammar.proofs.Accepted.{slip-read}
-use Rattle.text_rules.specs.Read.{OurRule, readRule}
-use Rattle.text_rules.specs.Limits.{IsRule}
-use Rattle.text_rules.proofs.Accepted.{rule-read}
-use Rattle.text_constants.specs.Matching.{constants}
+use Rattle.text_grammar.specs.rules.Read.{OurRule, readRule}
+use Rattle.text_grammar.specs.rules.Limits.{IsRule}
+use Rattle.text_grammar.proofs.rules.Accepted.{rule-read}
+use Rattle.text_grammar.specs.constants.Matching.{constants}
 use Rattle.apply_spec.specs.Carrying.{result}
 use Rattle.apply_spec.specs.Rules.{OurSlip, carried}
 use Rattle.apply_spec.specs.Carried.{CarriesOut}
@@ -29,10 +29,10 @@ use Rattle.apply_spec.proofs.Carried.{carries-out}
 use Rattle.text_values.specs.declared.Rule.{Rule}
 use Rattle.text_values.specs.declared.Slip.{Slip}
 use Rattle.text_values.specs.Values.{viewSide, viewRule, viewSlip, blankRule, blankSlip, encodeRule, encodeSlip}
-use Rattle.text_accepted_rules.specs.Rules.{acceptedRule, countedRule}
-use Rattle.text_accepted_rules.proofs.Rules.{accepted-rule, rule-accepts, view-encode-rule, counted-yes}
-use Rattle.text_accepted_slips.specs.Slips.{acceptedSlip, countedSlip}
-use Rattle.text_accepted_slips.proofs.Slips.{accepted-slip, encode-accepted-slip, view-encode-slip}
+use Rattle.text_accepted.specs.rules.Rules.{acceptedRule, countedRule}
+use Rattle.text_accepted.proofs.rules.Rules.{accepted-rule, rule-accepts, view-encode-rule, counted-yes}
+use Rattle.text_accepted.specs.slips.Slips.{acceptedSlip, countedSlip}
+use Rattle.text_accepted.proofs.slips.Slips.{accepted-slip, encode-accepted-slip, view-encode-slip}
 use Rattle.text_read.specs.declared.RuleRead.{RuleRead}
 use Rattle.text_read.specs.declared.SlipRead.{SlipRead}
 use Rattle.text_read.specs.Answers.{ruleRead, slipRead, ReadsRule, ReadsSlip}

@@ -17,16 +17,16 @@ use Rattle.math_terms.specs.Compared.{Passes, CountIs, allAtoms}
 use Rattle.math_terms.proofs.Compared.{compared-exactly, compared-none, compared-yes, compared-most, yes-passes}
 use Rattle.text_grammar.specs.Terms.{Con, OurTerm}
 use Rattle.text_grammar.specs.Limits.{Linear}
-use Rattle.text_constants.specs.Constants.{consts}
-use Rattle.text_constants.specs.Matching.{constants, matcher, tests, compared}
-use Rattle.text_constants.proofs.Matching.{match-iff}
+use Rattle.text_grammar.specs.constants.Constants.{consts}
+use Rattle.text_grammar.specs.constants.Matching.{constants, matcher, tests, compared}
+use Rattle.text_grammar.proofs.constants.Matching.{match-iff}
 use Rattle.text_values.specs.declared.Rule.{Rule}
 use Rattle.text_values.specs.declared.Slip.{Slip}
 use Rattle.text_values.specs.Values.{viewSide, viewRule, viewSlip}
 use Rattle.text_accepted.proofs.Accepted.{accepted-rule}
-use Rattle.text_accepted_rules.specs.Rules.{acceptedRule, countedRule}
-use Rattle.text_accepted_rules.proofs.Rules.{accepted-is}
-use Rattle.text_accepted_slips.specs.Slips.{acceptedSlip, countedSlip}
+use Rattle.text_accepted.specs.rules.Rules.{acceptedRule, countedRule}
+use Rattle.text_accepted.proofs.rules.Rules.{accepted-is}
+use Rattle.text_accepted.specs.slips.Slips.{acceptedSlip, countedSlip}
 use Rattle.match_rules.specs.declared.Comparison.{Comparison}
 use Rattle.match_rules.specs.Answers.{matchOf, noComparison, comparison}
 use Rattle.match_rules.proofs.Accept.{no-left, no-slip}

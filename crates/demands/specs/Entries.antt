@@ -18,8 +18,8 @@ use Rattle.math_terms.proofs.Fillings.{fills-agree}
 use Rattle.text_grammar.specs.Sizes.{largestNumber, mostFields}
 use Rattle.text_grammar.specs.Terms.{Con, OurTerm}
 use Rattle.text_grammar.specs.Limits.{TermIn, IsLeft}
-use Rattle.text_constants.specs.Constants.{consts, some-of, some-of-le}
-use Rattle.text_constants.proofs.Linear.{left-linear}
+use Rattle.text_grammar.specs.constants.Constants.{consts, some-of, some-of-le}
+use Rattle.text_grammar.proofs.constants.Linear.{left-linear}
 use Rattle.math_overlaps.specs.Substitutions.{Subst, substitute, TermsOf, TypedSubst}
 use Rattle.math_overlaps.specs.Overlaps.{overlaps}
 use Rattle.math_overlaps.specs.Solutions as theory

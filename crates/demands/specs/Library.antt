@@ -17,9 +17,9 @@ use Rattle.text_grammar.specs.Limits.{IsLeft}
 use Rattle.text_grammar.specs.Read.{Reason, long, grammar, fields, terms, limits, linear, variable, unknown, number}
 use Rattle.text_grammar.specs.Read.{OutcomeOf, refused, accepted, earlier, NoReason}
 use Rattle.text_grammar.proofs.Refused.{number-once}
-use Rattle.text_rules.specs.Read.{OurRule, RefusesRule, readRule}
-use Rattle.text_rules.proofs.Read.{rule-refused}
-use Rattle.text_rules.proofs.Accepted.{rule-read}
+use Rattle.text_grammar.specs.rules.Read.{OurRule, RefusesRule, readRule}
+use Rattle.text_grammar.proofs.rules.Read.{rule-refused}
+use Rattle.text_grammar.proofs.rules.Accepted.{rule-read}
 use Rattle.overlap_spec.specs.Overlaps.{linesOf, overlapText}
 use Rattle.overlap_list.proofs.Lists.{no-right}
 use Rattle.overlap_list.proofs.Rules.{none-listed}

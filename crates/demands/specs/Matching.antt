@@ -28,34 +28,34 @@ use Rattle.text_grammar.specs.Read.{OutcomeOf, Outcome, refused, accepted, read
 use Rattle.text_grammar.proofs.Parse.{says-one}
 use Rattle.text_grammar.proofs.Accepted.{rule-read, slip-read}
 use Rattle.text_grammar.proofs.Theorems.{rule-accepted, slip-accepted}
-use Rattle.text_rules.specs.Sides.{Sides, SaysRule}
-use Rattle.text_rules.specs.Place.{leftText}
-use Rattle.text_rules.specs.Marks.{leftSide}
-use Rattle.text_rules.specs.Read.{OurRule, readRule}
-use Rattle.text_rules.proofs.Accepted as rules
-use Rattle.text_rules.proofs.Left.{left-says, left-reads}
-use Rattle.text_constants.specs.Constants.{consts}
-use Rattle.text_constants.specs.Matching.{constants, Matches, matcher}
-use Rattle.text_constants.specs.Written.{writtenField}
-use Rattle.text_constants.proofs.Written.{written-matches, terms-matches}
-use Rattle.text_constants.proofs.Matching.{match-iff, match-is, match-yes, match-blank}
+use Rattle.text_grammar.specs.rules.Sides.{Sides, SaysRule}
+use Rattle.text_grammar.specs.rules.Place.{leftText}
+use Rattle.text_grammar.specs.rules.Tokens.{leftSide}
+use Rattle.text_grammar.specs.rules.Read.{OurRule, readRule}
+use Rattle.text_grammar.proofs.rules.Accepted as rules
+use Rattle.text_grammar.proofs.rules.Left.{left-says, left-reads}
+use Rattle.text_grammar.specs.constants.Constants.{consts}
+use Rattle.text_grammar.specs.constants.Matching.{constants, Matches, matcher}
+use Rattle.text_grammar.specs.constants.Written.{writtenField}
+use Rattle.text_grammar.proofs.constants.Written.{written-matches, terms-matches}
+use Rattle.text_grammar.proofs.constants.Matching.{match-iff, match-is, match-yes, match-blank}
 use Rattle.text_values.specs.declared.RuleSide.{RuleSide}
 use Rattle.text_values.specs.declared.Rule.{Rule}
 use Rattle.text_values.specs.declared.Slip.{Slip}
 use Rattle.text_values.specs.Values.{blankTerm, encodeTerm, encodeSide, encodeRule, encodeSlip, viewSide, viewSlip}
 use Rattle.text_accepted.specs.Accepted.{acceptedLeft, countedLeft}
-use Rattle.text_accepted_rules.specs.Rules.{acceptedRule, countedRule, leftValue}
-use Rattle.text_accepted_rules.proofs.Rules.{left-yes, left-encode, left-accepted, left-counted}
-use Rattle.text_accepted_slips.specs.Slips.{acceptedSlip, countedSlip}
+use Rattle.text_accepted.specs.rules.Rules.{acceptedRule, countedRule, leftValue}
+use Rattle.text_accepted.proofs.rules.Rules.{left-yes, left-encode, left-accepted, left-counted}
+use Rattle.text_accepted.specs.slips.Slips.{acceptedSlip, countedSlip}
 use Rattle.text_accepted.proofs.Accepted.{rule-is, accepted-rule, encode-accepted-rule, view-encode-rule}
-use Rattle.text_accepted_slips.proofs.Slips.{slip-is, accepted-slip, encode-accepted-slip, view-encode-slip}
-use Rattle.text_verdicts.specs.declared.Verdict.the-variants.{Accepted, Refused}
-use Rattle.text_verdicts.specs.Verdicts.{reasonFrom}
+use Rattle.text_accepted.proofs.slips.Slips.{slip-is, accepted-slip, encode-accepted-slip, view-encode-slip}
+use Rattle.text_refusals.specs.declared.verdicts.Verdict.the-variants.{Accepted, Refused}
+use Rattle.text_refusals.specs.verdicts.Verdicts.{reasonFrom}
 use Rattle.text_read.specs.declared.RuleRead.{RuleRead}
 use Rattle.text_read.specs.declared.SlipRead.{SlipRead}
 use Rattle.text_read.specs.Answers.{ruleRead, slipRead, ReadsRule, ReadsSlip}
-use Rattle.match_bindings.specs.declared.Filling.{Filling as FillingValue}
-use Rattle.match_bindings.specs.Values.{slot, atomOf, blankRun, runOf}
+use Rattle.match_fields.specs.declared.bindings.Filling.{Filling as FillingValue}
+use Rattle.match_fields.specs.bindings.Values.{slot, atomOf, blankRun, runOf}
 use Rattle.match_rules.specs.declared.Match.{Match}
 use Rattle.match_rules.specs.Answers.{isKnown, valueTerm, encodeValues, runsOf, itemsAt, LiesIn, noMatch, found, matchOf}
 use Rattle.match_rules.proofs.Accept.{with-fields, not-rule, not-slip}

@@ -26,13 +26,13 @@ use Rattle.text_grammar.specs.Told.{Told}
 use Rattle.text_grammar.specs.Terms.{Con, OurTerm}
 use Rattle.text_grammar.specs.Limits.{IsLeft}
 use Rattle.text_grammar.specs.Read.{Reason, OutcomeOf, refused, accepted}
-use Rattle.text_rules.specs.Read.{OurRule, readRule}
-use Rattle.text_rules.specs.Place.{leftText}
-use Rattle.text_rules.proofs.Accepted.{rule-read}
-use Rattle.text_rules.proofs.Before.{one-sided}
-use Rattle.text_rules.proofs.Left.{left-reads}
-use Rattle.text_constants.specs.Constants.{consts}
-use Rattle.text_constants.specs.Matching.{Matches}
+use Rattle.text_grammar.specs.rules.Read.{OurRule, readRule}
+use Rattle.text_grammar.specs.rules.Place.{leftText}
+use Rattle.text_grammar.proofs.rules.Accepted.{rule-read}
+use Rattle.text_grammar.proofs.rules.Before.{one-sided}
+use Rattle.text_grammar.proofs.rules.Left.{left-reads}
+use Rattle.text_grammar.specs.constants.Constants.{consts}
+use Rattle.text_grammar.specs.constants.Matching.{Matches}
 use Rattle.overlap_spec.specs.Lines.{Line, listText, WritableLine}
 use Rattle.overlap_spec.specs.Overlaps.{linesOf, overlapText}
 use Rattle.overlap_spec.specs.Fits.{OurSlip, Fits, Shows, Solution, Covers}
@@ -40,10 +40,10 @@ use Rattle.overlap_spec.proofs.Lines.{lines-one}
 use Rattle.overlap_spec.proofs.Exact.{lines-exact, lines-once, lines-fillings, lines-slips, lines-least, lines-writable}
 use Rattle.text_values.specs.declared.Rule.{Rule}
 use Rattle.text_values.specs.Values.{encodeRule}
-use Rattle.text_accepted_rules.specs.Rules.{acceptedRule, countedRule}
-use Rattle.text_accepted_rules.proofs.Rules.{accepted-rule, counted-yes, counted-no, counted-encode, rule-value-iff}
-use Rattle.text_verdicts.specs.declared.Verdict.the-variants.{Accepted, Refused}
-use Rattle.text_verdicts.specs.Verdicts.{reasonFrom, verdictOf}
+use Rattle.text_accepted.specs.rules.Rules.{acceptedRule, countedRule}
+use Rattle.text_accepted.proofs.rules.Rules.{accepted-rule, counted-yes, counted-no, counted-encode, rule-value-iff}
+use Rattle.text_refusals.specs.declared.verdicts.Verdict.the-variants.{Accepted, Refused}
+use Rattle.text_refusals.specs.verdicts.Verdicts.{reasonFrom, verdictOf}
 use Rattle.text_read.specs.Answers.{leftSaid}
 use Rattle.overlap_list.specs.declared.Listed.{Listed}
 use Rattle.overlap_list.specs.declared.Listed.the-variants.{Lines, TooSmall}

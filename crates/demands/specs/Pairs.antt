@@ -17,14 +17,14 @@ use Rattle.text_grammar.specs.Ascii.{ascii, newline}
 use Rattle.text_grammar.specs.Numbers.{digitsOf}
 use Rattle.text_grammar.specs.Terms.{OurTerm}
 use Rattle.text_grammar.specs.Read.{Reason, number, OutcomeOf, refused, accepted, rule}
-use Rattle.text_rules.specs.Read.{OurRule, readRule}
-use Rattle.text_rules.proofs.Read.{rule-accepted}
-use Rattle.text_rules.proofs.Accepted.{rule-read}
+use Rattle.text_grammar.specs.rules.Read.{OurRule, readRule}
+use Rattle.text_grammar.proofs.rules.Read.{rule-accepted}
+use Rattle.text_grammar.proofs.rules.Accepted.{rule-read}
 use Rattle.text_write.specs.declared.Written.{Written}
 use Rattle.text_write.specs.Answers.{told, Writes}
-use Rattle.text_pieces.specs.Refusals.{numberAt}
+use Rattle.text_write.specs.pieces.Refusals.{numberAt}
 use Rattle.overlap_spec.specs.Overlaps.{linesOf, overlapText}
-use Rattle.print_overlaps.specs.Texts.{mostBytes, listedText, readText}
+use Rattle.print_pairs.specs.overlaps.Texts.{mostBytes, listedText, readText}
 use Rattle.print_pairs.specs.Pairs.{longestLine, tab, leftPart, rightPart, lineText, titleText, longestAnswer, pairAnswer}
 use Rattle.print_pairs.proofs.Lengths.{line-long}
 use Rattle.demands.specs.Overlaps.{Demand3, of-rules}

@@ -2,7 +2,7 @@
 -- instance of one of them, and no answer means no solution." And demand 1 of the search: "each refusal comes in its stated case only".
 --     Demand2          what is said of the bytes of the lines
 --     SearchDemand     what is said of a call: its number, its values, the lent bytes, the lent row
---     search-demand    every call has it, by the record that the contracts of `search_row::search` and `search_run::search_in` cite
+--     search-demand    every call has it, by the record that the contracts of `search_row::search` and `search_row::own::search_in` cite
 --     filled-by-laws, solved-by-laws    the equation as it is written, under GP 2's laws
 --     steps-fall, no-chain              Theorem 1 of document 001
 --     set-is                            the set of a problem's list variables
@@ -32,14 +32,14 @@ use Rattle.text_grammar.specs.Grammar.{Raw, Says}
 use Rattle.text_grammar.specs.Terms.{Con, OurTerm, fieldsOf}
 use Rattle.text_grammar.specs.Limits.{IsLeft}
 use Rattle.text_grammar.specs.Read.{accepted}
-use Rattle.text_rules.specs.Read.{readRule}
-use Rattle.text_rules.proofs.Before.{one-sided}
+use Rattle.text_grammar.specs.rules.Read.{readRule}
+use Rattle.text_grammar.proofs.rules.Before.{one-sided}
 use Rattle.text_grammar.proofs.Told.{eight-iff, fits-iff}
 use Rattle.text_grammar.proofs.Parse.{says-one}
 use Rattle.text_grammar.proofs.Theorems.{rule-accepted}
-use Rattle.text_constants.specs.Constants.{consts}
-use Rattle.text_constants.specs.Written.{writtenField}
-use Rattle.text_constants.proofs.Written.{flat-field}
+use Rattle.text_grammar.specs.constants.Constants.{consts}
+use Rattle.text_grammar.specs.constants.Written.{writtenField}
+use Rattle.text_grammar.proofs.constants.Written.{flat-field}
 use Rattle.math_overlaps.specs.Substitutions.{Subst, image, substitute}
 use Rattle.math_overlaps.specs.Shapes.{left, right}
 use Rattle.overlap_spec.specs.Variables.{variables}
@@ -67,7 +67,7 @@ use Rattle.text_accepted.specs.Accepted.{acceptedField, countedField}
 use Rattle.text_accepted.proofs.Accepted.{accepted-field}
 use Rattle.text_write.specs.Answers.{after}
 use Rattle.search_problems.specs.declared.Problem.{Problem}
-use Rattle.search_step.specs.Row.{blanks}
+use Rattle.search_steps.specs.Row.{blanks}
 use Rattle.search_row.specs.declared.Searched.{Searched}
 use Rattle.search_row.specs.Answers.{told, searchedOf, foundIn, Searches}
 

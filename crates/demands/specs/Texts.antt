@@ -1,8 +1,8 @@
 -- What is promised of reading and writing rules and slips, over the relations that the contracts cite:
 --     text_read::read_rule      returns r with `ReadsRule t r`
 --     text_read::read_slip      returns r with `ReadsSlip t r`
---     text_plain_rules::write_rule   answers r and leaves `new` with `Writes (plainBoth (countedRule v)) old r new`
---     text_plain_slips::write_slip   answers r and leaves `new` with `Writes (plain (countedSlip v)) old r new`
+--     text_plain::rules::write_rule   answers r and leaves `new` with `Writes (plainBoth (countedRule v)) old r new`
+--     text_plain::slips::write_slip   answers r and leaves `new` with `Writes (plain (countedSlip v)) old r new`
 use mathlib.Core.Path.{_≡_, refl, sym, _∙_, ap, subst}
 use mathlib.Core.Logic.{_≢_, _↔_, _⊎_, inl, inr, Iff·trans}
 use mathlib.Core.Bool.{Bool, true, false, cond}
@@ -22,39 +22,39 @@ use Rattle.text_grammar.specs.Numbers.{value}
 use Rattle.text_grammar.specs.Terms.{OurTerm, fieldsOf}
 use Rattle.text_grammar.specs.Read.{Reason, long, grammar, fields, terms, limits, linear, variable, unknown, number, slip, earlier}
 use Rattle.text_grammar.specs.Read.{OutcomeOf, Outcome, refused, accepted, readSide, readSlip, Refuses, NoReason}
-use Rattle.text_grammar.specs.Marks.{Over, NotLinear, IsVar}
-use Rattle.text_grammar.specs.Sharp.{FirstBadMark}
+use Rattle.text_grammar.specs.Tokens.{Over, NotLinear, IsVar}
+use Rattle.text_grammar.specs.Sharp.{FirstBadToken}
 use Rattle.text_grammar.specs.Plain.{plain}
 use Rattle.text_grammar.proofs.Sharp.{first-bad}
 use Rattle.text_grammar.proofs.Told.{eight-iff, fits-iff}
 use Rattle.text_grammar.proofs.Theorems.{slip-refused, slip-never, slip-accepted}
-use Rattle.text_rules.specs.Sides.{Sides, SaysRule}
-use Rattle.text_rules.specs.Place.{cut}
-use Rattle.text_rules.specs.Marks.{leftSide, Has}
-use Rattle.text_rules.specs.Read.{OurRule, order, RefusesRule, bothFields, readRule}
-use Rattle.text_rules.specs.Sharp.{FirstBadTerm}
-use Rattle.text_rules.specs.Plain.{plainBoth}
-use Rattle.text_rules.specs.Judge.{asRule}
-use Rattle.text_rules.proofs.Read.{rule-refused, never-seven, rule-accepted}
-use Rattle.text_rules.proofs.Sharp.{first-in}
-use Rattle.text_rules.proofs.Before.{NoEqual, read-before, no-arrow}
+use Rattle.text_grammar.specs.rules.Sides.{Sides, SaysRule}
+use Rattle.text_grammar.specs.rules.Place.{cut}
+use Rattle.text_grammar.specs.rules.Tokens.{leftSide, Has}
+use Rattle.text_grammar.specs.rules.Read.{OurRule, order, RefusesRule, bothFields, readRule}
+use Rattle.text_grammar.specs.rules.Sharp.{FirstBadTerm}
+use Rattle.text_grammar.specs.rules.Plain.{plainBoth}
+use Rattle.text_grammar.specs.rules.Judge.{asRule}
+use Rattle.text_grammar.proofs.rules.Read.{rule-refused, never-seven, rule-accepted}
+use Rattle.text_grammar.proofs.rules.Sharp.{first-in}
+use Rattle.text_grammar.proofs.rules.Before.{NoEqual, read-before, no-arrow}
 use Rattle.text_values.specs.declared.Rule.{Rule}
 use Rattle.text_values.specs.declared.Slip.{Slip}
 use Rattle.text_values.specs.Values.{blankRule, blankSlip, encodeRule, encodeSlip}
-use Rattle.text_accepted_rules.specs.Rules.{acceptedRule, countedRule}
-use Rattle.text_accepted_slips.specs.Slips.{acceptedSlip, countedSlip}
-use Rattle.text_verdicts.specs.declared.Verdict.{Verdict}
-use Rattle.text_verdicts.specs.declared.Verdict.the-variants.{Accepted}
-use Rattle.text_verdicts.specs.Verdicts.{verdictOf, told, refusal, noRefusal}
-use Rattle.text_verdicts.proofs.Verdicts.{told-refused, told-number}
+use Rattle.text_accepted.specs.rules.Rules.{acceptedRule, countedRule}
+use Rattle.text_accepted.specs.slips.Slips.{acceptedSlip, countedSlip}
+use Rattle.text_refusals.specs.declared.verdicts.Verdict.{Verdict}
+use Rattle.text_refusals.specs.declared.verdicts.Verdict.the-variants.{Accepted}
+use Rattle.text_refusals.specs.verdicts.Verdicts.{verdictOf, told, refusal, noRefusal}
+use Rattle.text_refusals.proofs.verdicts.Verdicts.{told-refused, told-number}
 use Rattle.text_read.specs.declared.RuleRead.{RuleRead}
 use Rattle.text_read.specs.declared.SlipRead.{SlipRead}
 use Rattle.text_read.specs.Answers.{ruleRead, slipRead, ReadsRule, ReadsSlip}
 use Rattle.text_write.specs.declared.Written.{Written}
 use Rattle.text_write.specs.Answers.{after, Writes}
 use Rattle.text_write.specs.Answers as writing
-use Rattle.text_plain_rules.proofs.Again as rules
-use Rattle.text_plain_slips.proofs.Again as slips
+use Rattle.text_plain.proofs.rules.Again as rules
+use Rattle.text_plain.proofs.slips.Again as slips
 
 -- ---- reading
 
@@ -90,10 +90,10 @@ abbrev pub RuleReading : List ℕ → RuleRead → Type 0
 RuleReading t r =
     Reading (RefusesRule t) order (variable ∷ []) (λ o p. FirstBadTerm o t p) blankRule (HoldsRule t) (r .verdict) (r .rule)
 
--- of a slip text: `Refuses`, over the grammar of one side, which "has no `=>`", and `FirstBadMark`
+-- of a slip text: `Refuses`, over the grammar of one side, which "has no `=>`", and `FirstBadToken`
 abbrev pub SlipReading : List ℕ → SlipRead → Type 0
 SlipReading t r =
-    Reading (Refuses slip t) (slip .order) (linear ∷ unknown ∷ []) (λ o p. FirstBadMark 64 o t p) blankSlip (HoldsSlip t)
+    Reading (Refuses slip t) (slip .order) (linear ∷ unknown ∷ []) (λ o p. FirstBadToken 64 o t p) blankSlip (HoldsSlip t)
     (r .verdict) (r .slip)
 
 -- "the rule with no fields", "The slip with no fields"
@@ -190,7 +190,7 @@ slip-reading t r reads = subst (SlipReading t) (sym reads) (go (readSlip t) of-t
     never-ten : (p : ℕ) → readSlip t ≢ refused unknown p
     never-ten p e = applies unknown (λ i. omega arith) p e .2 .1 .3
 
-    place : (o : Reason) → 3 ≤ number o → (p : ℕ) → readSlip t ≡ refused o p → FirstBadMark 64 o t p
+    place : (o : Reason) → 3 ≤ number o → (p : ℕ) → readSlip t ≡ refused o p → FirstBadToken 64 o t p
     place long h p e = absurd (omega (arith, h))
     place grammar h p e = absurd (omega (arith, h))
     place fields h p e = first-bad 64 fields t p .0 (applies fields (λ i. omega arith) p e)
@@ -202,14 +202,14 @@ slip-reading t r reads = subst (SlipReading t) (sym reads) (go (readSlip t) of-t
 
     Read : Outcome → Type 0
     Read a =
-        Reading (Refuses slip t) (slip .order) (linear ∷ unknown ∷ []) (λ o p. FirstBadMark 64 o t p) blankSlip (HoldsSlip t)
+        Reading (Refuses slip t) (slip .order) (linear ∷ unknown ∷ []) (λ o p. FirstBadToken 64 o t p) blankSlip (HoldsSlip t)
         (verdictOf a)
-        (valueOf (Refuses slip t) (slip .order) (linear ∷ unknown ∷ []) (λ o p. FirstBadMark 64 o t p) (Says t) fieldsOf
+        (valueOf (Refuses slip t) (slip .order) (linear ∷ unknown ∷ []) (λ o p. FirstBadToken 64 o t p) (Says t) fieldsOf
         blankSlip encodeSlip a)
 
     of-text : Read (readSlip t)
     of-text =
-        reading-of (Refuses slip t) (slip .order) (linear ∷ unknown ∷ []) (λ o p. FirstBadMark 64 o t p) (Says t) fieldsOf
+        reading-of (Refuses slip t) (slip .order) (linear ∷ unknown ∷ []) (λ o p. FirstBadToken 64 o t p) (Says t) fieldsOf
         blankSlip encodeSlip (readSlip t) (λ o n p. slip-refused o (n .0) t p) (slip-never t, (never-ten, tt)) (slip-accepted t) place
 
     go : (a : Outcome) → Read a → SlipReading t (slipRead a)
@@ -239,42 +239,42 @@ module _ (t : List ℕ) (r : RuleRead) (reads : ReadsRule t r) where
 
 module _ (t : List ℕ) (r : RuleRead) (reads : ReadsRule t r) (p : ℕ) where
   -- 3: "a fifth field, at its first byte"; of either side
-  pub rule-three : told (r .verdict) ≡ refusal fields p → (b : FirstBadTerm fields t p) × (b .mark .inField ≡ 5) × (b .mark .index ≡ 1)
+  pub rule-three : told (r .verdict) ≡ refusal fields p → (b : FirstBadTerm fields t p) × (b .token .inField ≡ 5) × (b .token .index ≡ 1)
   rule-three e = let b = rule-reading t r reads .places fields (omega arith) p e in (b, b .stated .0, b .stated .1)
 
   -- 4: "a seventeenth term in a field"; of either side
-  pub rule-four : told (r .verdict) ≡ refusal terms p → (b : FirstBadTerm terms t p) × (b .mark .index ≡ 17)
+  pub rule-four : told (r .verdict) ≡ refusal terms p → (b : FirstBadTerm terms t p) × (b .token .index ≡ 17)
   rule-four e = let b = rule-reading t r reads .places terms (omega arith) p e in (b, b .stated)
 
   -- 5: "a value, digit count, variable number or string length over its limit"
-  pub rule-five : told (r .verdict) ≡ refusal limits p → (b : FirstBadTerm limits t p) × Over (b .mark .raw)
+  pub rule-five : told (r .verdict) ≡ refusal limits p → (b : FirstBadTerm limits t p) × Over (b .token .raw)
   rule-five e = let b = rule-reading t r reads .places limits (omega arith) p e in (b, b .stated)
 
   -- 6: "a list variable that occurs earlier in the rule, or that follows another in its field"
-  pub rule-six : told (r .verdict) ≡ refusal linear p → (b : FirstBadTerm linear t p) × NotLinear (b .earlier) (b .mark)
+  pub rule-six : told (r .verdict) ≡ refusal linear p → (b : FirstBadTerm linear t p) × NotLinear (b .earlier) (b .token)
   rule-six e = let b = rule-reading t r reads .places linear (omega arith) p e in (b, b .stated)
 
   -- 10: "a right-side variable that the left lacks, at its first byte": of the letter k and the number that ds says
   pub rule-ten : told (r .verdict) ≡ refusal unknown p
-      → (b : FirstBadTerm unknown t p) × (k : Kind) × (ds : List ℕ) × (b .mark .raw ≡ raw-var k ds)
+      → (b : FirstBadTerm unknown t p) × (k : Kind) × (ds : List ℕ) × (b .token .raw ≡ raw-var k ds)
       × (Has k (value ds) (fieldsOf (leftSide (b .said))) → ⊥)
   rule-ten e =
       let b = rule-reading t r reads .places unknown (omega arith) p e in
       (b, b .stated .0, b .stated .1, b .stated .2, b .stated .3)
 
 module _ (t : List ℕ) (r : SlipRead) (reads : ReadsSlip t r) (p : ℕ) where
-  pub slip-three : told (r .verdict) ≡ refusal fields p → (b : FirstBadMark 64 fields t p) × (b .mark .inField ≡ 5) × (b .mark .index ≡ 1)
+  pub slip-three : told (r .verdict) ≡ refusal fields p → (b : FirstBadToken 64 fields t p) × (b .token .inField ≡ 5) × (b .token .index ≡ 1)
   slip-three e = let b = slip-reading t r reads .places fields (omega arith) p e in (b, b .stated .0, b .stated .1)
 
   -- 4: "a sixty-fifth term"
-  pub slip-four : told (r .verdict) ≡ refusal terms p → (b : FirstBadMark 64 terms t p) × (b .mark .index ≡ 65)
+  pub slip-four : told (r .verdict) ≡ refusal terms p → (b : FirstBadToken 64 terms t p) × (b .token .index ≡ 65)
   slip-four e = let b = slip-reading t r reads .places terms (omega arith) p e in (b, b .stated)
 
-  pub slip-five : told (r .verdict) ≡ refusal limits p → (b : FirstBadMark 64 limits t p) × Over (b .mark .raw)
+  pub slip-five : told (r .verdict) ≡ refusal limits p → (b : FirstBadToken 64 limits t p) × Over (b .token .raw)
   slip-five e = let b = slip-reading t r reads .places limits (omega arith) p e in (b, b .stated)
 
   -- 7: "a variable"
-  pub slip-seven : told (r .verdict) ≡ refusal variable p → (b : FirstBadMark 64 variable t p) × IsVar (b .mark .raw)
+  pub slip-seven : told (r .verdict) ≡ refusal variable p → (b : FirstBadToken 64 variable t p) × IsVar (b .token .raw)
   slip-seven e = let b = slip-reading t r reads .places variable (omega arith) p e in (b, b .stated)
 
 -- ---- plain text

@@ -44,13 +44,13 @@ pub fn read_slip(text: &[u8]) -> SlipRead
 pub fn write_rule(r: Rule, out: &mut [u8]) -> Written
     ensures { λ w. ⌜ RuleWriting r (now (out .entry)) w (now (out .exit)) ⌝ }
 {
-    text_plain_rules::write_rule(r, out)
+    text_plain::rules::write_rule(r, out)
 }
 
 pub fn write_slip(s: Slip, out: &mut [u8]) -> Written
     ensures { λ w. ⌜ SlipWriting s (now (out .entry)) w (now (out .exit)) ⌝ }
 {
-    text_plain_slips::write_slip(s, out)
+    text_plain::slips::write_slip(s, out)
 }
 
 // ---- demand 2, matching

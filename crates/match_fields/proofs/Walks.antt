@@ -16,10 +16,10 @@ use Rattle.text_values.specs.declared.Form.{Form}
 use Rattle.text_values.specs.declared.Form.the-variants.{Int, Str, Var}
 use Rattle.text_values.specs.declared.Term.{Term}
 use Rattle.text_values.specs.Values.{blankTerm}
-use Rattle.match_bindings.specs.declared.Values.{Values}
-use Rattle.match_bindings.proofs.Entries.{entry-any}
-use Rattle.match_items.specs.declared.Tested.{Tested}
-use Rattle.match_items.specs.Tests.{isList, testVar, testBy, tested}
+use Rattle.match_fields.specs.declared.bindings.Values.{Values}
+use Rattle.match_fields.proofs.bindings.Entries.{entry-any}
+use Rattle.match_fields.specs.declared.items.Tested.{Tested}
+use Rattle.match_fields.specs.items.Tests.{isList, testVar, testBy, tested}
 use Rattle.match_fields.specs.declared.Shape.{Shape}
 use Rattle.match_fields.specs.declared.Progress.{Progress}
 use Rattle.match_fields.specs.Fields.{isListForm, isListTerm, widthOf, pick, goOn, walked, atomsIn}

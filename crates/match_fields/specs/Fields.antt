@@ -11,9 +11,9 @@ use Rattle.text_values.specs.declared.Term.{Term}
 use Rattle.text_values.specs.declared.Field.{Field}
 use Rattle.text_values.specs.declared.SlipField.{SlipField}
 use Rattle.text_values.specs.Values.{blankTerm}
-use Rattle.match_bindings.specs.declared.Values.{Values}
-use Rattle.match_items.specs.declared.Tested.{Tested}
-use Rattle.match_items.specs.Tests.{isList, tested}
+use Rattle.match_fields.specs.declared.bindings.Values.{Values}
+use Rattle.match_fields.specs.declared.items.Tested.{Tested}
+use Rattle.match_fields.specs.items.Tests.{isList, tested}
 use Rattle.match_fields.specs.declared.Shape.{Shape}
 use Rattle.match_fields.specs.declared.Progress.{Progress}
 

@@ -5,8 +5,12 @@ ghost use lib.ListN.{getD};
 ghost use Rattle.text_values.specs.Values.{blankTerm};
 ghost use Rattle.match_fields.specs.Fields.{isListTerm, walkProgress, shapeWith, shapeOf, fitsLength, fieldProgress, termsOf};
 ghost use Rattle.match_fields.specs.Fields.{itemsOf};
-use match_bindings::Values;
-use match_items::Tested;
+
+pub mod bindings; // what variables are bound to
+pub mod items; // one term against one item
+
+use crate::bindings::Values;
+use crate::items::Tested;
 use math_types::Kind;
 use text_values::Field;
 use text_values::Form;
@@ -102,7 +106,7 @@ fn walk_field(f: Field, w: SlipField, gap: usize, v: Values) -> Progress
         if is_list_term(t) {
             p += gap;
         } else {
-            let r = match_items::test_term(t, item_at(w, p), now);
+            let r = crate::items::test_term(t, item_at(w, p), now);
             compared += 1;
             if !r.ok {
                 return Progress {

@@ -13,18 +13,18 @@ use Rattle.math_terms.specs.Linear.{OneList}
 use Rattle.text_grammar.specs.Sizes.{mostFields}
 use Rattle.text_grammar.specs.Terms.{Con, OurTerm}
 use Rattle.text_grammar.specs.Limits.{TermIn, IsCon}
-use Rattle.text_constants.specs.Matching.{constants, matcher, compared}
-use Rattle.text_constants.proofs.Linear.{left-linear}
-use Rattle.text_constants.proofs.Matching.{constants-are}
+use Rattle.text_grammar.specs.constants.Matching.{constants, matcher, compared}
+use Rattle.text_grammar.proofs.constants.Linear.{left-linear}
+use Rattle.text_grammar.proofs.constants.Matching.{constants-are}
 use Rattle.text_values.specs.declared.Field.{Field}
 use Rattle.text_values.specs.declared.SlipField.{SlipField}
 use Rattle.text_values.specs.declared.RuleSide.{RuleSide}
 use Rattle.text_values.specs.declared.Slip.{Slip}
 use Rattle.text_values.specs.Values.{blankField, blankSlipField, encodeField, encodeSlipField, encodeSide, encodeSlip, viewSide, viewSlip}
 use Rattle.text_accepted.specs.Accepted.{acceptedLeft, countedLeft}
-use Rattle.text_accepted_slips.specs.Slips.{acceptedSlip, countedSlip}
+use Rattle.text_accepted.specs.slips.Slips.{acceptedSlip, countedSlip}
 use Rattle.text_accepted.proofs.Accepted.{FieldIn, rule-is, accepted-rule}
-use Rattle.text_accepted_slips.proofs.Slips.{slip-is, accepted-slip}
+use Rattle.text_accepted.proofs.slips.Slips.{slip-is, accepted-slip}
 use Rattle.match_rules.specs.declared.Match.{Match}
 use Rattle.match_rules.specs.Answers.{noMatch, found, matchOf, comparison, noComparison, comparisonBy, comparisonOn}
 use Rattle.match_rules.proofs.Agree.{unpadded, encodeItems}

@@ -24,14 +24,14 @@ use Rattle.math_terms.proofs.Seqs.{item-at}
 use Rattle.text_grammar.specs.Sizes.{longestString}
 use Rattle.text_grammar.specs.Terms.{Con, int, str, OurTerm}
 use Rattle.text_grammar.specs.Limits.{TermIn}
-use Rattle.text_constants.specs.Constants.{con-eq, kind-of, consts}
+use Rattle.text_grammar.specs.constants.Constants.{con-eq, kind-of, consts}
 use Rattle.text_values.specs.declared.SlipField.{SlipField}
 use Rattle.text_values.specs.Values.{pad, blankTerm, encodeTerm, encodeField, encodeSlipField}
 use Rattle.text_values.specs.declared.Term.{Term as TermValue}
-use Rattle.match_bindings.specs.declared.Values.{Values}
-use Rattle.match_bindings.specs.Values.{slot}
-use Rattle.match_items.specs.declared.Tested.{Tested}
-use Rattle.match_items.specs.Tests.{sameBytes, sameTerm, itemKind, bound, met, testVar, tested}
+use Rattle.match_fields.specs.declared.bindings.Values.{Values}
+use Rattle.match_fields.specs.bindings.Values.{slot}
+use Rattle.match_fields.specs.declared.items.Tested.{Tested}
+use Rattle.match_fields.specs.items.Tests.{sameBytes, sameTerm, itemKind, bound, met, testVar, tested}
 use Rattle.match_fields.specs.Fields.{pick, goOn, widthOf, walked, shapeOf, fieldTested, termsOf, itemsOf}
 use Rattle.match_fields.proofs.Shapes.{fits-room, gap-is}
 use Rattle.match_rules.specs.Tests.{noValues, fieldsTested}

@@ -18,12 +18,12 @@ use Rattle.math_terms.proofs.Compared.{countThen, comparedWalk, comparedField, 
 use Rattle.math_terms.proofs.Slices.{span, room-span}
 use Rattle.text_grammar.specs.Terms.{Con, int, str, OurTerm}
 use Rattle.text_grammar.specs.Limits.{TermIn}
-use Rattle.text_constants.specs.Constants.{consts}
+use Rattle.text_grammar.specs.constants.Constants.{consts}
 use Rattle.text_values.specs.declared.Term.{Term as TermValue}
 use Rattle.text_values.specs.Values.{blankTerm, encodeTerm, encodeField}
-use Rattle.match_bindings.specs.declared.Values.{Values}
-use Rattle.match_items.specs.declared.Tested.{Tested}
-use Rattle.match_items.specs.Tests.{tested}
+use Rattle.match_fields.specs.declared.bindings.Values.{Values}
+use Rattle.match_fields.specs.declared.items.Tested.{Tested}
+use Rattle.match_fields.specs.items.Tests.{tested}
 use Rattle.match_fields.specs.Fields.{widthOf, atomsIn, countOn, walkCompared, fieldTested, fieldCompared}
 use Rattle.match_fields.proofs.Shapes.{fits-room, gap-is}
 use Rattle.match_rules.specs.Tests.{fieldsCompared}

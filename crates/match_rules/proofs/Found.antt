@@ -20,16 +20,16 @@ use Rattle.math_terms.specs.Linear.{lists, OneList}
 use Rattle.math_terms.proofs.Compared.{compared-none, compared-walked}
 use Rattle.text_grammar.specs.Terms.{Con, int, str, OurTerm}
 use Rattle.text_grammar.specs.Limits.{TermIn}
-use Rattle.text_constants.specs.Constants.{consts}
-use Rattle.text_constants.specs.Matching.{matcher, compared}
+use Rattle.text_grammar.specs.constants.Constants.{consts}
+use Rattle.text_grammar.specs.constants.Matching.{matcher, compared}
 use Rattle.text_values.specs.declared.Term.{Term as TermValue}
 use Rattle.text_values.specs.declared.Field.{Field}
 use Rattle.text_values.specs.declared.SlipField.{SlipField}
 use Rattle.text_values.specs.Values.{blankTerm, encodeTerm, encodeField}
-use Rattle.match_bindings.specs.declared.Values.{Values}
-use Rattle.match_bindings.specs.declared.Run.{Run}
-use Rattle.match_bindings.specs.declared.Filling.{Filling as FillingValue}
-use Rattle.match_items.specs.declared.Tested.{Tested}
+use Rattle.match_fields.specs.declared.bindings.Values.{Values}
+use Rattle.match_fields.specs.declared.bindings.Run.{Run}
+use Rattle.match_fields.specs.declared.bindings.Filling.{Filling as FillingValue}
+use Rattle.match_fields.specs.declared.items.Tested.{Tested}
 use Rattle.match_rules.specs.declared.Match.{Match}
 use Rattle.match_rules.specs.declared.Comparison.{Comparison}
 use Rattle.match_rules.specs.Tests.{noValues, fieldsTested, runsOver, runsIn, runsAll}

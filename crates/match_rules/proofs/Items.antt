@@ -7,12 +7,12 @@ use Rattle.base_lists.specs.Seqs.{All}
 use Rattle.math_terms.specs.Terms.{con}
 use Rattle.text_grammar.specs.Terms.{OurTerm}
 use Rattle.text_grammar.specs.Limits.{IsCon}
-use Rattle.text_constants.specs.Matching.{constants}
-use Rattle.text_constants.proofs.Matching.{constants-are}
+use Rattle.text_grammar.specs.constants.Matching.{constants}
+use Rattle.text_grammar.proofs.constants.Matching.{constants-are}
 use Rattle.text_values.specs.declared.Term.{Term}
 use Rattle.text_values.specs.declared.SlipField.{SlipField}
 use Rattle.text_values.specs.Values.{blankTerm, blankSlipField, encodeTerm, encodeSlipField, encodeSlip}
-use Rattle.match_bindings.specs.declared.Run.{Run}
+use Rattle.match_fields.specs.declared.bindings.Run.{Run}
 use Rattle.match_fields.specs.Fields.{itemsOf}
 use Rattle.match_rules.specs.Answers.{itemsAt}
 use Rattle.match_rules.proofs.Agree.{enc, unpadded}

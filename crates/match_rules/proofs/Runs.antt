@@ -20,13 +20,13 @@ use Rattle.math_terms.specs.Linear.{lists, OneList}
 use Rattle.math_terms.proofs.Slices.{Slices, field-iff}
 use Rattle.text_grammar.specs.Terms.{Con, OurTerm}
 use Rattle.text_grammar.specs.Limits.{Linear}
-use Rattle.text_constants.specs.Constants.{consts}
-use Rattle.text_constants.specs.Matching.{matcher}
-use Rattle.text_constants.proofs.Linear.{left-linear}
-use Rattle.text_constants.proofs.Matching.{match-yes, match-is}
+use Rattle.text_grammar.specs.constants.Constants.{consts}
+use Rattle.text_grammar.specs.constants.Matching.{matcher}
+use Rattle.text_grammar.proofs.constants.Linear.{left-linear}
+use Rattle.text_grammar.proofs.constants.Matching.{match-yes, match-is}
 use Rattle.text_values.specs.Values.{blankTerm}
-use Rattle.match_bindings.specs.declared.Run.{Run}
-use Rattle.match_bindings.specs.Values.{slot, blankRun}
+use Rattle.match_fields.specs.declared.bindings.Run.{Run}
+use Rattle.match_fields.specs.bindings.Values.{slot, blankRun}
 use Rattle.match_rules.specs.Answers.{kindAt, isKnown, valueTerm, encodeValues, runsField, runsFrom, runsOf, itemsAt, LiesIn}
 use Rattle.match_rules.proofs.Found.{none-set}
 

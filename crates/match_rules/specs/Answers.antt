@@ -13,16 +13,16 @@ use Rattle.math_terms.specs.Terms.{con, var}
 use Rattle.math_terms.specs.Fillings.{Filling}
 use Rattle.math_terms.specs.Matcher.{atoms}
 use Rattle.text_grammar.specs.Terms.{Con, OurTerm}
-use Rattle.text_constants.specs.Matching.{constants, matcher, compared}
+use Rattle.text_grammar.specs.constants.Matching.{constants, matcher, compared}
 use Rattle.text_values.specs.declared.Term.{Term}
 use Rattle.text_values.specs.declared.Field.{Field}
 use Rattle.text_values.specs.declared.SlipField.{SlipField}
 use Rattle.text_values.specs.Values.{blankTerm, encodeTerm}
-use Rattle.match_bindings.specs.declared.Values.{Values}
-use Rattle.match_bindings.specs.declared.Run.{Run}
-use Rattle.match_bindings.specs.declared.Filling.{Filling as FillingValue}
-use Rattle.match_bindings.specs.Values.{blankRun}
-use Rattle.match_items.specs.declared.Tested.{Tested}
+use Rattle.match_fields.specs.declared.bindings.Values.{Values}
+use Rattle.match_fields.specs.declared.bindings.Run.{Run}
+use Rattle.match_fields.specs.declared.bindings.Filling.{Filling as FillingValue}
+use Rattle.match_fields.specs.bindings.Values.{blankRun}
+use Rattle.match_fields.specs.declared.items.Tested.{Tested}
 use Rattle.match_rules.specs.declared.Match.{Match}
 use Rattle.match_rules.specs.declared.Comparison.{Comparison}
 use Rattle.match_rules.specs.Tests.{noValues, fieldsTested, fieldsCompared, runsAll}

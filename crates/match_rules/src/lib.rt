@@ -4,14 +4,17 @@ ghost use Prim.Native.Nat.{_-_, _≤_, min};
 ghost use Rattle.match_rules.specs.Tests.{fieldsProgress, noValues, withRun, runsIn, runsAll};
 ghost use Rattle.match_rules.specs.Answers.{fillingOf, matchOf, noMatch, comparison, noComparison, foundBy};
 ghost use Rattle.text_accepted.specs.Accepted.{countedLeft};
-ghost use Rattle.text_accepted_rules.specs.Rules.{countedRule};
-ghost use Rattle.text_accepted_slips.specs.Slips.{countedSlip};
+ghost use Rattle.text_accepted.specs.rules.Rules.{countedRule};
+ghost use Rattle.text_accepted.specs.slips.Slips.{countedSlip};
 ghost use lib.ListN.{take};
-use match_bindings::Filling;
-use match_bindings::Run;
-use match_bindings::Values;
+
+pub mod texts; // texts that were just read
+
 use match_fields::Progress;
-use match_items::Tested;
+use match_fields::bindings::Filling;
+use match_fields::bindings::Run;
+use match_fields::bindings::Values;
+use match_fields::items::Tested;
 use math_types::Kind;
 use text_values::Field;
 use text_values::Form;
@@ -32,7 +35,7 @@ pub struct Comparison {
     pub compared: usize,
 }
 
-pub fn no_values() -> Values
+pub(crate) fn no_values() -> Values
     ensures { λ r. ⌜ r ≡ noValues ⌝ }
 {
     let t = text_values::blank_term();
@@ -115,7 +118,7 @@ fn left_over(n: usize, a: usize) -> usize
 }
 
 // The run of one field's list variable. There is at most one: it takes the items that the other terms leave.
-pub fn run_field(j: usize, f: Field, w: SlipField, x: Filling) -> Filling
+pub(crate) fn run_field(j: usize, f: Field, w: SlipField, x: Filling) -> Filling
     ensures { λ y. ⌜ y ≡ runsIn j f w x ⌝ }
 {
     let n = at_most(f.n, 16);
@@ -152,7 +155,7 @@ fn run_fields(r: RuleSide, s: Slip, x: Filling) -> Filling
 }
 
 // The filling with these values and no runs.
-pub fn filling_of(v: Values) -> Filling
+pub(crate) fn filling_of(v: Values) -> Filling
     ensures { λ x. ⌜ x ≡ fillingOf v ⌝ }
 {
     let r = Run {
@@ -167,7 +170,7 @@ pub fn filling_of(v: Values) -> Filling
 }
 
 // No, with the blank filling.
-pub fn no_match() -> Match
+pub(crate) fn no_match() -> Match
     ensures { λ m. ⌜ m ≡ noMatch ⌝ }
 {
     let v = no_values();
@@ -178,7 +181,7 @@ pub fn no_match() -> Match
 }
 
 // No, and nothing was compared.
-pub fn no_comparison() -> Comparison
+pub(crate) fn no_comparison() -> Comparison
     ensures { λ c. ⌜ c ≡ noComparison ⌝ }
 {
     Comparison {
@@ -204,13 +207,13 @@ fn found_by(rule: RuleSide, slip: Slip, t: Tested) -> Match
 
 // Whether this left side matches the slip, with which filling, and how many of the slip's items were compared. What no reading returns
 // has no fields, and matches nothing.
-pub fn compare_side(rule: RuleSide, slip: Slip) -> Comparison
+pub(crate) fn compare_side(rule: RuleSide, slip: Slip) -> Comparison
     ensures { λ c. ⌜ c ≡ comparison (countedLeft rule) (countedSlip slip) ⌝ }
 {
     if !text_accepted::is_left(rule) {
         return no_comparison();
     }
-    if !text_accepted_slips::is_slip(slip) {
+    if !text_accepted::slips::is_slip(slip) {
         return no_comparison();
     }
     if slip.n != rule.n {
@@ -227,7 +230,7 @@ pub fn compare_side(rule: RuleSide, slip: Slip) -> Comparison
 pub fn compare_rule(rule: Rule, slip: Slip) -> Comparison
     ensures { λ c. ⌜ c ≡ comparison ((countedRule rule) .0) (countedSlip slip) ⌝ }
 {
-    compare_side(text_accepted_rules::left_of(rule), slip)
+    compare_side(text_accepted::rules::left_of(rule), slip)
 }
 
 // Whether this left side matches the slip, and with which filling.

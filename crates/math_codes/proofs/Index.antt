@@ -12,10 +12,10 @@ use Rattle.math_terms.specs.Seqs.{concat-map}
 use Rattle.math_terms.proofs.Seqs.{concat-map-append}
 use Rattle.text_grammar.specs.Limits.{TermIn, IsLeft}
 use Rattle.text_grammar.specs.Terms.{OurTerm}
-use Rattle.text_constants.specs.Constants.{consts}
+use Rattle.text_grammar.specs.constants.Constants.{consts}
 use Rattle.math_overlaps.specs.Shapes.{free, Side, left, right, of}
 use Rattle.math_overlaps.specs.Candidates.{range}
-use Rattle.overlap_spec.specs.Lines.{lineText, leftMark, rightMark}
+use Rattle.overlap_spec.specs.Lines.{lineText, leftTag, rightTag}
 use Rattle.overlap_spec.specs.Overlaps.{linesOf}
 use Rattle.overlap_spec.specs.Variables.{Variable, kinds, numbersFrom, numbers, ofKind, occurs, keep, every, variables}
 use Rattle.overlap_spec.proofs.Variables.{every-mem, occurs-is, in-variables}
@@ -133,20 +133,20 @@ module _ (r₁ r₂ : List (List OurTerm)) (d : Side) (r : List (List OurTerm)) 
           ∙ concat-same (λ k. concat-map shownBy (ofKind k)) (λ k. concat-map (shownAt (rank k)) (range 0 (tops (rank k)))) kinds (λ k i. kind-loop k)
 
   -- THE VALUES in a line
-  module _ (T : Table) (texts : ℕ → List ℕ) (ns : List ℕ) (mark : ℕ) where
-    pub values-indexed : valuesText T texts ns mark (λ v. valueOn r₁ r₂ d atoms runs (v .0) (v .1)) (variables r)
-        ≡ everyValue T texts ns mark x atoms runs
-    values-indexed = by-index (valueText T texts ns mark)
+  module _ (T : Table) (texts : ℕ → List ℕ) (ns : List ℕ) (tag : ℕ) where
+    pub values-indexed : valuesText T texts ns tag (λ v. valueOn r₁ r₂ d atoms runs (v .0) (v .1)) (variables r)
+        ≡ everyValue T texts ns tag x atoms runs
+    values-indexed = by-index (valueText T texts ns tag)
 
-    name-ranked : (k : Kind) (n : ℕ) (cs : List ℕ) → valueText T texts ns mark (k, n) cs ≡ boundText T texts ns mark (rank k) n cs
+    name-ranked : (k : Kind) (n : ℕ) (cs : List ℕ) → valueText T texts ns tag (k, n) cs ≡ boundText T texts ns tag (rank k) n cs
     name-ranked (basic integer) n cs = refl
     name-ranked (basic string) n cs = refl
     name-ranked (basic atom) n cs = refl
     name-ranked list n cs = refl
 
     -- THE LOOPS write the same
-    pub values-ranked : (tops : ℕ → ℕ) → Tops r tops → everyValue T texts ns mark x atoms runs ≡ indexedValues T texts ns mark x tops atoms runs
-    values-ranked tops tp = by-rank (valueText T texts ns mark) tops tp (boundText T texts ns mark) name-ranked
+    pub values-ranked : (tops : ℕ → ℕ) → Tops r tops → everyValue T texts ns tag x atoms runs ≡ indexedValues T texts ns tag x tops atoms runs
+    values-ranked tops tp = by-rank (valueText T texts ns tag) tops tp (boundText T texts ns tag) name-ranked
 
   -- THE VALUES alone
   pub values-listed : (tops : ℕ → ℕ) → Tops r tops → listedValues x tops atoms runs ≡ map (λ v. valueOn r₁ r₂ d atoms runs (v .0) (v .1)) (variables r)
@@ -163,10 +163,10 @@ module _ (r₁ r₂ : List (List OurTerm)) (T : Table) (texts : ℕ → List ℕ
   line-indexed Ps Qs is last =
       let ns = nameFields T (noNames pairItems 4) is .numbers in
       sym (ap₂ (λ (a b : List ℕ). fieldsText T texts ns is ++ (a ++ (b ++ 10 ∷ [])))
-      (values-indexed r₁ r₂ left r₁ x₁ ix₁ last (runOn Ps is) T texts ns leftMark
-      ∙ values-ranked r₁ r₂ left r₁ x₁ ix₁ last (runOn Ps is) T texts ns leftMark t₁ tp₁)
-      (values-indexed r₁ r₂ right r₂ x₂ ix₂ last (runOn Qs is) T texts ns rightMark
-      ∙ values-ranked r₁ r₂ right r₂ x₂ ix₂ last (runOn Qs is) T texts ns rightMark t₂ tp₂))
+      (values-indexed r₁ r₂ left r₁ x₁ ix₁ last (runOn Ps is) T texts ns leftTag
+      ∙ values-ranked r₁ r₂ left r₁ x₁ ix₁ last (runOn Ps is) T texts ns leftTag t₁ tp₁)
+      (values-indexed r₁ r₂ right r₂ x₂ ix₂ last (runOn Qs is) T texts ns rightTag
+      ∙ values-ranked r₁ r₂ right r₂ x₂ ix₂ last (runOn Qs is) T texts ns rightTag t₂ tp₂))
 
   -- THE LIST as the code makes it
   pub lines-agree : walkOn entry T (spotsOf 16 0 r₁) (spotsOf 16 64 r₂) (T .first)

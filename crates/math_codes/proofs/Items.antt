@@ -17,7 +17,7 @@ use Rattle.math_overlaps.specs.Shapes.{Atom, fixed, free, Side, Variable, of, V
 use Rattle.math_overlaps.specs.Candidates.{Cand, range, exact, long}
 use Rattle.math_overlaps.specs.Joins.{At, resolve}
 use Rattle.math_overlaps.specs.Entries.{fieldsFor}
-use Rattle.math_overlaps.specs.Overlaps.{Mark, place, termOf, fieldOf, mapShape, middle, runOf, PairShape, PairState, markedFields, markedValue}
+use Rattle.math_overlaps.specs.Overlaps.{Origin, place, termOf, fieldOf, mapShape, middle, runOf, PairShape, PairState, originFields, originValue}
 use Rattle.math_codes.specs.Tables.{Holds, codeOf, IsCode, same}
 use Rattle.math_codes.specs.Entries.{codeFields}
 use Rattle.math_codes.specs.Items.{shownAt, termsRow, itemsOf, entryItems, valueItems}
@@ -73,11 +73,11 @@ module _ {C K A : Type 0} where
   term-once (free (of s k m)) (free (of s′ k′ m′)) e = cc
 
   -- an atom's term is no list variable
-  term-atom : (a : Atom C (Variable K A)) (x : Mark A) → termOf a ≡ var list x → ⊥
+  term-atom : (a : Atom C (Variable K A)) (x : Origin A) → termOf a ≡ var list x → ⊥
   term-atom (fixed c) x e = con≢var e
   term-atom (free (of s k m)) x e = let q = kind-once e in let o : _≡_ {A = ℕ} 0 1 = cc in omega arith
 
-  shown-some : (o : Option (Atom C (Variable K A))) (u : Term C (Full K) (Mark A)) → shownAt o ≡ some u
+  shown-some : (o : Option (Atom C (Variable K A))) (u : Term C (Full K) (Origin A)) → shownAt o ≡ some u
       → (a : Atom C (Variable K A)) × (o ≡ some a) × (termOf a ≡ u)
   shown-some none u e = absurd (Option·none-ne-some u e)
   shown-some (some a) u e = (a, refl, Option·some-injective (termOf a) u e)
@@ -99,7 +99,7 @@ module _ {C K A : Type 0} where
     pub atom-there : (p : ℕ) (a : Atom C (Variable K A)) → Holds t p a → Holds (termsRow t h) p (termOf a)
     atom-there p a i = at-atom p (holds-below t p a i) ∙ ap shownAt i
 
-    module _ (d : Discrete (Atom C (Variable K A))) (d′ : Discrete (Term C (Full K) (Mark A))) where
+    module _ (d : Discrete (Atom C (Variable K A))) (d′ : Discrete (Term C (Full K) (Origin A))) where
       -- an atom's code is its term's
       pub atom-item : (c : ℕ) (a : Atom C (Variable K A)) → IsCode d t c a → IsCode d′ (termsRow t h) c (termOf a)
       atom-item c a i = (atom-there c a (i .0), code-found d′ (termsRow t h) c (termOf a) (atom-there c a (i .0)) first)
@@ -174,12 +174,12 @@ module _ {X Y A B L : Type 0} (R : X → Y → Type 0) (Q : A → B → Type 0) 
 
 -- ---- the entry's fields and the values
 
-module _ (O : Order) (C : Consts O) {A : Type 0} (name-eq : Discrete A) (d′ : Discrete (TermOver O C (Mark A)))
+module _ (O : Order) (C : Consts O) {A : Type 0} (name-eq : Discrete A) (d′ : Discrete (TermOver O C (Origin A)))
     (t : List (Option (At O C (pairVars O name-eq)))) (h : ℕ) where
   abbrev N : Vars O
   N = pairVars O name-eq
 
-  abbrev pub Items : ℕ → TermOver O C (Mark A) → Type 0
+  abbrev pub Items : ℕ → TermOver O C (Origin A) → Type 0
   Items c u = IsCode d′ (termsRow t h) c u
 
   atoms-items : (cs : List ℕ) (bs : List (At O C N)) → Each (Codes O C N t) cs bs → Each Items cs (map termOf bs)
@@ -208,7 +208,7 @@ module _ (O : Order) (C : Consts O) {A : Type 0} (name-eq : Discrete A) (d′ : 
       (i : Each (OnShape (At-place O C N t)) Ps Ss) (j : Each (OnShape (At-place O C N t)) Qs Ts) (l : length Ss ≤ h)
       (cs : List Cand) (atoms : List ℕ) (s : PairState O C name-eq) (r : Represents O C N t atoms s) where
     -- THE FIELDS of an entry
-    pub entry-items : Each (Each Items) (entryItems (length t) Ps Qs (cs, atoms)) (markedFields O C name-eq Ss Ts (cs, s))
+    pub entry-items : Each (Each Items) (entryItems (length t) Ps Qs (cs, atoms)) (originFields O C name-eq Ss Ts (cs, s))
     entry-items =
         fields-items (codeFields Ps Qs (cs, atoms)) (map (mapShape (resolve O C N s)) (fieldsFor 0 Ss Ts cs))
         (fields-agree O C N t atoms s r Ps Ss Qs Ts cs i j)
@@ -218,16 +218,16 @@ module _ (O : Order) (C : Consts O) {A : Type 0} (name-eq : Discrete A) (d′ : 
     module _ (d : Side) (Ws : List (Shape ℕ A)) (Us : List (PairShape O C name-eq)) (k : Each (OnShape (At-place O C N t)) Ws Us) where
       pub atom-value : (n : O .Kind) (a : A) (p : ℕ) → Holds t p (free (of d n a))
           → Each Items (valueItems O C name-eq t d Ws atoms (entryItems (length t) Ps Qs (cs, atoms)) (basic n) a)
-          (markedValue O C name-eq d Us s (markedFields O C name-eq Ss Ts (cs, s)) (basic n) a)
+          (originValue O C name-eq d Us s (originFields O C name-eq Ss Ts (cs, s)) (basic n) a)
       atom-value n a p q =
           let c = codeOf (same O C N) t (free (of d n a)) in
           (atom-item t h (same O C N) d′ (getD atoms c 0) (s (of d n a)) (r .held c (free (of d n a)) (code-holds (same O C N) t p (free (of d n a)) q)), tt)
 
       pub list-value : (a : A)
           → Each Items (valueItems O C name-eq t d Ws atoms (entryItems (length t) Ps Qs (cs, atoms)) list a)
-          (markedValue O C name-eq d Us s (markedFields O C name-eq Ss Ts (cs, s)) list a)
+          (originValue O C name-eq d Us s (originFields O C name-eq Ss Ts (cs, s)) list a)
       list-value a = run-each Items (At-place O C N t) name-eq Ws Us k (entryItems (length t) Ps Qs (cs, atoms))
-          (markedFields O C name-eq Ss Ts (cs, s)) entry-items a
+          (originFields O C name-eq Ss Ts (cs, s)) entry-items a
 
 -- ---- a variable of a rule stands in the table
 

@@ -19,23 +19,23 @@ use Rattle.text_grammar.specs.Numbers.{digitsOf}
 use Rattle.text_grammar.specs.Limits.{IsLeft}
 use Rattle.text_grammar.specs.Plain.{rawOf, rawField, termText, fieldText, plain}
 use Rattle.text_grammar.specs.Terms.{OurTerm}
-use Rattle.text_constants.specs.Constants.{con-eq, consts}
+use Rattle.text_grammar.specs.constants.Constants.{con-eq, consts}
 use Rattle.math_overlaps.specs.Shapes.{Side, left, right, side-eq, Shape, shapesOf}
 use Rattle.math_overlaps.specs.Candidates.{Cand}
 use Rattle.math_overlaps.specs.Substitutions.{substitute}
-use Rattle.math_overlaps.specs.Overlaps.{mark-eq, rename, numbersOf, PairShape, PairState, markedFields, markedValue, shown, overlaps}
+use Rattle.math_overlaps.specs.Overlaps.{origin-eq, rename, numbersOf, PairShape, PairState, originFields, originValue, shown, overlaps}
 use Rattle.math_overlaps.proofs.Linear.{shapes-count}
 use Rattle.math_overlaps.proofs.Named.{gaps}
-use Rattle.math_overlaps.proofs.Listed.{raw, marked-left, marked-right}
+use Rattle.math_overlaps.proofs.Listed.{raw, original-left, original-right}
 use Rattle.math_overlaps.proofs.Parts.{part-of-rule, part-occurs}
-use Rattle.overlap_spec.specs.Lines.{nameText, bindingText, bindingsText, lineText, leftMark, rightMark}
+use Rattle.overlap_spec.specs.Lines.{nameText, bindingText, bindingsText, lineText, leftTag, rightTag}
 use Rattle.overlap_spec.specs.Variables.{Variable, variables}
 use Rattle.overlap_spec.specs.Overlaps.{entriesOf, bindingsOf, lineOf}
 use Rattle.overlap_spec.proofs.Variables.{in-variables}
 use Rattle.math_codes.specs.Tables.{IsCode, Table}
 use Rattle.math_codes.specs.Names.{noNames, nameFields}
 use Rattle.math_codes.specs.Items.{entryItems, valueItems}
-use Rattle.math_codes.specs.Lines.{letterAt, itemText, colonTexts, itemsText, barTexts, fieldsText, valuesText, ourVars, OurMarked}
+use Rattle.math_codes.specs.Lines.{letterAt, itemText, colonTexts, itemsText, barTexts, fieldsText, valuesText, ourVars, OurOriginTerm}
 use Rattle.math_codes.specs.Lines.{listItems, ourRow, ourTerms, OurTables, valuesOn, lineOn}
 use Rattle.math_codes.proofs.Seqs.{Each, Perhaps, OnShape}
 use Rattle.math_codes.proofs.Joins.{Represents}
@@ -69,51 +69,51 @@ letter-is list = refl
 
 -- ---- texts
 
-abbrev pub marked-eq : Discrete OurMarked
-marked-eq = term-eq con-eq (full-eq basic-eq) (mark-eq side-eq ℕ-discrete ℕ-discrete)
+abbrev pub origin-term-eq : Discrete OurOriginTerm
+origin-term-eq = term-eq con-eq (full-eq basic-eq) (origin-eq side-eq ℕ-discrete ℕ-discrete)
 
 module _ (r₁ r₂ : List (List OurTerm)) (T : Table) (texts : ℕ → List ℕ) (ot : OurTables r₁ r₂ T texts)
-    (is : List (List ℕ)) (fs : List (List OurMarked)) where
-  abbrev Is : ℕ → OurMarked → Type 0
-  Is c u = IsCode marked-eq (ourTerms r₁ r₂) c u
+    (is : List (List ℕ)) (fs : List (List OurOriginTerm)) where
+  abbrev Is : ℕ → OurOriginTerm → Type 0
+  Is c u = IsCode origin-term-eq (ourTerms r₁ r₂) c u
 
   abbrev pub numbers : List ℕ
   numbers = nameFields T (noNames (length (ourTerms r₁ r₂)) 4) is .numbers
 
-  abbrev pub ν : OurMarked → OurTerm
+  abbrev pub ν : OurOriginTerm → OurTerm
   ν u = rename (numbersOf basics consts ℕ-discrete fs) u
 
   module _ (h : Each (Each Is) is fs) where
-    item-text : (c : ℕ) (u : OurMarked) → Is c u → Met fs u → itemText T texts numbers c ≡ termText (ν u)
+    item-text : (c : ℕ) (u : OurOriginTerm) → Is c u → Met fs u → itemText T texts numbers c ≡ termText (ν u)
     item-text c (con d) i m = rw (ot .terms .variables c (con d) (i .0)) (ot .plain c d (i .0))
     item-text c (var k b) i m =
         rw (ot .terms .variables c (var k b) (i .0), ot .terms .kinds c k b (i .0))
         (ap₂ (λ (l n : ℕ). l ∷ digitsOf n) (letter-is k)
-        (ap (λ (n : ℕ). n - 1) (number-agrees (full-eq basic-eq) (mark-eq side-eq ℕ-discrete ℕ-discrete) marked-eq rank 4 rank-below rank-once
+        (ap (λ (n : ℕ). n - 1) (number-agrees (full-eq basic-eq) (origin-eq side-eq ℕ-discrete ℕ-discrete) origin-term-eq rank 4 rank-below rank-once
         (ourTerms r₁ r₂) T (ot .terms) is fs h c k b i m)
         ∙ omega arith))
 
-    colon-texts : (cs : List ℕ) (f : List OurMarked) → Each Is cs f → All (Met fs) f → colonTexts T texts numbers cs ≡ colons (map rawOf (map ν f))
+    colon-texts : (cs : List ℕ) (f : List OurOriginTerm) → Each Is cs f → All (Met fs) f → colonTexts T texts numbers cs ≡ colons (map rawOf (map ν f))
     colon-texts [] [] i m = refl
     colon-texts [] (u ∷ f) i m = absurd i
     colon-texts (c ∷ cs) [] i m = absurd i
     colon-texts (c ∷ cs) (u ∷ f) i m = ap₂ (λ (s t : List ℕ). 58 ∷ (s ++ t)) (item-text c u (i .0) (m .0)) (colon-texts cs f (i .1) (m .1))
 
     -- a field's text
-    items-text : (cs : List ℕ) (f : List OurMarked) → Each Is cs f → All (Met fs) f → itemsText T texts numbers cs ≡ fieldText (map ν f)
+    items-text : (cs : List ℕ) (f : List OurOriginTerm) → Each Is cs f → All (Met fs) f → itemsText T texts numbers cs ≡ fieldText (map ν f)
     items-text [] [] i m = refl
     items-text [] (u ∷ f) i m = absurd i
     items-text (c ∷ cs) [] i m = absurd i
     items-text (c ∷ cs) (u ∷ f) i m = ap₂ (λ (s t : List ℕ). s ++ t) (item-text c u (i .0) (m .0)) (colon-texts cs f (i .1) (m .1))
 
-    bar-texts : (js : List (List ℕ)) (gs : List (List OurMarked)) → Each (Each Is) js gs → All (All (Met fs)) gs → barTexts T texts numbers js
+    bar-texts : (js : List (List ℕ)) (gs : List (List OurOriginTerm)) → Each (Each Is) js gs → All (All (Met fs)) gs → barTexts T texts numbers js
         ≡ bars (map rawField (map (map ν) gs))
     bar-texts [] [] i m = refl
     bar-texts [] (g ∷ gs) i m = absurd i
     bar-texts (j ∷ js) [] i m = absurd i
     bar-texts (j ∷ js) (g ∷ gs) i m = ap₂ (λ (s t : List ℕ). 124 ∷ (s ++ t)) (items-text j g (i .0) (m .0)) (bar-texts js gs (i .1) (m .1))
 
-    fields-text : (js : List (List ℕ)) (gs : List (List OurMarked)) → Each (Each Is) js gs → All (All (Met fs)) gs → fieldsText T texts numbers js
+    fields-text : (js : List (List ℕ)) (gs : List (List OurOriginTerm)) → Each (Each Is) js gs → All (All (Met fs)) gs → fieldsText T texts numbers js
         ≡ plain (map (map ν) gs)
     fields-text [] [] i m = refl
     fields-text [] (g ∷ gs) i m = absurd i
@@ -121,16 +121,16 @@ module _ (r₁ r₂ : List (List OurTerm)) (T : Table) (texts : ℕ → List ℕ
     fields-text (j ∷ js) (g ∷ gs) i m = ap₂ (λ (s t : List ℕ). s ++ t) (items-text j g (i .0) (m .0)) (bar-texts js gs (i .1) (m .1))
 
     -- the values of variables
-    pub values-text : (mark : ℕ) (value : Variable → List ℕ) (σ : Kind → ℕ → List OurMarked) (vs : List Variable)
+    pub values-text : (tag : ℕ) (value : Variable → List ℕ) (σ : Kind → ℕ → List OurOriginTerm) (vs : List Variable)
         → ((k : Kind) (n : ℕ) → List·Memᴰ (k, n) vs → Each Is (value (k, n)) (σ k n) × All (Met fs) (σ k n))
-        → valuesText T texts numbers mark value vs ≡ concat-map (bindingText mark)
+        → valuesText T texts numbers tag value vs ≡ concat-map (bindingText tag)
         (map (λ v. record { kind = v .0; number = v .1; value = map ν (σ (v .0) (v .1)) }) vs)
-    values-text mark value σ [] k = refl
-    values-text mark value σ (v ∷ vs) k =
+    values-text tag value σ [] k = refl
+    values-text tag value σ (v ∷ vs) k =
         let q = k (v .0) (v .1) (List·Memᴰ·head refl) in
-        ap₂ (λ (s t : List ℕ). (32 ∷ (mark ∷ (nameText (v .0) (v .1) ++ 61 ∷ s))) ++ t)
+        ap₂ (λ (s t : List ℕ). (32 ∷ (tag ∷ (nameText (v .0) (v .1) ++ 61 ∷ s))) ++ t)
         (items-text (value v) (σ (v .0) (v .1)) (q .0) (q .1))
-        (values-text mark value σ vs (λ j n i. k j n (List·Memᴰ·tail i)))
+        (values-text tag value σ vs (λ j n i. k j n (List·Memᴰ·tail i)))
 
 -- ---- lines
 
@@ -144,38 +144,38 @@ module _ (r₁ r₂ : List (List OurTerm)) (T : Table) (texts : ℕ → List ℕ
 
   module _ (cs : List Cand) (array : List ℕ) (s : PairState basics consts ℕ-discrete) (rep : Represents basics consts ourVars (ourRow r₁ r₂) array s)
       (m : List·Memᴰ (cs, s) (raw basics consts ℕ-discrete Ss Ts)) where
-    abbrev fs : List (List OurMarked)
-    fs = markedFields basics consts ℕ-discrete Ss Ts (cs, s)
+    abbrev fs : List (List OurOriginTerm)
+    fs = originFields basics consts ℕ-discrete Ss Ts (cs, s)
 
     abbrev js : List (List ℕ)
     js = entryItems (length (ourRow r₁ r₂)) Ps Qs (cs, array)
 
-    here : Each (Each (Items basics consts ℕ-discrete marked-eq (ourRow r₁ r₂) listItems)) js fs
-    here = entry-items basics consts ℕ-discrete marked-eq (ourRow r₁ r₂) listItems Ps Ss Qs Ts i j few cs array s rep
+    here : Each (Each (Items basics consts ℕ-discrete origin-term-eq (ourRow r₁ r₂) listItems)) js fs
+    here = entry-items basics consts ℕ-discrete origin-term-eq (ourRow r₁ r₂) listItems Ps Ss Qs Ts i j few cs array s rep
 
     -- a value of a variable of the rule on a side
     module _ (d : Side) (r : List (List OurTerm)) (b : ℕ) (st : StandAll (ourRow r₁ r₂) d 16 b r)
         (Ws : List (Shape ℕ ℕ)) (Us : List (PairShape basics consts ℕ-discrete)) (k : Each (OnShape (At-place basics consts ourVars (ourRow r₁ r₂))) Ws Us)
-        (solves : map (substitute (markedValue basics consts ℕ-discrete d Us s fs)) r ≡ fs) where
+        (solves : map (substitute (originValue basics consts ℕ-discrete d Us s fs)) r ≡ fs) where
       value-items : (q : Kind) (n : ℕ) → Any (Occurs q n) r
-          → Each (Items basics consts ℕ-discrete marked-eq (ourRow r₁ r₂) listItems) (valueItems basics consts ℕ-discrete (ourRow r₁ r₂) d Ws array js q n)
-          (markedValue basics consts ℕ-discrete d Us s fs q n)
+          → Each (Items basics consts ℕ-discrete origin-term-eq (ourRow r₁ r₂) listItems) (valueItems basics consts ℕ-discrete (ourRow r₁ r₂) d Ws array js q n)
+          (originValue basics consts ℕ-discrete d Us s fs q n)
       value-items (basic q) n o =
           let p = there (ourRow r₁ r₂) d q n 16 b r st o in
-          atom-value basics consts ℕ-discrete marked-eq (ourRow r₁ r₂) listItems Ps Ss Qs Ts i j few cs array s rep d Ws Us k q n (p .0) (p .1)
-      value-items list n o = list-value basics consts ℕ-discrete marked-eq (ourRow r₁ r₂) listItems Ps Ss Qs Ts i j few cs array s rep d Ws Us k n
+          atom-value basics consts ℕ-discrete origin-term-eq (ourRow r₁ r₂) listItems Ps Ss Qs Ts i j few cs array s rep d Ws Us k q n (p .0) (p .1)
+      value-items list n o = list-value basics consts ℕ-discrete origin-term-eq (ourRow r₁ r₂) listItems Ps Ss Qs Ts i j few cs array s rep d Ws Us k n
 
-      value-met : (q : Kind) (n : ℕ) → Any (Occurs q n) r → All (Met fs) (markedValue basics consts ℕ-discrete d Us s fs q n)
+      value-met : (q : Kind) (n : ℕ) → Any (Occurs q n) r → All (Met fs) (originValue basics consts ℕ-discrete d Us s fs q n)
       value-met q n o =
-          let σ = markedValue basics consts ℕ-discrete d Us s fs in
+          let σ = originValue basics consts ℕ-discrete d Us s fs in
           met-terms fs (σ q n) (λ k b p. subst (Any (Occurs k b)) solves (part-occurs k b (σ q n) p (map (substitute σ) r) (part-of-rule σ q n r o)))
 
-      side-text : (mark : ℕ) → IsLeft r
-          → valuesOn r₁ r₂ T texts (numbers r₁ r₂ T texts ot js fs) mark d r Ws array js
-          ≡ bindingsText mark (bindingsOf r (λ q n. map (ν r₁ r₂ T texts ot js fs) (markedValue basics consts ℕ-discrete d Us s fs q n)))
-      side-text mark ok =
-          values-text r₁ r₂ T texts ot js fs here mark (λ v. valueItems basics consts ℕ-discrete (ourRow r₁ r₂) d Ws array js (v .0) (v .1))
-          (markedValue basics consts ℕ-discrete d Us s fs) (variables r)
+      side-text : (tag : ℕ) → IsLeft r
+          → valuesOn r₁ r₂ T texts (numbers r₁ r₂ T texts ot js fs) tag d r Ws array js
+          ≡ bindingsText tag (bindingsOf r (λ q n. map (ν r₁ r₂ T texts ot js fs) (originValue basics consts ℕ-discrete d Us s fs q n)))
+      side-text tag ok =
+          values-text r₁ r₂ T texts ot js fs here tag (λ v. valueItems basics consts ℕ-discrete (ourRow r₁ r₂) d Ws array js (v .0) (v .1))
+          (originValue basics consts ℕ-discrete d Us s fs) (variables r)
           (λ q n z. let o = in-variables r (ok .0 .3) q n .0 z in (value-items q n o, value-met q n o))
 
     -- THE LINE of an entry
@@ -184,9 +184,9 @@ module _ (r₁ r₂ : List (List OurTerm)) (T : Table) (texts : ℕ → List ℕ
     line-agrees =
         ap₂ (λ (a b : List ℕ). a ++ b) (fields-text r₁ r₂ T texts ot js fs here js fs here (met-fields fs fs (λ k b o. o)))
         (ap₂ (λ (a b : List ℕ). a ++ b)
-        (side-text left r₁ 0 st₁ Ps Ss i (marked-left basics consts ℕ-discrete Ss Ts r₁ r₂ is₁ is₂ lin₁ lin₂ (cs, s) m) leftMark ok₁)
+        (side-text left r₁ 0 st₁ Ps Ss i (original-left basics consts ℕ-discrete Ss Ts r₁ r₂ is₁ is₂ lin₁ lin₂ (cs, s) m) leftTag ok₁)
         (ap (λ (a : List ℕ). a ++ 10 ∷ [])
-        (side-text right r₂ 64 st₂ Qs Ts j (marked-right basics consts ℕ-discrete Ss Ts r₁ r₂ is₁ is₂ lin₁ lin₂ (cs, s) m) rightMark ok₂)))
+        (side-text right r₂ 64 st₂ Qs Ts j (original-right basics consts ℕ-discrete Ss Ts r₁ r₂ is₁ is₂ lin₁ lin₂ (cs, s) m) rightTag ok₂)))
 
 -- ---- the list
 

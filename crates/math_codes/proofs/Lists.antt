@@ -12,8 +12,8 @@ use Rattle.math_terms.specs.Terms.{var}
 use Rattle.math_terms.specs.Seqs.{Distinct}
 use Rattle.text_grammar.specs.Limits.{IsLeft}
 use Rattle.text_grammar.specs.Terms.{OurTerm}
-use Rattle.text_constants.specs.Constants.{consts}
-use Rattle.text_constants.proofs.Linear.{left-linear}
+use Rattle.text_grammar.specs.constants.Constants.{consts}
+use Rattle.text_grammar.proofs.constants.Linear.{left-linear}
 use Rattle.math_overlaps.specs.Shapes.{fixed, free, left, right, of, Shape, shapesOf}
 use Rattle.math_overlaps.specs.Candidates.{Cand, range}
 use Rattle.math_overlaps.specs.Joins.{start}

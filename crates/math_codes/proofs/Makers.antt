@@ -18,7 +18,7 @@ use Rattle.math_overlaps.specs.Shapes.{Vars}
 use Rattle.math_overlaps.specs.Candidates.{Cand, range, cands}
 use Rattle.math_overlaps.specs.Joins.{At, State}
 use Rattle.math_overlaps.specs.Entries.{equations, chosen, branch}
-use Rattle.overlap_spec.specs.Lines.{leftMark, rightMark}
+use Rattle.overlap_spec.specs.Lines.{leftTag, rightTag}
 use Rattle.math_codes.specs.Tables.{Holds, Table}
 use Rattle.math_codes.specs.States.{replaced, joinedBy, takes, joinPlaces, joinsPlaces}
 use Rattle.math_codes.specs.Entries.{entriesOn}
@@ -194,40 +194,40 @@ module _ (T : Table) (texts : ℕ → List ℕ) (numbers : List ℕ) (size : ℕ
   fields-size [] = refl
   fields-size (f ∷ is) = omega (arith, length-append (itemsText T texts numbers f) (barTexts T texts numbers is), items-size f, bars-size is)
 
-  bound-size : (mark k n : ℕ) (cs : List ℕ) → length (boundText T texts numbers mark k n cs) ≡ boundSize size n cs
-  bound-size mark k n cs = omega (arith, length-append (nameAt k n) (61 ∷ itemsText T texts numbers cs), items-size cs)
+  bound-size : (tag k n : ℕ) (cs : List ℕ) → length (boundText T texts numbers tag k n cs) ≡ boundSize size n cs
+  bound-size tag k n cs = omega (arith, length-append (nameAt k n) (61 ∷ itemsText T texts numbers cs), items-size cs)
 
   -- what a loop writes is as long as its parts
   loop-size : (f : ℕ → List ℕ) (g : ℕ → ℕ) → ((n : ℕ) → length (f n) ≡ g n) → (ns : List ℕ) → length (concat-map f ns) ≡ sumOf g ns
   loop-size f g e [] = refl
   loop-size f g e (n ∷ ns) = length-append (f n) (concat-map f ns) ∙ ap₂ (λ (a b : ℕ). a + b) (e n) (loop-size f g e ns)
 
-  module _ (mark : ℕ) (ix tops : ℕ → ℕ) (atoms : List ℕ) (runs : ℕ → List ℕ) where
-    ranked-size : (k n : ℕ) → length (rankedValue T texts numbers mark ix atoms runs k n) ≡ rankedSize size ix atoms runs k n
+  module _ (tag : ℕ) (ix tops : ℕ → ℕ) (atoms : List ℕ) (runs : ℕ → List ℕ) where
+    ranked-size : (k n : ℕ) → length (rankedValue T texts numbers tag ix atoms runs k n) ≡ rankedSize size ix atoms runs k n
     ranked-size k n = go (hasAt ix k n)
       where
-        go : (b : Bool) → length (cond b (boundText T texts numbers mark k n (valueAt ix atoms runs k n)) [])
+        go : (b : Bool) → length (cond b (boundText T texts numbers tag k n (valueAt ix atoms runs k n)) [])
             ≡ cond b (boundSize size n (valueAt ix atoms runs k n)) 0
-        go true = bound-size mark k n (valueAt ix atoms runs k n)
+        go true = bound-size tag k n (valueAt ix atoms runs k n)
         go false = refl
 
-    rank-size : (k : ℕ) → length (rankValues T texts numbers mark ix tops atoms runs k) ≡ rankSizes size ix tops atoms runs k
-    rank-size k = loop-size (rankedValue T texts numbers mark ix atoms runs k) (rankedSize size ix atoms runs k) (ranked-size k) (range 0 (tops k))
+    rank-size : (k : ℕ) → length (rankValues T texts numbers tag ix tops atoms runs k) ≡ rankSizes size ix tops atoms runs k
+    rank-size k = loop-size (rankedValue T texts numbers tag ix atoms runs k) (rankedSize size ix atoms runs k) (ranked-size k) (range 0 (tops k))
 
-    pub values-size : length (indexedValues T texts numbers mark ix tops atoms runs) ≡ valuesSize size ix tops atoms runs
-    values-size = loop-size (rankValues T texts numbers mark ix tops atoms runs) (rankSizes size ix tops atoms runs) rank-size (range 0 4)
+    pub values-size : length (indexedValues T texts numbers tag ix tops atoms runs) ≡ valuesSize size ix tops atoms runs
+    values-size = loop-size (rankValues T texts numbers tag ix tops atoms runs) (rankSizes size ix tops atoms runs) rank-size (range 0 4)
 
   -- THE SIZE of a line is a sum
   pub line-size : (x₁ t₁ x₂ t₂ : ℕ → ℕ) (Ps Qs : List (Spot ℕ)) (atoms : List ℕ) (is : List (List ℕ))
       → length (indexedItems T texts x₁ t₁ x₂ t₂ Ps Qs atoms is numbers) ≡ sizeItems size x₁ t₁ x₂ t₂ Ps Qs atoms is
   line-size x₁ t₁ x₂ t₂ Ps Qs atoms is =
       let a = fieldsText T texts numbers is in
-      let b = indexedValues T texts numbers leftMark x₁ t₁ atoms (runOn Ps is) in
-      let c = indexedValues T texts numbers rightMark x₂ t₂ atoms (runOn Qs is) in
+      let b = indexedValues T texts numbers leftTag x₁ t₁ atoms (runOn Ps is) in
+      let c = indexedValues T texts numbers rightTag x₂ t₂ atoms (runOn Qs is) in
       length-append a (b ++ (c ++ 10 ∷ []))
       ∙ ap₂ (λ (m n : ℕ). m + n) (fields-size is)
-      (length-append b (c ++ 10 ∷ []) ∙ ap₂ (λ (m n : ℕ). m + n) (values-size leftMark x₁ t₁ atoms (runOn Ps is))
-      (length-append c (10 ∷ []) ∙ ap (λ (m : ℕ). m + 1) (values-size rightMark x₂ t₂ atoms (runOn Qs is))))
+      (length-append b (c ++ 10 ∷ []) ∙ ap₂ (λ (m n : ℕ). m + n) (values-size leftTag x₁ t₁ atoms (runOn Ps is))
+      (length-append c (10 ∷ []) ∙ ap (λ (m : ℕ). m + 1) (values-size rightTag x₂ t₂ atoms (runOn Qs is))))
 
 -- ---- do two rules overlap
 

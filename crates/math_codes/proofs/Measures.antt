@@ -234,14 +234,14 @@ item-short T texts w short numbers low c = go (T .variable c)
 
 -- THE VALUES of a rule, of at most m items each
 pub values-bounded : (T : Table) (texts : ℕ → List ℕ) (w : ℕ) → ((c : ℕ) → length (texts c) ≤ w) → (numbers : List ℕ)
-    → ((c : ℕ) → getD numbers c 0 ≤ 255) → (mark : ℕ) (x t : ℕ → ℕ) → ((k : ℕ) → k < 4 → t k ≤ 255) → (atoms : List ℕ) (runs : ℕ → List ℕ) (m : ℕ)
+    → ((c : ℕ) → getD numbers c 0 ≤ 255) → (tag : ℕ) (x t : ℕ → ℕ) → ((k : ℕ) → k < 4 → t k ≤ 255) → (atoms : List ℕ) (runs : ℕ → List ℕ) (m : ℕ)
     → 1 ≤ m → ((n : ℕ) → length (runs n) ≤ m)
-    → length (indexedValues T texts numbers mark x t atoms runs) ≤ 1020 * (m * (w + 5) + 12)
-values-bounded T texts w short numbers low mark x t few atoms runs m one most =
+    → length (indexedValues T texts numbers tag x t atoms runs) ≤ 1020 * (m * (w + 5) + 12)
+values-bounded T texts w short numbers low tag x t few atoms runs m one most =
     let size : ℕ → ℕ = λ c. length (itemText T texts numbers c) in
     omega (
       arith,
-      values-size T texts numbers size (λ c. refl) mark x t atoms runs,
+      values-size T texts numbers size (λ c. refl) tag x t atoms runs,
       values-short size w (item-short T texts w short numbers low) m one x t few atoms runs most,
     )
 
@@ -302,7 +302,7 @@ module _ (size : ℕ → ℕ) (few : (c : ℕ) → size c ≤ 17) where
 
   module _ (x tops : ℕ → ℕ) (low : (k : ℕ) → k < 4 → tops k ≤ 16) (atoms : List ℕ) (runs : ℕ → List ℕ)
       (most : (n : ℕ) → length (runs n) ≤ 31) where
-    -- a variable's part: a blank, a mark, a letter, two digits and `=`, and a value
+    -- a variable's part: a blank, a tag, a letter, two digits and `=`, and a value
     ranked-within : (k n b : ℕ) → n < 16 → itemsSize size (valueAt x atoms runs k n) ≤ b → rankedSize size x atoms runs k n ≤ 6 + b
     ranked-within k n b l h = go (hasAt x k n)
       where

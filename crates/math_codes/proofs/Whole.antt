@@ -13,12 +13,12 @@ use Rattle.math_terms.specs.Terms.{Term}
 use Rattle.math_terms.specs.Seqs.{concat-map}
 use Rattle.text_grammar.specs.Limits.{IsLeft}
 use Rattle.text_grammar.specs.Terms.{OurTerm}
-use Rattle.text_constants.specs.Constants.{consts}
+use Rattle.text_grammar.specs.constants.Constants.{consts}
 use Rattle.math_overlaps.specs.Shapes.{Side, left, right, Shape, both}
 use Rattle.math_overlaps.specs.Candidates.{Cand}
 use Rattle.math_overlaps.specs.Entries.{fieldsFor}
 use Rattle.math_overlaps.specs.Overlaps.{mapShape, runOf}
-use Rattle.overlap_spec.specs.Lines.{lineText, leftMark, rightMark}
+use Rattle.overlap_spec.specs.Lines.{lineText, leftTag, rightTag}
 use Rattle.overlap_spec.specs.Variables.{Variable, variables}
 use Rattle.overlap_spec.specs.Overlaps.{entriesOf, linesOf}
 use Rattle.math_codes.specs.Tables.{Table}
@@ -119,10 +119,10 @@ module _ (r₁ r₂ : List (List OurTerm)) (T : Table) (texts : ℕ → List ℕ
   value-agrees d Ps atoms is (basic k) a = refl
   value-agrees d Ps atoms is list a = run-agrees Ps is a
 
-  values-same : (ns : List ℕ) (mark : ℕ) (f g : Variable → List ℕ) → ((k : Kind) (a : ℕ) → f (k, a) ≡ g (k, a)) → (vs : List Variable)
-      → valuesText T texts ns mark f vs ≡ valuesText T texts ns mark g vs
-  values-same ns mark f g h vs = concat-same (λ v. valueText T texts ns mark v (f v)) (λ v. valueText T texts ns mark v (g v)) vs
-      (λ v i. ap (valueText T texts ns mark v) (h (v .0) (v .1)))
+  values-same : (ns : List ℕ) (tag : ℕ) (f g : Variable → List ℕ) → ((k : Kind) (a : ℕ) → f (k, a) ≡ g (k, a)) → (vs : List Variable)
+      → valuesText T texts ns tag f vs ≡ valuesText T texts ns tag g vs
+  values-same ns tag f g h vs = concat-same (λ v. valueText T texts ns tag v (f v)) (λ v. valueText T texts ns tag v (g v)) vs
+      (λ v i. ap (valueText T texts ns tag v) (h (v .0) (v .1)))
 
   line-spots : (Ps Qs : List (Spot ℕ)) (cs : List Cand) (atoms : List ℕ) → Chosen Ps Qs cs
       → lineSpots r₁ r₂ T texts Ps Qs cs atoms ≡ lineOn r₁ r₂ T texts pairPlaces pairItems (map spotShape Ps) (map spotShape Qs) (cs, atoms)
@@ -137,10 +137,10 @@ module _ (r₁ r₂ : List (List OurTerm)) (T : Table) (texts : ℕ → List ℕ
       same is =
           let ns = nameFields T (noNames pairItems 4) is .numbers in
           ap₂ (λ (a b : List ℕ). fieldsText T texts ns is ++ (a ++ (b ++ 10 ∷ [])))
-          (values-same ns leftMark (λ v. valueOn r₁ r₂ left atoms (runOn Ps is) (v .0) (v .1))
+          (values-same ns leftTag (λ v. valueOn r₁ r₂ left atoms (runOn Ps is) (v .0) (v .1))
           (λ v. valueItems basics consts ℕ-discrete (ourRow r₁ r₂) left (map spotShape Ps) atoms is (v .0) (v .1))
           (λ k a. sym (value-agrees left Ps atoms is k a)) (variables r₁))
-          (values-same ns rightMark (λ v. valueOn r₁ r₂ right atoms (runOn Qs is) (v .0) (v .1))
+          (values-same ns rightTag (λ v. valueOn r₁ r₂ right atoms (runOn Qs is) (v .0) (v .1))
           (λ v. valueItems basics consts ℕ-discrete (ourRow r₁ r₂) right (map spotShape Qs) atoms is (v .0) (v .1))
           (λ k a. sym (value-agrees right Qs atoms is k a)) (variables r₂))
 

@@ -11,10 +11,10 @@ use Rattle.math_terms.specs.Seqs.{concat-map}
 use Rattle.text_grammar.specs.Numbers.{digitsOf}
 use Rattle.text_grammar.specs.Sizes.{largestNumber}
 use Rattle.text_grammar.specs.Terms.{OurTerm}
-use Rattle.text_constants.specs.Constants.{consts}
+use Rattle.text_grammar.specs.constants.Constants.{consts}
 use Rattle.math_overlaps.specs.Shapes.{free, Side, of}
 use Rattle.math_overlaps.specs.Candidates.{Cand, range}
-use Rattle.overlap_spec.specs.Lines.{leftMark, rightMark}
+use Rattle.overlap_spec.specs.Lines.{leftTag, rightTag}
 use Rattle.overlap_spec.specs.Variables.{Variable, kinds, occurs, every}
 use Rattle.math_codes.specs.Tables.{Table, codeOf, same}
 use Rattle.math_codes.specs.Names.{noNames, nameFields}
@@ -93,11 +93,11 @@ indexedValue x atoms runs list n = runs n
 module _ (T : Table) (texts : ℕ → List ℕ) where
   -- a variable's part of a line; nothing of one that the rule lacks
   abbrev pub shownValue : List ℕ → ℕ → (ℕ → ℕ) → List ℕ → (ℕ → List ℕ) → Variable → List ℕ
-  shownValue numbers mark x atoms runs v = cond (has x v) (valueText T texts numbers mark v (indexedValue x atoms runs (v .0) (v .1))) []
+  shownValue numbers tag x atoms runs v = cond (has x v) (valueText T texts numbers tag v (indexedValue x atoms runs (v .0) (v .1))) []
 
   -- the variables of a rule in their order; `values-ranked` of proofs/ says that the loops below write the same
   abbrev pub everyValue : List ℕ → ℕ → (ℕ → ℕ) → List ℕ → (ℕ → List ℕ) → List ℕ
-  everyValue numbers mark x atoms runs = concat-map (shownValue numbers mark x atoms runs) every
+  everyValue numbers tag x atoms runs = concat-map (shownValue numbers tag x atoms runs) every
 
 -- ---- values by rank and number
 
@@ -116,27 +116,27 @@ valueAt x atoms runs k n = cond (ltb k 3) (getD atoms (x (slotAt k n) - 1) 0 ∷
 module _ (T : Table) (texts : ℕ → List ℕ) where
   -- a name and a value
   abbrev pub boundText : List ℕ → ℕ → ℕ → ℕ → List ℕ → List ℕ
-  boundText numbers mark k n cs = 32 ∷ (mark ∷ (nameAt k n ++ 61 ∷ itemsText T texts numbers cs))
+  boundText numbers tag k n cs = 32 ∷ (tag ∷ (nameAt k n ++ 61 ∷ itemsText T texts numbers cs))
 
   -- a variable's part of a line
   abbrev pub rankedValue : List ℕ → ℕ → (ℕ → ℕ) → List ℕ → (ℕ → List ℕ) → ℕ → ℕ → List ℕ
-  rankedValue numbers mark x atoms runs k n = cond (hasAt x k n) (boundText numbers mark k n (valueAt x atoms runs k n)) []
+  rankedValue numbers tag x atoms runs k n = cond (hasAt x k n) (boundText numbers tag k n (valueAt x atoms runs k n)) []
 
   -- the variables of a rank: a loop over the numbers below its top
   abbrev pub rankValues : List ℕ → ℕ → (ℕ → ℕ) → (ℕ → ℕ) → List ℕ → (ℕ → List ℕ) → ℕ → List ℕ
-  rankValues numbers mark x tops atoms runs k = concat-map (rankedValue numbers mark x atoms runs k) (range 0 (tops k))
+  rankValues numbers tag x tops atoms runs k = concat-map (rankedValue numbers tag x atoms runs k) (range 0 (tops k))
 
   -- those of a rule: a loop over the ranks
   abbrev pub indexedValues : List ℕ → ℕ → (ℕ → ℕ) → (ℕ → ℕ) → List ℕ → (ℕ → List ℕ) → List ℕ
-  indexedValues numbers mark x tops atoms runs = concat-map (rankValues numbers mark x tops atoms runs) (range 0 4)
+  indexedValues numbers tag x tops atoms runs = concat-map (rankValues numbers tag x tops atoms runs) (range 0 4)
 
   -- the line of an entry's items, by the indexes and tops of the two rules
   module _ (x₁ t₁ x₂ t₂ : ℕ → ℕ) (Ps Qs : List (Spot ℕ)) where
     abbrev pub indexedItems : List ℕ → List (List ℕ) → List ℕ → List ℕ
     indexedItems atoms is numbers =
         fieldsText T texts numbers is
-        ++ (indexedValues numbers leftMark x₁ t₁ atoms (runOn Ps is)
-        ++ (indexedValues numbers rightMark x₂ t₂ atoms (runOn Qs is) ++ 10 ∷ []))
+        ++ (indexedValues numbers leftTag x₁ t₁ atoms (runOn Ps is)
+        ++ (indexedValues numbers rightTag x₂ t₂ atoms (runOn Qs is) ++ 10 ∷ []))
 
     -- of a choice and its last array
     abbrev pub indexedLine : List Cand → List ℕ → List ℕ
@@ -164,5 +164,5 @@ module _ (T : Table) (texts : ℕ → List ℕ) where
       let vs = listedValues x₁ t₁ atoms runs₁ ++ listedValues x₂ t₂ atoms runs₂ in
       let numbers = nameFields T (noNames pairItems 4) vs .numbers in
       drop 1
-      (indexedValues T texts numbers leftMark x₁ t₁ atoms runs₁ ++ indexedValues T texts numbers rightMark x₂ t₂ atoms runs₂)
+      (indexedValues T texts numbers leftTag x₁ t₁ atoms runs₁ ++ indexedValues T texts numbers rightTag x₂ t₂ atoms runs₂)
       ++ 10 ∷ []

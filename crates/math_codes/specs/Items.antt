@@ -11,7 +11,7 @@ use Rattle.math_terms.specs.Constants.{Consts}
 use Rattle.math_overlaps.specs.Shapes.{Atom, free, Side, Variable, of, pairVars, Shape, closed, gapped}
 use Rattle.math_overlaps.specs.Candidates.{Cand, range}
 use Rattle.math_overlaps.specs.Joins.{At}
-use Rattle.math_overlaps.specs.Overlaps.{Mark, place, termOf, runOf}
+use Rattle.math_overlaps.specs.Overlaps.{Origin, place, termOf, runOf}
 use Rattle.math_codes.specs.Tables.{codeOf, same}
 use Rattle.math_codes.specs.Entries.{codeFields}
 
@@ -19,12 +19,12 @@ use Rattle.math_codes.specs.Entries.{codeFields}
 
 module _ {C K A : Type 0} where
   -- a place's term
-  abbrev pub shownAt : Option (Atom C (Variable K A)) → Option (Term C (Full K) (Mark A))
+  abbrev pub shownAt : Option (Atom C (Variable K A)) → Option (Term C (Full K) (Origin A))
   shownAt none = none
   shownAt (some a) = some (termOf a)
 
   -- the atoms' terms, then the list variables of h fields
-  abbrev pub termsRow : List (Option (Atom C (Variable K A))) → ℕ → List (Option (Term C (Full K) (Mark A)))
+  abbrev pub termsRow : List (Option (Atom C (Variable K A))) → ℕ → List (Option (Term C (Full K) (Origin A)))
   termsRow t h = map shownAt t ++ map (λ g. some (var list (place g))) (range 0 h)
 
 -- ---- items

@@ -15,12 +15,12 @@ use Rattle.text_grammar.specs.Sizes.{mostFields}
 use Rattle.text_grammar.specs.Read.{rule}
 use Rattle.text_grammar.specs.Plain.{termText}
 use Rattle.text_grammar.specs.Terms.{Con, OurTerm}
-use Rattle.text_constants.specs.Constants.{consts}
+use Rattle.text_grammar.specs.constants.Constants.{consts}
 use Rattle.math_overlaps.specs.Shapes.{Vars, Side, left, right, pairVars, Shape}
 use Rattle.math_overlaps.specs.Candidates.{Cand}
 use Rattle.math_overlaps.specs.Joins.{At}
-use Rattle.math_overlaps.specs.Overlaps.{Mark}
-use Rattle.overlap_spec.specs.Lines.{nameText, leftMark, rightMark}
+use Rattle.math_overlaps.specs.Overlaps.{Origin}
+use Rattle.overlap_spec.specs.Lines.{nameText, leftTag, rightTag}
 use Rattle.overlap_spec.specs.Variables.{Variable, variables}
 use Rattle.math_codes.specs.Tables.{Holds, Table, Ranks, tableOf, Made}
 use Rattle.math_codes.specs.Entries.{pairRow, placeShapes, entriesOn}
@@ -61,11 +61,11 @@ module _ (T : Table) (texts : ℕ → List ℕ) (numbers : List ℕ) where
 
   -- a variable and its value
   abbrev pub valueText : ℕ → Variable → List ℕ → List ℕ
-  valueText mark v cs = 32 ∷ (mark ∷ (nameText (v .0) (v .1) ++ 61 ∷ itemsText cs))
+  valueText tag v cs = 32 ∷ (tag ∷ (nameText (v .0) (v .1) ++ 61 ∷ itemsText cs))
 
   -- those of variables in their order
   abbrev pub valuesText : ℕ → (Variable → List ℕ) → List Variable → List ℕ
-  valuesText mark value vs = concat-map (λ v. valueText mark v (value v)) vs
+  valuesText tag value vs = concat-map (λ v. valueText tag v (value v)) vs
 
 -- the sizes as sums; `size` is an item's
 module _ (size : ℕ → ℕ) where
@@ -100,8 +100,8 @@ abbrev pub OurAtom : Type 0
 OurAtom = At basics consts ourVars
 
 -- a term of an entry before the renumbering
-abbrev pub OurMarked : Type 0
-OurMarked = Term Con Kind (Mark ℕ)
+abbrev pub OurOriginTerm : Type 0
+OurOriginTerm = Term Con Kind (Origin ℕ)
 
 -- the ranks of types, and their table
 abbrev pub ourRanks : Ranks basics
@@ -132,7 +132,7 @@ abbrev pub ourRow : List (List OurTerm) → List (List OurTerm) → List (Option
 ourRow r₁ r₂ = pairRow fieldPlaces mostFields r₁ r₂
 
 -- the terms by item
-abbrev pub ourTerms : List (List OurTerm) → List (List OurTerm) → List (Option OurMarked)
+abbrev pub ourTerms : List (List OurTerm) → List (List OurTerm) → List (Option OurOriginTerm)
 ourTerms r₁ r₂ = termsRow (ourRow r₁ r₂) listItems
 
 -- the tables, and the plain texts of constants, are those of the two rules
@@ -142,18 +142,18 @@ pub record OurTables (r₁ r₂ : List (List OurTerm)) (T : Table) (texts : ℕ 
   pub plain : (c : ℕ) (d : Con) → Holds (ourTerms r₁ r₂) c (con d) → texts c ≡ termText (con d)
 
 -- such tables: by place and list variable the rank, whether it is a variable, and a constant's plain text
-abbrev pub rankTerm : Option OurMarked → ℕ
+abbrev pub rankTerm : Option OurOriginTerm → ℕ
 rankTerm none = 0
 rankTerm (some (con c)) = rank (basic (consts .kind-of c))
 rankTerm (some (var k b)) = rank k
 
 -- whether it is a variable
-abbrev pub varTerm : Option OurMarked → Bool
+abbrev pub varTerm : Option OurOriginTerm → Bool
 varTerm none = false
 varTerm (some u) = isVar u
 
 -- a constant's plain text
-abbrev pub textTerm : Option OurMarked → List ℕ
+abbrev pub textTerm : Option OurOriginTerm → List ℕ
 textTerm none = []
 textTerm (some (con c)) = termText (con c)
 textTerm (some (var k b)) = []
@@ -176,15 +176,15 @@ ourTexts r₁ r₂ c = textTerm (getD (ourTerms r₁ r₂) c none)
 module _ (r₁ r₂ : List (List OurTerm)) (T : Table) (texts : ℕ → List ℕ) where
   -- the values of the rule on a side
   abbrev pub valuesOn : List ℕ → ℕ → Side → List (List OurTerm) → List (Shape ℕ ℕ) → List ℕ → List (List ℕ) → List ℕ
-  valuesOn numbers mark d r Ps atoms is =
-      valuesText T texts numbers mark (λ v. valueItems basics consts ℕ-discrete (ourRow r₁ r₂) d Ps atoms is (v .0) (v .1))
+  valuesOn numbers tag d r Ps atoms is =
+      valuesText T texts numbers tag (λ v. valueItems basics consts ℕ-discrete (ourRow r₁ r₂) d Ps atoms is (v .0) (v .1))
       (variables r)
 
   -- the line of an entry's items and their numbers
   abbrev pub lineFrom : List (Shape ℕ ℕ) → List (Shape ℕ ℕ) → List ℕ → List (List ℕ) → List ℕ → List ℕ
   lineFrom Ps Qs atoms is numbers =
       fieldsText T texts numbers is
-      ++ (valuesOn numbers leftMark left r₁ Ps atoms is ++ (valuesOn numbers rightMark right r₂ Qs atoms is ++ 10 ∷ []))
+      ++ (valuesOn numbers leftTag left r₁ Ps atoms is ++ (valuesOn numbers rightTag right r₂ Qs atoms is ++ 10 ∷ []))
 
   -- the line of a choice and its last array; n places, m items
   abbrev pub lineOn : ℕ → ℕ → List (Shape ℕ ℕ) → List (Shape ℕ ℕ) → List Cand × List ℕ → List ℕ

@@ -52,7 +52,7 @@ sumOf f (n ∷ ns) = f n + sumOf f ns
 
 -- `size` is an item's
 module _ (size : ℕ → ℕ) where
-  -- the number of a variable and its value; a blank, a mark, a letter and `=` beside them
+  -- the number of a variable and its value; a blank, a tag, a letter and `=` beside them
   abbrev pub boundSize : ℕ → List ℕ → ℕ
   boundSize n cs = 4 + (length (digitsOf n) + itemsSize size cs)
 

@@ -9,10 +9,10 @@ use Rattle.math_types.specs.Order.{Full, basic, list}
 use Rattle.math_types.specs.Types.{Kind, basics, entry}
 use Rattle.math_terms.specs.Terms.{Term}
 use Rattle.text_grammar.specs.Terms.{OurTerm}
-use Rattle.text_constants.specs.Constants.{consts}
+use Rattle.text_grammar.specs.constants.Constants.{consts}
 use Rattle.math_overlaps.specs.Shapes.{free, Side, left, right, of}
 use Rattle.math_overlaps.specs.Candidates.{Cand}
-use Rattle.overlap_spec.specs.Lines.{leftMark, rightMark}
+use Rattle.overlap_spec.specs.Lines.{leftTag, rightTag}
 use Rattle.overlap_spec.specs.Variables.{Variable, variables}
 use Rattle.math_codes.specs.Tables.{Table, codeOf, same}
 use Rattle.math_codes.specs.Names.{noNames, nameFields}
@@ -53,8 +53,8 @@ module _ (r₁ r₂ : List (List OurTerm)) where
   module _ (T : Table) (texts : ℕ → List ℕ) where
     -- the line of items, their numbers, and the values on the two sides
     abbrev pub lineBy : List ℕ → List (List ℕ) → (Variable → List ℕ) → (Variable → List ℕ) → List ℕ
-    lineBy numbers is f g = fieldsText T texts numbers is ++ (valuesText T texts numbers leftMark f (variables r₁) ++
-        (valuesText T texts numbers rightMark g (variables r₂) ++ 10 ∷ []))
+    lineBy numbers is f g = fieldsText T texts numbers is ++ (valuesText T texts numbers leftTag f (variables r₁) ++
+        (valuesText T texts numbers rightTag g (variables r₂) ++ 10 ∷ []))
 
     -- the line of an entry's items
     abbrev pub lineItems : List (Spot ℕ) → List (Spot ℕ) → List ℕ → List (List ℕ) → List ℕ

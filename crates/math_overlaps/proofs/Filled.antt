@@ -10,7 +10,7 @@ use Rattle.math_terms.specs.Fillings.{Filling, fill}
 use Rattle.math_terms.proofs.Seqs.{concat-map-append}
 use Rattle.math_overlaps.specs.Substitutions.{Subst, substitute}
 use Rattle.math_overlaps.specs.Shapes.{Atom, fixed, free, val, Side, Variable, of, Shape, closed, gapped, withAtom, withList, both, shapeOf, shapesOf}
-use Rattle.math_overlaps.specs.Overlaps.{Mark, named, place, termOf, fieldOf}
+use Rattle.math_overlaps.specs.Overlaps.{Origin, named, place, termOf, fieldOf}
 use Rattle.math_overlaps.proofs.Named.{fillShape}
 
 module _ {C K A Y : Type 0} (ι : C → Y) (φ : K → A → List Y) where
@@ -90,17 +90,17 @@ module _ {C K A Y : Type 0} (ι : C → Y) (φ : Full K → A → List Y) (d : S
   shapes-fill r Ss e = along (Were r) e (were r)
 
 -- ---- the fields of an entry
-module _ {C K A Y : Type 0} (ι : C → Y) (φ : Full K → Mark A → List Y) (θ : Variable K A → Y)
+module _ {C K A Y : Type 0} (ι : C → Y) (φ : Full K → Origin A → List Y) (θ : Variable K A → Y)
     (h : (s : Side) (k : K) (a : A) → φ (basic k) (named s a) ≡ θ (of s k a) ∷ []) where
-  marked-atoms : (xs : List (Atom C (Variable K A))) → fillBy ι φ (map termOf xs) ≡ map (val ι θ) xs
-  marked-atoms [] = refl
-  marked-atoms (fixed c ∷ xs) = ap (λ (r : List Y). ι c ∷ r) (marked-atoms xs)
-  marked-atoms (free (of s k a) ∷ xs) = ap₂ (λ (x y : List Y). x ++ y) (h s k a) (marked-atoms xs)
+  original-atoms : (xs : List (Atom C (Variable K A))) → fillBy ι φ (map termOf xs) ≡ map (val ι θ) xs
+  original-atoms [] = refl
+  original-atoms (fixed c ∷ xs) = ap (λ (r : List Y). ι c ∷ r) (original-atoms xs)
+  original-atoms (free (of s k a) ∷ xs) = ap₂ (λ (x y : List Y). x ++ y) (h s k a) (original-atoms xs)
 
-  marked-field : (S : Shape (Atom C (Variable K A)) ℕ) → fillBy ι φ (fieldOf S) ≡ fillShape (val ι θ) (λ g. φ list (place g)) S
-  marked-field (closed xs) = marked-atoms xs
-  marked-field (gapped f g t) = rw concat-map-append (ap₂ (λ (x y : List Y). x ++ (φ list (place g) ++ y)) (marked-atoms f) (marked-atoms t))
+  original-field : (S : Shape (Atom C (Variable K A)) ℕ) → fillBy ι φ (fieldOf S) ≡ fillShape (val ι θ) (λ g. φ list (place g)) S
+  original-field (closed xs) = original-atoms xs
+  original-field (gapped f g t) = rw concat-map-append (ap₂ (λ (x y : List Y). x ++ (φ list (place g) ++ y)) (original-atoms f) (original-atoms t))
 
-  pub marked-fill : (Ss : List (Shape (Atom C (Variable K A)) ℕ)) → map (fillBy ι φ) (map fieldOf Ss) ≡ map (fillShape (val ι θ) (λ g. φ list (place g))) Ss
-  marked-fill [] = refl
-  marked-fill (S ∷ Ss) = ap₂ (λ (x : List Y) (y : List (List Y)). x ∷ y) (marked-field S) (marked-fill Ss)
+  pub original-fill : (Ss : List (Shape (Atom C (Variable K A)) ℕ)) → map (fillBy ι φ) (map fieldOf Ss) ≡ map (fillShape (val ι θ) (λ g. φ list (place g))) Ss
+  original-fill [] = refl
+  original-fill (S ∷ Ss) = ap₂ (λ (x : List Y) (y : List (List Y)). x ∷ y) (original-field S) (original-fill Ss)

@@ -16,7 +16,7 @@ use Rattle.math_overlaps.specs.Shapes.{shapeOf, shapesOf}
 use Rattle.math_overlaps.specs.Candidates.{Cand, exact, long, wide, cands}
 use Rattle.math_overlaps.specs.Joins.{At, State, start, resolve, joins}
 use Rattle.math_overlaps.specs.Entries.{equations, fieldFor, fieldsFor, entries}
-use Rattle.math_overlaps.specs.Overlaps.{Mark, fieldOf, mapShape, rename, PairShape, PairState, markedFields, numbersOf, shown}
+use Rattle.math_overlaps.specs.Overlaps.{Origin, fieldOf, mapShape, rename, PairShape, PairState, originFields, numbersOf, shown}
 use Rattle.math_overlaps.proofs.Candidates.{terms, cands-few}
 use Rattle.math_overlaps.proofs.Pairs.{room-of, reach-of, cells-length, no-long₁, no-long₂}
 use Rattle.math_overlaps.proofs.Walks.{From, branch-from}
@@ -109,7 +109,7 @@ module _ (O : Order) (C : Consts O) (N : Vars O) (L M : Type 0) where
 
 -- ---- the entry's fields
 
-module _ {C K A B : Type 0} (h : Atom C (Variable K A) → Atom C (Variable K A)) (ν : Full K → Mark A → B) where
+module _ {C K A B : Type 0} (h : Atom C (Variable K A) → Atom C (Variable K A)) (ν : Full K → Origin A → B) where
   field-length : (S : Shape (Atom C (Variable K A)) ℕ) → length (map (rename ν) (fieldOf (mapShape h S))) ≡ terms S
   field-length (closed xs) = simp (length-map, length-map, length-map)
   field-length (gapped f g t) = simp (length-map, length-append, length-map, length-map, length-map) (omega arith)
@@ -123,5 +123,5 @@ module _ (O : Order) (C : Consts O) {A : Type 0} (name-eq : Discrete A) (Ss Ts :
   pub shown-few : (e : List Cand × PairState O C name-eq) → List·Memᴰ e (raw O C name-eq Ss Ts) → All (λ S. terms S ≤ 16) Ss → All (λ T. terms T ≤ 16) Ts
       → All (AtMost 31) (shown O C name-eq Ss Ts e .fields)
   shown-few e i p q = let N = pairVars O name-eq in
-      lengths-few (resolve O C N (e .1)) (numbersOf O C name-eq (markedFields O C name-eq Ss Ts e)) (fieldsFor 0 Ss Ts (e .0))
+      lengths-few (resolve O C N (e .1)) (numbersOf O C name-eq (originFields O C name-eq Ss Ts e)) (fieldsFor 0 Ss Ts (e .0))
       (fields-few O C N A A 0 Ss Ts (start O C N) e i p q)

@@ -19,14 +19,14 @@ use Rattle.math_overlaps.specs.Shapes.{Atom, fixed, free, val, Vars, Sid
 use Rattle.math_overlaps.specs.Candidates.{Cand, exact, long}
 use Rattle.math_overlaps.specs.Joins.{At, start}
 use Rattle.math_overlaps.specs.Entries.{fieldsFor, entries}
-use Rattle.math_overlaps.specs.Overlaps.{Mark, named, place, mark-eq, termOf, fieldOf, mapShape, runOf, rename, PairShape, PairState, markedFields}
-use Rattle.math_overlaps.specs.Overlaps.{markedValue, numbersOf, shown}
+use Rattle.math_overlaps.specs.Overlaps.{Origin, named, place, origin-eq, termOf, fieldOf, mapShape, runOf, rename, PairShape, PairState, originFields}
+use Rattle.math_overlaps.specs.Overlaps.{originValue, numbersOf, shown}
 use Rattle.math_overlaps.proofs.Joins.{valG, subA, kindA, Good, start-good, RespectsY}
 use Rattle.math_overlaps.proofs.Rows.{Inst}
 use Rattle.math_overlaps.proofs.Walks.{Insts, walk-back, known, picks}
 use Rattle.math_overlaps.proofs.Fits.{FitsEntry, resolved, has-entry, fits-picks, by-choice}
 use Rattle.math_overlaps.proofs.Named.{gaps, named-from, named-to}
-use Rattle.math_overlaps.proofs.Filled.{fills-by, substs-by, shapes-fill, marked-fill}
+use Rattle.math_overlaps.proofs.Filled.{fills-by, substs-by, shapes-fill, original-fill}
 use Rattle.math_overlaps.proofs.Typed.{rename-typed}
 use Rattle.math_overlaps.proofs.Renumbered.{renumbered-from, renumbered-to, rename-substs}
 
@@ -61,7 +61,7 @@ module _ {A L M : Type 0} where
 
 module _ {C K A : Type 0} (s : Variable K A → Atom C (Variable K A)) where
   abbrev T : Type 0
-  T = Term C (Full K) (Mark A)
+  T = Term C (Full K) (Origin A)
 
   abbrev θ : Variable K A → T
   θ x = termOf (s x)
@@ -95,8 +95,8 @@ module _ (O : Order) (C : Consts O) {A : Type 0} (name-eq : Discrete A) (Ss Ts :
   abbrev pub raw : List (List Cand × PairState O C name-eq)
   raw = entries O C N A A Ss Ts (start O C N)
 
-  abbrev marked : List Cand × PairState O C name-eq → List (List (TermOver O C (Mark A)))
-  marked e = markedFields O C name-eq Ss Ts e
+  abbrev original : List Cand × PairState O C name-eq → List (List (TermOver O C (Origin A)))
+  original e = originFields O C name-eq Ss Ts e
 
   pub good : (e : List Cand × PairState O C name-eq) → List·Memᴰ e raw → Good O C N (e .1)
   good e i = known O C N A A 0 Ss Ts (start O C N) (start-good O C N) e i .good
@@ -107,58 +107,58 @@ module _ (O : Order) (C : Consts O) {A : Type 0} (name-eq : Discrete A) (Ss Ts :
   term-kind (fixed c) k h = h
   term-kind (free (of s j a)) k h = h
 
-  marked-typed : (d : Side) (Rs : List (PairShape O C name-eq)) (fs : List (List (TermOver O C (Mark A)))) (e : List Cand × PairState O C name-eq)
+  original-typed : (d : Side) (Rs : List (PairShape O C name-eq)) (fs : List (List (TermOver O C (Origin A)))) (e : List Cand × PairState O C name-eq)
       → List·Memᴰ e raw
-      → TypedSubst O C (markedValue O C name-eq d Rs (e .1) fs)
-  marked-typed d Rs fs e i (basic k) a = (termOf (e .1 (of d k a)), refl, term-kind (e .1 (of d k a)) k (good e i .kinds (of d k a)))
-  marked-typed d Rs fs e i list a = tt
+      → TypedSubst O C (originValue O C name-eq d Rs (e .1) fs)
+  original-typed d Rs fs e i (basic k) a = (termOf (e .1 (of d k a)), refl, term-kind (e .1 (of d k a)) k (good e i .kinds (of d k a)))
+  original-typed d Rs fs e i list a = tt
 
   pub left-typed : (e : List Cand × PairState O C name-eq) → List·Memᴰ e raw → TypedSubst O C (shown O C name-eq Ss Ts e .left)
-  left-typed e i = rename-typed O C (markedValue O C name-eq left Ss (e .1) (marked e)) (marked-typed left Ss (marked e) e i) (numbersOf O C name-eq (marked e))
+  left-typed e i = rename-typed O C (originValue O C name-eq left Ss (e .1) (original e)) (original-typed left Ss (original e) e i) (numbersOf O C name-eq (original e))
 
   pub right-typed : (e : List Cand × PairState O C name-eq) → List·Memᴰ e raw → TypedSubst O C (shown O C name-eq Ss Ts e .right)
   right-typed e i =
-      rename-typed O C (markedValue O C name-eq right Ts (e .1) (marked e)) (marked-typed right Ts (marked e) e i) (numbersOf O C name-eq (marked e))
+      rename-typed O C (originValue O C name-eq right Ts (e .1) (original e)) (original-typed right Ts (original e) e i) (numbersOf O C name-eq (original e))
 
   -- ---- the values shown turn both rules into the entry's fields
 
-  instances : (e : List Cand × PairState O C name-eq) → List·Memᴰ e raw → Insts (val con (θ (e .1))) Ss (marked e) × Insts (val con (θ (e .1))) Ts (marked e)
+  instances : (e : List Cand × PairState O C name-eq) → List·Memᴰ e raw → Insts (val con (θ (e .1))) Ss (original e) × Insts (val con (θ (e .1))) Ts (original e)
   instances e i =
-      let r = walk-back O C N A A con (θ (e .1)) 0 Ss Ts (start O C N) (start-good O C N) e i own (marked e) (show-insts (e .1) (fieldsFor 0 Ss Ts (e .0))) in
+      let r = walk-back O C N A A con (θ (e .1)) 0 Ss Ts (start O C N) (start-good O C N) e i own (original e) (show-insts (e .1) (fieldsFor 0 Ss Ts (e .0))) in
       (r .1, r .2)
     where
       own : RespectsY O C N con (θ (e .1)) (e .1)
       own x = sym (as-term (e .1) (e .1 x) ∙ ap termOf (good e i .idem x))
 
-  marked-solves : (d : Side) (Rs : List (PairShape O C name-eq)) → Distinct (gaps Rs) → (r : List (List (TermOver O C A))) → shapesOf d r ≡ some Rs
-      → (e : List Cand × PairState O C name-eq) → Insts (val con (θ (e .1))) Rs (marked e)
-      → map (substitute (markedValue O C name-eq d Rs (e .1) (marked e))) r ≡ marked e
-  marked-solves d Rs lin r is e h =
-      let σ = markedValue O C name-eq d Rs (e .1) (marked e) in
-      substs-by σ r ∙ shapes-fill con σ d (θ (e .1)) (λ k a. refl) r Rs is ∙ named-to (val con (θ (e .1))) name-eq Rs lin (marked e) h
+  original-solves : (d : Side) (Rs : List (PairShape O C name-eq)) → Distinct (gaps Rs) → (r : List (List (TermOver O C A))) → shapesOf d r ≡ some Rs
+      → (e : List Cand × PairState O C name-eq) → Insts (val con (θ (e .1))) Rs (original e)
+      → map (substitute (originValue O C name-eq d Rs (e .1) (original e))) r ≡ original e
+  original-solves d Rs lin r is e h =
+      let σ = originValue O C name-eq d Rs (e .1) (original e) in
+      substs-by σ r ∙ shapes-fill con σ d (θ (e .1)) (λ k a. refl) r Rs is ∙ named-to (val con (θ (e .1))) name-eq Rs lin (original e) h
 
   module _ (r₁ r₂ : List (List (TermOver O C A))) (is₁ : shapesOf left r₁ ≡ some Ss)
       (is₂ : shapesOf right r₂ ≡ some Ts) (lin₁ : Distinct (gaps Ss)) (lin₂ : Distinct (gaps Ts)) where
     -- before the renumbering
-    pub marked-left : (e : List Cand × PairState O C name-eq) → List·Memᴰ e raw
-        → map (substitute (markedValue O C name-eq left Ss (e .1) (markedFields O C name-eq Ss Ts e))) r₁ ≡ markedFields O C name-eq Ss Ts e
-    marked-left e i = marked-solves left Ss lin₁ r₁ is₁ e (instances e i .0)
+    pub original-left : (e : List Cand × PairState O C name-eq) → List·Memᴰ e raw
+        → map (substitute (originValue O C name-eq left Ss (e .1) (originFields O C name-eq Ss Ts e))) r₁ ≡ originFields O C name-eq Ss Ts e
+    original-left e i = original-solves left Ss lin₁ r₁ is₁ e (instances e i .0)
 
-    pub marked-right : (e : List Cand × PairState O C name-eq) → List·Memᴰ e raw
-        → map (substitute (markedValue O C name-eq right Ts (e .1) (markedFields O C name-eq Ss Ts e))) r₂ ≡ markedFields O C name-eq Ss Ts e
-    marked-right e i = marked-solves right Ts lin₂ r₂ is₂ e (instances e i .1)
+    pub original-right : (e : List Cand × PairState O C name-eq) → List·Memᴰ e raw
+        → map (substitute (originValue O C name-eq right Ts (e .1) (originFields O C name-eq Ss Ts e))) r₂ ≡ originFields O C name-eq Ss Ts e
+    original-right e i = original-solves right Ts lin₂ r₂ is₂ e (instances e i .1)
 
     pub left-solves : (e : List Cand × PairState O C name-eq) → List·Memᴰ e raw
         → map (substitute (shown O C name-eq Ss Ts e .left)) r₁ ≡ shown O C name-eq Ss Ts e .fields
     left-solves e i =
-        let ν = numbersOf O C name-eq (marked e) in
-        sym (rename-substs ν (markedValue O C name-eq left Ss (e .1) (marked e)) r₁) ∙ ap (map (map (rename ν))) (marked-left e i)
+        let ν = numbersOf O C name-eq (original e) in
+        sym (rename-substs ν (originValue O C name-eq left Ss (e .1) (original e)) r₁) ∙ ap (map (map (rename ν))) (original-left e i)
 
     pub right-solves : (e : List Cand × PairState O C name-eq) → List·Memᴰ e raw
         → map (substitute (shown O C name-eq Ss Ts e .right)) r₂ ≡ shown O C name-eq Ss Ts e .fields
     right-solves e i =
-        let ν = numbersOf O C name-eq (marked e) in
-        sym (rename-substs ν (markedValue O C name-eq right Ts (e .1) (marked e)) r₂) ∙ ap (map (map (rename ν))) (marked-right e i)
+        let ν = numbersOf O C name-eq (original e) in
+        sym (rename-substs ν (originValue O C name-eq right Ts (e .1) (original e)) r₂) ∙ ap (map (map (rename ν))) (original-right e i)
 
     -- ---- a slip that both rules match fits an entry
 
@@ -167,9 +167,9 @@ module _ (O : Order) (C : Consts O) {A : Type 0} (name-eq : Discrete A) (Ss Ts :
         → (τ : X → C .Con) → ((k : O .Kind) (a : A) → φ (basic k) a ≡ τ (of d k a) ∷ []) → map (fill φ) r ≡ w → Insts (valG τ) Rs w
     rule-instance d Rs r is w φ τ h e = named-from (valG τ) (φ list) Rs w (sym (shapes-fill (λ c. c) φ d τ h r Rs is) ∙ sym (fills-by φ r) ∙ e)
 
-    entry-matches : (e : List Cand × PairState O C name-eq) (w : List (List (C .Con))) → FitsEntry O C N A A Ss Ts e w → Matches O C (marked e) w
+    entry-matches : (e : List Cand × PairState O C name-eq) (w : List (List (C .Con))) → FitsEntry O C N A A Ss Ts e w → Matches O C (original e) w
     entry-matches e w h =
-        (φ, typed, fills-by φ (marked e) ∙ marked-fill (λ c. c) φ (h .0) (λ s k a. refl) shapes ∙ named-to (valG (h .0)) ℕ-discrete shapes linear w (h .2))
+        (φ, typed, fills-by φ (original e) ∙ original-fill (λ c. c) φ (h .0) (λ s k a. refl) shapes ∙ named-to (valG (h .0)) ℕ-discrete shapes linear w (h .2))
       where
         shapes : List (Shape (At O C N) ℕ)
         shapes = resolved O C N A A Ss Ts e
@@ -177,7 +177,7 @@ module _ (O : Order) (C : Consts O) {A : Type 0} (name-eq : Discrete A) (Ss Ts :
         linear : Distinct (gaps shapes)
         linear = along Distinct (sym (gaps-map (subA (e .1)) (fieldsFor 0 Ss Ts (e .0)))) (gaps-distinct 0 Ss Ts (e .0))
 
-        φ : FillingOver O C (Mark A)
+        φ : FillingOver O C (Origin A)
         φ (basic k) (named s a) = h .0 (of s k a) ∷ []
         φ (basic k) (place g) = C .some-of k ∷ []
         φ list (named s a) = []
@@ -197,7 +197,7 @@ module _ (O : Order) (C : Consts O) {A : Type 0} (name-eq : Discrete A) (Ss Ts :
           rule-instance left Ss r₁ is₁ w (h₁ .0) τ (λ k a. h₁ .1 (basic k) a .1) (h₁ .2),
           rule-instance right Ts r₂ is₂ w (h₂ .0) τ (λ k a. h₂ .1 (basic k) a .1) (h₂ .2),
         ) in
-        (e .0, e .1, renumbered-to O C (mark-eq side-eq name-eq ℕ-discrete) (marked (e .0)) w (entry-matches (e .0) w (e .2)))
+        (e .0, e .1, renumbered-to O C (origin-eq side-eq name-eq ℕ-discrete) (original (e .0)) w (entry-matches (e .0) w (e .2)))
       where
         τ : X → C .Con
         τ (of left k a) = h₁ .1 (basic k) a .0
@@ -215,11 +215,11 @@ module _ (O : Order) (C : Consts O) {A : Type 0} (name-eq : Discrete A) (Ss Ts :
     τ,
     typed,
     named-from (valG τ) (λ g. m .0 list (place g)) (resolved O C N A A Ss Ts e) w
-        (sym (marked-fill (λ c. c) (m .0) τ (λ s k a. m .1 (basic k) (named s a) .1) (resolved O C N A A Ss Ts e)) ∙ sym (fills-by (m .0) (marked e)) ∙ m .2),
+        (sym (original-fill (λ c. c) (m .0) τ (λ s k a. m .1 (basic k) (named s a) .1) (resolved O C N A A Ss Ts e)) ∙ sym (fills-by (m .0) (original e)) ∙ m .2),
   )
     where
-      m : Matches O C (marked e) w
-      m = renumbered-from O C (mark-eq side-eq name-eq ℕ-discrete) (marked e) w h
+      m : Matches O C (original e) w
+      m = renumbered-from O C (origin-eq side-eq name-eq ℕ-discrete) (original e) w h
 
       τ : X → C .Con
       τ (of s k a) = m .1 (basic k) (named s a) .0

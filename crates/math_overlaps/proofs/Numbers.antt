@@ -19,9 +19,9 @@ use Rattle.math_overlaps.specs.Shapes.{Atom, fixed, free, Side, left, ri
 use Rattle.math_overlaps.specs.Candidates.{Cand, range}
 use Rattle.math_overlaps.specs.Joins.{resolve}
 use Rattle.math_overlaps.specs.Entries.{fieldsFor}
-use Rattle.math_overlaps.specs.Overlaps.{placeOf, without, firsts, namesOf, number, rename, Mark, named, place, mark-eq, termOf, fieldOf, mapShape}
+use Rattle.math_overlaps.specs.Overlaps.{placeOf, without, firsts, namesOf, number, rename, Origin, named, place, origin-eq, termOf, fieldOf, mapShape}
 use Rattle.math_overlaps.specs.Overlaps.{PairShape}
-use Rattle.math_overlaps.specs.Overlaps.{PairState, markedFields, shown}
+use Rattle.math_overlaps.specs.Overlaps.{PairState, originFields, shown}
 use Rattle.math_overlaps.proofs.Seqs.{pigeon}
 use Rattle.math_overlaps.proofs.Renumbered.{in-firsts, at-place, in-all-names}
 use Rattle.math_overlaps.proofs.Kept.{Every, OnTerm, rule-every, entry-every}
@@ -163,55 +163,55 @@ few {A} d l ys h = pigeon (λ (x y : A). x ≡ y) (firsts d l) ys (firsts-distin
 -- ---- the names of an entry's fields are those of the rules
 
 module _ {C K A : Type 0} (kind-eq : Discrete K) where
-  names-append : (k : Full K) (f g : List (Term C (Full K) (Mark A)))
+  names-append : (k : Full K) (f g : List (Term C (Full K) (Origin A)))
       → namesOf (full-eq kind-eq) k (f ++ g) ≡ namesOf (full-eq kind-eq) k f ++ namesOf (full-eq kind-eq) k g
   names-append k [] g = refl
   names-append k (con c ∷ f) g = names-append k f g
   names-append k (var j b ∷ f) g = go (full-eq kind-eq k j) (names-append k f g)
     where
-      rest : List (Mark A)
+      rest : List (Origin A)
       rest = namesOf (full-eq kind-eq) k g
 
       go : (q : Dec (k ≡ j)) → namesOf (full-eq kind-eq) k (f ++ g) ≡ namesOf (full-eq kind-eq) k f ++ rest
           → ite q (b ∷ namesOf (full-eq kind-eq) k (f ++ g)) (namesOf (full-eq kind-eq) k (f ++ g))
           ≡ ite q (b ∷ namesOf (full-eq kind-eq) k f) (namesOf (full-eq kind-eq) k f) ++ rest
-      go (yes e) rec = ap (λ (r : List (Mark A)). b ∷ r) rec
+      go (yes e) rec = ap (λ (r : List (Origin A)). b ∷ r) rec
       go (no n) rec = rec
 
 module _ {C K A : Type 0} (kind-eq : Discrete K) (Q : Atom C (Variable K A) → Type 0) where
-  -- a mark of kind k is a variable with Q
-  abbrev MarkIn : Full K → Mark A → Type 0
-  MarkIn (basic k) (named s a) = Q (free (of s k a))
-  MarkIn (basic k) (place g) = ⊥
-  MarkIn list m = Unit {0}
+  -- a origin of kind k is a variable with Q
+  abbrev OriginIn : Full K → Origin A → Type 0
+  OriginIn (basic k) (named s a) = Q (free (of s k a))
+  OriginIn (basic k) (place g) = ⊥
+  OriginIn list m = Unit {0}
 
-  atom-marks : (k : Full K) (xs : List (Atom C (Variable K A))) → All Q xs → All (MarkIn k) (namesOf (full-eq kind-eq) k (map termOf xs))
-  atom-marks k [] h = tt
-  atom-marks k (fixed c ∷ xs) h = atom-marks k xs (h .1)
-  atom-marks k (free (of s j a) ∷ xs) h = go (full-eq kind-eq k (basic j)) (atom-marks k xs (h .1))
+  atom-origins : (k : Full K) (xs : List (Atom C (Variable K A))) → All Q xs → All (OriginIn k) (namesOf (full-eq kind-eq) k (map termOf xs))
+  atom-origins k [] h = tt
+  atom-origins k (fixed c ∷ xs) h = atom-origins k xs (h .1)
+  atom-origins k (free (of s j a) ∷ xs) h = go (full-eq kind-eq k (basic j)) (atom-origins k xs (h .1))
     where
-      go : (q : Dec (k ≡ basic j)) → All (MarkIn k) (namesOf (full-eq kind-eq) k (map termOf xs))
-          → All (MarkIn k) (ite q (named s a ∷ namesOf (full-eq kind-eq) k (map termOf xs)) (namesOf (full-eq kind-eq) k (map termOf xs)))
-      go (yes e) rec = (along (λ (z : Full K). MarkIn z (named s a)) (sym e) (h .0), rec)
+      go : (q : Dec (k ≡ basic j)) → All (OriginIn k) (namesOf (full-eq kind-eq) k (map termOf xs))
+          → All (OriginIn k) (ite q (named s a ∷ namesOf (full-eq kind-eq) k (map termOf xs)) (namesOf (full-eq kind-eq) k (map termOf xs)))
+      go (yes e) rec = (along (λ (z : Full K). OriginIn z (named s a)) (sym e) (h .0), rec)
       go (no n) rec = rec
 
-  field-marks : (k : Full K) (S : Shape (Atom C (Variable K A)) ℕ) → Every Q S → All (MarkIn k) (namesOf (full-eq kind-eq) k (fieldOf S))
-  field-marks k (closed xs) h = atom-marks k xs h
-  field-marks k (gapped f g t) h = along (All (MarkIn k)) (sym (names-append kind-eq k (map termOf f) (var list (place g) ∷ map termOf t)))
-      (all-append (MarkIn k) (namesOf (full-eq kind-eq) k (map termOf f))
-      (namesOf (full-eq kind-eq) k (var list (place g) ∷ map termOf t)) (atom-marks k f (h .0)) (go (full-eq kind-eq k list) (atom-marks k t (h .1))))
+  field-origins : (k : Full K) (S : Shape (Atom C (Variable K A)) ℕ) → Every Q S → All (OriginIn k) (namesOf (full-eq kind-eq) k (fieldOf S))
+  field-origins k (closed xs) h = atom-origins k xs h
+  field-origins k (gapped f g t) h = along (All (OriginIn k)) (sym (names-append kind-eq k (map termOf f) (var list (place g) ∷ map termOf t)))
+      (all-append (OriginIn k) (namesOf (full-eq kind-eq) k (map termOf f))
+      (namesOf (full-eq kind-eq) k (var list (place g) ∷ map termOf t)) (atom-origins k f (h .0)) (go (full-eq kind-eq k list) (atom-origins k t (h .1))))
     where
-      go : (q : Dec (k ≡ list)) → All (MarkIn k) (namesOf (full-eq kind-eq) k (map termOf t))
-          → All (MarkIn k) (ite q (place g ∷ namesOf (full-eq kind-eq) k (map termOf t)) (namesOf (full-eq kind-eq) k (map termOf t)))
-      go (yes e) rec = (along (λ (z : Full K). MarkIn z (place g)) (sym e) tt, rec)
+      go : (q : Dec (k ≡ list)) → All (OriginIn k) (namesOf (full-eq kind-eq) k (map termOf t))
+          → All (OriginIn k) (ite q (place g ∷ namesOf (full-eq kind-eq) k (map termOf t)) (namesOf (full-eq kind-eq) k (map termOf t)))
+      go (yes e) rec = (along (λ (z : Full K). OriginIn z (place g)) (sym e) tt, rec)
       go (no n) rec = rec
 
-  all-marks : (k : Full K) (Ss : List (Shape (Atom C (Variable K A)) ℕ)) → All (Every Q) Ss
-      → All (MarkIn k) (concat-map (namesOf (full-eq kind-eq) k) (map fieldOf Ss))
-  all-marks k [] h = tt
-  all-marks k (S ∷ Ss) h =
-      all-append (MarkIn k) (namesOf (full-eq kind-eq) k (fieldOf S))
-      (concat-map (namesOf (full-eq kind-eq) k) (map fieldOf Ss)) (field-marks k S (h .0)) (all-marks k Ss (h .1))
+  all-origins : (k : Full K) (Ss : List (Shape (Atom C (Variable K A)) ℕ)) → All (Every Q) Ss
+      → All (OriginIn k) (concat-map (namesOf (full-eq kind-eq) k) (map fieldOf Ss))
+  all-origins k [] h = tt
+  all-origins k (S ∷ Ss) h =
+      all-append (OriginIn k) (namesOf (full-eq kind-eq) k (fieldOf S))
+      (concat-map (namesOf (full-eq kind-eq) k) (map fieldOf Ss)) (field-origins k S (h .0)) (all-origins k Ss (h .1))
 
 list≢basic : {K : Type 0} {j : K} → _≡_ {A = Full K} list (basic j) → ⊥
 list≢basic {K} {j} e = let o : _≡_ {A = ℕ} 0 1 = cc in omega arith
@@ -230,13 +230,13 @@ module _ {C K A : Type 0} (kind-eq : Discrete K) where
   one-list (closed xs) = omega (arith, ap length (no-lists xs))
   one-list (gapped f g t) = omega (arith, ap length is)
     where
-      rest : List (Mark A)
+      rest : List (Origin A)
       rest = namesOf (full-eq kind-eq) list (map termOf t)
 
       is : namesOf (full-eq kind-eq) list (fieldOf (gapped f g t)) ≡ place g ∷ []
       is = names-append kind-eq list (map termOf f) (var list (place g) ∷ map termOf t)
-          ∙ ap₂ (λ (x y : List (Mark A)). x ++ y) (no-lists f)
-          (if-pos (full-eq kind-eq list list) refl (place g ∷ rest) rest ∙ ap (λ (r : List (Mark A)). place g ∷ r) (no-lists t))
+          ∙ ap₂ (λ (x y : List (Origin A)). x ++ y) (no-lists f)
+          (if-pos (full-eq kind-eq list list) refl (place g ∷ rest) rest ∙ ap (λ (r : List (Origin A)). place g ∷ r) (no-lists t))
 
   all-lists : (Ss : List (Shape (Atom C (Variable K A)) ℕ)) → length (concat-map (namesOf (full-eq kind-eq) list) (map fieldOf Ss)) ≤ length Ss
   all-lists [] = omega arith
@@ -291,29 +291,29 @@ module _ (O : Order) (C : Consts O) {A : Type 0} (name-eq : Discrete A) (r₁ r�
         → ((a : A) → Any (Occurs (basic k) a) r₂ → List·Memᴰ a as₂)
         → (n : ℕ) → Any (Occurs (basic k) n) (shown O C name-eq Ss Ts e .fields) → n < length as₁ + length as₂
     numbers-below k as₁ as₂ h₁ h₂ n o =
-        let p = number-below (full-eq (O .kind-eq)) (mark-eq side-eq name-eq ℕ-discrete) (markedFields O C name-eq Ss Ts e) (basic k) n o in
-        let q = few (mark-eq side-eq name-eq ℕ-discrete) marks (map (named left) as₁ ++ map (named right) as₂) inside in
+        let p = number-below (full-eq (O .kind-eq)) (origin-eq side-eq name-eq ℕ-discrete) (originFields O C name-eq Ss Ts e) (basic k) n o in
+        let q = few (origin-eq side-eq name-eq ℕ-discrete) origins (map (named left) as₁ ++ map (named right) as₂) inside in
         omega (arith, p, simp (length-append, length-map, length-map) at q)
       where
-        marks : List (Mark A)
-        marks = concat-map (namesOf (full-eq (O .kind-eq)) (basic k)) (markedFields O C name-eq Ss Ts e)
+        origins : List (Origin A)
+        origins = concat-map (namesOf (full-eq (O .kind-eq)) (basic k)) (originFields O C name-eq Ss Ts e)
 
-        go : (m : Mark A) → MarkIn (O .kind-eq) InRules (basic k) m → List·Memᴰ m (map (named left) as₁ ++ map (named right) as₂)
+        go : (m : Origin A) → OriginIn (O .kind-eq) InRules (basic k) m → List·Memᴰ m (map (named left) as₁ ++ map (named right) as₂)
         go (named left a) q = Memᴰ·append-left (map (named right) as₂) (Memᴰ·map (named left) (h₁ a q))
         go (named right a) q = Memᴰ·append-right (map (named left) as₁) (Memᴰ·map (named right) (h₂ a q))
         go (place g) q = absurd q
 
-        inside : (m : Mark A) → List·Memᴰ m marks → List·Memᴰ m (map (named left) as₁ ++ map (named right) as₂)
-        inside m j = go m (all-member (MarkIn (O .kind-eq) InRules (basic k)) marks (all-marks (O .kind-eq) InRules (basic k) resolved from-rules) m j)
+        inside : (m : Origin A) → List·Memᴰ m origins → List·Memᴰ m (map (named left) as₁ ++ map (named right) as₂)
+        inside m j = go m (all-member (OriginIn (O .kind-eq) InRules (basic k)) origins (all-origins (O .kind-eq) InRules (basic k) resolved from-rules) m j)
 
   module _ (Ss Ts : List (PairShape O C name-eq)) (e : List Cand × PairState O C name-eq) where
     -- the numbers of list variables are below the number of fields
     pub lists-below : (n : ℕ) → Any (Occurs list n) (shown O C name-eq Ss Ts e .fields) → n < length Ss
     lists-below n o =
-        let p = number-below (full-eq (O .kind-eq)) (mark-eq side-eq name-eq ℕ-discrete) (markedFields O C name-eq Ss Ts e) list n o in
-        let q = few (mark-eq side-eq name-eq ℕ-discrete) marks marks (λ x j. j) in
+        let p = number-below (full-eq (O .kind-eq)) (origin-eq side-eq name-eq ℕ-discrete) (originFields O C name-eq Ss Ts e) list n o in
+        let q = few (origin-eq side-eq name-eq ℕ-discrete) origins origins (λ x j. j) in
         let r = all-lists (O .kind-eq) (map (mapShape (resolve O C (pairVars O name-eq) (e .1))) (fieldsFor 0 Ss Ts (e .0))) in
         omega (arith, p, q, simp length-map at r, fields-count 0 Ss Ts (e .0))
       where
-        marks : List (Mark A)
-        marks = concat-map (namesOf (full-eq (O .kind-eq)) list) (markedFields O C name-eq Ss Ts e)
+        origins : List (Origin A)
+        origins = concat-map (namesOf (full-eq (O .kind-eq)) list) (originFields O C name-eq Ss Ts e)

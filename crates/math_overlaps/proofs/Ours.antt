@@ -16,7 +16,7 @@ use Rattle.math_overlaps.specs.Shapes.{Atom, fixed, free, Side, left, ri
 use Rattle.math_overlaps.specs.Candidates.{Cand}
 use Rattle.math_overlaps.specs.Joins.{resolve}
 use Rattle.math_overlaps.specs.Entries.{fieldsFor}
-use Rattle.math_overlaps.specs.Overlaps.{place, termOf, fieldOf, mapShape, middle, runOf, rename, PairShape, PairState, markedFields, markedValue}
+use Rattle.math_overlaps.specs.Overlaps.{place, termOf, fieldOf, mapShape, middle, runOf, rename, PairShape, PairState, originFields, originValue}
 use Rattle.math_overlaps.specs.Overlaps.{numbersOf}
 use Rattle.math_overlaps.specs.Overlaps.{shown}
 use Rattle.math_overlaps.proofs.Kept.{all-take, all-drop, Every, OnTerm, rule-every, Keeps, entry-every}
@@ -97,23 +97,23 @@ module _ (O : Order) (C : Consts O) {A : Type 0} (name-eq : Discrete A) (Ss Ts :
       × All (Every (AtomIn P)) (map (mapShape (resolve O C (pairVars O name-eq) (e .1))) (fieldsFor 0 Ss Ts (e .0)))
   kept = entry-every O C (pairVars O name-eq) (AtomIn P) A A Ss Ts in₁ in₂ e i
 
-  marked-in : All (All (ConstantIn P)) (markedFields O C name-eq Ss Ts e)
-  marked-in = fields-in P (map (mapShape (resolve O C (pairVars O name-eq) (e .1))) (fieldsFor 0 Ss Ts (e .0))) (kept .1)
+  original-in : All (All (ConstantIn P)) (originFields O C name-eq Ss Ts e)
+  original-in = fields-in P (map (mapShape (resolve O C (pairVars O name-eq) (e .1))) (fieldsFor 0 Ss Ts (e .0))) (kept .1)
 
-  marked-value-in : (d : Side) (Rs : List (PairShape O C name-eq)) (k : Full (O .Kind)) (a : A)
-      → All (ConstantIn P) (markedValue O C name-eq d Rs (e .1) (markedFields O C name-eq Ss Ts e) k a)
-  marked-value-in d Rs (basic k) a = (term-in P (e .1 (of d k a)) (kept .0 (free (of d k a)) tt), tt)
-  marked-value-in d Rs list a = all-run name-eq (ConstantIn P) Rs (markedFields O C name-eq Ss Ts e) marked-in a
+  original-value-in : (d : Side) (Rs : List (PairShape O C name-eq)) (k : Full (O .Kind)) (a : A)
+      → All (ConstantIn P) (originValue O C name-eq d Rs (e .1) (originFields O C name-eq Ss Ts e) k a)
+  original-value-in d Rs (basic k) a = (term-in P (e .1 (of d k a)) (kept .0 (free (of d k a)) tt), tt)
+  original-value-in d Rs list a = all-run name-eq (ConstantIn P) Rs (originFields O C name-eq Ss Ts e) original-in a
 
   pub fields-ours : All (All (ConstantIn P)) (shown O C name-eq Ss Ts e .fields)
-  fields-ours = all-renamed-in P (numbersOf O C name-eq (markedFields O C name-eq Ss Ts e)) (markedFields O C name-eq Ss Ts e) marked-in
+  fields-ours = all-renamed-in P (numbersOf O C name-eq (originFields O C name-eq Ss Ts e)) (originFields O C name-eq Ss Ts e) original-in
 
   pub left-ours : (k : Full (O .Kind)) (a : A) → All (ConstantIn P) (shown O C name-eq Ss Ts e .left k a)
   left-ours k a =
-      let fs = markedFields O C name-eq Ss Ts e in
-      renamed-in P (numbersOf O C name-eq fs) (markedValue O C name-eq left Ss (e .1) fs k a) (marked-value-in left Ss k a)
+      let fs = originFields O C name-eq Ss Ts e in
+      renamed-in P (numbersOf O C name-eq fs) (originValue O C name-eq left Ss (e .1) fs k a) (original-value-in left Ss k a)
 
   pub right-ours : (k : Full (O .Kind)) (a : A) → All (ConstantIn P) (shown O C name-eq Ss Ts e .right k a)
   right-ours k a =
-      let fs = markedFields O C name-eq Ss Ts e in
-      renamed-in P (numbersOf O C name-eq fs) (markedValue O C name-eq right Ts (e .1) fs k a) (marked-value-in right Ts k a)
+      let fs = originFields O C name-eq Ss Ts e in
+      renamed-in P (numbersOf O C name-eq fs) (originValue O C name-eq right Ts (e .1) fs k a) (original-value-in right Ts k a)

@@ -32,7 +32,7 @@ use Rattle.math_overlaps.specs.Constants.{ConstantIn}
 use Rattle.math_overlaps.specs.Shapes.{Atom, fixed, free, val, left, right, side-eq, Variable, of, pairVars, shapesOf}
 use Rattle.math_overlaps.specs.Candidates.{Cand, range}
 use Rattle.math_overlaps.specs.Joins.{start}
-use Rattle.math_overlaps.specs.Overlaps.{firsts, namesOf, mark-eq, Entry, PairShape, PairState, markedFields, shown, listed, overlaps}
+use Rattle.math_overlaps.specs.Overlaps.{firsts, namesOf, origin-eq, Entry, PairShape, PairState, originFields, shown, listed, overlaps}
 use Rattle.math_overlaps.specs.Solutions.{Solution, fieldsOf, Covers}
 use Rattle.math_overlaps.proofs.Seqs.{pigeon, distinct-map-in, at-in, same-place}
 use Rattle.math_overlaps.proofs.Walks.{picks, entries-distinct}
@@ -297,8 +297,8 @@ module _ (O : Order) (C : Consts O) {A : Type 0} (name-eq : Discrete A)
   numbered e i k =
       let x = chosen e i in
       along (λ (y : Entry O C A). (n : ℕ) × (firsts ℕ-discrete (concat-map (namesOf (full-eq (O .kind-eq)) k) (y .fields)) ≡ range 0 n)) (x .2) (
-        length (firsts (mark-eq side-eq name-eq ℕ-discrete) (concat-map (namesOf (full-eq (O .kind-eq)) k) (markedFields O C name-eq Ss Ts (x .0)))),
-        by-first (full-eq (O .kind-eq)) (mark-eq side-eq name-eq ℕ-discrete) (markedFields O C name-eq Ss Ts (x .0)) k,
+        length (firsts (origin-eq side-eq name-eq ℕ-discrete) (concat-map (namesOf (full-eq (O .kind-eq)) k) (originFields O C name-eq Ss Ts (x .0)))),
+        by-first (full-eq (O .kind-eq)) (origin-eq side-eq name-eq ℕ-discrete) (originFields O C name-eq Ss Ts (x .0)) k,
       )
 
   -- as₁ and as₂: names that the rules' variables of kind k have; with the numbers 0 to 15 on each side, the entry's are below 32

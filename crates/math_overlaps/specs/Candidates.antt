@@ -6,7 +6,7 @@ use lib.Dec.{eqb, leb}
 use lib.ListN.{length}
 use Rattle.math_overlaps.specs.Shapes.{Shape, closed, gapped}
 
--- a length, or atoms with a list variable between them
+-- a candidate, one way to align two sequences: a length, or atoms with a list variable between them
 pub data Cand : Type 0 where
   exact : ℕ → Cand
   long : Cand

@@ -17,6 +17,7 @@ module _ (O : Order) (C : Consts O) (N : Vars O) where
   At = Atom Con Var
 
   -- a state gives every variable the atom of its class: the class's constant, else one of its variables of the lowest type
+  -- (an idempotent substitution; the find map of a union-find)
   abbrev pub State : Type 0
   State = Var → At
 
@@ -45,7 +46,7 @@ module _ (O : Order) (C : Consts O) (N : Vars O) where
   joinClasses s (free x) (fixed d) = cond (le (kind-of d) (sort x)) (some (bind x (fixed d) s)) none
   joinClasses s (free x) (free y) = ite (var-eq x y) (some s) (cond (le (sort y) (sort x)) (some (bind x (free y) s)) (cond (le (sort x) (sort y)) (some (bind y (free x) s)) none))
 
-  -- "Each join of two atoms turns one state of the fillings into the next"
+  -- "Each join of two atoms turns one state of the fillings into the next" (union of two classes; a clash is a failure of unification)
   abbrev pub join : State → At → At → Option State
   join s t u = joinClasses s (resolve s t) (resolve s u)
 

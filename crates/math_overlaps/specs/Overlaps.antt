@@ -53,17 +53,17 @@ module _ {C K B D : Type 0} where
 -- ---- an entry's fields as terms, before the renumbering
 
 -- names there: those of the two rules, kept apart, and for list variables the fields' places
-pub data Mark (A : Type 0) : Type 0 where
-  named : Side → A → Mark A
-  place : ℕ → Mark A
-  deriving Discrete as mark-eq
+pub data Origin (A : Type 0) : Type 0 where
+  named : Side → A → Origin A
+  place : ℕ → Origin A
+  deriving Discrete as origin-eq
 
 module _ {C K A : Type 0} where
-  abbrev pub termOf : Atom C (Variable K A) → Term C (Full K) (Mark A)
+  abbrev pub termOf : Atom C (Variable K A) → Term C (Full K) (Origin A)
   termOf (fixed c) = con c
   termOf (free (of s k a)) = var (basic k) (named s a)
 
-  abbrev pub fieldOf : Shape (Atom C (Variable K A)) ℕ → List (Term C (Full K) (Mark A))
+  abbrev pub fieldOf : Shape (Atom C (Variable K A)) ℕ → List (Term C (Full K) (Origin A))
   fieldOf (closed xs) = map termOf xs
   fieldOf (gapped f g t) = map termOf f ++ var list (place g) ∷ map termOf t
 
@@ -91,6 +91,7 @@ module _ {A L Y : Type 0} (name-eq : Discrete L) where
 
 -- "A line is: the entry's fields in plain text, then for each variable of the left rule a blank, `<`, name, `=`, value;
 -- then the same with `>` for the right rule": the fields and the values, over the renumbered names
+-- An entry is a most general common instance of the two left sides (the overlap of a critical pair).
 pub record Entry (O : Order) (C : Consts O) (A : Type 0) : Type 0 where
   pub fields : List (List (TermOver O C ℕ))
   pub left : Subst (C .Con) (Full (O .Kind)) A ℕ
@@ -104,30 +105,30 @@ module _ (O : Order) (C : Consts O) {A : Type 0} (name-eq : Discrete A) where
   PairState = State O C (pairVars O name-eq)
 
   -- a choice and its last state: its fields, every atom as the state has it
-  abbrev pub markedFields : List PairShape → List PairShape → List Cand × PairState → List (List (TermOver O C (Mark A)))
-  markedFields Ss Ts e = map fieldOf (map (mapShape (resolve O C (pairVars O name-eq) (e .1))) (fieldsFor 0 Ss Ts (e .0)))
+  abbrev pub originFields : List PairShape → List PairShape → List Cand × PairState → List (List (TermOver O C (Origin A)))
+  originFields Ss Ts e = map fieldOf (map (mapShape (resolve O C (pairVars O name-eq) (e .1))) (fieldsFor 0 Ss Ts (e .0)))
 
   -- the values of the variables of the rule on a side: of atom variables by the state, of list variables by their places
-  abbrev pub markedValue : Side → List PairShape → PairState
-      → List (List (TermOver O C (Mark A))) → Subst (C .Con) (Full (O .Kind)) A (Mark A)
-  markedValue d Ss s fs (basic k) a = termOf (s (of d k a)) ∷ []
-  markedValue d Ss s fs list a = runOf name-eq Ss fs a
+  abbrev pub originValue : Side → List PairShape → PairState
+      → List (List (TermOver O C (Origin A))) → Subst (C .Con) (Full (O .Kind)) A (Origin A)
+  originValue d Ss s fs (basic k) a = termOf (s (of d k a)) ∷ []
+  originValue d Ss s fs list a = runOf name-eq Ss fs a
 
   -- the numbers for the names of an entry's fields
-  abbrev pub numbersOf : List (List (TermOver O C (Mark A))) → Full (O .Kind) → Mark A → ℕ
-  numbersOf fs = number (full-eq (O .kind-eq)) (mark-eq side-eq name-eq ℕ-discrete) fs
+  abbrev pub numbersOf : List (List (TermOver O C (Origin A))) → Full (O .Kind) → Origin A → ℕ
+  numbersOf fs = number (full-eq (O .kind-eq)) (origin-eq side-eq name-eq ℕ-discrete) fs
 
   -- an entry as its line shows it; fs are its fields before the renumbering
-  abbrev pub renumbered : List PairShape → List PairShape → PairState → List (List (TermOver O C (Mark A))) → Entry O C A
+  abbrev pub renumbered : List PairShape → List PairShape → PairState → List (List (TermOver O C (Origin A))) → Entry O C A
   renumbered Ss Ts s fs =
       record {
         fields = map (map (rename (numbersOf fs))) fs;
-        left = λ k a. map (rename (numbersOf fs)) (markedValue left Ss s fs k a);
-        right = λ k a. map (rename (numbersOf fs)) (markedValue right Ts s fs k a);
+        left = λ k a. map (rename (numbersOf fs)) (originValue left Ss s fs k a);
+        right = λ k a. map (rename (numbersOf fs)) (originValue right Ts s fs k a);
       }
 
   abbrev pub shown : List PairShape → List PairShape → List Cand × PairState → Entry O C A
-  shown Ss Ts e = renumbered Ss Ts (e .1) (markedFields Ss Ts e)
+  shown Ss Ts e = renumbered Ss Ts (e .1) (originFields Ss Ts e)
 
   abbrev pub listed : Option (List PairShape) → Option (List PairShape) → List (Entry O C A)
   listed none o = []

@@ -1,4 +1,4 @@
--- Solutions of two rules, and the slips that they cover.
+-- Solutions (unifiers) of two rules, and the slips (ground terms) that they cover.
 use mathlib.Core.Path.{_≡_}
 use mathlib.Core.List.{List, map}
 use Rattle.math_types.specs.Order.{Order, Full}

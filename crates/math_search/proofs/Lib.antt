@@ -24,3 +24,4 @@ pub mod Ends
 pub mod Peak
 pub mod Slips
 pub mod Examples
+pub mod worklist

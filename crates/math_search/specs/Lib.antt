@@ -7,3 +7,4 @@ pub mod Queue
 pub mod Runs
 pub mod Answers
 pub mod Pairs
+pub mod worklist

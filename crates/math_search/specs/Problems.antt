@@ -99,7 +99,7 @@ module _ (E : Setting) where
   fieldType (t ∷ []) = termType t
   fieldType (t ∷ (u ∷ L)) = list
 
-  -- ---- bindings
+  -- ---- bindings (the substitution so far)
 
   -- "The bindings cover the equation's own variables; an unbound one stands for itself." Here they are a total function: a fresh
   -- list variable and a constant, too, stand for themselves. What is shown of an answer is in Answers.
@@ -121,7 +121,7 @@ module _ (E : Setting) where
   abbrev pub compose : Bindings → Tm → Field → Bindings
   compose σ x s = λ t. putIn x s (σ t)
 
-  -- ---- problems
+  -- ---- problems (a state of unification by transformation rules)
 
   -- what is left to solve: nothing, or an equation
   pub data Rest : Type 0 where

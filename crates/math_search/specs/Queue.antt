@@ -1,4 +1,4 @@
--- Breadth-first search (Figure 7 of document 001) over a row of so many records.
+-- Breadth-first search (Figure 7 of document 001) over a row (a queue in a ring buffer) of so many records.
 use mathlib.Core.Bool.{cond}
 use mathlib.Core.Option.{Option, none, some}
 use mathlib.Core.List.{List, [], _∷_, _++_, map}

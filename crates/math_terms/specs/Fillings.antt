@@ -8,7 +8,7 @@ use Rattle.math_terms.specs.Terms.{Term, con, var}
 use Rattle.math_terms.specs.Constants.{Consts}
 use Rattle.math_terms.specs.Seqs.{concat-map}
 
--- a filling gives each variable, that is a kind and a name, a run of constants
+-- a filling (ground substitution) gives each variable, that is a kind and a name, a run of constants
 abbrev pub Filling : Type 0 → Type 0 → Type 0 → Type 0
 Filling C K A = K → A → List C
 

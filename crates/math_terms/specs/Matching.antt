@@ -1,4 +1,4 @@
--- MATCHING. A slip has fields of any length here; only reading limits them.
+-- MATCHING of a rule's left side (a pattern) with a slip (a ground term). A slip has fields of any length here; only reading limits them.
 use mathlib.Core.Path.{_≡_}
 use mathlib.Core.List.{List, map}
 use Rattle.math_types.specs.Order.{Order}

@@ -21,8 +21,8 @@ use Rattle.pair_state.specs.declared.Joined.{Joined}
 use Rattle.overlap_entries.specs.declared.Choice.{Choice}
 use Rattle.overlap_entries.specs.Entries.{noChoice, chosenAt}
 use Rattle.overlap_entries.proofs.Laws.{span-few}
-use Rattle.text_pieces.specs.Stored.{bytesOf}
-use Rattle.text_pieces.proofs.Pieces.{sets-out}
+use Rattle.text_write.specs.pieces.Stored.{bytesOf}
+use Rattle.text_write.proofs.pieces.Pieces.{sets-out}
 use Rattle.overlap_list.specs.declared.Tally.{Tally}
 use Rattle.overlap_list.specs.declared.Candidate.{Candidate}
 use Rattle.overlap_list.specs.declared.Listed.the-variants.{Lines, TooSmall}

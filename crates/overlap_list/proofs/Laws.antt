@@ -8,8 +8,8 @@ use lib.ListN.{length, take, drop, length-append}
 use lib.Seq.{sets, length-sets}
 use Rattle.math_terms.proofs.Seqs.{concat-map-append}
 use Rattle.text_write.proofs.Stores.{sets-append}
-use Rattle.text_pieces.specs.Stored.{bytesOf}
-use Rattle.text_pieces.proofs.Stored.{bytes-length, store-part}
+use Rattle.text_write.specs.pieces.Stored.{bytesOf}
+use Rattle.text_write.proofs.pieces.Stored.{bytes-length, store-part}
 use Rattle.pair_state.specs.declared.State.{State}
 use Rattle.pair_state.specs.declared.Joined.{Joined}
 use Rattle.overlap_entries.specs.declared.Span.{Span}

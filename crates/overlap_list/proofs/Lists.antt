@@ -11,7 +11,7 @@ use lib.ListN.{length}
 use Rattle.math_types.specs.Types.{basics, entry}
 use Rattle.text_grammar.specs.Terms.{OurTerm}
 use Rattle.text_grammar.specs.Limits.{IsLeft}
-use Rattle.text_constants.specs.Constants.{consts}
+use Rattle.text_grammar.specs.constants.Constants.{consts}
 use Rattle.math_overlaps.specs.Shapes.{Side, left, right, both, shapeOf, shapesOf}
 use Rattle.math_overlaps.specs.Candidates.{Cand, cands}
 use Rattle.math_overlaps.specs.Joins.{joins, start}

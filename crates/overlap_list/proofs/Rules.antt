@@ -29,7 +29,7 @@ use Rattle.text_passes.proofs.Passes.{is-short}
 use Rattle.text_passes.proofs.Fields.{side-fields}
 use Rattle.text_read.specs.Answers.{sideSaid}
 use Rattle.text_write.specs.Answers.{after}
-use Rattle.text_pieces.specs.Stored.{bytesOf}
+use Rattle.text_write.specs.pieces.Stored.{bytesOf}
 use Rattle.pair_lines.specs.Lines.{spotsIn}
 use Rattle.pair_lines.proofs.Lines.{line-is, numbers-few}
 use Rattle.overlap_list.specs.declared.Listed.{Listed}

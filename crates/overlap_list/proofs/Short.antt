@@ -14,7 +14,7 @@ use Rattle.overlap_entries.specs.declared.Choice.{Choice}
 use Rattle.overlap_entries.specs.Entries.{noChoice, chosenAt}
 use Rattle.pair_lines.specs.Lines.{lineIn}
 use Rattle.pair_lines.proofs.Short.{any-line}
-use Rattle.text_pieces.specs.Stored.{bytesOf}
+use Rattle.text_write.specs.pieces.Stored.{bytesOf}
 use Rattle.overlap_list.specs.declared.Candidate.{Candidate}
 use Rattle.overlap_list.specs.Listing.{spanAt, candidateOf, joinsAt, afterJoin, candidateLines, choiceLines, linesFrom, allLines}
 use Rattle.overlap_list.specs.Listing.{choices, longestLine}

@@ -8,18 +8,18 @@ use lib.ListN.{take}
 use Rattle.text_grammar.specs.Terms.{OurTerm}
 use Rattle.text_grammar.specs.Plain.{plain}
 use Rattle.text_grammar.proofs.Accepted.{rule-plain}
-use Rattle.text_rules.specs.Read.{readRule}
-use Rattle.text_rules.proofs.Before.{one-sided}
+use Rattle.text_grammar.specs.rules.Read.{readRule}
+use Rattle.text_grammar.proofs.rules.Before.{one-sided}
 use Rattle.overlap_spec.specs.Overlaps.{linesOf}
 use Rattle.text_values.specs.declared.RuleSide.{RuleSide}
 use Rattle.text_values.specs.declared.Rule.{Rule}
 use Rattle.text_values.specs.Values.{viewSide}
 use Rattle.text_accepted.specs.Accepted.{acceptedLeft, countedLeft}
 use Rattle.text_accepted.proofs.Accepted.{accepted-rule}
-use Rattle.text_accepted_rules.specs.Rules.{countedRule, leftValue}
-use Rattle.text_accepted_rules.proofs.Rules.{left-counted}
-use Rattle.text_verdicts.specs.declared.Reason as values
-use Rattle.text_verdicts.specs.declared.Verdict.the-variants.{Accepted, Refused}
+use Rattle.text_accepted.specs.rules.Rules.{countedRule, leftValue}
+use Rattle.text_accepted.proofs.rules.Rules.{left-counted}
+use Rattle.text_refusals.specs.declared.verdicts.Reason as values
+use Rattle.text_refusals.specs.declared.verdicts.Verdict.the-variants.{Accepted, Refused}
 use Rattle.text_read.specs.declared.LeftJudged.{LeftJudged}
 use Rattle.text_read.specs.Answers.{leftSaid, JudgesLeft}
 use Rattle.text_read.proofs.Judged.{judged-accepted, judged-refused}

@@ -9,11 +9,11 @@ use lib.ListN.{length}
 use Rattle.text_grammar.specs.Told.{Told, byRoom}
 use Rattle.text_grammar.specs.Terms.{OurTerm}
 use Rattle.text_grammar.specs.Read.{OurFields, readSide, accepted}
-use Rattle.text_rules.specs.Read.{readRule}
-use Rattle.text_verdicts.specs.Verdicts.{verdictOf}
+use Rattle.text_grammar.specs.rules.Read.{readRule}
+use Rattle.text_refusals.specs.verdicts.Verdicts.{verdictOf}
 use Rattle.text_read.specs.Answers.{leftSaid, sideSaid}
 use Rattle.text_write.specs.Answers.{after}
-use Rattle.text_pieces.specs.Stored.{bytesOf}
+use Rattle.text_write.specs.pieces.Stored.{bytesOf}
 use Rattle.overlap_spec.specs.Overlaps.{linesOf, overlapText}
 use Rattle.overlap_list.specs.declared.Listed.{Listed}
 use Rattle.overlap_list.specs.declared.Listed.the-variants.{Lines, TooSmall}

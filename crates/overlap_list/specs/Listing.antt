@@ -9,7 +9,7 @@ use lib.ListN.{length}
 use lib.Seq.{sets}
 use Rattle.math_types.specs.Types.{entry}
 use Rattle.math_codes.specs.Spots.{cellAt, joinFrom}
-use Rattle.text_pieces.specs.Stored.{bytesOf}
+use Rattle.text_write.specs.pieces.Stored.{bytesOf}
 use Rattle.pair_row.specs.Row.{tableIn, spotIn}
 use Rattle.pair_state.specs.declared.State.{State}
 use Rattle.pair_state.specs.declared.Joined.{Joined}

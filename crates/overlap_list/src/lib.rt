@@ -7,8 +7,8 @@ ghost use mathlib.Core.List.{[], _∷_};
 ghost use Prim.Native.Nat.{_+_, _-_, _*_, _≤_, _<_, min};
 ghost use lib.ListN.{length};
 ghost use Rattle.text_accepted.specs.Accepted.{countedLeft};
-ghost use Rattle.text_accepted_rules.specs.Rules.{countedRule};
-ghost use Rattle.text_pieces.specs.Stored.{bytesOf};
+ghost use Rattle.text_accepted.specs.rules.Rules.{countedRule};
+ghost use Rattle.text_write.specs.pieces.Stored.{bytesOf};
 ghost use Rattle.pair_lines.specs.Lines.{lineIn};
 ghost use Rattle.overlap_list.specs.Listing.{candidateOf, noTally, Stores, linesIn, choicesIn, allLines, choices, longestLine};
 ghost use Rattle.overlap_list.specs.Listing.{Moderate, Countable};
@@ -16,9 +16,9 @@ ghost use Rattle.overlap_list.specs.Answers.{Lists, ListsLines, Accepts,
 use overlap_entries::Choice;
 use overlap_entries::Span;
 use pair_state::State;
+use text_refusals::verdicts::Verdict;
 use text_values::Rule;
 use text_values::RuleSide;
-use text_verdicts::Verdict;
 
 // The most bytes that the line of an entry has.
 const LONGEST_LINE: usize = 24285;
@@ -257,8 +257,8 @@ fn list_sides(left: RuleSide, right: RuleSide, out: &mut [u8]) -> Listed
 {
     let mut a = [0u8; 1151];
     let mut b = [0u8; 1151];
-    let n = text_pieces::size_of(text_plain::write_side(left, &mut a));
-    let m = text_pieces::size_of(text_plain::write_side(right, &mut b));
+    let n = text_write::pieces::size_of(text_plain::write_side(left, &mut a));
+    let m = text_write::pieces::size_of(text_plain::write_side(right, &mut b));
     let said = list_texts(&a[..n], &b[..m], out);
     said.listed
 }
@@ -267,7 +267,7 @@ fn list_sides(left: RuleSide, right: RuleSide, out: &mut [u8]) -> Listed
 pub fn list_overlaps(left: Rule, right: Rule, out: &mut [u8]) -> Listed
     ensures { λ r. ⌜ Lists ((countedRule left) .0) ((countedRule right) .0) (now (out .entry)) r (now (out .exit)) ⌝ }
 {
-    let x = text_accepted_rules::left_of(left);
-    let y = text_accepted_rules::left_of(right);
+    let x = text_accepted::rules::left_of(left);
+    let y = text_accepted::rules::left_of(right);
     list_sides(x, y, out)
 }

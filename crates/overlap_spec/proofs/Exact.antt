@@ -16,9 +16,9 @@ use Rattle.math_terms.proofs.Matching.{match-unique}
 use Rattle.text_grammar.specs.Terms.{Con, int, str, OurTerm}
 use Rattle.text_grammar.specs.Limits.{TermIn, IsLeft}
 use Rattle.text_grammar.specs.Plain.{TermOk}
-use Rattle.text_constants.specs.Constants.{consts, some-of}
-use Rattle.text_constants.specs.Matching.{Matches}
-use Rattle.text_constants.proofs.Linear.{left-linear}
+use Rattle.text_grammar.specs.constants.Constants.{consts, some-of}
+use Rattle.text_grammar.specs.constants.Matching.{Matches}
+use Rattle.text_grammar.proofs.constants.Linear.{left-linear}
 use Rattle.math_overlaps.specs.Substitutions.{Subst, substitute}
 use Rattle.math_overlaps.specs.Constants.{ConstantIn}
 use Rattle.math_overlaps.specs.Overlaps.{overlaps}

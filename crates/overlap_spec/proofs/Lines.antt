@@ -14,7 +14,7 @@ use Rattle.text_grammar.specs.Terms.{OurTerm}
 use Rattle.text_grammar.specs.Plain.{rawField, fieldText, plain, TermOk, RuleOk}
 use Rattle.text_grammar.proofs.Numbers.{digits-number, number-digits}
 use Rattle.text_grammar.proofs.Plain.{plain-says, plain-one}
-use Rattle.overlap_spec.specs.Lines.{Binding, Line, nameText, bindingText, leftMark, rightMark, bindingsText, lineText, listText, WritableBinding}
+use Rattle.overlap_spec.specs.Lines.{Binding, Line, nameText, bindingText, leftTag, rightTag, bindingsText, lineText, listText, WritableBinding}
 use Rattle.overlap_spec.specs.Lines.{WritableLine}
 use Rattle.overlap_spec.proofs.Cut.{Printable, letter-lower, Closed, grammar-closed, grammar-printable, closed-byte, Starts, closed-one}
 
@@ -83,88 +83,88 @@ name-one j k m n e =
 
 -- a binding without its blank
 abbrev body : ℕ → Binding → List ℕ
-body mark b = mark ∷ (nameText (b .kind) (b .number) ++ 61 ∷ fieldText (b .value))
+body tag b = tag ∷ (nameText (b .kind) (b .number) ++ 61 ∷ fieldText (b .value))
 
-body-closed : (mark : ℕ) (b : Binding) → 35 ≤ mark → WritableBinding b → Closed (body mark b)
-body-closed mark b l h =
-    closed-byte mark (nameText (b .kind) (b .number) ++ 61 ∷ fieldText (b .value)) l
+body-closed : (tag : ℕ) (b : Binding) → 35 ≤ tag → WritableBinding b → Closed (body tag b)
+body-closed tag b l h =
+    closed-byte tag (nameText (b .kind) (b .number) ++ 61 ∷ fieldText (b .value)) l
     (name-closed (nameText (b .kind) (b .number)) (61 ∷ fieldText (b .value)) (name-bytes (b .kind) (b .number))
     (closed-byte 61 (fieldText (b .value)) (omega arith) (value-closed (b .value) h)))
 
-body-one : (mark : ℕ) (b c : Binding) → WritableBinding b → WritableBinding c → body mark b ≡ body mark c → b ≡ c
-body-one mark b c p q e =
+body-one : (tag : ℕ) (b c : Binding) → WritableBinding b → WritableBinding c → body tag b ≡ body tag c → b ≡ c
+body-one tag b c p q e =
     let d = name-cut (nameText (b .kind) (b .number)) (nameText (c .kind) (c .number)) (fieldText (b .value)) (fieldText (c .value))
     (name-bytes (b .kind) (b .number)) (name-bytes (c .kind) (c .number)) (tail-eq-of-cons-eq e) in
     let n = name-one (b .kind) (c .kind) (b .number) (c .number) (d .0) in
     let v = value-one (b .value) (c .value) p q (d .1) in
     λ i. record { kind = n .0 i; number = n .1 i; value = v i }
 
--- ---- the bindings under one mark
+-- ---- the bindings under one tag
 
--- a text that goes on with the newline, or with a blank and another byte than the mark
+-- a text that goes on with the newline, or with a blank and another byte than the tag
 abbrev Past : ℕ → List ℕ → Type 0
-Past mark [] = ⊥
-Past mark (c ∷ []) = c ≡ 10
-Past mark (c ∷ (d ∷ t)) = (c ≡ 10) ⊎ ((c ≡ 32) × (d ≢ mark))
+Past tag [] = ⊥
+Past tag (c ∷ []) = c ≡ 10
+Past tag (c ∷ (d ∷ t)) = (c ≡ 10) ⊎ ((c ≡ 32) × (d ≢ tag))
 
-past-starts : (mark : ℕ) (u : List ℕ) → Past mark u → Starts u
-past-starts mark [] h = absurd h
-past-starts mark (c ∷ []) h = inr h
-past-starts mark (c ∷ (d ∷ t)) (inl h) = inr h
-past-starts mark (c ∷ (d ∷ t)) (inr h) = inl (h .0)
+past-starts : (tag : ℕ) (u : List ℕ) → Past tag u → Starts u
+past-starts tag [] h = absurd h
+past-starts tag (c ∷ []) h = inr h
+past-starts tag (c ∷ (d ∷ t)) (inl h) = inr h
+past-starts tag (c ∷ (d ∷ t)) (inr h) = inl (h .0)
 
-past-end : (mark : ℕ) (t : List ℕ) → Past mark (10 ∷ t)
-past-end mark [] = refl
-past-end mark (d ∷ t) = inl refl
+past-end : (tag : ℕ) (t : List ℕ) → Past tag (10 ∷ t)
+past-end tag [] = refl
+past-end tag (d ∷ t) = inl refl
 
-past-not : (mark : ℕ) (u t : List ℕ) → Past mark u → u ≡ 32 ∷ (mark ∷ t) → ⊥
-past-not mark [] t h e = absurd h
-past-not mark (c ∷ []) t h e = let f : c ≡ 32 = head-eq-of-cons-eq e in omega arith
-past-not mark (c ∷ (d ∷ s)) t (inl h) e = let f : c ≡ 32 = head-eq-of-cons-eq e in omega arith
-past-not mark (c ∷ (d ∷ s)) t (inr h) e = h .1 (head-eq-of-cons-eq (tail-eq-of-cons-eq e))
+past-not : (tag : ℕ) (u t : List ℕ) → Past tag u → u ≡ 32 ∷ (tag ∷ t) → ⊥
+past-not tag [] t h e = absurd h
+past-not tag (c ∷ []) t h e = let f : c ≡ 32 = head-eq-of-cons-eq e in omega arith
+past-not tag (c ∷ (d ∷ s)) t (inl h) e = let f : c ≡ 32 = head-eq-of-cons-eq e in omega arith
+past-not tag (c ∷ (d ∷ s)) t (inr h) e = h .1 (head-eq-of-cons-eq (tail-eq-of-cons-eq e))
 
-bindings-starts : (mark : ℕ) (bs : List Binding) (u : List ℕ) → Starts u → Starts (bindingsText mark bs ++ u)
-bindings-starts mark [] u h = h
-bindings-starts mark (b ∷ bs) u h = inl refl
+bindings-starts : (tag : ℕ) (bs : List Binding) (u : List ℕ) → Starts u → Starts (bindingsText tag bs ++ u)
+bindings-starts tag [] u h = h
+bindings-starts tag (b ∷ bs) u h = inl refl
 
-bindings-one : (mark : ℕ) (bs cs : List Binding) (u v : List ℕ) → 35 ≤ mark → All WritableBinding bs → All WritableBinding cs
-    → Past mark u → Past mark v → bindingsText mark bs ++ u ≡ bindingsText mark cs ++ v → (bs ≡ cs) × (u ≡ v)
-bindings-one mark [] [] u v l p q h k e = (refl, e)
-bindings-one mark [] (c ∷ cs) u v l p q h k e = absurd (past-not mark u _ h e)
-bindings-one mark (b ∷ bs) [] u v l p q h k e = absurd (past-not mark v _ k (sym e))
-bindings-one mark (b ∷ bs) (c ∷ cs) u v l p q h k e =
+bindings-one : (tag : ℕ) (bs cs : List Binding) (u v : List ℕ) → 35 ≤ tag → All WritableBinding bs → All WritableBinding cs
+    → Past tag u → Past tag v → bindingsText tag bs ++ u ≡ bindingsText tag cs ++ v → (bs ≡ cs) × (u ≡ v)
+bindings-one tag [] [] u v l p q h k e = (refl, e)
+bindings-one tag [] (c ∷ cs) u v l p q h k e = absurd (past-not tag u _ h e)
+bindings-one tag (b ∷ bs) [] u v l p q h k e = absurd (past-not tag v _ k (sym e))
+bindings-one tag (b ∷ bs) (c ∷ cs) u v l p q h k e =
     let f =
-    closed-one (body mark b) (body mark c) (bindingsText mark bs ++ u) (bindingsText mark cs ++ v) (body-closed mark b l (p .0)) (body-closed mark c l (q .0))
-    (bindings-starts mark bs u (past-starts mark u h)) (bindings-starts mark cs v (past-starts mark v k))
-    (sym (append-assoc (body mark b) (bindingsText mark bs) u) ∙ tail-eq-of-cons-eq e ∙ append-assoc (body mark c) (bindingsText mark cs) v) in
-    let r = bindings-one mark bs cs u v l (p .1) (q .1) h k (f .1) in
-    (ap₂ (λ (x : Binding) (y : List Binding). x ∷ y) (body-one mark b c (p .0) (q .0) (f .0)) (r .0), r .1)
+    closed-one (body tag b) (body tag c) (bindingsText tag bs ++ u) (bindingsText tag cs ++ v) (body-closed tag b l (p .0)) (body-closed tag c l (q .0))
+    (bindings-starts tag bs u (past-starts tag u h)) (bindings-starts tag cs v (past-starts tag v k))
+    (sym (append-assoc (body tag b) (bindingsText tag bs) u) ∙ tail-eq-of-cons-eq e ∙ append-assoc (body tag c) (bindingsText tag cs) v) in
+    let r = bindings-one tag bs cs u v l (p .1) (q .1) h k (f .1) in
+    (ap₂ (λ (x : Binding) (y : List Binding). x ∷ y) (body-one tag b c (p .0) (q .0) (f .0)) (r .0), r .1)
 
 -- the bindings of the right rule are past those of the left one
-right-past : (bs : List Binding) (t : List ℕ) → Past leftMark (bindingsText rightMark bs ++ 10 ∷ t)
-right-past [] t = past-end leftMark t
+right-past : (bs : List Binding) (t : List ℕ) → Past leftTag (bindingsText rightTag bs ++ 10 ∷ t)
+right-past [] t = past-end leftTag t
 right-past (b ∷ bs) t = inr (refl, λ e. omega arith)
 
 -- ---- lines
 
 -- what follows the fields
 abbrev tailText : Line → List ℕ → List ℕ
-tailText l u = bindingsText leftMark (l .left) ++ (bindingsText rightMark (l .right) ++ 10 ∷ u)
+tailText l u = bindingsText leftTag (l .left) ++ (bindingsText rightTag (l .right) ++ 10 ∷ u)
 
 line-parts : (l : Line) (u : List ℕ) → lineText l ++ u ≡ plain (l .fields) ++ tailText l u
 line-parts l u = rw (append-assoc, append-assoc, append-assoc)
 
 tail-starts : (l : Line) (u : List ℕ) → Starts (tailText l u)
-tail-starts l u = bindings-starts leftMark (l .left) (bindingsText rightMark (l .right) ++ 10 ∷ u) (bindings-starts rightMark (l .right) (10 ∷ u) (inr refl))
+tail-starts l u = bindings-starts leftTag (l .left) (bindingsText rightTag (l .right) ++ 10 ∷ u) (bindings-starts rightTag (l .right) (10 ∷ u) (inr refl))
 
 -- A LINE is determined by any text that begins with it, and so is the rest
 pub line-one : (l m : Line) (u v : List ℕ) → WritableLine l → WritableLine m → lineText l ++ u ≡ lineText m ++ v → (l ≡ m) × (u ≡ v)
 line-one l m u v p q e =
     let f = field-text (l .fields) (m .fields) (tailText l u) (tailText m v) (p .0) (q .0) (tail-starts l u) (tail-starts m v)
     (sym (line-parts l u) ∙ e ∙ line-parts m v) in
-    let g = bindings-one leftMark (l .left) (m .left) (bindingsText rightMark (l .right) ++ 10 ∷ u)
-    (bindingsText rightMark (m .right) ++ 10 ∷ v) (omega arith) (p .1) (q .1) (right-past (l .right) u) (right-past (m .right) v) (f .1) in
-    let h = bindings-one rightMark (l .right) (m .right) (10 ∷ u) (10 ∷ v) (omega arith) (p .2) (q .2) (past-end rightMark u) (past-end rightMark v) (g .1) in
+    let g = bindings-one leftTag (l .left) (m .left) (bindingsText rightTag (l .right) ++ 10 ∷ u)
+    (bindingsText rightTag (m .right) ++ 10 ∷ v) (omega arith) (p .1) (q .1) (right-past (l .right) u) (right-past (m .right) v) (f .1) in
+    let h = bindings-one rightTag (l .right) (m .right) (10 ∷ u) (10 ∷ v) (omega arith) (p .2) (q .2) (past-end rightTag u) (past-end rightTag v) (g .1) in
     (λ i. record { fields = f .0 i; left = g .0 i; right = h .0 i }, tail-eq-of-cons-eq (h .1))
 
 -- a line has bytes
@@ -187,8 +187,8 @@ lines-one (l ∷ ls) (m ∷ ms) p q e =
 
 -- ---- a line's only newline is its last byte
 
-binding-printable : (mark : ℕ) (b : Binding) → Printable mark → WritableBinding b → All Printable (bindingText mark b)
-binding-printable mark b m h = (
+binding-printable : (tag : ℕ) (b : Binding) → Printable tag → WritableBinding b → All Printable (bindingText tag b)
+binding-printable tag b m h = (
   (omega arith, omega arith),
   (
     m,
@@ -200,17 +200,17 @@ binding-printable mark b m h = (
   ),
 )
 
-bindings-printable : (mark : ℕ) (bs : List Binding) → Printable mark → All WritableBinding bs → All Printable (bindingsText mark bs)
-bindings-printable mark [] m h = tt
-bindings-printable mark (b ∷ bs) m h =
-    all-append Printable (bindingText mark b) (bindingsText mark bs) (binding-printable mark b m (h .0)) (bindings-printable mark bs m (h .1))
+bindings-printable : (tag : ℕ) (bs : List Binding) → Printable tag → All WritableBinding bs → All Printable (bindingsText tag bs)
+bindings-printable tag [] m h = tt
+bindings-printable tag (b ∷ bs) m h =
+    all-append Printable (bindingText tag b) (bindingsText tag bs) (binding-printable tag b m (h .0)) (bindings-printable tag bs m (h .1))
 
 pub line-printable : (l : Line) → WritableLine l → (t : List ℕ) × (lineText l ≡ t ++ 10 ∷ []) × All Printable t
 line-printable l h = (
-  plain (l .fields) ++ (bindingsText leftMark (l .left) ++ bindingsText rightMark (l .right)),
+  plain (l .fields) ++ (bindingsText leftTag (l .left) ++ bindingsText rightTag (l .right)),
   sym (rw (append-assoc, append-assoc)),
-  all-append Printable (plain (l .fields)) (bindingsText leftMark (l .left) ++ bindingsText rightMark (l .right))
+  all-append Printable (plain (l .fields)) (bindingsText leftTag (l .left) ++ bindingsText rightTag (l .right))
       (grammar-printable (plain (l .fields)) (plain-grammar (l .fields) (h .0)))
-      (all-append Printable (bindingsText leftMark (l .left)) (bindingsText rightMark (l .right))
-      (bindings-printable leftMark (l .left) (omega arith, omega arith) (h .1)) (bindings-printable rightMark (l .right) (omega arith, omega arith) (h .2))),
+      (all-append Printable (bindingsText leftTag (l .left)) (bindingsText rightTag (l .right))
+      (bindings-printable leftTag (l .left) (omega arith, omega arith) (h .1)) (bindings-printable rightTag (l .right) (omega arith, omega arith) (h .2))),
 )

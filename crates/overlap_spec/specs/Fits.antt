@@ -9,8 +9,8 @@ use Rattle.math_terms.specs.Terms.{con}
 use Rattle.math_terms.specs.Fillings.{Filling, Typed, fill}
 use Rattle.text_grammar.specs.Terms.{Con, OurTerm}
 use Rattle.text_grammar.specs.Limits.{TermIn}
-use Rattle.text_constants.specs.Constants.{consts}
-use Rattle.text_constants.specs.Matching.{Matches}
+use Rattle.text_grammar.specs.constants.Constants.{consts}
+use Rattle.text_grammar.specs.constants.Matching.{Matches}
 use Rattle.math_overlaps.specs.Solutions as theory
 use Rattle.overlap_spec.specs.Lines.{Binding, Line}
 use Rattle.overlap_spec.specs.Variables.{Variable, variables}

@@ -24,24 +24,24 @@ pub record Line : Type 0 where
 abbrev pub nameText : Kind → ℕ → List ℕ
 nameText k n = termText (var k n)
 
--- "a blank, `<`, name, `=`, value", and "A value is a field's text"; the mark is `<` or `>`
+-- "a blank, `<`, name, `=`, value", and "A value is a field's text"; the tag is `<` or `>`
 abbrev pub bindingText : ℕ → Binding → List ℕ
-bindingText mark b = 32 ∷ (mark ∷ (nameText (b .kind) (b .number) ++ 61 ∷ fieldText (b .value)))
+bindingText tag b = 32 ∷ (tag ∷ (nameText (b .kind) (b .number) ++ 61 ∷ fieldText (b .value)))
 
 -- "for each variable of the left rule .. `<`"
-abbrev pub leftMark : ℕ
-leftMark = 60
+abbrev pub leftTag : ℕ
+leftTag = 60
 
 -- "then the same with `>` for the right rule"
-abbrev pub rightMark : ℕ
-rightMark = 62
+abbrev pub rightTag : ℕ
+rightTag = 62
 
 abbrev pub bindingsText : ℕ → List Binding → List ℕ
-bindingsText mark bs = concat-map (bindingText mark) bs
+bindingsText tag bs = concat-map (bindingText tag) bs
 
 -- "the entry's fields in plain text", the bindings of the left rule, those of the right rule, "then a newline (byte 10)"
 abbrev pub lineText : Line → List ℕ
-lineText l = plain (l .fields) ++ (bindingsText leftMark (l .left) ++ (bindingsText rightMark (l .right) ++ 10 ∷ []))
+lineText l = plain (l .fields) ++ (bindingsText leftTag (l .left) ++ (bindingsText rightTag (l .right) ++ 10 ∷ []))
 
 -- "The lines written are those of the entries, in their order"
 abbrev pub listText : List Line → List ℕ

@@ -16,7 +16,7 @@ use Rattle.math_codes.specs.Lines.{pairItems}
 use Rattle.math_codes.proofs.Makers.{at-most}
 use Rattle.math_codes.proofs.Measures.{values-bounded}
 use Rattle.pair_row.specs.Row.{tableIn, textIn, indexIn, topIn}
-use Rattle.pair_lines.specs.Lines.{Few, sideFew, numbersFew, runBy, markOf, unled, valuesIn, lineBound}
+use Rattle.pair_lines.specs.Lines.{Few, sideFew, numbersFew, runBy, tagOf, unled, valuesIn, lineBound}
 use Rattle.pair_lines.specs.Answers.{areItems, valueFits, wholeRuns, listedIn, answerIn}
 use Rattle.pair_lines.proofs.Bounds.{tops-few}
 use Rattle.pair_lines.proofs.Loops.{all-named}
@@ -139,7 +139,7 @@ module _ (row texts atoms left right : List ℕ) where
         side-short : (side : Bool) → sideFew row side ≡ true → (items : List ℕ) → length items ≤ 31
             → length (valuesIn row texts numbers side atoms (λ l. items)) ≤ 8296680
         side-short side f items h =
-            values-bounded T (textIn row texts) 257 short numbers low (markOf side) (indexIn row side) (topIn row side)
+            values-bounded T (textIn row texts) 257 short numbers low (tagOf side) (indexIn row side) (topIn row side)
             (λ k l. let t = tops-few row side f k l in omega arith) atoms (λ l. items) 31 (omega arith) (λ l. h)
 
         pub answer-short : length leftValues + (length rightValues + 1) ≤ lineBound

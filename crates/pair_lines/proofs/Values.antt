@@ -15,7 +15,7 @@ use Rattle.math_overlaps.specs.Candidates.{range}
 use Rattle.math_codes.specs.Lines.{itemText, itemsText}
 use Rattle.math_codes.specs.Index.{isThere, hasAt, nameAt, boundText, rankedValue}
 use Rattle.pair_row.specs.Row.{tableIn, textIn, indexIn, topIn}
-use Rattle.pair_lines.specs.Lines.{markOf, valueIn, rankIn, valuesIn}
+use Rattle.pair_lines.specs.Lines.{tagOf, valueIn, rankIn, valuesIn}
 use Rattle.pair_lines.proofs.Laying.{part-of}
 use Rattle.pair_lines.proofs.Puts.{Led, led-append}
 
@@ -64,11 +64,11 @@ module _ (l : List ℕ) (a b : ℕ) where
 -- what is written of a variable
 abbrev pub shownIn : List ℕ → List ℕ → List ℕ → Bool → List ℕ → (ℕ → List ℕ) → ℕ → ℕ → List ℕ
 shownIn row texts numbers right atoms runs k v =
-    rankedValue (tableIn row) (textIn row texts) numbers (markOf right) (indexIn row right) atoms runs k v
+    rankedValue (tableIn row) (textIn row texts) numbers (tagOf right) (indexIn row right) atoms runs k v
 
 -- its name
 abbrev pub nameIn : Bool → ℕ → ℕ → List ℕ
-nameIn right k v = 32 ∷ (markOf right ∷ (nameAt k v ++ 61 ∷ []))
+nameIn right k v = 32 ∷ (tagOf right ∷ (nameAt k v ++ 61 ∷ []))
 
 pub name-long : (right : Bool) (k v : ℕ) → length (nameIn right k v) ≡ 4 + length (digitsOf v)
 name-long right k v = omega (arith, length-append (digitsOf v) (61 ∷ []))
@@ -82,7 +82,7 @@ module _ (row texts numbers : List ℕ) (right : Bool) (atoms : List ℕ) (runs 
       → nameIn right k v ++ itemsText (tableIn row) (textIn row texts) numbers (valueIn row right atoms runs k v)
       ≡ shownIn row texts numbers right atoms runs k v
   shown-there h =
-      ap (λ (t : List ℕ). 32 ∷ (markOf right ∷ t))
+      ap (λ (t : List ℕ). 32 ∷ (tagOf right ∷ t))
       (append-assoc (nameAt k v) (61 ∷ []) (itemsText (tableIn row) (textIn row texts) numbers (valueIn row right atoms runs k v)))
       ∙ rw (there (indexIn row right (16 * k + v)) h)
 
@@ -101,7 +101,7 @@ module _ (row texts numbers : List ℕ) (right : Bool) (atoms : List ℕ) (runs 
   pub shown-led : Led (shownIn row texts numbers right atoms runs k v)
   shown-led = go (hasAt (indexIn row right) k v)
     where
-      go : (b : Bool) → Led (cond b (boundText (tableIn row) (textIn row texts) numbers (markOf right) k v (valueIn row right atoms runs k v)) [])
+      go : (b : Bool) → Led (cond b (boundText (tableIn row) (textIn row texts) numbers (tagOf right) k v (valueIn row right atoms runs k v)) [])
       go true = tt
       go false = tt
 
@@ -134,7 +134,7 @@ module _ (row texts numbers : List ℕ) (right : Bool) (atoms : List ℕ) (few :
       ++ (rankIn row texts numbers right atoms runs 1 ++ (rankIn row texts numbers right atoms runs 2 ++ (t ++ []))))
       (texts-agree (shownIn row texts numbers right atoms runs 3) (shownIn row texts numbers right atoms runs′ 3) 0 (topIn row right 3)
       (λ n l. ap (λ (w : List ℕ). cond (hasAt (indexIn row right) 3 n)
-      (boundText (tableIn row) (textIn row texts) numbers (markOf right) 3 n w) []) (h n (omega arith))))
+      (boundText (tableIn row) (textIn row texts) numbers (tagOf right) 3 n w) []) (h n (omega arith))))
 
 -- ---- a list for each number, one behind the other
 

@@ -9,7 +9,7 @@ use lib.ListN.{length, getD, set, drop, replicate}
 use lib.Seq.{sets, slice}
 use Rattle.base_lists.specs.Seqs.{tabulate}
 use Rattle.math_overlaps.specs.Candidates.{Cand, exact, long}
-use Rattle.overlap_spec.specs.Lines.{leftMark, rightMark}
+use Rattle.overlap_spec.specs.Lines.{leftTag, rightTag}
 use Rattle.math_codes.specs.Spots.{Spot}
 use Rattle.math_codes.specs.Walks.{spanOn}
 use Rattle.math_codes.specs.Names.{Names, noNames, nameFields}
@@ -98,9 +98,9 @@ noRuns = replicate 32 0
 abbrev pub runBy : List ℕ → List ℕ → ℕ → List ℕ
 runBy runs items l = slice (getD runs (2 * l) 0) (getD runs (2 * l + 1) 0) items
 
-abbrev pub markOf : Bool → ℕ
-markOf true = rightMark
-markOf false = leftMark
+abbrev pub tagOf : Bool → ℕ
+tagOf true = rightTag
+tagOf false = leftTag
 
 -- a blank before a binding, but not where a line begins; `led` has one there too
 abbrev pub blank : Bool → ℕ → List ℕ
@@ -116,11 +116,11 @@ valueIn row right atoms runs k v = valueAt (indexIn row right) atoms runs k v
 
 abbrev pub rankIn : List ℕ → List ℕ → List ℕ → Bool → List ℕ → (ℕ → List ℕ) → ℕ → List ℕ
 rankIn row texts numbers right atoms runs k =
-    rankValues (tableIn row) (textIn row texts) numbers (markOf right) (indexIn row right) (topIn row right) atoms runs k
+    rankValues (tableIn row) (textIn row texts) numbers (tagOf right) (indexIn row right) (topIn row right) atoms runs k
 
 abbrev pub valuesIn : List ℕ → List ℕ → List ℕ → Bool → List ℕ → (ℕ → List ℕ) → List ℕ
 valuesIn row texts numbers right atoms runs =
-    indexedValues (tableIn row) (textIn row texts) numbers (markOf right) (indexIn row right) (topIn row right) atoms runs
+    indexedValues (tableIn row) (textIn row texts) numbers (tagOf right) (indexIn row right) (topIn row right) atoms runs
 
 -- ---- the line
 

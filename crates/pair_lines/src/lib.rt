@@ -13,7 +13,7 @@ ghost use Rattle.math_codes.specs.Index.{nameAt};
 ghost use Rattle.overlap_entries.specs.Entries.{itemCount};
 ghost use Rattle.pair_row.specs.Row.{tableIn, bytesIn, textIn, indexIn};
 ghost use Rattle.pair_lines.specs.Lines.{Puts, Few, sideFew, numbersFew, fits, fieldIn, itemsIn, namesIn, laidIn};
-ghost use Rattle.pair_lines.specs.Lines.{runAt, noteRun, runsOver, runBy, markOf, blank, unled, valueIn, rankIn, valuesIn};
+ghost use Rattle.pair_lines.specs.Lines.{runAt, noteRun, runsOver, runBy, tagOf, blank, unled, valueIn, rankIn, valuesIn};
 ghost use Rattle.pair_lines.specs.Lines.{lineIn, lineBound};
 ghost use Rattle.pair_lines.specs.Answers.{valueFits, wholeRuns, valueWith, listedRank, listedIn, answerIn};
 use overlap_entries::Choice;
@@ -325,10 +325,10 @@ fn put_blank(led: bool, out: &mut [u8], at: usize) -> usize
     put_byte(b' ', out, at)
 }
 
-// A rule's mark and a variable's name: ` <a0=`.
+// A rule's tag and a variable's name: ` <a0=`.
 fn put_name(led: bool, right: bool, rank: u8, n: u8, out: &mut [u8], at: usize) -> usize
     requires { ⌜ at + (4 + length (digitsOf n)) < 2 ^ 64 ⌝ }
-    ensures { λ r. ⌜ Puts (unled led at (32 ∷ (markOf right ∷ (nameAt rank n ++ 61 ∷ [])))) at (now (out .entry)) r (now (out .exit)) ⌝ }
+    ensures { λ r. ⌜ Puts (unled led at (32 ∷ (tagOf right ∷ (nameAt rank n ++ 61 ∷ [])))) at (now (out .entry)) r (now (out .exit)) ⌝ }
 {
     let a = put_blank(led, out, at);
     let b = put_byte(if right { b'>' } else { b'<' }, out, a);

@@ -4,7 +4,7 @@ pub mod PairsRow
 pub mod PairsCells
 pub mod PairsNotes
 pub mod PairsConstants
-pub mod PairsMarks
+pub mod PairsIndexes
 pub mod PairsVariables
 pub mod PairsTerms
 pub mod PairsTexts

@@ -20,17 +20,17 @@ use Rattle.text_grammar.specs.Plain.{termText}
 use Rattle.text_grammar.specs.Read.{accepted, readSide}
 use Rattle.text_grammar.specs.Terms.{OurTerm, Con, int, str}
 use Rattle.text_grammar.proofs.Accepted.{rule-read}
-use Rattle.text_constants.specs.Constants.{consts, kind-of}
+use Rattle.text_grammar.specs.constants.Constants.{consts, kind-of}
 use Rattle.math_overlaps.specs.Shapes.{fixed, free, left, right, of}
 use Rattle.math_overlaps.specs.Candidates.{range}
-use Rattle.math_overlaps.specs.Overlaps.{Mark, place, termOf}
+use Rattle.math_overlaps.specs.Overlaps.{Origin, place, termOf}
 use Rattle.overlap_spec.specs.Variables.{inField, occurs}
 use Rattle.math_codes.specs.Tables.{Holds, kindA, isFree, Made}
 use Rattle.math_codes.specs.Entries.{ruleRow}
 use Rattle.math_codes.specs.Items.{shownAt}
 use Rattle.math_codes.specs.Names.{isVar, MadeTerms}
 use Rattle.math_codes.specs.Spots.{Spot}
-use Rattle.math_codes.specs.Lines.{ourVars, OurAtom, OurMarked, ourRanks, ourRow, ourTerms, pairPlaces, listItems}
+use Rattle.math_codes.specs.Lines.{ourVars, OurAtom, OurOriginTerm, ourRanks, ourRow, ourTerms, pairPlaces, listItems}
 use Rattle.math_codes.specs.Whole.{spotsOf}
 use Rattle.math_codes.specs.Index.{Right, Indexes, Tops}
 use Rattle.math_codes.proofs.Tables.{holds-below}
@@ -43,7 +43,7 @@ use Rattle.pair_table.specs.Pairs.{PairIn}
 use Rattle.pair_table.proofs.PairsRow.{shapeAt, spotAt, spot-is}
 use Rattle.pair_table.proofs.PairsCells.{Cell, bytesOf, cell-bytes}
 use Rattle.pair_table.proofs.PairsNotes.{Gap}
-use Rattle.pair_table.proofs.PairsMarks.{sideIn, indexOn, topOn, in-append, RightIn, Marked}
+use Rattle.pair_table.proofs.PairsIndexes.{sideIn, indexOn, topOn, in-append, RightIn, Indexed}
 use Rattle.pair_table.proofs.PairsTerms.{fieldSpot, Noted, turn}
 use Rattle.pair_table.proofs.PairsRules.{gap-at, Gaps, rule-long, gaps-at, flat, rule-noted}
 
@@ -61,8 +61,8 @@ zero-at n j = go (decLt j n)
 
 module _ (t : List (Option OurAtom)) (G : ℕ → List OurTerm) (row texts : List ℕ) (z : (j : ℕ) → getD row j 0 ≡ 0)
     (y : (j : ℕ) → getD texts j 0 ≡ 0) (long : length row ≡ rowBytes) (wide : length texts ≡ textsBytes) where
-  blank-marks : (s : Bool) → Marked t s [] 0 row
-  blank-marks s =
+  blank-indexes : (s : Bool) → Indexed t s [] 0 row
+  blank-indexes s =
       record {
         absent = λ k n l e. z (indexOn s + 16 * rank k + n);
         present = λ k n l e. absurd (false≢true e);
@@ -94,8 +94,8 @@ module _ (t : List (Option OurAtom)) (G : ℕ → List OurTerm) (row texts : Lis
             };
         cells = λ q d l k. absurd (omega arith);
         small = λ q. omega (arith, y (16 * q));
-        marks = blank-marks false;
-        beside = blank-marks true;
+        here = blank-indexes false;
+        beside = blank-indexes true;
         shaped =
             record {
               before = λ g a b. absurd (omega arith);
@@ -232,17 +232,17 @@ module _ (r₁ r₂ : List (List OurTerm)) (ok₁ : IsLeft r₁) (ok₂ : IsLeft
       }
 
   -- an item's term is that of an atom, or an entry's list variable
-  abbrev Item : ℕ → OurMarked → Type 0
+  abbrev Item : ℕ → OurOriginTerm → Type 0
   Item p u = ((a : OurAtom) × Holds atoms p a × (termOf a ≡ u)) ⊎ ((g : ℕ) × (g < listItems) × (p ≡ 128 + g) × (var list (place g) ≡ u))
 
-  shown : (o : Option OurAtom) (u : OurMarked) → shownAt o ≡ some u → (a : OurAtom) × (o ≡ some a) × (termOf a ≡ u)
+  shown : (o : Option OurAtom) (u : OurOriginTerm) → shownAt o ≡ some u → (a : OurAtom) × (o ≡ some a) × (termOf a ≡ u)
   shown none u e = absurd (Option·none-ne-some u e)
   shown (some a) u e = (a, refl, Option·some-injective (termOf a) u e)
 
-  abbrev listTerm : ℕ → Option OurMarked
+  abbrev listTerm : ℕ → Option OurOriginTerm
   listTerm g = some (var list (place g))
 
-  item-is : (p : ℕ) (u : OurMarked) → Holds (ourTerms r₁ r₂) p u → Item p u
+  item-is : (p : ℕ) (u : OurOriginTerm) → Holds (ourTerms r₁ r₂) p u → Item p u
   item-is p u h = go (decLt p 128) (decLt (p - 128) listItems)
     where
       go : Dec (p < 128) → Dec (p - 128 < listItems) → Item p u
@@ -276,12 +276,12 @@ module _ (r₁ r₂ : List (List OurTerm)) (ok₁ : IsLeft r₁) (ok₂ : IsLeft
         variables = λ p u h. variables-by p u (item-is p u h);
       }
     where
-      kinds-by : (p : ℕ) (k : Kind) (b : Mark ℕ) → Item p (var k b) → tableIn row .kind p ≡ rank k
+      kinds-by : (p : ℕ) (k : Kind) (b : Origin ℕ) → Item p (var k b) → tableIn row .kind p ≡ rank k
       kinds-by p k b (inl (fixed d, h, e)) = absurd (con≢var e)
       kinds-by p k b (inl (free (of s j n), h, e)) = kind-at p (free (of s j n)) h ∙ ap rank (kind-once e)
       kinds-by p k b (inr (g, l, e, q)) = rw (le-leb pairPlaces p (omega arith)) (ap rank (kind-once q))
 
-      variables-by : (p : ℕ) (u : OurMarked) → Item p u → tableIn row .variable p ≡ isVar u
+      variables-by : (p : ℕ) (u : OurOriginTerm) → Item p u → tableIn row .variable p ≡ isVar u
       variables-by p u (inl (fixed d, h, e)) = variable-at p (fixed d) h ∙ ap isVar e
       variables-by p u (inl (free (of s j n), h, e)) = variable-at p (free (of s j n)) h ∙ ap isVar e
       variables-by p u (inr (g, l, e, q)) = rw (le-leb pairPlaces p (omega arith)) (ap isVar q)
@@ -339,7 +339,7 @@ module _ (r₁ r₂ : List (List OurTerm)) (ok₁ : IsLeft r₁) (ok₂ : IsLeft
   right-read s (basic k) n v h = h
   right-read s list n v h = h
 
-  indexes : (s : Bool) (r : List (List OurTerm)) → Marked atoms s (flat r) 128 row → Indexes r₁ r₂ (sideIn s) r (indexIn row s)
+  indexes : (s : Bool) (r : List (List OurTerm)) → Indexed atoms s (flat r) 128 row → Indexes r₁ r₂ (sideIn s) r (indexIn row s)
   indexes s r m =
       record {
         absent = λ k n l e. index-read s k n ∙ m .absent k n l (occurs-flat k n r ∙ e);
@@ -347,7 +347,7 @@ module _ (r₁ r₂ : List (List OurTerm)) (ok₁ : IsLeft r₁) (ok₂ : IsLeft
             (subst (RightIn atoms s k n) (sym (index-read s k n)) (m .present k n l (occurs-flat k n r ∙ e)));
       }
 
-  tops : (s : Bool) (r : List (List OurTerm)) → Marked atoms s (flat r) 128 row → Tops r (topIn row s)
+  tops : (s : Bool) (r : List (List OurTerm)) → Indexed atoms s (flat r) 128 row → Tops r (topIn row s)
   tops s r m =
       record {
         within = λ k l. omega (arith, top-read s k, m .within k l);
@@ -362,9 +362,9 @@ module _ (r₁ r₂ : List (List OurTerm)) (ok₁ : IsLeft r₁) (ok₂ : IsLeft
         left-shapes = shapes₁;
         right-shapes = shapes₂;
         left-index = indexes false r₁ (c .beside);
-        right-index = indexes true r₂ (c .marks);
+        right-index = indexes true r₂ (c .here);
         left-tops = tops false r₁ (c .beside);
-        right-tops = tops true r₂ (c .marks);
+        right-tops = tops true r₂ (c .here);
       }
 
 -- THE TABLES of two texts

@@ -13,7 +13,7 @@ use borrow.Author.Tests.{eq-eqb, ne-eqb}
 use Rattle.math_types.specs.Order.{basic}
 use Rattle.math_types.specs.Types.{basics, rank}
 use Rattle.text_grammar.specs.Terms.{Con}
-use Rattle.text_constants.specs.Constants.{consts, kind-of}
+use Rattle.text_grammar.specs.constants.Constants.{consts, kind-of}
 use Rattle.math_overlaps.specs.Shapes.{fixed}
 use Rattle.math_codes.specs.Tables.{Holds, fixed-once}
 use Rattle.math_codes.specs.Tables.{same as alike}

@@ -1,5 +1,5 @@
 -- What stands in the row and in the cells when the terms before place p are noted, relative to the atoms t of the whole pair by place:
--- `Codes` by place, `Members` and `Cells` of constants, `Marked` by a rule's variables. Each part reads its own region of the row.
+-- `Codes` by place, `Members` and `Cells` of constants, `Indexed` by a rule's variables. Each part reads its own region of the row.
 use mathlib.Core.Path.{_≡_, sym, ap, _∙_, subst}
 use mathlib.Core.Logic.{_≢_}
 use mathlib.Core.Option.{Option, none, Option·none-ne-some}
@@ -11,7 +11,7 @@ use lib.ListN.{length, getD}
 use Rattle.math_types.specs.Order.{basic}
 use Rattle.math_types.specs.Types.{basics, rank}
 use Rattle.text_grammar.specs.Terms.{Con}
-use Rattle.text_constants.specs.Constants.{consts}
+use Rattle.text_grammar.specs.constants.Constants.{consts}
 use Rattle.math_overlaps.specs.Shapes.{fixed}
 use Rattle.math_codes.specs.Tables.{Holds, codeOf, kindA, isFree}
 use Rattle.math_codes.specs.Tables.{same as alike}

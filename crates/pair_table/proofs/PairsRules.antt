@@ -9,7 +9,7 @@ use lib.ListN.{length, getD, replicate, length-append, length-map, length-replic
 use lib.Seq.{getD-append-add}
 use Rattle.base_lists.specs.Seqs.{All, all-left, all-right}
 use Rattle.text_grammar.specs.Grammar.{Raw, spellF, FieldOk}
-use Rattle.text_grammar.specs.Marks.{marksF, marksT, marks, Over, MarkOver}
+use Rattle.text_grammar.specs.Tokens.{tokensF, tokensT, tokens, Over, TokenOver}
 use Rattle.text_grammar.specs.Terms.{OurTerm, fieldOf, fieldsOf}
 use Rattle.text_grammar.specs.Read.{limits, accepted, readSide}
 use Rattle.text_grammar.proofs.Walk.{walk-says}
@@ -22,9 +22,9 @@ use Rattle.math_codes.specs.Entries.{atomOf, fieldRow, ruleRow}
 use Rattle.math_codes.specs.Lines.{OurAtom}
 use Rattle.math_codes.proofs.Places.{StandAll}
 use Rattle.pair_row.specs.Row as row
-use Rattle.pair_table.specs.Notes.{noteMark, sideNoted}
+use Rattle.pair_table.specs.Notes.{noteToken, sideNoted}
 use Rattle.pair_table.proofs.PairsNotes.{Gap}
-use Rattle.pair_table.proofs.PairsMarks.{sideIn}
+use Rattle.pair_table.proofs.PairsIndexes.{sideIn}
 use Rattle.pair_table.proofs.PairsTerms.{field-close}
 use Rattle.pair_table.proofs.PairsTexts.{Stood, all-stood, NotedBy, noted-as, field-noted}
 
@@ -96,17 +96,17 @@ field-low false m h = omega arith
 
 module _ (t : Row) (G : ℕ → List OurTerm) (s : Bool) (text : List ℕ) (e : List OurTerm) where
   pub fields-noted : (y : List (List Raw)) (q m f : ℕ) (d : List OurTerm) (x : List ℕ × List ℕ) → row.fieldOf s m ≡ f → m + length y ≤ 4 → All FieldOk y
-      → All (All (λ r. Over r → ⊥)) y → All (λ g. length g ≤ 16) (fieldsOf y) → All (Stood text) (marksT q (suc m) y)
+      → All (All (λ r. Over r → ⊥)) y → All (λ g. length g ≤ 16) (fieldsOf y) → All (Stood text) (tokensT q (suc m) y)
       → StandAll t (sideIn s) 16 (16 * f) (fieldsOf y) → Gaps t (16 * f) (fieldsOf y) → ((j : ℕ) → j < length y → G (f + j) ≡ getD (fieldsOf y) j [])
       → NotedBy t G s text e f [] d (16 * f) x
-      → NotedBy t G s text e (f + length y) [] (d ++ flat (fieldsOf y)) (16 * (f + length y)) (foldl (noteMark s text) x (marksT q (suc m) y))
+      → NotedBy t G s text e (f + length y) [] (d ++ flat (fieldsOf y)) (16 * (f + length y)) (foldl (noteToken s text) x (tokensT q (suc m) y))
   fields-noted [] q m f d x is few ok o wide st k g h c =
       subst (λ (z : ℕ). NotedBy t G s text e z [] (d ++ []) (16 * z) x) (let z : f ≡ f + 0 = omega arith in z)
       (noted-as t G s text e f refl (sym (append-nil d)) refl refl c)
   fields-noted (rs ∷ y) q m f d x is few ok o wide st k g h c =
-      let here = marksF q (suc m) 1 rs in
-      let rest = marksT (suc (q + length (spellF rs))) (suc (suc m)) y in
-      let z = foldl (noteMark s text) x here in
+      let here = tokensF q (suc m) 1 rs in
+      let rest = tokensT (suc (q + length (spellF rs))) (suc (suc m)) y in
+      let z = foldl (noteToken s text) x here in
       let low : f < 8 = subst (λ (i : ℕ). i < 8) is (field-low s m (omega arith)) in
       let is′ : row.fieldOf s (suc m - 1) ≡ f = ap (row.fieldOf s) (let u : suc m - 1 ≡ m = omega arith in u) ∙ is in
       let a = field-noted t G s text e (suc m) f (omega arith) (omega arith) is′ low rs q 1 [] d (16 * f) x (ok .0 .1) (o .0)
@@ -119,10 +119,10 @@ module _ (t : Row) (G : ℕ → List OurTerm) (s : Bool) (text : List ℕ) (e : 
       (omega arith) (ok .1) (o .1) (wide .1)
       (all-right (Stood text) here rest st) (subst (λ (i : ℕ). StandAll t (sideIn s) 16 i (fieldsOf y)) v (k .1))
       (subst (λ (i : ℕ). Gaps t i (fieldsOf y)) v (g .1)) (λ j l. ap G (let u : suc f + j ≡ f + suc j = omega arith in u) ∙ h (suc j) (omega arith)) b in
-      subst (λ (i : ℕ). NotedBy t G s text e i [] (d ++ flat (fieldsOf (rs ∷ y))) (16 * i) (foldl (noteMark s text) x (marksT q (suc m) (rs ∷ y))))
+      subst (λ (i : ℕ). NotedBy t G s text e i [] (d ++ flat (fieldsOf (rs ∷ y))) (16 * i) (foldl (noteToken s text) x (tokensT q (suc m) (rs ∷ y))))
       (let u : suc f + length y ≡ f + suc (length y) = omega arith in u)
       (noted-as t G s text e (suc f + length y) refl (append-assoc d (fieldOf rs) (flat (fieldsOf y))) refl
-      (sym (foldl-append (noteMark s text) x here rest)) r)
+      (sym (foldl-append (noteToken s text) x here rest)) r)
 
   -- fields that the rule lacks
   pub fields-passed : (k f : ℕ) (d : List OurTerm) (x : List ℕ × List ℕ) → ((j : ℕ) → j < k → G (f + j) ≡ []) → Gap t (16 * f) (16 * (f + k))
@@ -145,7 +145,7 @@ module _ (t : Row) (G : ℕ → List OurTerm) (s : Bool) (text : List ℕ) (e : 
       let said = a .1 .1 in
       let same : fieldsOf y ≡ r = a .1 .2 in
       let left = rule-read text r acc in
-      let over = each (λ u. Over u → ⊥) y 0 1 .0 (none-all MarkOver (marks y) [] (clean-to 16 limits text y said (a .0 .1 .1 .1 .1 .0))) in
+      let over = each (λ u. Over u → ⊥) y 0 1 .0 (none-all TokenOver (tokens y) [] (clean-to 16 limits text y said (a .0 .1 .1 .1 .1 .0))) in
       let many : length y ≡ length r = sym (length-map y fieldOf) ∙ ap length same in
       let few = left .0 .1 in
       let n = fields-noted y 0 0 f d x is (omega (arith, many, few)) (said .0 .1) over
@@ -153,7 +153,7 @@ module _ (t : Row) (G : ℕ → List OurTerm) (s : Bool) (text : List ℕ) (e : 
       (subst (StandAll t (sideIn s) 16 (16 * f)) (sym same) k) (subst (Gaps t (16 * f)) (sym same) g)
       (λ j l. h j (omega (arith, many, few)) ∙ ap (λ (z : List (List OurTerm)). getD z j []) (sym same)) c in
       let m = noted-as t G s text e (f + length y) refl (ap (λ (z : List (List OurTerm)). d ++ flat z) same) refl
-      (ap (foldl (noteMark s text) x) (sym (walk-says text y said))) n in
+      (ap (foldl (noteToken s text) x) (sym (walk-says text y said))) n in
       subst (λ (i : ℕ). NotedBy t G s text e i [] (d ++ flat r) (16 * i) (sideNoted s text x))
       (let u : f + length y + (4 - length y) ≡ f + 4 = omega (arith, many, few) in u)
       (fields-passed (4 - length y) (f + length y) (d ++ flat r) (sideNoted s text x)

@@ -12,7 +12,7 @@ use Rattle.math_types.specs.Order.{basic, list}
 use Rattle.math_types.specs.Types.{Basic, Kind, rank}
 use Rattle.math_terms.specs.Terms.{con, var}
 use Rattle.text_grammar.specs.Terms.{OurTerm, Con}
-use Rattle.text_constants.specs.Constants.{kind-of}
+use Rattle.text_grammar.specs.constants.Constants.{kind-of}
 use Rattle.math_overlaps.specs.Shapes.{fixed, free, Side, of}
 use Rattle.math_codes.specs.Tables.{Holds, fixed≢free}
 use Rattle.math_codes.specs.Entries.{atomOf}
@@ -25,8 +25,8 @@ use Rattle.pair_table.proofs.PairsRow.{spotAt, isList, numberOf, spot-s
 use Rattle.pair_table.proofs.PairsCells.{Cell, bytesOf, celled-long, celled-few}
 use Rattle.pair_table.proofs.PairsNotes.{Same, Gap, no-gap, Codes, codes-same, codes-gap, Members, members-keep, Cells}
 use Rattle.pair_table.proofs.PairsConstants.{cells-next, constant-out}
-use Rattle.pair_table.proofs.PairsMarks.{sideIn, in-constant, Marked, untouched, marked-keep, marked-same, marked-gap}
-use Rattle.pair_table.proofs.PairsVariables.{long-y, codes-variable, members-variable, marked-variable, marked-beside, shapes-stay}
+use Rattle.pair_table.proofs.PairsIndexes.{sideIn, in-constant, Indexed, untouched, indexed-keep, indexed-same, indexed-gap}
+use Rattle.pair_table.proofs.PairsVariables.{long-y, codes-variable, members-variable, indexed-variable, indexed-beside, shapes-stay}
 
 abbrev pub fieldSpot : ℕ → List OurTerm → Spot ℕ
 fieldSpot b f = spotOf b f
@@ -84,8 +84,8 @@ module _ (t : List (Option OurAtom)) (G : ℕ → List OurTerm) where
     pub members : Members t p row
     pub cells : Cells t p texts
     pub small : (q : ℕ) → getD texts (16 * q) 0 ≤ 15
-    pub marks : Marked t s d p row
-    pub beside : Marked t (not s) e p row
+    pub here : Indexed t s d p row
+    pub beside : Indexed t (not s) e p row
     pub shaped : Shaped f fs row
 
   pub terms-noted : (s : Bool) (f : ℕ) (fs d e : List OurTerm) (p : ℕ) (row texts : List ℕ) → f < 8 → Noted s f fs d e p row texts
@@ -116,11 +116,11 @@ module _ (t : List (Option OurAtom)) (G : ℕ → List OurTerm) where
       members-w : Members t p w
       members-w = members-keep t p p row w (omega arith) (λ j x. apart j (λ y z. omega arith)) (λ q b x y v. absurd (omega arith)) (c .members)
 
-      marks-w : Marked t s d p w
-      marks-w = marked-keep t s d p p row w (untouched t s row w (λ j x y. apart j (λ a b. omega arith))) (λ q k n x y v. absurd (omega arith)) (c .marks)
+      here-w : Indexed t s d p w
+      here-w = indexed-keep t s d p p row w (untouched t s row w (λ j x y. apart j (λ a b. omega arith))) (λ q k n x y v. absurd (omega arith)) (c .here)
 
-      beside-w : Marked t (not s) e p w
-      beside-w = marked-keep t (not s) e p p row w (untouched t (not s) row w (λ j x y. apart j (λ a b. omega arith)))
+      beside-w : Indexed t (not s) e p w
+      beside-w = indexed-keep t (not s) e p p row w (untouched t (not s) row w (λ j x y. apart j (λ a b. omega arith)))
           (λ q k n x y v. absurd (omega arith)) (c .beside)
 
     -- A CONSTANT
@@ -139,10 +139,10 @@ module _ (t : List (Option OurAtom)) (G : ℕ → List OurTerm) where
           members = o .1;
           small = celled-few p (bytesOf b) texts few low (c .wide) (c .small);
           cells = cells-next t p b (w u) texts low few (long-w u) (c .wide) k (codes-w u) (members-w u) (c .cells);
-          marks = marked-same t s d (d ++ u ∷ []) (suc p) r (λ j n. in-constant j n d b)
-              (marked-keep t s d p (suc p) (w u) r (untouched t s (w u) r (λ j x y. o .3 j (omega arith) y))
-              (λ q j n x y v. absurd (none-free (sideIn s) q j n x y v)) (marks-w u));
-          beside = marked-keep t (not s) e p (suc p) (w u) r (untouched t (not s) (w u) r (λ j x y. o .3 j (omega arith) y))
+          here = indexed-same t s d (d ++ u ∷ []) (suc p) r (λ j n. in-constant j n d b)
+              (indexed-keep t s d p (suc p) (w u) r (untouched t s (w u) r (λ j x y. o .3 j (omega arith) y))
+              (λ q j n x y v. absurd (none-free (sideIn s) q j n x y v)) (here-w u));
+          beside = indexed-keep t (not s) e p (suc p) (w u) r (untouched t (not s) (w u) r (λ j x y. o .3 j (omega arith) y))
               (λ q j n x y v. absurd (none-free (sideIn (not s)) q j n x y v)) (beside-w u);
           shaped = shaped-next f fs u row r l m (c .long) (λ j x y. o .3 j x (omega arith)) (c .shaped);
         }
@@ -163,12 +163,12 @@ module _ (t : List (Option OurAtom)) (G : ℕ → List OurTerm) where
           place = next-place u;
           long = long-y t s p k n (w u) low small (long-w u) h;
           wide = c .wide;
-          codes = codes-variable t s p k n (w u) low small (long-w u) h d (marks-w u) (codes-w u);
-          members = members-variable t s p k n (w u) low small (long-w u) h d (marks-w u) (members-w u);
+          codes = codes-variable t s p k n (w u) low small (long-w u) h d (here-w u) (codes-w u);
+          members = members-variable t s p k n (w u) low small (long-w u) h d (here-w u) (members-w u);
           cells = λ q b x v. go q b x v (decLt q p);
           small = c .small;
-          marks = marked-variable t s p k n (w u) low small (long-w u) h d (marks-w u);
-          beside = marked-beside t s p k n (w u) low small (long-w u) h e (beside-w u);
+          here = indexed-variable t s p k n (w u) low small (long-w u) h d (here-w u);
+          beside = indexed-beside t s p k n (w u) low small (long-w u) h e (beside-w u);
           shaped = shaped-next f fs u row r l m (c .long) (λ j x y. shapes-stay t s p k n (w u) low small (long-w u) h j x y) (c .shaped);
         }
       where
@@ -198,8 +198,8 @@ module _ (t : List (Option OurAtom)) (G : ℕ → List OurTerm) where
         members = members-close;
         small = c .small;
         cells = λ q b x v. go q b x v (decLt q p);
-        marks = marked-gap t s d p (16 * suc f) row g (c .marks);
-        beside = marked-gap t (not s) e p (16 * suc f) row g (c .beside);
+        here = indexed-gap t s d p (16 * suc f) row g (c .here);
+        beside = indexed-gap t (not s) e p (16 * suc f) row g (c .beside);
         shaped = shaped-close f fs row h (c .shaped);
       }
     where
@@ -222,7 +222,7 @@ module _ (t : List (Option OurAtom)) (G : ℕ → List OurTerm) where
         members = c .members;
         cells = c .cells;
         small = c .small;
-        marks = c .beside;
-        beside = c .marks;
+        here = c .beside;
+        beside = c .here;
         shaped = c .shaped;
       }

@@ -18,24 +18,24 @@ use Rattle.math_terms.specs.Terms.{con}
 use Rattle.text_grammar.specs.Grammar.{Raw, raw-int, raw-str, raw-var, raw-empty, spell, Proper, colons, spellF, bars, spellT}
 use Rattle.text_grammar.specs.Numbers.{value, digitsOf}
 use Rattle.text_grammar.specs.Sizes.{mostDigits, largestInteger}
-use Rattle.text_grammar.specs.Marks.{Mark, marksF, marksT, marks, Over}
+use Rattle.text_grammar.specs.Tokens.{Token, tokensF, tokensT, tokens, Over}
 use Rattle.text_grammar.specs.Terms.{OurTerm, Con, int, str, termOf, fieldOf}
 use Rattle.text_grammar.proofs.Walk.{spell-some}
 use Rattle.text_grammar.proofs.Numbers.{digits-one, digits-ten}
-use Rattle.text_constants.specs.Constants.{kind-of}
+use Rattle.text_grammar.specs.constants.Constants.{kind-of}
 use Rattle.math_overlaps.specs.Shapes.{Side}
 use Rattle.math_codes.specs.Texts.{zeros}
 use Rattle.math_codes.specs.Entries.{atomOf}
 use Rattle.math_codes.specs.Lines.{OurAtom}
 use Rattle.math_codes.proofs.Places.{Stands}
 use Rattle.math_codes.proofs.Texts.{plain-digits}
-use Rattle.text_scan.specs.declared.Piece.{Piece}
-use Rattle.text_scan.specs.Pieces.{capped, pieceOf}
+use Rattle.text_scan.specs.declared.Lexeme.{Lexeme}
+use Rattle.text_scan.specs.Lexemes.{capped, lexemeOf}
 use Rattle.pair_row.specs.Row as row
-use Rattle.pair_table.specs.Notes.{partOf, celled, constantNoted, variableNoted, shapeNoted, isField, termsIn, noteBy, notePiece, noteMark}
+use Rattle.pair_table.specs.Notes.{partOf, celled, constantNoted, variableNoted, shapeNoted, isField, termsIn, noteBy, noteLexeme, noteToken}
 use Rattle.pair_table.proofs.PairsRow.{list-is}
 use Rattle.pair_table.proofs.PairsCells.{bytesOf}
-use Rattle.pair_table.proofs.PairsMarks.{sideIn}
+use Rattle.pair_table.proofs.PairsIndexes.{sideIn}
 use Rattle.pair_table.proofs.PairsTerms.{Noted, terms-noted, constant-next, variable-next}
 
 -- ---- spelled in the text
@@ -44,7 +44,7 @@ use Rattle.pair_table.proofs.PairsTerms.{Noted, terms-noted, constant-n
 abbrev pub StandsAt : List ℕ → ℕ → List ℕ → Type 0
 StandsAt text q b = (q + length b ≤ length text) × ((i : ℕ) → i < length b → getD text (q + i) 0 ≡ getD b i 0)
 
-abbrev pub Stood : List ℕ → Mark → Type 0
+abbrev pub Stood : List ℕ → Token → Type 0
 Stood text m = StandsAt text (m .place) (spell (m .raw))
 
 stands-at : (text pre b z : List ℕ) (q : ℕ) → text ≡ pre ++ (b ++ z) → length pre ≡ q → StandsAt text q b
@@ -62,7 +62,7 @@ behind-long : (pre b : List ℕ) (c q : ℕ) → length pre ≡ q → length (pr
 behind-long pre b c q l = omega (arith, l, length-append pre (b ++ c ∷ []), length-append b (c ∷ []))
 
 stood-field : (text : List ℕ) (r : Raw) (rs : List Raw) (pre z : List ℕ) (q n i : ℕ) → text ≡ pre ++ (spellF (r ∷ rs) ++ z) → length pre ≡ q
-    → All (Stood text) (marksF q n i (r ∷ rs))
+    → All (Stood text) (tokensF q n i (r ∷ rs))
 stood-field text r [] pre z q n i e l = (stands-at text pre (spell r) z q (e ∙ ap (λ (x : List ℕ). pre ++ x) (append-assoc (spell r) [] z)) l, tt)
 stood-field text r (u ∷ rs) pre z q n i e l =
     let e′ = e ∙ ap (λ (x : List ℕ). pre ++ x) (append-assoc (spell r) (colons (u ∷ rs)) z) in (
@@ -71,20 +71,20 @@ stood-field text r (u ∷ rs) pre z q n i e l =
           (behind-long pre (spell r) 58 q l),
     )
 
-stood-any : (text : List ℕ) (f : List Raw) (pre z : List ℕ) (q n : ℕ) → text ≡ pre ++ (spellF f ++ z) → length pre ≡ q → All (Stood text) (marksF q n 1 f)
+stood-any : (text : List ℕ) (f : List Raw) (pre z : List ℕ) (q n : ℕ) → text ≡ pre ++ (spellF f ++ z) → length pre ≡ q → All (Stood text) (tokensF q n 1 f)
 stood-any text [] pre z q n e l = tt
 stood-any text (r ∷ rs) pre z q n e l = stood-field text r rs pre z q n 1 e l
 
 stood-fields : (text : List ℕ) (fs : List (List Raw)) (f : List Raw) (pre : List ℕ) (q n : ℕ) → text ≡ pre ++ (spellF f ++ bars fs) → length pre ≡ q
-    → All (Stood text) (marksT q n (f ∷ fs))
-stood-fields text [] f pre q n e l = all-append (Stood text) (marksF q n 1 f) [] (stood-any text f pre [] q n e l) tt
+    → All (Stood text) (tokensT q n (f ∷ fs))
+stood-fields text [] f pre q n e l = all-append (Stood text) (tokensF q n 1 f) [] (stood-any text f pre [] q n e l) tt
 stood-fields text (g ∷ gs) f pre q n e l =
-    all-append (Stood text) (marksF q n 1 f) (marksT (suc (q + length (spellF f))) (suc n) (g ∷ gs)) (stood-any text f pre (bars (g ∷ gs)) q n e l)
+    all-append (Stood text) (tokensF q n 1 f) (tokensT (suc (q + length (spellF f))) (suc n) (g ∷ gs)) (stood-any text f pre (bars (g ∷ gs)) q n e l)
     (stood-fields text gs g (pre ++ (spellF f ++ 124 ∷ [])) (suc (q + length (spellF f))) (suc n) (behind text pre (spellF f) (spellF g ++ bars gs) 124 e)
     (behind-long pre (spellF f) 124 q l))
 
--- ALL TERMS stand where they are marked
-pub all-stood : (text : List ℕ) (y : List (List Raw)) → text ≡ spellT y → All (Stood text) (marks y)
+-- ALL TERMS stand where they are tokened
+pub all-stood : (text : List ℕ) (y : List (List Raw)) → text ≡ spellT y → All (Stood text) (tokens y)
 all-stood text [] e = tt
 all-stood text (f ∷ fs) e = stood-fields text fs f [] 0 1 e refl
 
@@ -138,10 +138,10 @@ module _ (t : List (Option OurAtom)) (G : ℕ → List OurTerm) (s : Bool) (text
   -- the field n of the text is the field f of the pair
   module _ (n f : ℕ) (one : 1 ≤ n) (four : n ≤ 4) (is : row.fieldOf s (n - 1) ≡ f) (low : f < 8) where
     module _ (fs d : List OurTerm) (p : ℕ) (x : List ℕ × List ℕ) (c : NotedBy f fs d p x) (q : ℕ) where
-      -- a piece that is noted
-      piece-is : (a : Piece) → length fs < 16 → q < length text → a .size ≤ 15
-          → noteBy s text q f p (a .what) (a .size) (a .value) (x .0) (x .1) ≡ notePiece s text q n a (x .0) (x .1)
-      piece-is a m h z = sym (ap whole is ∙ ap (λ (b : Bool). cond b (noted f (16 * f + termsIn (x .0) f)) x) tests ∙ ap (noted f) place)
+      -- a lexeme that is noted
+      lexeme-is : (a : Lexeme) → length fs < 16 → q < length text → a .size ≤ 15
+          → noteBy s text q f p (a .what) (a .size) (a .value) (x .0) (x .1) ≡ noteLexeme s text q n a (x .0) (x .1)
+      lexeme-is a m h z = sym (ap whole is ∙ ap (λ (b : Bool). cond b (noted f (16 * f + termsIn (x .0) f)) x) tests ∙ ap (noted f) place)
         where
           noted : ℕ → ℕ → List ℕ × List ℕ
           noted g i = noteBy s text q g i (a .what) (a .size) (a .value) (x .0) (x .1)
@@ -164,24 +164,24 @@ module _ (t : List (Option OurAtom)) (G : ℕ → List OurTerm) (s : Bool) (text
       next : p + 1 ≡ suc p
       next = omega arith
 
-      constant-read : (b : Con) (v : List ℕ) (a : Piece) → length fs < 16 → q < length text → a .size ≤ 15 → getD t p none ≡ atomOf (sideIn s) (con b)
+      constant-read : (b : Con) (v : List ℕ) (a : Lexeme) → length fs < 16 → q < length text → a .size ≤ 15 → getD t p none ≡ atomOf (sideIn s) (con b)
           → length (bytesOf b) ≤ 15 → v ≡ bytesOf b
           → (constantNoted p (rank (basic (kind-of b))) (celled p v (x .1)) (shapeNoted f false 0 (x .0)), celled p v (x .1))
           ≡ noteBy s text q f p (a .what) (a .size) (a .value) (x .0) (x .1)
-          → NotedBy f (fs ++ con b ∷ []) (d ++ con b ∷ []) (p + 1) (notePiece s text q n a (x .0) (x .1))
+          → NotedBy f (fs ++ con b ∷ []) (d ++ con b ∷ []) (p + 1) (noteLexeme s text q n a (x .0) (x .1))
       constant-read b v a m h z k few w g =
           noted-as f refl refl (sym next)
           (ap (λ (u : List ℕ). (constantNoted p (rank (basic (kind-of b))) (celled p u (x .1)) (shapeNoted f false 0 (x .0)), celled p u (x .1))) (sym w)
-          ∙ g ∙ piece-is a m h z)
+          ∙ g ∙ lexeme-is a m h z)
           (constant-next t G s f fs d e p (x .0) (x .1) low m c b k few)
 
       -- A WRITTEN TERM
       pub raw-noted : (r : Raw) → Proper r → (Over r → ⊥) → StandsAt text q (spell r) → Stands t (sideIn s) p (termOf r) → length fs + length (termOf r) ≤ 16
-          → NotedBy f (fs ++ termOf r) (d ++ termOf r) (p + length (termOf r)) (notePiece s text q n (pieceOf r) (x .0) (x .1))
+          → NotedBy f (fs ++ termOf r) (d ++ termOf r) (p + length (termOf r)) (noteLexeme s text q n (lexemeOf r) (x .0) (x .1))
       raw-noted (raw-int ds) pr o st k m =
           let few : value ds ≤ largestInteger = fits (λ h. o (inr h)) in
           constant-read (int (value ds)) (partOf text (q + zeros (partOf text q (length ds))) (length ds - zeros (partOf text q (length ds))))
-          (pieceOf (raw-int ds)) (omega arith) (omega (arith, st .0, spell-some (raw-int ds) pr)) (short (λ h. o (inl h))) (k .0)
+          (lexemeOf (raw-int ds)) (omega arith) (omega (arith, st .0, spell-some (raw-int ds) pr)) (short (λ h. o (inl h))) (k .0)
           (omega (arith, digits-ten (value ds) few)) (digits-part text q ds pr st) refl
         where
           fits : (largestInteger < value ds → ⊥) → value ds ≤ largestInteger
@@ -190,7 +190,7 @@ module _ (t : List (Option OurAtom)) (G : ℕ → List OurTerm) (s : Bool) (text
           short : (mostDigits < length ds → ⊥) → length ds ≤ 15
           short h = omega arith
       raw-noted (raw-str b) pr o st k m =
-          constant-read (str b) (partOf text (q + 1) (length b)) (pieceOf (raw-str b)) (omega arith) (omega (arith, st .0, spell-some (raw-str b) pr))
+          constant-read (str b) (partOf text (q + 1) (length b)) (lexemeOf (raw-str b)) (omega arith) (omega (arith, st .0, spell-some (raw-str b) pr))
           (omega arith) (k .0) (omega arith) (string-part text q b st) refl
       raw-noted (raw-var j ds) pr o st k m =
           let few : value ds ≤ 15 = omega arith in
@@ -199,7 +199,7 @@ module _ (t : List (Option OurAtom)) (G : ℕ → List OurTerm) (s : Bool) (text
           noted-as f refl refl (sym next)
           (sym (ap₂ (λ (z : Kind) (a : ℕ). (variableNoted p s (rank z) a (shapeNoted f (same z list) a (x .0)), x .1)) (kindOf-from j) v
           ∙ ap (λ (b : Bool). (variableNoted p s (rank j) (value ds) (shapeNoted f b (value ds) (x .0)), x .1)) (list-is j (value ds)))
-          ∙ piece-is (pieceOf (raw-var j ds)) (omega arith) (omega (arith, st .0, spell-some (raw-var j ds) pr)) size)
+          ∙ lexeme-is (lexemeOf (raw-var j ds)) (omega arith) (omega (arith, st .0, spell-some (raw-var j ds) pr)) size)
           (variable-next t G s f fs d e p (x .0) (x .1) low (omega arith) c j (value ds) (k .0) few)
       raw-noted raw-empty pr o st k m =
           noted-as f (sym (append-nil fs)) (sym (append-nil d)) (let z : p ≡ p + 0 = omega arith in z)
@@ -212,8 +212,8 @@ module _ (t : List (Option OurAtom)) (G : ℕ → List OurTerm) (s : Bool) (text
     -- ---- THE TERMS of a field
 
     pub field-noted : (rs : List Raw) (q i : ℕ) (fs d : List OurTerm) (p : ℕ) (x : List ℕ × List ℕ) → All Proper rs → All (λ r. Over r → ⊥) rs
-        → All (Stood text) (marksF q n i rs) → Stands t (sideIn s) p (fieldOf rs) → length fs + length (fieldOf rs) ≤ 16 → NotedBy f fs d p x
-        → NotedBy f (fs ++ fieldOf rs) (d ++ fieldOf rs) (p + length (fieldOf rs)) (foldl (noteMark s text) x (marksF q n i rs))
+        → All (Stood text) (tokensF q n i rs) → Stands t (sideIn s) p (fieldOf rs) → length fs + length (fieldOf rs) ≤ 16 → NotedBy f fs d p x
+        → NotedBy f (fs ++ fieldOf rs) (d ++ fieldOf rs) (p + length (fieldOf rs)) (foldl (noteToken s text) x (tokensF q n i rs))
     field-noted [] q i fs d p x pr o st k m c =
         noted-as f (sym (append-nil fs)) (sym (append-nil d)) (let z : p ≡ p + 0 = omega arith in z) refl c
     field-noted (r ∷ rs) q i fs d p x pr o st k m c =
@@ -222,5 +222,5 @@ module _ (t : List (Option OurAtom)) (G : ℕ → List OurTerm) (s : Bool) (text
         noted-as f (append-assoc fs (termOf r) (fieldOf rs)) (append-assoc d (termOf r) (fieldOf rs))
         (let z : p + length (termOf r) + length (fieldOf rs) ≡ p + length (termOf r ++ fieldOf rs) = omega (arith, l) in z) refl
         (field-noted rs (suc (q + length (spell r))) (suc i) (fs ++ termOf r) (d ++ termOf r) (p + length (termOf r))
-        (notePiece s text q n (pieceOf r) (x .0) (x .1)) (pr .1) (o .1) (st .1) (ks .1) (omega (arith, m, l, length-append fs (termOf r)))
+        (noteLexeme s text q n (lexemeOf r) (x .0) (x .1)) (pr .1) (o .1) (st .1) (ks .1) (omega (arith, m, l, length-append fs (termOf r)))
         (raw-noted fs d p x c q r (pr .0) (o .0) (st .0) (ks .0) (omega (arith, m, l))))

@@ -12,7 +12,7 @@ use Rattle.math_types.specs.Order.{basic, list}
 use Rattle.math_types.specs.Types.{Basic, Kind, basics, rank, rank-below}
 use Rattle.math_terms.specs.Terms.{var}
 use Rattle.text_grammar.specs.Terms.{OurTerm, Con}
-use Rattle.text_constants.specs.Constants.{consts}
+use Rattle.text_grammar.specs.constants.Constants.{consts}
 use Rattle.math_overlaps.specs.Shapes.{fixed, free, of}
 use Rattle.overlap_spec.specs.Variables.{isVariable, inField}
 use Rattle.math_codes.specs.Tables.{Holds, kindA, isFree, fixed≢free, free-once}
@@ -25,8 +25,8 @@ use Rattle.pair_table.specs.Notes.{classed, indexed, topped}
 use Rattle.pair_table.proofs.PairsRow.{classed-long, classed-other, classed-kind, classed-variable, indexed-long, indexed-other}
 use Rattle.pair_table.proofs.PairsRow.{first-index, first-code, again-index, again-code, topped-long, topped-other, topped-at}
 use Rattle.pair_table.proofs.PairsNotes.{pick, Same, code, Codes, Here, here-from, codes-keep, codes-next, Among, Members, members-keep}
-use Rattle.pair_table.proofs.PairsMarks.{sideIn, indexOn, topOn, side-few, side-apart, side-once, of-side, of-kind, of-number}
-use Rattle.pair_table.proofs.PairsMarks.{neither, one-of, in-before, in-last, is-itself, is-that, slot-once, RightIn, Marked, marked-keep}
+use Rattle.pair_table.proofs.PairsIndexes.{sideIn, indexOn, topOn, side-few, side-apart, side-once, of-side, of-kind, of-number}
+use Rattle.pair_table.proofs.PairsIndexes.{neither, one-of, in-before, in-last, is-itself, is-that, slot-once, RightIn, Indexed, indexed-keep}
 
 module _ (t : List (Option OurAtom)) (s : Bool) (p : ℕ) (k : Kind) (n : ℕ) (row : List ℕ) (h : p < 128) (small : n ≤ 15) (long : length row ≡ rowBytes)
     (hp : getD t p none ≡ atomOf (sideIn s) (var k n)) where
@@ -85,7 +85,7 @@ module _ (t : List (Option OurAtom)) (s : Bool) (p : ℕ) (k : Kind) (n : ℕ) (
       ∙ indexed-other i p r (variablesAt + p) (λ e. omega (arith, index-in .0, h)) (λ e. omega arith)
       ∙ classed-variable p (rank k) 1 row (omega (arith, long, h)))
 
-  module _ (d : List OurTerm) (m : Marked t s d p row) where
+  module _ (d : List OurTerm) (m : Indexed t s d p row) where
     -- ---- the index and the code
 
     -- the code at p, of one that has a code
@@ -188,8 +188,8 @@ module _ (t : List (Option OurAtom)) (s : Bool) (p : ℕ) (k : Kind) (n : ℕ) (
             (λ q. u (omega arith)) in
             (omega (arith, e), omega (arith, e, m .within j l))
 
-    pub marked-variable : Marked t s (d ++ var k n ∷ []) (suc p) y
-    marked-variable =
+    pub indexed-variable : Indexed t s (d ++ var k n ∷ []) (suc p) y
+    indexed-variable =
         record {
           absent = λ j a l e. let o = neither j a d (var k n) e in other-slot j a l (o .1) ∙ m .absent j a l (o .0);
           present = λ j a l e. present-by j a l e (isVariable j a (var k n)) refl;
@@ -222,9 +222,9 @@ module _ (t : List (Option OurAtom)) (s : Bool) (p : ℕ) (k : Kind) (n : ℕ) (
         above-by j a e false o = omega (arith, m .above j a (one-of j a d (var k n) e o), tops-up (rank j) (rank-below j) .0)
 
   -- the other rule's variables stay
-  pub marked-beside : (d : List OurTerm) → Marked t (not s) d p row → Marked t (not s) d (suc p) y
-  marked-beside d m =
-      marked-keep t (not s) d p (suc p) row y (
+  pub indexed-beside : (d : List OurTerm) → Indexed t (not s) d p row → Indexed t (not s) d (suc p) y
+  indexed-beside d m =
+      indexed-keep t (not s) d p (suc p) row y (
         λ j a b. other j (λ q. omega arith) (λ q. omega arith) (λ q. omega arith) (λ q. omega (arith, side-apart s, rank-below k, small))
             (λ q. omega (arith, side-apart s, rank-below k)),
         λ j a b. other j (λ q. omega arith) (λ q. omega arith) (λ q. omega arith) (λ q. omega (arith, index-in .1))

@@ -10,13 +10,13 @@ use Rattle.base_lists.specs.Seqs.{tabulate}
 use Rattle.math_types.specs.Order.{list, basic}
 use Rattle.math_types.specs.Types.{rank, same, integer, string}
 use Rattle.math_types.specs.Values.{kindOf}
-use Rattle.text_grammar.specs.Marks.{Mark}
+use Rattle.text_grammar.specs.Tokens.{Token}
 use Rattle.text_grammar.specs.Walk.{walked}
 use Rattle.math_codes.specs.Texts.{zeros}
-use Rattle.text_scan.specs.declared.Piece.{Piece}
+use Rattle.text_scan.specs.declared.Lexeme.{Lexeme}
 use Rattle.text_scan.specs.declared.Spelled.{Spelled}
 use Rattle.text_scan.specs.declared.Spelled.the-variants.{Int, Str, Var, Empty}
-use Rattle.text_scan.specs.Pieces.{pieceOf}
+use Rattle.text_scan.specs.Lexemes.{lexemeOf}
 use Rattle.pair_row.specs.Row.{kindsAt, variablesAt, shapesAt, indexesAt, topsAt, countAt, membersAt, cellBytes, rowBytes, textsBytes}
 use Rattle.pair_row.specs.Row.{fieldOf, isSet}
 
@@ -100,7 +100,7 @@ shapeNoted f isList n row =
 abbrev pub isField : ℕ → Bool
 isField field = leb 1 field && leb field 4
 
--- how many terms of the pair's field f are noted: `empty` is none, so this is the next term's place in the field, and a mark's index is not
+-- how many terms of the pair's field f are noted: `empty` is none, so this is the next term's place in the field, and a token's index is not
 abbrev pub termsIn : List ℕ → ℕ → ℕ
 termsIn row f =
     let k = shapesAt + 4 * f in
@@ -120,8 +120,8 @@ noteBy right text at f p (Var k) size v row texts =
 noteBy right text at f p Empty size v row texts = (row, texts)
 
 -- the field's number among the pair's eight, and the term's place
-abbrev pub notePiece : Bool → List ℕ → ℕ → ℕ → Piece → List ℕ → List ℕ → List ℕ × List ℕ
-notePiece right text at field t row texts =
+abbrev pub noteLexeme : Bool → List ℕ → ℕ → ℕ → Lexeme → List ℕ → List ℕ → List ℕ × List ℕ
+noteLexeme right text at field t row texts =
     let f = fieldOf right (field - 1) in
     cond (isField field && (ltb (termsIn row f) 16 && (ltb at (length text) && leb (t .size) 15)))
     (noteBy right text at f (16 * f + termsIn row f) (t .what) (t .size) (t .value) row texts) (row, texts)
@@ -129,11 +129,11 @@ notePiece right text at field t row texts =
 -- ---- texts
 
 -- all terms of a rule's side
-abbrev pub noteMark : Bool → List ℕ → List ℕ × List ℕ → Mark → List ℕ × List ℕ
-noteMark right text x m = notePiece right text (m .place) (m .inField) (pieceOf (m .raw)) (x .0) (x .1)
+abbrev pub noteToken : Bool → List ℕ → List ℕ × List ℕ → Token → List ℕ × List ℕ
+noteToken right text x m = noteLexeme right text (m .place) (m .inField) (lexemeOf (m .raw)) (x .0) (x .1)
 
 abbrev pub sideNoted : Bool → List ℕ → List ℕ × List ℕ → List ℕ × List ℕ
-sideNoted right text x = foldl (noteMark right text) x (walked text)
+sideNoted right text x = foldl (noteToken right text) x (walked text)
 
 -- rows that hold nothing
 abbrev pub blankRows : List ℕ × List ℕ

@@ -11,10 +11,10 @@ ghost use Rattle.math_codes.specs.Texts.{zeros};
 ghost use Rattle.pair_row.specs.Row.{fieldOf};
 ghost use Rattle.pair_table.specs.Notes.{partOf, isField, termsIn, classed, celled, sameConstant, codeIn, joinedMember};
 ghost use Rattle.pair_table.specs.Notes.{constantNoted, sideOf, indexed, topped, variableNoted, more, shapeNoted, noteBy};
-ghost use Rattle.pair_table.specs.Notes.{notePiece};
+ghost use Rattle.pair_table.specs.Notes.{noteLexeme};
 use math_types::Kind;
 use pair_row::byte_at;
-use text_scan::Piece;
+use text_scan::Lexeme;
 use text_scan::Spelled;
 
 // A place that the row lacks stays unwritten.
@@ -281,7 +281,7 @@ fn note_term(
     at: usize,
     f: usize,
     p: u8,
-    t: Piece,
+    t: Lexeme,
 )
     requires { ⌜ (at < length (now text)) × (f < 8) × (p < 128) × (t .size ≤ 15) ⌝ }
     ensures { λ _. ⌜ now (row .exit)
@@ -318,10 +318,10 @@ pub fn note(
     text: &[u8],
     at: usize,
     field: usize,
-    t: Piece,
+    t: Lexeme,
 )
-    ensures { λ _. ⌜ now (row .exit) ≡ (notePiece right (now (text .entry)) at field t (now (row .entry)) (now (texts .entry))) .0 ⌝ }
-    ensures { λ _. ⌜ now (texts .exit) ≡ (notePiece right (now (text .entry)) at field t (now (row .entry)) (now (texts .entry))) .1 ⌝ }
+    ensures { λ _. ⌜ now (row .exit) ≡ (noteLexeme right (now (text .entry)) at field t (now (row .entry)) (now (texts .entry))) .0 ⌝ }
+    ensures { λ _. ⌜ now (texts .exit) ≡ (noteLexeme right (now (text .entry)) at field t (now (row .entry)) (now (texts .entry))) .1 ⌝ }
 {
     if !is_field(field) {
         return;

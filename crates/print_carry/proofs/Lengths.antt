@@ -17,15 +17,15 @@ use Rattle.text_grammar.specs.Limits.{IsSlip}
 use Rattle.text_grammar.specs.Read.{OutcomeOf, Outcome, OurFields, refused, accepted, readSlip}
 use Rattle.text_grammar.proofs.Accepted.{slip-length, slip-read}
 use Rattle.text_grammar.proofs.Refused.{slip-place}
-use Rattle.text_rules.specs.Read.{OurRule, readRule}
-use Rattle.text_rules.specs.Limits.{IsRule}
-use Rattle.text_rules.proofs.Accepted.{rule-read}
-use Rattle.text_rules.proofs.Sharp.{rule-place}
-use Rattle.text_constants.specs.Matching.{constants}
+use Rattle.text_grammar.specs.rules.Read.{OurRule, readRule}
+use Rattle.text_grammar.specs.rules.Limits.{IsRule}
+use Rattle.text_grammar.proofs.rules.Accepted.{rule-read}
+use Rattle.text_grammar.proofs.rules.Sharp.{rule-place}
+use Rattle.text_grammar.specs.constants.Matching.{constants}
 use Rattle.apply_spec.specs.Carrying.{Carried, result, unmatched, tooLong}
 use Rattle.apply_spec.specs.Rules.{OurSlip, carried}
 use Rattle.text_write.proofs.Digits.{digits-64}
-use Rattle.text_pieces.proofs.Refusals.{number-at-length}
+use Rattle.text_write.proofs.pieces.Refusals.{number-at-length}
 use Rattle.print_carry.specs.Carry.{longestLine, rulePart, slipPart, carriedText, carryText, lineText, titleText, carryAnswer, longestAnswer}
 use Rattle.apply_rules.proofs.Carries.{result-slip}
 

@@ -15,23 +15,23 @@ use Rattle.text_grammar.specs.Plain.{plain}
 use Rattle.text_grammar.specs.Limits.{IsSlip}
 use Rattle.text_grammar.specs.Read.{OutcomeOf, Outcome, OurFields, refused, accepted, readSlip}
 use Rattle.text_grammar.proofs.Accepted.{slip-read}
-use Rattle.text_rules.specs.Read.{OurRule, readRule}
-use Rattle.text_rules.specs.Limits.{IsRule}
-use Rattle.text_rules.proofs.Accepted.{rule-read}
-use Rattle.text_constants.specs.Matching.{constants}
+use Rattle.text_grammar.specs.rules.Read.{OurRule, readRule}
+use Rattle.text_grammar.specs.rules.Limits.{IsRule}
+use Rattle.text_grammar.proofs.rules.Accepted.{rule-read}
+use Rattle.text_grammar.specs.constants.Matching.{constants}
 use Rattle.apply_spec.specs.Carrying.{Carried, result, unmatched, tooLong}
 use Rattle.apply_spec.specs.Rules.{OurSlip, carried}
 use Rattle.text_values.specs.Values.{encodeRule, encodeSlip}
-use Rattle.text_accepted_rules.proofs.Rules.{counted-encode}
-use Rattle.text_accepted_slips.specs.Slips.{countedSlip}
-use Rattle.text_accepted_slips.proofs.Slips.{view-encode-slip, encode-accepted-slip}
+use Rattle.text_accepted.proofs.rules.Rules.{counted-encode}
+use Rattle.text_accepted.specs.slips.Slips.{countedSlip}
+use Rattle.text_accepted.proofs.slips.Slips.{view-encode-slip, encode-accepted-slip}
 use Rattle.apply_rules.specs.Answers.{answerOf, carriedOf}
 use Rattle.apply_rules.proofs.Carries.{result-slip}
 use Rattle.text_read.specs.declared.RuleRead.{RuleRead}
 use Rattle.text_read.specs.declared.SlipRead.{SlipRead}
 use Rattle.text_read.specs.Answers.{ruleRead, slipRead}
-use Rattle.text_verdicts.proofs.Verdicts.{number-is}
-use Rattle.text_pieces.specs.Refusals.{numberAt}
+use Rattle.text_refusals.proofs.verdicts.Verdicts.{number-is}
+use Rattle.text_write.specs.pieces.Refusals.{numberAt}
 use Rattle.print_carry.specs.Carry.{longestLine, rulePart, slipPart, carriedText, carryText, lineText}
 use Rattle.print_carry.specs.Values.{saidCarried, saidReads}
 

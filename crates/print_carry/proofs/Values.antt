@@ -6,11 +6,11 @@ use native.Mathlib.Decide.{decLt}
 use Rattle.text_grammar.specs.Ascii.{ascii}
 use Rattle.apply_rules.specs.declared.Carry.{Carry}
 use Rattle.apply_rules.specs.declared.Carry.the-variants.{Yes, No, TooLong}
-use Rattle.text_verdicts.specs.declared.Reason.{Reason}
-use Rattle.text_verdicts.specs.declared.Verdict.{Verdict}
-use Rattle.text_verdicts.specs.declared.Verdict.the-variants.{Accepted, Refused}
-use Rattle.text_verdicts.specs.Verdicts.{numberOf}
-use Rattle.text_pieces.specs.Refusals.{numberAt}
+use Rattle.text_refusals.specs.declared.verdicts.Reason.{Reason}
+use Rattle.text_refusals.specs.declared.verdicts.Verdict.{Verdict}
+use Rattle.text_refusals.specs.declared.verdicts.Verdict.the-variants.{Accepted, Refused}
+use Rattle.text_refusals.specs.verdicts.Verdicts.{numberOf}
+use Rattle.text_write.specs.pieces.Refusals.{numberAt}
 use Rattle.print_carry.specs.Values.{saidAnswer, verdictText}
 
 module _ (words : List ℕ) (v : Verdict) (t : List ℕ) where

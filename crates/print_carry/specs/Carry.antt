@@ -11,13 +11,13 @@ use Rattle.text_grammar.specs.Ascii.{ascii, newline}
 use Rattle.text_grammar.specs.Numbers.{digitsOf}
 use Rattle.text_grammar.specs.Plain.{plain}
 use Rattle.text_grammar.specs.Read.{number, OutcomeOf, Outcome, OurFields, refused, accepted, readSlip}
-use Rattle.text_rules.specs.Read.{OurRule, readRule}
-use Rattle.text_constants.specs.Matching.{constants}
+use Rattle.text_grammar.specs.rules.Read.{OurRule, readRule}
+use Rattle.text_grammar.specs.constants.Matching.{constants}
 use Rattle.apply_spec.specs.Carrying.{Carried, result, unmatched, tooLong}
 use Rattle.apply_spec.specs.Rules.{OurSlip, carried}
 use Rattle.apply_rules.specs.declared.Carry.the-variants.{TooLong}
 use Rattle.apply_rules.specs.Answers.{told}
-use Rattle.text_pieces.specs.Refusals.{numberAt}
+use Rattle.text_write.specs.pieces.Refusals.{numberAt}
 
 -- ---- a line
 

@@ -9,12 +9,12 @@ use Rattle.apply_rules.specs.declared.Carry.{Carry}
 use Rattle.apply_rules.specs.declared.Carry.the-variants.{Yes, No, TooLong}
 use Rattle.apply_rules.specs.declared.Carried.{Carried}
 use Rattle.apply_rules.specs.Answers.{told, carriedOf}
-use Rattle.text_verdicts.specs.declared.Verdict.{Verdict}
-use Rattle.text_verdicts.specs.declared.Verdict.the-variants.{Accepted, Refused}
-use Rattle.text_verdicts.specs.Verdicts.{numberOf}
+use Rattle.text_refusals.specs.declared.verdicts.Verdict.{Verdict}
+use Rattle.text_refusals.specs.declared.verdicts.Verdict.the-variants.{Accepted, Refused}
+use Rattle.text_refusals.specs.verdicts.Verdicts.{numberOf}
 use Rattle.text_read.specs.declared.RuleRead.{RuleRead}
 use Rattle.text_read.specs.declared.SlipRead.{SlipRead}
-use Rattle.text_pieces.specs.Refusals.{numberAt}
+use Rattle.text_write.specs.pieces.Refusals.{numberAt}
 use Rattle.print_carry.specs.Carry.{refusalText}
 
 -- the words before the slip

@@ -5,15 +5,15 @@ ghost use Prim.Native.Nat.{_≤_};
 ghost use lib.ListN.{length};
 ghost use Rattle.apply_rules.specs.Answers.{carriedOf};
 ghost use Rattle.text_write.specs.Answers.{Writes};
-ghost use Rattle.text_pieces.specs.Placed.{Placed};
+ghost use Rattle.text_write.specs.pieces.Placed.{Placed};
 ghost use Rattle.print_carry.specs.Carry.{lineText, carryAnswer, longestAnswer};
 ghost use Rattle.print_carry.specs.Values.{saidAnswer, saidCarried, saidSlip, saidReads};
 use apply_rules::Carry;
 use text_read::RuleRead;
 use text_read::SlipRead;
+use text_refusals::verdicts::Verdict;
 use text_values::Rule;
 use text_values::Slip;
-use text_verdicts::Verdict;
 use text_write::Written;
 
 // ---- pieces: each is put at a place of the room, and returns the place behind it
@@ -23,9 +23,9 @@ fn put_words(answer: Carry, out: &mut [u8], at: usize) -> usize
     ensures { λ p. ⌜ Placed (saidAnswer answer) at (now (out .entry)) p (now (out .exit)) ⌝ }
 {
     match answer {
-        Carry::Yes => text_pieces::put_bytes(b"yes ", out, at),
-        Carry::No => text_pieces::put_bytes(b"no ", out, at),
-        Carry::TooLong => text_pieces::put_bytes(b"refusal 11 ", out, at),
+        Carry::Yes => text_write::pieces::put_bytes(b"yes ", out, at),
+        Carry::No => text_write::pieces::put_bytes(b"no ", out, at),
+        Carry::TooLong => text_write::pieces::put_bytes(b"refusal 11 ", out, at),
     }
 }
 
@@ -37,7 +37,7 @@ fn put_carried(rule: Rule, slip: Slip, out: &mut [u8], at: usize) -> usize
     let answer = c.answer;
     let given = c.slip;
     let a = put_words(answer, out, at);
-    text_plain_slips::put_slip(given, out, a)
+    text_plain::slips::put_slip(given, out, a)
 }
 
 // What is said of a slip that was read, or of its refusal.
@@ -82,9 +82,9 @@ fn put_line(line: &[u8], out: &mut [u8], at: usize) -> usize
 {
     let n = line.len();
     if 12289 < n {
-        return text_pieces::put_bytes(b"line too long", out, at);
+        return text_write::pieces::put_bytes(b"line too long", out, at);
     }
-    let tab = text_pieces::tab_place(line);
+    let tab = text_write::pieces::tab_place(line);
     let rest = print_parts::behind(tab, n);
     let rule = text_read::read_rule(&line[..tab]);
     let slip = text_read::read_slip(&line[rest..]);
@@ -106,6 +106,6 @@ pub fn carry_answer(k: u64, line: &[u8], out: &mut [u8]) -> Written
     let mut text = room();
     let a = print_parts::put_title(b"carry ", k, &mut text, 0);
     let b = put_line(line, &mut text, a);
-    let c = text_pieces::put_bytes(b"\n", &mut text, b);
-    text_pieces::give(&text[..c], out)
+    let c = text_write::pieces::put_bytes(b"\n", &mut text, b);
+    text_write::pieces::give(&text[..c], out)
 }

@@ -24,19 +24,19 @@ use Rattle.text_grammar.specs.Limits.{IsLeft, IsSlip}
 use Rattle.text_grammar.specs.Read.{OutcomeOf, Outcome, refused, accepted, readSlip}
 use Rattle.text_grammar.proofs.Accepted.{spell-short, field-length, slip-read}
 use Rattle.text_grammar.proofs.Refused.{slip-place}
-use Rattle.text_rules.specs.Read.{OurRule, readRule}
-use Rattle.text_rules.proofs.Accepted.{rule-read}
-use Rattle.text_rules.proofs.Sharp.{rule-place}
+use Rattle.text_grammar.specs.rules.Read.{OurRule, readRule}
+use Rattle.text_grammar.proofs.rules.Accepted.{rule-read}
+use Rattle.text_grammar.proofs.rules.Sharp.{rule-place}
 use Rattle.math_terms.specs.Matcher.{atoms}
 use Rattle.math_terms.specs.Compared.{allAtoms}
 use Rattle.math_terms.proofs.Compared.{compared-most}
-use Rattle.text_constants.specs.Constants.{consts}
-use Rattle.text_constants.specs.Matching.{constants, matcher, compared}
+use Rattle.text_grammar.specs.constants.Constants.{consts}
+use Rattle.text_grammar.specs.constants.Matching.{constants, matcher, compared}
 use Rattle.match_rules.proofs.Runs.{atom-value, value-long}
 use Rattle.text_write.proofs.Digits.{digits-most, digits-64}
 use Rattle.overlap_spec.specs.Variables.{numbersFrom, occurs, variables}
 use Rattle.overlap_spec.proofs.Variables.{occurs-is}
-use Rattle.text_pieces.proofs.Refusals.{number-at-length}
+use Rattle.text_write.proofs.pieces.Refusals.{number-at-length}
 use Rattle.print_matches.specs.Matches.{longestLine, rulePart, slipPart, valueText, foundText, matchText}
 use Rattle.print_matches.specs.Matches.{readText, textsText, lineText, titleText, matchAnswer}
 use Rattle.print_matches.proofs.Said.{value-in, terms-in, ofVariable, ofKindText, by-kind}

@@ -24,32 +24,32 @@ use Rattle.text_grammar.specs.Limits.{TermIn, IsLeft, IsSlip}
 use Rattle.text_grammar.specs.Numbers.{digitsOf}
 use Rattle.text_grammar.specs.Read.{Reason, number, OutcomeOf, Outcome, refused, accepted, readSide, readSlip}
 use Rattle.text_grammar.proofs.Accepted.{slip-read}
-use Rattle.text_rules.specs.Read.{OurRule, readRule}
-use Rattle.text_rules.proofs.Accepted.{rule-read}
-use Rattle.text_constants.specs.Matching.{constants, matcher, compared}
+use Rattle.text_grammar.specs.rules.Read.{OurRule, readRule}
+use Rattle.text_grammar.proofs.rules.Accepted.{rule-read}
+use Rattle.text_grammar.specs.constants.Matching.{constants, matcher, compared}
 use Rattle.text_values.specs.declared.Term.{Term}
 use Rattle.text_values.specs.declared.Field.{Field}
 use Rattle.text_values.specs.declared.SlipField.{SlipField}
 use Rattle.text_values.specs.Values.{viewTerm, encodeField, encodeSlipField}
 use Rattle.text_accepted.proofs.Accepted.{view-encode-term}
-use Rattle.match_bindings.specs.declared.Filling.{Filling as FillingValue}
+use Rattle.match_fields.specs.declared.bindings.Filling.{Filling as FillingValue}
 use Rattle.match_rules.specs.declared.Match.{Match}
 use Rattle.match_rules.specs.Answers.{valueTerm, encodeValues, runsOf, found, itemsAt, comparison}
-use Rattle.match_bindings.specs.Values.{atomOf, runOf}
-use Rattle.match_bindings.specs.declared.Run.{Run}
+use Rattle.match_fields.specs.bindings.Values.{atomOf, runOf}
+use Rattle.match_fields.specs.declared.bindings.Run.{Run}
 use Rattle.match_rules.proofs.Agree.{enc}
 use Rattle.match_rules.proofs.Accept.{with-fields}
-use Rattle.match_texts.specs.Texts.{sideFields, slipFields}
-use Rattle.match_texts.proofs.Texts.{sides-said, slips-said, compared-texts}
+use Rattle.match_rules.specs.texts.Texts.{sideFields, slipFields}
+use Rattle.match_rules.proofs.texts.Texts.{sides-said, slips-said, compared-texts}
 use Rattle.match_rules.proofs.Runs.{run-items, atom-at, atom-value, value-all}
-use Rattle.text_verdicts.specs.Verdicts.{verdictOf}
-use Rattle.text_verdicts.proofs.Verdicts.{number-is}
+use Rattle.text_refusals.specs.verdicts.Verdicts.{verdictOf}
+use Rattle.text_refusals.proofs.verdicts.Verdicts.{number-is}
 use Rattle.overlap_spec.specs.Variables.{Variable, kinds, numbers, ofKind, every, occurs, keep, variables}
 use Rattle.overlap_spec.proofs.Variables.{occurs-is}
-use Rattle.text_pieces.specs.Refusals.{numberAt}
+use Rattle.text_write.specs.pieces.Refusals.{numberAt}
 use Rattle.print_matches.specs.Matches.{longestLine, rulePart, slipPart, valueText, foundText, matchText, readText, textsText, lineText}
-use Rattle.print_match.proofs.Values.{variable-viewed, run-viewed, same-over}
-use Rattle.print_match.specs.Values.{runText, saidValue, nameText, saidVariable, saidKind, saidValues, saidMatch}
+use Rattle.print_matches.proofs.answers.Values.{variable-viewed, run-viewed, same-over}
+use Rattle.print_matches.specs.answers.Values.{runText, saidValue, nameText, saidVariable, saidKind, saidValues, saidMatch}
 use Rattle.print_matches.specs.Values.{verdictText, saidTexts, saidSlip}
 
 -- ---- constants within their limits

@@ -2,11 +2,11 @@
 use mathlib.Core.Path.{_≡_}
 use mathlib.Core.List.{List, _++_}
 use Prim.Native.Nat.{ℕ}
-use Rattle.text_verdicts.specs.declared.Reason.{Reason}
-use Rattle.text_verdicts.specs.declared.Verdict.{Verdict}
-use Rattle.text_verdicts.specs.declared.Verdict.the-variants.{Accepted, Refused}
-use Rattle.text_verdicts.specs.Verdicts.{numberOf}
-use Rattle.text_pieces.specs.Refusals.{numberAt}
+use Rattle.text_refusals.specs.declared.verdicts.Reason.{Reason}
+use Rattle.text_refusals.specs.declared.verdicts.Verdict.{Verdict}
+use Rattle.text_refusals.specs.declared.verdicts.Verdict.the-variants.{Accepted, Refused}
+use Rattle.text_refusals.specs.verdicts.Verdicts.{numberOf}
+use Rattle.text_write.specs.pieces.Refusals.{numberAt}
 use Rattle.print_matches.specs.Values.{verdictText}
 
 module _ (words : List ℕ) (v : Verdict) (t : List ℕ) where

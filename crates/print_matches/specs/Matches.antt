@@ -14,11 +14,11 @@ use Rattle.text_grammar.specs.Terms.{Con, OurTerm}
 use Rattle.text_grammar.specs.Numbers.{digitsOf}
 use Rattle.text_grammar.specs.Plain.{termText, fieldText}
 use Rattle.text_grammar.specs.Read.{number, OutcomeOf, Outcome, refused, accepted, readSlip}
-use Rattle.text_rules.specs.Read.{OurRule, readRule}
-use Rattle.text_constants.specs.Matching.{constants, matcher, compared}
+use Rattle.text_grammar.specs.rules.Read.{OurRule, readRule}
+use Rattle.text_grammar.specs.constants.Matching.{constants, matcher, compared}
 use Rattle.overlap_spec.specs.Variables.{Variable, variables}
 use Rattle.text_grammar.specs.Ascii.{ascii, newline}
-use Rattle.text_pieces.specs.Refusals.{numberAt}
+use Rattle.text_write.specs.pieces.Refusals.{numberAt}
 
 -- ---- a line
 

@@ -3,13 +3,13 @@ use mathlib.Core.List.{List, _++_}
 use Prim.Native.Nat.{ℕ}
 use Rattle.text_grammar.specs.Ascii.{ascii}
 use Rattle.text_grammar.specs.Read.{readSlip}
-use Rattle.text_verdicts.specs.declared.Verdict.{Verdict}
-use Rattle.text_verdicts.specs.declared.Verdict.the-variants.{Accepted, Refused}
-use Rattle.text_verdicts.specs.Verdicts.{numberOf, verdictOf}
-use Rattle.text_pieces.specs.Refusals.{numberAt}
+use Rattle.text_refusals.specs.declared.verdicts.Verdict.{Verdict}
+use Rattle.text_refusals.specs.declared.verdicts.Verdict.the-variants.{Accepted, Refused}
+use Rattle.text_refusals.specs.verdicts.Verdicts.{numberOf, verdictOf}
+use Rattle.text_write.specs.pieces.Refusals.{numberAt}
 use Rattle.match_rules.specs.Answers.{comparisonOn}
-use Rattle.match_texts.specs.Texts.{sideFields, slipFields}
-use Rattle.print_match.specs.Values.{saidMatch}
+use Rattle.match_rules.specs.texts.Texts.{sideFields, slipFields}
+use Rattle.print_matches.specs.answers.Values.{saidMatch}
 
 -- a refusal with the words before it, or the text t where there is none
 abbrev pub verdictText : List ℕ → Verdict → List ℕ → List ℕ

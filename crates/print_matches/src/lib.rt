@@ -5,10 +5,13 @@ ghost use mathlib.Core.Path.{_≡_};
 ghost use Prim.Native.Nat.{_≤_};
 ghost use lib.ListN.{length};
 ghost use Rattle.text_write.specs.Answers.{Writes};
-ghost use Rattle.text_pieces.specs.Placed.{Placed};
+ghost use Rattle.text_write.specs.pieces.Placed.{Placed};
 ghost use Rattle.print_matches.specs.Matches.{textsText, lineText, matchAnswer};
 ghost use Rattle.print_matches.specs.Values.{saidSlip};
-use text_verdicts::Verdict;
+
+mod answers; // the text of a match
+
+use text_refusals::verdicts::Verdict;
 use text_write::Written;
 
 // ---- pieces: each is put at a place of the room, and returns the place behind it
@@ -19,7 +22,7 @@ fn put_slip(left: &[u8], slip: &[u8], out: &mut [u8], at: usize) -> usize
 {
     let verdict = text_read::judge_slip(slip);
     match verdict {
-        Verdict::Accepted => print_match::put_match(left, slip, out, at),
+        Verdict::Accepted => crate::answers::put_match(left, slip, out, at),
         Verdict::Refused(reason, place) => print_parts::put_refusal(
             b"refused slip ",
             reason,
@@ -55,9 +58,9 @@ fn put_line(line: &[u8], out: &mut [u8], at: usize) -> usize
 {
     let n = line.len();
     if 12289 < n {
-        return text_pieces::put_bytes(b"line too long", out, at);
+        return text_write::pieces::put_bytes(b"line too long", out, at);
     }
-    let tab = text_pieces::tab_place(line);
+    let tab = text_write::pieces::tab_place(line);
     let rest = print_parts::behind(tab, n);
     put_reads(&line[..tab], &line[rest..], out, at)
 }
@@ -71,7 +74,7 @@ fn put_answer(k: u64, line: &[u8], out: &mut [u8]) -> usize
 {
     let a = print_parts::put_title(b"match ", k, out, 0);
     let b = put_line(line, out, a);
-    text_pieces::put_bytes(b"\n", out, b)
+    text_write::pieces::put_bytes(b"\n", out, b)
 }
 
 // The answer straight into bytes that are enough for any.
@@ -95,7 +98,7 @@ fn by_room(k: u64, line: &[u8], out: &mut [u8]) -> Written
 {
     let mut text = room();
     let end = put_answer(k, line, &mut text);
-    text_pieces::give(&text[..end], out)
+    text_write::pieces::give(&text[..end], out)
 }
 
 // The two lines that `matches` prints for line number k. No room is made where the lent bytes are enough for any answer.

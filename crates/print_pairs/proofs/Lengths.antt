@@ -10,7 +10,7 @@ use lib.Seq.{length-take-le, take-all}
 use Rattle.text_grammar.specs.Ascii.{ascii, newline}
 use Rattle.text_grammar.specs.Numbers.{digitsOf}
 use Rattle.text_write.proofs.Digits.{digits-64}
-use Rattle.print_overlaps.specs.Texts.{mostBytes}
+use Rattle.print_pairs.specs.overlaps.Texts.{mostBytes}
 use Rattle.print_pairs.specs.Pairs.{longestLine, lineText, titleText, longestAnswer, pairAnswer}
 
 pub title-short : (k : ℕ) → k < 18446744073709551616 → length (titleText k) ≤ 26

@@ -10,9 +10,9 @@ use lib.ListN.{length, take, drop, length-drop, drop-of-length-le}
 use lib.Seq.{take-all}
 use Rattle.bytes.specs.Bytes.{indexOf}
 use Rattle.text_grammar.specs.Ascii.{ascii, newline}
-use Rattle.text_rules.specs.Read.{readRule}
-use Rattle.print_overlaps.specs.Texts.{mostBytes, readText, textsIn}
-use Rattle.print_overlaps.proofs.Said.{in-room}
+use Rattle.text_grammar.specs.rules.Read.{readRule}
+use Rattle.print_pairs.specs.overlaps.Texts.{mostBytes, readText, textsIn}
+use Rattle.print_pairs.proofs.overlaps.Said.{in-room}
 use Rattle.print_pairs.specs.Pairs.{longestLine, leftPart, rightPart, lineText}
 
 module _ (t : List ℕ) (tab rest : ℕ) (is-tab : tab ≡ indexOf 9 t) (is-rest : rest ≡ min (tab + 1) (length t)) where

@@ -7,7 +7,7 @@ use lib.ListN.{length, take, drop}
 use Rattle.bytes.specs.Bytes.{indexOf}
 use Rattle.text_grammar.specs.Ascii.{ascii, newline}
 use Rattle.text_grammar.specs.Numbers.{digitsOf}
-use Rattle.print_overlaps.specs.Texts.{saidOf}
+use Rattle.print_pairs.specs.overlaps.Texts.{saidOf}
 
 -- ---- a line
 

@@ -5,9 +5,12 @@ ghost use mathlib.Core.Path.{_≡_};
 ghost use Prim.Native.Nat.{_+_, _≤_};
 ghost use lib.ListN.{length};
 ghost use Rattle.text_write.specs.Answers.{Writes};
-ghost use Rattle.text_pieces.specs.Placed.{Placed};
-ghost use Rattle.print_overlaps.specs.Texts.{mostBytes};
+ghost use Rattle.text_write.specs.pieces.Placed.{Placed};
+ghost use Rattle.print_pairs.specs.overlaps.Texts.{mostBytes};
 ghost use Rattle.print_pairs.specs.Pairs.{lineText, longestAnswer, pairAnswer};
+
+mod overlaps; // the text of what is said of two rules
+
 use text_write::Written;
 
 // ---- pieces: each is put at a place of the room, and returns the place behind it
@@ -20,11 +23,11 @@ fn put_line(line: &[u8], out: &mut [u8], at: usize) -> usize
 {
     let n = line.len();
     if 8193 < n {
-        return text_pieces::put_bytes(b"line too long\n", out, at);
+        return text_write::pieces::put_bytes(b"line too long\n", out, at);
     }
-    let tab = text_pieces::tab_place(line);
+    let tab = text_write::pieces::tab_place(line);
     let rest = print_parts::behind(tab, n);
-    print_overlaps::put_texts(&line[..tab], &line[rest..], out, at)
+    crate::overlaps::put_texts(&line[..tab], &line[rest..], out, at)
 }
 
 // The title and what is said of the line.
@@ -54,5 +57,5 @@ pub fn pair_answer(k: u64, line: &[u8], out: &mut [u8]) -> Written
     }
     let mut text = longest();
     let n = put_answer(k, line, &mut text);
-    text_pieces::give(&text[..n], out)
+    text_write::pieces::give(&text[..n], out)
 }

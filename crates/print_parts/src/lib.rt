@@ -4,27 +4,30 @@ ghost use mathlib.Core.List.{_++_};
 ghost use Prim.Native.Nat.{_+_, min};
 ghost use Rattle.text_grammar.specs.Ascii.{newline};
 ghost use Rattle.text_grammar.specs.Numbers.{digitsOf};
-ghost use Rattle.text_verdicts.specs.Verdicts.{numberOf};
-ghost use Rattle.text_pieces.specs.Refusals.{numberAt};
-ghost use Rattle.text_pieces.specs.Placed.{Placed};
-use text_verdicts::Reason;
+ghost use Rattle.text_refusals.specs.verdicts.Verdicts.{numberOf};
+ghost use Rattle.text_write.specs.pieces.Refusals.{numberAt};
+ghost use Rattle.text_write.specs.pieces.Placed.{Placed};
+
+pub mod sizes; // how much a part of a line asks for
+
+use text_refusals::verdicts::Reason;
 
 // The title of the answer to line number k: what was done, the number, the line's end.
 pub fn put_title(words: &[u8], k: u64, out: &mut [u8], at: usize) -> usize
     ensures { λ r. ⌜ Placed (now (words .entry) ++ digitsOf k ++ newline) at (now (out .entry)) r (now (out .exit)) ⌝ }
 {
-    let a = text_pieces::put_bytes(words, out, at);
-    let b = text_pieces::put_number(k, out, a);
-    text_pieces::put_bytes(b"\n", out, b)
+    let a = text_write::pieces::put_bytes(words, out, at);
+    let b = text_write::pieces::put_number(k, out, a);
+    text_write::pieces::put_bytes(b"\n", out, b)
 }
 
 // What was refused, the refusal's number and its place.
 pub fn put_refusal(words: &[u8], reason: Reason, place: usize, out: &mut [u8], at: usize) -> usize
     ensures { λ r. ⌜ Placed (now (words .entry) ++ numberAt (numberOf reason) place) at (now (out .entry)) r (now (out .exit)) ⌝ }
 {
-    let n = text_verdicts::number(reason);
-    let a = text_pieces::put_bytes(words, out, at);
-    text_pieces::put_number_at(n as u64, place as u64, out, a)
+    let n = text_refusals::verdicts::number(reason);
+    let a = text_write::pieces::put_bytes(words, out, at);
+    text_write::pieces::put_number_at(n as u64, place as u64, out, a)
 }
 
 // The place behind the tab of a line of n bytes, or the line's end.

@@ -6,8 +6,8 @@ use native.Mathlib.Omega.{arith}
 use lib.ListN.{getD}
 use Rattle.text_grammar.specs.Read.{OutcomeOf, refused, accepted, OurFields}
 use Rattle.text_grammar.specs.Limits.{IsLeft}
-use Rattle.text_rules.specs.Read.{OurRule, readRule}
-use Rattle.text_rules.proofs.Accepted.{rule-read}
+use Rattle.text_grammar.specs.rules.Read.{OurRule, readRule}
+use Rattle.text_grammar.proofs.rules.Accepted.{rule-read}
 use Rattle.text_values.specs.declared.Field.{Field}
 use Rattle.text_values.specs.Values.{encodeSide}
 use Rattle.text_accepted.specs.Accepted.{countedLeft, countedField}

@@ -11,10 +11,10 @@ use Rattle.text_grammar.specs.Ascii.{ascii, newline}
 use Rattle.text_grammar.specs.Numbers.{digitsOf}
 use Rattle.text_grammar.specs.Terms.{OurTerm}
 use Rattle.text_grammar.specs.Read.{OutcomeOf, refused, accepted, OurFields}
-use Rattle.text_rules.specs.Read.{OurRule, readRule}
+use Rattle.text_grammar.specs.rules.Read.{OurRule, readRule}
 use Rattle.search_spec.specs.Answers.{linesFor}
-use Rattle.print_sizes.specs.Sizes.{sizeOf}
-use Rattle.print_search.specs.Found.{mostRecords, mostBytes, foundText}
+use Rattle.print_parts.specs.sizes.Sizes.{sizeOf}
+use Rattle.print_solve.specs.search.Found.{mostRecords, mostBytes, foundText}
 
 -- ---- a line
 

@@ -4,14 +4,17 @@ ghost use mathlib.Core.Path.{_≡_};
 ghost use mathlib.Core.List.{[]};
 ghost use Prim.Native.Nat.{_≤_};
 ghost use lib.ListN.{length};
-ghost use Rattle.text_rules.specs.Read.{readRule};
+ghost use Rattle.text_grammar.specs.rules.Read.{readRule};
 ghost use Rattle.text_accepted.specs.Accepted.{countedField};
 ghost use Rattle.text_write.specs.Answers.{Writes};
-ghost use Rattle.text_pieces.specs.Placed.{Placed};
-ghost use Rattle.print_search.specs.Found.{mostRecords, longestBody};
+ghost use Rattle.text_write.specs.pieces.Placed.{Placed};
+ghost use Rattle.print_solve.specs.search.Found.{mostRecords, longestBody};
 ghost use Rattle.print_solve.specs.Solve.{fieldIn, lineText, longestAnswer, solveAnswer};
 ghost use Rattle.print_solve.specs.Values.{saidRoom, saidRow, saidSizes, saidRight};
-use print_sizes::Size;
+
+mod search; // the text of a search's answer
+
+use print_parts::sizes::Size;
 use text_values::Field;
 use text_write::Written;
 
@@ -54,9 +57,9 @@ fn put_room(left: Field, right: Field, row: usize, room: &[u8], out: &mut [u8], 
     ensures { λ p. ⌜ Placed (saidRoom left right row (now (room .entry))) at (now (out .entry)) p (now (out .exit)) ⌝ }
     ensures { λ _. ⌜ length (saidRoom left right row (now (room .entry))) ≤ longestBody ⌝ }
 {
-    match print_sizes::read_size(131072, room) {
-        Size::Of(bytes) => print_search::put_search(left, right, row, bytes, out, at),
-        Size::Bad => text_pieces::put_bytes(b"bad room\n", out, at),
+    match print_parts::sizes::read_size(131072, room) {
+        Size::Of(bytes) => crate::search::put_search(left, right, row, bytes, out, at),
+        Size::Bad => text_write::pieces::put_bytes(b"bad room\n", out, at),
     }
 }
 
@@ -65,9 +68,9 @@ fn put_row(left: Field, right: Field, row: &[u8], room: &[u8], out: &mut [u8], a
     ensures { λ p. ⌜ Placed (saidRow left right (now (row .entry)) (now (room .entry))) at (now (out .entry)) p (now (out .exit)) ⌝ }
     ensures { λ _. ⌜ length (saidRow left right (now (row .entry)) (now (room .entry))) ≤ longestBody ⌝ }
 {
-    match print_sizes::read_size(640, row) {
+    match print_parts::sizes::read_size(640, row) {
         Size::Of(records) => put_room(left, right, records, room, out, at),
-        Size::Bad => text_pieces::put_bytes(b"bad row\n", out, at),
+        Size::Bad => text_write::pieces::put_bytes(b"bad row\n", out, at),
     }
 }
 
@@ -77,10 +80,10 @@ fn put_sizes(left: Field, right: Field, line: &[u8], out: &mut [u8], at: usize) 
     ensures { λ _. ⌜ length (saidSizes left right (now (line .entry))) ≤ longestBody ⌝ }
 {
     let n = line.len();
-    let tab = text_pieces::tab_place(line);
+    let tab = text_write::pieces::tab_place(line);
     let rest = print_parts::behind(tab, n);
-    if text_pieces::tab_place(&line[rest..]) < n - rest {
-        return text_pieces::put_bytes(b"bad line\n", out, at);
+    if text_write::pieces::tab_place(&line[rest..]) < n - rest {
+        return text_write::pieces::put_bytes(b"bad line\n", out, at);
     }
     put_row(left, right, &line[..tab], &line[rest..], out, at)
 }
@@ -91,7 +94,7 @@ fn put_right(left: Field, line: &[u8], out: &mut [u8], at: usize) -> usize
     ensures { λ _. ⌜ length (saidRight left (now (line .entry))) ≤ longestBody ⌝ }
 {
     let n = line.len();
-    let tab = text_pieces::tab_place(line);
+    let tab = text_write::pieces::tab_place(line);
     let rest = print_parts::behind(tab, n);
     let right = read_field(&line[..tab]);
     put_sizes(left, right, &line[rest..], out, at)
@@ -104,9 +107,9 @@ fn put_line(line: &[u8], out: &mut [u8], at: usize) -> usize
 {
     let n = line.len();
     if 8204 < n {
-        return text_pieces::put_bytes(b"line too long\n", out, at);
+        return text_write::pieces::put_bytes(b"line too long\n", out, at);
     }
-    let tab = text_pieces::tab_place(line);
+    let tab = text_write::pieces::tab_place(line);
     let rest = print_parts::behind(tab, n);
     let left = read_field(&line[..tab]);
     put_right(left, &line[rest..], out, at)
@@ -127,5 +130,5 @@ pub fn solve_answer(k: u64, line: &[u8], out: &mut [u8]) -> Written
     let mut text = room();
     let a = print_parts::put_title(b"search ", k, &mut text, 0);
     let b = put_line(line, &mut text, a);
-    text_pieces::give(&text[..b], out)
+    text_write::pieces::give(&text[..b], out)
 }

@@ -11,11 +11,11 @@ use Rattle.text_grammar.specs.Ascii.{newline}
 use Rattle.text_grammar.specs.Read.{Reason, long, rule, slip, OutcomeOf, Outcome, refused, accepted, readSlip}
 use Rattle.text_grammar.proofs.Read.{read-refused}
 use Rattle.text_grammar.proofs.Refused.{slip-place}
-use Rattle.text_rules.specs.Read.{OurRule, readRule}
-use Rattle.text_rules.proofs.Read.{read-first}
-use Rattle.text_rules.proofs.Sharp.{rule-place}
-use Rattle.text_rules.proofs.Accepted.{rule-read, rule-length}
-use Rattle.text_pieces.proofs.Refusals.{number-at-length}
+use Rattle.text_grammar.specs.rules.Read.{OurRule, readRule}
+use Rattle.text_grammar.proofs.rules.Read.{read-first}
+use Rattle.text_grammar.proofs.rules.Sharp.{rule-place}
+use Rattle.text_grammar.proofs.rules.Accepted.{rule-read, rule-length}
+use Rattle.text_write.proofs.pieces.Refusals.{number-at-length}
 use Rattle.print_texts.specs.Texts.{refusalText, ruleText, slipText, ruleAnswer, slipAnswer, textsAnswer}
 
 -- ---- answers

@@ -4,18 +4,18 @@ use mathlib.Core.List.{List, _++_}
 use Prim.Native.Nat.{ℕ}
 use Rattle.text_grammar.specs.Read as read
 use Rattle.text_grammar.specs.Read.{OutcomeOf, Outcome, refused, accepted, readSlip}
-use Rattle.text_rules.specs.Read.{OurRule, readRule}
-use Rattle.text_rules.specs.Plain.{plainBoth}
-use Rattle.text_rules.proofs.Accepted.{rule-read}
-use Rattle.text_accepted_rules.proofs.Rules.{view-encode-rule}
-use Rattle.text_verdicts.specs.declared.Reason.{Reason}
-use Rattle.text_verdicts.specs.declared.Verdict.{Verdict}
-use Rattle.text_verdicts.specs.declared.Verdict.the-variants.{Accepted, Refused}
+use Rattle.text_grammar.specs.rules.Read.{OurRule, readRule}
+use Rattle.text_grammar.specs.rules.Plain.{plainBoth}
+use Rattle.text_grammar.proofs.rules.Accepted.{rule-read}
+use Rattle.text_accepted.proofs.rules.Rules.{view-encode-rule}
+use Rattle.text_refusals.specs.declared.verdicts.Reason.{Reason}
+use Rattle.text_refusals.specs.declared.verdicts.Verdict.{Verdict}
+use Rattle.text_refusals.specs.declared.verdicts.Verdict.the-variants.{Accepted, Refused}
 use Rattle.text_read.specs.declared.RuleRead.{RuleRead}
 use Rattle.text_read.specs.declared.SlipRead.{SlipRead}
-use Rattle.text_verdicts.specs.Verdicts.{reasonFrom}
+use Rattle.text_refusals.specs.verdicts.Verdicts.{reasonFrom}
 use Rattle.text_read.specs.Answers.{ruleRead, slipRead}
-use Rattle.text_verdicts.proofs.Verdicts.{number-is}
+use Rattle.text_refusals.proofs.verdicts.Verdicts.{number-is}
 use Rattle.text_grammar.specs.Ascii.{ascii, newline}
 use Rattle.print_texts.specs.Texts.{refusalText, ruleText, slipText, ruleAnswer, slipAnswer}
 use Rattle.print_texts.specs.Verdicts.{refusedText, verdictText, ruleSaid}

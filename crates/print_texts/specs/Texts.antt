@@ -2,10 +2,10 @@
 use mathlib.Core.List.{List, _++_}
 use Prim.Native.Nat.{ℕ}
 use Rattle.text_grammar.specs.Read.{Reason, number, OutcomeOf, Outcome, refused, accepted, readSlip}
-use Rattle.text_rules.specs.Read.{OurRule, readRule}
-use Rattle.text_rules.specs.Plain.{plainBoth}
+use Rattle.text_grammar.specs.rules.Read.{OurRule, readRule}
+use Rattle.text_grammar.specs.rules.Plain.{plainBoth}
 use Rattle.text_grammar.specs.Ascii.{ascii, newline}
-use Rattle.text_pieces.specs.Refusals.{numberAt}
+use Rattle.text_write.specs.pieces.Refusals.{numberAt}
 
 abbrev pub refusalText : Reason → ℕ → List ℕ
 refusalText r p = ascii "refused " ++ numberAt (number r) p

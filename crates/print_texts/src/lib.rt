@@ -4,11 +4,11 @@ ghost use mathlib.Core.Path.{_≡_};
 ghost use lib.ListN.{length};
 ghost use Rattle.text_write.specs.Answers.{Writes};
 ghost use Rattle.text_grammar.specs.Ascii.{ascii, newline};
-ghost use Rattle.text_pieces.specs.Placed.{Placed};
+ghost use Rattle.text_write.specs.pieces.Placed.{Placed};
 ghost use Rattle.print_texts.specs.Texts.{ruleAnswer, slipAnswer, textsAnswer};
 ghost use Rattle.print_texts.specs.Verdicts.{verdictText, ruleSaid};
 use text_read::RuleRead;
-use text_verdicts::Verdict;
+use text_refusals::verdicts::Verdict;
 use text_write::Written;
 
 // ---- pieces: each is put at a place of the room, and returns the place behind it
@@ -16,7 +16,7 @@ use text_write::Written;
 fn put_newline(out: &mut [u8], at: usize) -> usize
     ensures { λ r. ⌜ Placed newline at (now (out .entry)) r (now (out .exit)) ⌝ }
 {
-    text_pieces::put_bytes(b"\n", out, at)
+    text_write::pieces::put_bytes(b"\n", out, at)
 }
 
 // ---- `texts`
@@ -27,7 +27,7 @@ fn put_rule_read(read: RuleRead, out: &mut [u8], at: usize) -> usize
     let verdict = read.verdict;
     let rule = read.rule;
     match verdict {
-        Verdict::Accepted => text_plain_rules::put_rule(rule, out, at),
+        Verdict::Accepted => text_plain::rules::put_rule(rule, out, at),
         Verdict::Refused(reason, place) => print_parts::put_refusal(
             b"refused ",
             reason,
@@ -43,7 +43,7 @@ fn put_slip_verdict(verdict: Verdict, out: &mut [u8], at: usize) -> usize
     ensures { λ r. ⌜ Placed (verdictText verdict (ascii "read")) at (now (out .entry)) r (now (out .exit)) ⌝ }
 {
     match verdict {
-        Verdict::Accepted => text_pieces::put_bytes(b"read", out, at),
+        Verdict::Accepted => text_write::pieces::put_bytes(b"read", out, at),
         Verdict::Refused(reason, place) => print_parts::put_refusal(
             b"refused ",
             reason,
@@ -58,7 +58,7 @@ fn put_rule_answer(line: &[u8], out: &mut [u8], at: usize) -> usize
     ensures { λ r. ⌜ Placed (ruleAnswer (now (line .entry))) at (now (out .entry)) r (now (out .exit)) ⌝ }
 {
     let read = text_read::read_rule(line);
-    let a = text_pieces::put_bytes(b"rule ", out, at);
+    let a = text_write::pieces::put_bytes(b"rule ", out, at);
     let b = put_rule_read(read, out, a);
     put_newline(out, b)
 }
@@ -68,7 +68,7 @@ fn put_slip_answer(line: &[u8], out: &mut [u8], at: usize) -> usize
 {
     let read = text_read::read_slip(line);
     let verdict = read.verdict;
-    let a = text_pieces::put_bytes(b"slip ", out, at);
+    let a = text_write::pieces::put_bytes(b"slip ", out, at);
     let b = put_slip_verdict(verdict, out, a);
     put_newline(out, b)
 }
@@ -87,5 +87,5 @@ pub fn texts_answer(line: &[u8], out: &mut [u8]) -> Written
     let mut text = room();
     let a = put_rule_answer(line, &mut text, 0);
     let b = put_slip_answer(line, &mut text, a);
-    text_pieces::give(&text[..b], out)
+    text_write::pieces::give(&text[..b], out)
 }

@@ -16,8 +16,8 @@ use Rattle.math_search.specs.Problems.{Tm, Field, tm-eq, field-eq, put, putIn}
 use Rattle.math_search.specs.Rules.{occurs}
 use Rattle.math_codes.specs.Lines.{OurAtom, pairPlaces}
 use Rattle.search_spec.specs.Answers.{setting}
-use Rattle.search_codes.specs.Codes.{codeTm, codesOf, On}
-use Rattle.search_codes.proofs.Codes.{decided, cond-decided, code-tm-once, code-same}
+use Rattle.search_items.specs.codes.Codes.{codeTm, codesOf, On}
+use Rattle.search_items.proofs.codes.Codes.{decided, cond-decided, code-tm-once, code-same}
 use Rattle.search_items.specs.Items.{mostItems, itemsOf, collect}
 use Rattle.search_items.specs.Substitution.{putCode, sameCodes, occursIn}
 use Rattle.search_items.specs.Values.{itemsValue}

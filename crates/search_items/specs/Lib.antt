@@ -1,3 +1,4 @@
 pub mod Items
 pub mod Substitution
 pub mod Values
+pub mod codes

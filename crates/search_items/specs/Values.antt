@@ -4,7 +4,7 @@ use mathlib.Core.List.{List}
 use Rattle.math_search.specs.Problems.{Field}
 use Rattle.math_codes.specs.Lines.{OurAtom}
 use Rattle.search_spec.specs.Answers.{setting}
-use Rattle.search_codes.specs.Codes.{codesOf}
+use Rattle.search_items.specs.codes.Codes.{codesOf}
 use Rattle.search_items.specs.declared.Items.{Items}
 use Rattle.search_items.specs.Items.{collect}
 

@@ -8,13 +8,13 @@ use native.Mathlib.Omega.{arith}
 use lib.ListN.{length, getD}
 use borrow.Author.Tests.{lt-leb}
 use Rattle.math_types.specs.Types.{basics}
-use Rattle.text_constants.specs.Constants.{consts}
+use Rattle.text_grammar.specs.constants.Constants.{consts}
 use Rattle.math_search.specs.Problems.{Field, Bindings, solved, equation, problem}
 use Rattle.math_search.specs.Fresh.{lowest}
 use Rattle.math_search.specs.Rules.{Rule, keep, bind, fails, rule, apply}
 use Rattle.math_search.specs.Rules as rules
 use Rattle.math_search.proofs.Sizes.{sides-short}
-use Rattle.search_variables.specs.Sets.{digits, freshValue, listVariables}
+use Rattle.search_problems.specs.variables.Sets.{digits, freshValue, listVariables}
 use Rattle.math_codes.specs.Tables.{Table, Made}
 use Rattle.math_codes.specs.Lines.{OurAtom, ourVars, ourRanks, pairPlaces}
 use Rattle.search_spec.specs.Answers.{setting}

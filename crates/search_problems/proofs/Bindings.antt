@@ -12,7 +12,7 @@ use lib.ListN.{length, getD}
 use borrow.Author.Tests.{eqb-true}
 use Rattle.base_lists.specs.Seqs.{All}
 use Rattle.math_types.specs.Types.{Basic, basic-eq, basics}
-use Rattle.text_constants.specs.Constants.{consts}
+use Rattle.text_grammar.specs.constants.Constants.{consts}
 use Rattle.math_overlaps.specs.Shapes.{fixed, free, side-eq, Variable, variable-eq}
 use Rattle.math_overlaps.specs.Joins.{resolve, replace, bind}
 use Rattle.math_search.specs.Problems.{atomic, listvar, Tm, Field, tm-eq, Bindings, put, putIn, compose, free-once}
@@ -26,8 +26,8 @@ use Rattle.math_codes.proofs.Tables.{is-code}
 use Rattle.math_codes.proofs.Joins.{Codes, Represents, represents-bind}
 use Rattle.search_spec.specs.Answers.{setting}
 use Rattle.pair_state.specs.declared.State.{State}
-use Rattle.search_codes.specs.Codes.{codeTm, On}
-use Rattle.search_codes.proofs.Codes.{code-list}
+use Rattle.search_items.specs.codes.Codes.{codeTm, On}
+use Rattle.search_items.proofs.codes.Codes.{code-list}
 use Rattle.search_items.specs.Items.{mostItems, itemsOf}
 use Rattle.search_items.specs.Values.{itemsValue}
 use Rattle.search_items.proofs.Agree.{first-agree, put-in-items}

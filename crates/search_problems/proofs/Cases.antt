@@ -5,7 +5,7 @@ use Prim.Native.Nat.{ℕ}
 use lib.Dec.{leb, ltb}
 use lib.ListN.{getD}
 use borrow.Author.Tests.{not-true, not-false, ltb-true, ltb-false, le-leb, lt-leb}
-use Rattle.search_variables.specs.Sets.{digits, freshValue, listVariables}
+use Rattle.search_problems.specs.variables.Sets.{digits, freshValue, listVariables}
 use Rattle.math_codes.specs.Tables.{Table}
 use Rattle.search_items.specs.Items.{itemsOf}
 use Rattle.search_rules.specs.declared.Head.{Head}

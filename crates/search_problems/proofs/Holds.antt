@@ -7,7 +7,7 @@ use Prim.Native.Nat.{ℕ, _≤_}
 use lib.ListN.{length}
 use Rattle.base_lists.specs.Seqs.{All}
 use Rattle.math_types.specs.Types.{Basic, basics}
-use Rattle.text_constants.specs.Constants.{consts}
+use Rattle.text_grammar.specs.constants.Constants.{consts}
 use Rattle.math_overlaps.specs.Shapes.{free, Variable}
 use Rattle.math_overlaps.specs.Joins.{State}
 use Rattle.math_search.specs.Problems.{atomic, listvar, Tm, Field, Bindings, Rest, solved, equation, rest, bindings, namesIn}
@@ -16,11 +16,11 @@ use Rattle.math_search.specs.Rules.{Met}
 use Rattle.math_search.specs.Answers.{StandsIn, Linear}
 use Rattle.math_search.proofs.Effects.{AllRest}
 use Rattle.math_search.proofs.Cuts.{leftOf, rightOf}
-use Rattle.search_variables.specs.Sets.{setOf}
+use Rattle.search_problems.specs.variables.Sets.{setOf}
 use Rattle.math_codes.specs.Lines.{OurAtom, ourVars}
 use Rattle.math_codes.proofs.Joins.{Represents}
 use Rattle.search_spec.specs.Answers.{setting}
-use Rattle.search_codes.specs.Codes.{On}
+use Rattle.search_items.specs.codes.Codes.{On}
 use Rattle.search_items.specs.declared.Items.{Items}
 use Rattle.search_items.specs.Items.{blankItems}
 use Rattle.search_items.specs.Values.{itemsValue}

@@ -16,7 +16,7 @@ use Rattle.math_search.proofs.Root.{names-listvars}
 use Rattle.math_search.proofs.Tree.{met-fine}
 use Rattle.math_codes.specs.Lines.{OurAtom}
 use Rattle.search_spec.specs.Answers.{setting}
-use Rattle.search_codes.specs.Codes.{codesOf, On}
+use Rattle.search_items.specs.codes.Codes.{codesOf, On}
 use Rattle.search_items.specs.declared.Items.{Items}
 use Rattle.search_items.specs.Items.{mostItems, blankItems, itemsOf}
 use Rattle.search_items.proofs.Agree.{items-of}

@@ -10,7 +10,7 @@ use native.Mathlib.Decide.{ℕ-discrete}
 use lib.ListN.{length}
 use Rattle.base_lists.specs.Seqs.{All, all-map}
 use Rattle.math_types.specs.Types.{basics}
-use Rattle.text_constants.specs.Constants.{consts}
+use Rattle.text_grammar.specs.constants.Constants.{consts}
 use Rattle.math_overlaps.specs.Overlaps.{firsts}
 use Rattle.math_search.specs.Problems.{Tm, Field, Bindings, compose, Rest, solved, equation, problem, namesIn}
 use Rattle.math_search.specs.Problems as search
@@ -23,11 +23,11 @@ use Rattle.math_search.proofs.Children.{move-does, rule-child}
 use Rattle.math_search.proofs.Tree.{Fine, met-fine}
 use Rattle.math_search.proofs.Searching.{fresh-small}
 use Rattle.math_search.proofs.Sizes.{New, sides-short, value-short, fresh-below, names-below}
-use Rattle.search_variables.specs.Sets.{digits, setOf, withName, freshValue, listVariables}
-use Rattle.search_variables.proofs.Laws.{with-one, fresh-lowest, variables-distinct, some-left}
+use Rattle.search_problems.specs.variables.Sets.{digits, setOf, withName, freshValue, listVariables}
+use Rattle.search_problems.proofs.variables.Laws.{with-one, fresh-lowest, variables-distinct, some-left}
 use Rattle.math_codes.specs.Lines.{OurAtom, ourVars, pairPlaces}
 use Rattle.search_spec.specs.Answers.{setting}
-use Rattle.search_codes.specs.Codes.{codeTm, On}
+use Rattle.search_items.specs.codes.Codes.{codeTm, On}
 use Rattle.search_items.specs.declared.Items.{Items}
 use Rattle.search_items.specs.Values.{itemsValue}
 use Rattle.search_rules.specs.Values.{bringsIn, moveCode}

@@ -13,7 +13,7 @@ use Rattle.math_search.proofs.Sizes.{list-values-short}
 use Rattle.search_items.specs.Items.{mostItems}
 use Rattle.math_codes.specs.Lines.{OurAtom}
 use Rattle.search_spec.specs.Answers.{setting}
-use Rattle.search_codes.specs.Codes.{On}
+use Rattle.search_items.specs.codes.Codes.{On}
 use Rattle.search_problems.specs.declared.Problem.{Problem}
 use Rattle.search_problems.proofs.Holds.{Equation, Holds}
 

@@ -16,8 +16,8 @@ use Rattle.math_terms.specs.Terms.{con, var}
 use Rattle.math_terms.specs.Linear.{lists, OneList}
 use Rattle.text_grammar.specs.Terms.{OurTerm}
 use Rattle.text_grammar.specs.Limits.{TermIn, IsLeft}
-use Rattle.text_constants.specs.Constants.{consts}
-use Rattle.text_constants.proofs.Linear.{left-linear}
+use Rattle.text_grammar.specs.constants.Constants.{consts}
+use Rattle.text_grammar.proofs.constants.Linear.{left-linear}
 use Rattle.math_overlaps.specs.Shapes.{fixed, free, of, Side, left, right, Shape, closed, gapped, withAtom, withList}
 use Rattle.math_overlaps.specs.Candidates.{range}
 use Rattle.math_search.specs.Problems.{atomic, listvar, Tm, Field, unbound, namesIn, root}
@@ -28,8 +28,8 @@ use Rattle.math_search.specs.Pairs.{sixteenAbove}
 use Rattle.math_search.specs.Pairs as pairs
 use Rattle.math_search.proofs.Seqs.{all-mem}
 use Rattle.math_search.proofs.Slips.{fields-linear, sixteen-apart}
-use Rattle.search_variables.specs.Sets.{setOf, withName}
-use Rattle.search_variables.proofs.Laws.{with-one}
+use Rattle.search_problems.specs.variables.Sets.{setOf, withName}
+use Rattle.search_problems.proofs.variables.Laws.{with-one}
 use Rattle.math_codes.specs.Tables.{Holds, Made}
 use Rattle.math_codes.specs.Entries.{placeShape}
 use Rattle.math_codes.specs.Spots.{spotShape, spotOf}
@@ -42,7 +42,7 @@ use Rattle.search_spec.specs.Answers.{setting, fieldOn}
 use Rattle.pair_row.specs.declared.Shape as row-shape
 use Rattle.pair_row.specs.Row.{tableIn, shapeIn, spotIn}
 use Rattle.pair_row.specs.Row as rows
-use Rattle.search_codes.specs.Codes.{codeTm, codesOf, On}
+use Rattle.search_items.specs.codes.Codes.{codeTm, codesOf, On}
 use Rattle.search_items.specs.declared.Items.{Items}
 use Rattle.search_items.specs.Items.{collect}
 use Rattle.search_items.specs.Values.{itemsValue}

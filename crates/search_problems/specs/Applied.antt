@@ -5,7 +5,7 @@ use Prim.Native.Nat.{ℕ}
 use lib.Dec.{leb}
 use lib.ListN.{getD}
 use Rattle.math_terms.specs.Seqs.{concat-map}
-use Rattle.search_variables.specs.Sets.{withName}
+use Rattle.search_problems.specs.variables.Sets.{withName}
 use Rattle.math_codes.specs.States.{replaced}
 use Rattle.math_codes.specs.Lines.{pairPlaces}
 use Rattle.pair_state.specs.declared.State.{State}

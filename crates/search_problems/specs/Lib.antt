@@ -2,3 +2,4 @@ pub mod Values
 pub mod Applied
 pub mod Steps
 pub mod Roots
+pub mod variables

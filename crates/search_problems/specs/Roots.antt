@@ -5,7 +5,7 @@ use mathlib.Core.List.{List, [], _∷_, _++_, map}
 use Prim.Native.Nat.{ℕ, suc, _+_, _%_}
 use lib.ListN.{getD}
 use Rattle.math_overlaps.specs.Candidates.{range}
-use Rattle.search_variables.specs.Sets.{withName}
+use Rattle.search_problems.specs.variables.Sets.{withName}
 use Rattle.math_codes.specs.Lines.{pairPlaces}
 use Rattle.pair_row.specs.declared.Shape.{Shape}
 use Rattle.pair_row.specs.Row.{tableIn, shapeIn}

@@ -3,8 +3,8 @@ use mathlib.Core.Bool.{Bool, true, false, not, cond, _&&_}
 use Prim.Native.Nat.{ℕ}
 use lib.Dec.{leb}
 use lib.ListN.{getD}
-use Rattle.math_worklist.specs.Next.{nextOk}
-use Rattle.search_variables.specs.Sets.{digits, freshValue, listVariables}
+use Rattle.math_search.specs.worklist.Next.{nextOk}
+use Rattle.search_problems.specs.variables.Sets.{digits, freshValue, listVariables}
 use Rattle.math_codes.specs.Tables.{Table}
 use Rattle.search_items.specs.Items.{itemsOf}
 use Rattle.search_rules.specs.declared.Head.{Head}

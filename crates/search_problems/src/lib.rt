@@ -6,13 +6,16 @@ ghost use mathlib.Core.Path.{_≡_};
 ghost use mathlib.Core.Bool.{cond};
 ghost use mathlib.Core.List.{foldl};
 ghost use Prim.Native.Nat.{_-_};
-ghost use Rattle.search_variables.specs.Sets.{withName, listVariables};
+ghost use Rattle.search_problems.specs.variables.Sets.{withName, listVariables};
 ghost use Rattle.pair_row.specs.Row.{tableIn};
 ghost use Rattle.search_items.specs.Items.{pushed};
 ghost use Rattle.search_problems.specs.Values.{blankProblem};
 ghost use Rattle.search_problems.specs.Applied.{boundAtoms, boundTo, leftBy, appliedValue};
 ghost use Rattle.search_problems.specs.Steps.{failsOf, noChild, makes, childOf, givesBy, nextRule};
 ghost use Rattle.search_problems.specs.Roots.{codesAt, listNumber, sideItems, ownItems, withOwn, rootValue};
+
+mod variables; // the set of list variables
+
 use pair_row::Shape;
 use pair_state::State;
 use search_items::Items;
@@ -47,10 +50,10 @@ pub fn blank_problem() -> Problem
 }
 
 // How many list variables the problem and its bindings have.
-pub fn list_variables(p: Problem) -> u32
+pub(crate) fn list_variables(p: Problem) -> u32
     ensures { λ r. ⌜ r ≡ listVariables (p .used) ⌝ }
 {
-    search_variables::list_variables(p.used)
+    crate::variables::list_variables(p.used)
 }
 
 // ---- what a move makes of a record
@@ -91,7 +94,7 @@ fn used_by(brings: bool, used: u64, fresh: u8) -> u64
     if !brings {
         return used;
     }
-    search_variables::with_name(used, fresh)
+    crate::variables::with_name(used, fresh)
 }
 
 // What the move leaves of the equation, the bindings as they were.
@@ -171,7 +174,7 @@ pub fn child_of(p: Problem, rule: usize, row: &[u8]) -> Child
 {
     let left = p.left;
     let right = p.right;
-    let fresh = search_variables::fresh(p.used);
+    let fresh = crate::variables::fresh(p.used);
     let m = search_rules::move_of(rule, left, right, fresh, row);
     if is_made(p, m) {
         return Child {
@@ -270,7 +273,7 @@ fn with_own(set: u64, right: bool, s: Shape) -> u64
     if !s.gapped {
         return set;
     }
-    search_variables::with_name(set, list_number(right, s.list))
+    crate::variables::with_name(set, list_number(right, s.list))
 }
 
 // The equation of the first field of the left rule and the first of the right one, where each variable stands for itself.

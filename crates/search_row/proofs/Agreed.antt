@@ -13,9 +13,9 @@ use Rattle.math_search.specs.Problems.{Field, Bindings, Rest, solved, equation,
 use Rattle.math_search.specs.Problems as theory
 use Rattle.math_search.specs.Rules.{Rule, Move, rule}
 use Rattle.math_search.specs.Fresh.{lowest}
-use Rattle.math_worklist.specs.Machine.{Records}
-use Rattle.math_worklist.specs.Agreement.{Agrees, openRest}
-use Rattle.math_worklist.specs.Agreement as worklist
+use Rattle.math_search.specs.worklist.Machine.{Records}
+use Rattle.math_search.specs.worklist.Agreement.{Agrees, openRest}
+use Rattle.math_search.specs.worklist.Agreement as worklist
 use Rattle.search_spec.specs.Answers.{setting, fieldOn, answerText}
 use Rattle.text_grammar.specs.Sizes.{mostFields}
 use Rattle.math_codes.specs.Lines.{OurAtom, ourRow, fieldPlaces, rulePlaces, pairPlaces}
@@ -33,9 +33,9 @@ use Rattle.search_problems.proofs.Holds.{Equation, isOpen, Holds}
 use Rattle.search_problems.specs.Roots.{rootValue}
 use Rattle.search_problems.proofs.Agree as steps
 use Rattle.search_problems.proofs.Rooted.{equation-of, root-holds}
-use Rattle.search_tables.specs.Tables.{rowsIn}
-use Rattle.search_tables.proofs.Noted.{tables-hold}
-use Rattle.search_step.specs.Machine.{lineIn}
+use Rattle.search_steps.specs.tables.Tables.{rowsIn}
+use Rattle.search_steps.proofs.tables.Noted.{tables-hold}
+use Rattle.search_steps.specs.Machine.{lineIn}
 use Rattle.search_row.proofs.Solved.{solved-line, solved-short}
 use Rattle.search_row.proofs.Turns.{records}
 

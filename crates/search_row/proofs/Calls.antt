@@ -31,16 +31,16 @@ use Rattle.text_values.specs.declared.Field.{Field}
 use Rattle.text_values.proofs.Field as F
 use Rattle.text_values.proofs.Field.Laws as F′
 use Rattle.search_problems.proofs.Problem as T
-use Rattle.search_turns.specs.declared.State.{State}
-use Rattle.search_starts.specs.Starts.{begun, again}
-use Rattle.search_turns.proofs.State as S
-use Rattle.search_turns.proofs.State.Laws as S′
+use Rattle.search_steps.specs.declared.turns.State.{State}
+use Rattle.search_steps.specs.starts.Starts.{begun, again}
+use Rattle.search_steps.proofs.turns.State as S
+use Rattle.search_steps.proofs.turns.State.Laws as S′
 use Rattle.search_row.proofs.Lending.{x}
 use Rattle.search_row.proofs.Drives.{mach-state, receives, receives-as}
-use Rattle.search_starts.proofs.begin as begin
-use Rattle.search_starts.proofs.begin.Symbol.{name as #search-starts·begin}
-use Rattle.search_starts.proofs.again as again′
-use Rattle.search_starts.proofs.again.Symbol.{name as #search-starts·again}
+use Rattle.search_steps.proofs.starts.begin as begin
+use Rattle.search_steps.proofs.starts.begin.Symbol.{name as #search-starts·begin}
+use Rattle.search_steps.proofs.starts.again as again′
+use Rattle.search_steps.proofs.starts.again.Symbol.{name as #search-starts·again}
 use Rattle.search_row.specs.declared.Searched.{Searched}
 use Rattle.search_row.specs.Answers.{reported}
 use Rattle.search_row.proofs.Searched as N

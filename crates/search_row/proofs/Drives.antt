@@ -38,17 +38,17 @@ use denote.Triple.Statement.{Contract, Triple}
 use denote.Triple.Call.{calls-at}
 use denote.Triple.Clauses.{Clauses, ensured, closing, lasts}
 use Rattle.search_problems.specs.declared.Problem.{Problem}
-use Rattle.search_turns.specs.declared.State.{State}
-use Rattle.search_turns.specs.declared.Turn.{Turn}
+use Rattle.search_steps.specs.declared.turns.State.{State}
+use Rattle.search_steps.specs.declared.turns.Turn.{Turn}
 use Rattle.search_problems.specs.Values.{blankProblem}
-use Rattle.search_step.specs.Row.{blanks}
-use Rattle.search_step.specs.Machine.{Config, conf, moved, wrote, next, Ends, Reaches, fromRoot}
+use Rattle.search_steps.specs.Row.{blanks}
+use Rattle.search_steps.specs.Machine.{Config, conf, moved, wrote, next, Ends, Reaches, fromRoot}
 use Rattle.search_problems.proofs.Problem as T
 use Rattle.search_problems.proofs.Problem.Laws as T′
-use Rattle.search_turns.proofs.State as S
-use Rattle.search_turns.proofs.State.Laws as S′
-use Rattle.search_turns.proofs.Turn as U
-use Rattle.search_turns.proofs.Turn.Laws as U′
+use Rattle.search_steps.proofs.turns.State as S
+use Rattle.search_steps.proofs.turns.State.Laws as S′
+use Rattle.search_steps.proofs.turns.Turn as U
+use Rattle.search_steps.proofs.turns.Turn.Laws as U′
 use Rattle.search_row.proofs.Lending.{x, Own, LentAgain, lend, unlend}
 use Rattle.search_problems.proofs.blank_problem as blank-problem
 use Rattle.search_problems.proofs.blank_problem.Symbol.{name as #search-problems·blank-problem}
@@ -58,8 +58,8 @@ use Rattle.search_row.proofs.take as take
 use Rattle.search_row.proofs.take.Symbol.{name as #search-row·take}
 use Rattle.search_row.proofs.blank as blank
 use Rattle.search_row.proofs.blank.Symbol.{name as #search-row·blank}
-use Rattle.search_step.proofs.advance as advance
-use Rattle.search_step.proofs.advance.Symbol.{name as #search-step·advance}
+use Rattle.search_steps.proofs.advance as advance
+use Rattle.search_steps.proofs.advance.Symbol.{name as #search-step·advance}
 use Rattle.search_row.proofs.step as step
 
 -- the machine value of a problem, of a state and of a turn

@@ -12,9 +12,9 @@ use lib.ListN.{length, length-map, length-set, set}
 use lib.Seq.{getD-set-same}
 use Rattle.search_problems.specs.declared.Problem.{Problem}
 use Rattle.search_problems.specs.Values.{blankProblem}
-use Rattle.text_pieces.specs.Stored.{bytesOf, storeLine, storeAll}
-use Rattle.search_turns.specs.declared.State.{State}
-use Rattle.search_step.specs.Machine.{Config, conf, next, after, after-none, after-next, after-idle, Ends, Reaches, fromRoot}
+use Rattle.text_write.specs.pieces.Stored.{bytesOf, storeLine, storeAll}
+use Rattle.search_steps.specs.declared.turns.State.{State}
+use Rattle.search_steps.specs.Machine.{Config, conf, next, after, after-none, after-next, after-idle, Ends, Reaches, fromRoot}
 use Rattle.math_search.specs.Problems as theory
 use Rattle.math_search.specs.Problems.{Setting, Bindings, root}
 use Rattle.math_search.specs.Rules.{Rule}
@@ -22,11 +22,11 @@ use Rattle.math_search.specs.Queue.{Result, answers, refused, unfinished, searc
 use Rattle.math_search.specs.Answers.{Linear}
 use Rattle.math_search.proofs.Searching.{searching-ends}
 use Rattle.math_search.proofs.Few.{answers-34}
-use Rattle.math_worklist.specs.Machine as list
-use Rattle.math_worklist.specs.Machine.{Work}
-use Rattle.math_worklist.specs.Agreement.{Agrees}
-use Rattle.math_worklist.proofs.Ring.{nextPlace, place, place-first, place-next, ring-one}
-use Rattle.math_worklist.proofs.Runs.{StopsWith, on, Outcome, search-outcome}
+use Rattle.math_search.specs.worklist.Machine as list
+use Rattle.math_search.specs.worklist.Machine.{Work}
+use Rattle.math_search.specs.worklist.Agreement.{Agrees}
+use Rattle.math_search.proofs.worklist.Ring.{nextPlace, place, place-first, place-next, ring-one}
+use Rattle.math_search.proofs.worklist.Runs.{StopsWith, on, Outcome, search-outcome}
 use Rattle.search_row.proofs.Turns.{records, inRow, Shows, leads-is}
 
 -- ---- where a machine stops

@@ -13,12 +13,12 @@ use Rattle.text_grammar.specs.Terms.{OurTerm}
 use Rattle.text_grammar.specs.Limits.{IsLeft}
 use Rattle.text_values.specs.declared.Field.{Field}
 use Rattle.text_accepted.specs.Accepted.{acceptedField}
-use Rattle.text_constants.specs.Constants.{consts}
+use Rattle.text_grammar.specs.constants.Constants.{consts}
 use Rattle.math_overlaps.specs.Shapes.{left, right}
 use Rattle.search_problems.specs.declared.Problem.{Problem}
-use Rattle.search_tables.specs.Tables.{rowsIn}
+use Rattle.search_steps.specs.tables.Tables.{rowsIn}
 use Rattle.search_problems.specs.Roots.{rootValue}
-use Rattle.search_step.specs.Machine.{Config, Ends, Reaches}
+use Rattle.search_steps.specs.Machine.{Config, Ends, Reaches}
 use Rattle.math_search.specs.Problems as theory
 use Rattle.math_search.specs.Problems.{root}
 use Rattle.math_search.specs.Fresh.{numbers}
@@ -26,7 +26,7 @@ use Rattle.math_search.specs.Pairs.{sideTerm, sixteenAbove}
 use Rattle.math_search.specs.Rules.{Rule}
 use Rattle.math_search.specs.Queue.{Result, answers, refused, unfinished}
 use Rattle.math_search.proofs.Queue.{given}
-use Rattle.math_worklist.specs.Agreement.{Agrees}
+use Rattle.math_search.specs.worklist.Agreement.{Agrees}
 use Rattle.search_spec.specs.Answers.{setting, fieldOn, found, answerText, Lines, lines, nine, linesIn, linesOf}
 use Rattle.search_spec.proofs.Search.{equation-linear}
 use Rattle.search_row.proofs.Turns.{records}

@@ -18,9 +18,9 @@ use Rattle.math_overlaps.specs.Shapes.{left, right}
 use Rattle.search_problems.specs.declared.Problem.{Problem}
 use Rattle.pair_lines.specs.Lines.{lineBound}
 use Rattle.search_rules.specs.Values.{number}
-use Rattle.text_pieces.specs.Stored as stored
+use Rattle.text_write.specs.pieces.Stored as stored
 use Rattle.search_spec.specs.Answers.{fieldOn, Lines as Found, lines, nine, linesOf, linesFor, bytesOf}
-use Rattle.search_turns.specs.declared.State.{State}
+use Rattle.search_steps.specs.declared.turns.State.{State}
 use Rattle.search_row.specs.declared.Searched.{Searched}
 use Rattle.search_row.specs.declared.Searched.the-variants.{Lines, TooSmall, Full}
 use Rattle.search_row.specs.Answers.{told, searchedOf, Searches, reported, Halts, Done}

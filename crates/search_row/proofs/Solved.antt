@@ -22,9 +22,9 @@ use Rattle.math_search.proofs.Root.{names-listvars}
 use Rattle.search_spec.specs.Answers.{setting, fieldOn, answerText}
 use Rattle.math_codes.specs.Lines.{ourRow, pairPlaces, pairItems}
 use Rattle.math_codes.specs.Index.{indexedAnswer}
-use Rattle.search_codes.specs.Codes.{codeTm, codesOf, On}
-use Rattle.search_codes.proofs.Codes.{code-below}
-use Rattle.search_codes.proofs.Answers.{answer-agrees}
+use Rattle.search_items.specs.codes.Codes.{codeTm, codesOf, On}
+use Rattle.search_items.proofs.codes.Codes.{code-below}
+use Rattle.search_items.proofs.codes.Answers.{answer-agrees}
 use Rattle.search_items.specs.Items.{itemsOf, blankItems}
 use Rattle.pair_row.specs.Row.{tableIn, textIn, indexIn, topIn}
 use Rattle.pair_table.specs.Pairs.{PairIn}
@@ -32,7 +32,7 @@ use Rattle.pair_lines.specs.Lines.{sideFew, numbersFew, lineBound}
 use Rattle.pair_lines.specs.Answers.{areItems, valueFits, answerFits, wholeAnswer, answerIn}
 use Rattle.pair_lines.proofs.AnswerLines.{any-answer}
 use Rattle.pair_lines.proofs.Short.{cell-short}
-use Rattle.search_step.specs.Machine.{lineIn}
+use Rattle.search_steps.specs.Machine.{lineIn}
 use Rattle.search_problems.specs.declared.Problem.{Problem}
 use Rattle.search_items.specs.declared.Items.{Items}
 use Rattle.search_problems.proofs.Holds.{Equation, stateOf, Holds}

@@ -13,15 +13,15 @@ use borrow.Author.Tests.{ltb-true, ne-eqb}
 use Rattle.search_problems.specs.declared.Problem.{Problem}
 use Rattle.search_problems.specs.Values.{blankProblem}
 use Rattle.search_problems.specs.Steps.{failsOf, childOf, gives, nextRule}
-use Rattle.text_pieces.specs.Stored.{storeLine}
-use Rattle.search_turns.specs.declared.State.{State}
-use Rattle.search_turns.specs.declared.Turn.{Turn}
-use Rattle.search_turns.specs.Turns.{trying, aim, firstRule, stopped, taken, joined, full, ruleTurn}
+use Rattle.text_write.specs.pieces.Stored.{storeLine}
+use Rattle.search_steps.specs.declared.turns.State.{State}
+use Rattle.search_steps.specs.declared.turns.Turn.{Turn}
+use Rattle.search_steps.specs.turns.Turns.{trying, aim, firstRule, stopped, taken, joined, full, ruleTurn}
 use Rattle.pair_row.specs.Row.{tableIn}
-use Rattle.search_step.specs.Machine.{lineIn, lineOf, moved, wrote, Config, conf, next, after, after-next, after-none}
-use Rattle.math_worklist.specs.Machine as list
-use Rattle.math_worklist.specs.Machine.{Records, Work, Leads, here, onward}
-use Rattle.math_worklist.proofs.Ring.{nextPlace, place, place-next, place-after, Ring, ring-put, ring-head, ring-take}
+use Rattle.search_steps.specs.Machine.{lineIn, lineOf, moved, wrote, Config, conf, next, after, after-next, after-none}
+use Rattle.math_search.specs.worklist.Machine as list
+use Rattle.math_search.specs.worklist.Machine.{Records, Work, Leads, here, onward}
+use Rattle.math_search.proofs.worklist.Ring.{nextPlace, place, place-next, place-after, Ring, ring-put, ring-head, ring-take}
 
 -- ---- a turn, by its tests
 

@@ -16,13 +16,13 @@ use Rattle.text_values.specs.declared.Field.{Field}
 use Rattle.text_accepted.specs.Accepted.{acceptedField}
 use Rattle.text_write.specs.Answers as lent
 use Rattle.search_problems.specs.declared.Problem.{Problem}
-use Rattle.search_tables.specs.Tables.{rowsIn}
+use Rattle.search_steps.specs.tables.Tables.{rowsIn}
 use Rattle.search_problems.specs.Roots.{rootValue}
-use Rattle.text_pieces.specs.Stored.{bytesOf, storeAll}
-use Rattle.text_pieces.proofs.Stored.{stored}
-use Rattle.search_turns.specs.declared.State.{State}
-use Rattle.search_starts.specs.Starts.{begun, again}
-use Rattle.search_step.specs.Machine.{Config, conf, next, after, after-none, after-next, after-idle, Ends, Reaches, fromRoot}
+use Rattle.text_write.specs.pieces.Stored.{bytesOf, storeAll}
+use Rattle.text_write.proofs.pieces.Stored.{stored}
+use Rattle.search_steps.specs.declared.turns.State.{State}
+use Rattle.search_steps.specs.starts.Starts.{begun, again}
+use Rattle.search_steps.specs.Machine.{Config, conf, next, after, after-none, after-next, after-idle, Ends, Reaches, fromRoot}
 use Rattle.math_search.specs.Problems as theory
 use Rattle.math_search.specs.Problems.{Setting, Bindings, root}
 use Rattle.math_search.specs.Rules.{Rule}
@@ -30,7 +30,7 @@ use Rattle.math_search.specs.Queue.{Result, answers, refused, unfinished, searc
 use Rattle.math_search.specs.Answers.{Linear}
 use Rattle.math_search.proofs.Seqs.{one-or-none}
 use Rattle.math_search.proofs.Queue.{given}
-use Rattle.math_worklist.specs.Agreement.{Agrees}
+use Rattle.math_search.specs.worklist.Agreement.{Agrees}
 use Rattle.search_row.proofs.Turns.{records}
 use Rattle.search_row.proofs.Found.{reaches-once, reaches-ends, starts, Final, machine-finds}
 

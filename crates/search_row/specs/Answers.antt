@@ -1,4 +1,4 @@
--- What searching answers, of the lines of the search; and what it comes to by the machine of crate `search_step`.
+-- What searching answers, of the lines of the search; and what it comes to by the machine of crate `search_steps`.
 use mathlib.Core.Path.{_≡_}
 use mathlib.Core.Bool.{cond}
 use mathlib.Core.List.{List, [], _∷_}
@@ -12,10 +12,10 @@ use Rattle.text_accepted.specs.Accepted.{countedField}
 use Rattle.text_write.specs.Answers.{after}
 use Rattle.search_spec.specs.Answers.{Lines as Found, lines, nine, linesFor, bytesOf}
 use Rattle.search_problems.specs.declared.Problem.{Problem}
-use Rattle.search_turns.specs.declared.State.{State}
-use Rattle.search_step.specs.Row.{blanks}
-use Rattle.search_starts.specs.Starts.{begun, again}
-use Rattle.search_step.specs.Machine.{Config, conf, Ends, Reaches, fromRoot}
+use Rattle.search_steps.specs.declared.turns.State.{State}
+use Rattle.search_steps.specs.Row.{blanks}
+use Rattle.search_steps.specs.starts.Starts.{begun, again}
+use Rattle.search_steps.specs.Machine.{Config, conf, Ends, Reaches, fromRoot}
 use Rattle.search_row.specs.declared.Searched.{Searched}
 use Rattle.search_row.specs.declared.Searched.the-variants.{Lines, TooSmall, Full}
 

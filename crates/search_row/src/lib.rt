@@ -2,11 +2,14 @@
 ghost use mathlib.Core.Path.{_≡_};
 ghost use lib.ListN.{length, set, getD};
 ghost use Rattle.search_problems.specs.Values.{blankProblem};
-ghost use Rattle.search_step.specs.Row.{blanks};
-ghost use Rattle.search_step.specs.Machine.{conf, next, Ends, Reaches, fromRoot};
+ghost use Rattle.search_steps.specs.Row.{blanks};
+ghost use Rattle.search_steps.specs.Machine.{conf, next, Ends, Reaches, fromRoot};
 ghost use Rattle.search_row.specs.Answers.{Searches, reported};
+
+pub mod own; // the search over a row of its own
+
 use search_problems::Problem;
-use search_turns::State;
+use search_steps::turns::State;
 use text_values::Field;
 
 // The answer of a search: the line count and the byte count. `told` of specs/Answers has document 01's number and values of each.
@@ -59,7 +62,7 @@ fn step(row: &mut [Problem], out: &mut [u8], s: State) -> State
 {
     let at = s.at;
     let p = take(row, at);
-    let m = search_step::advance(s, p, out);
+    let m = search_steps::advance(s, p, out);
     let q = m.problem;
     put(row, at, q);
     m.state
@@ -111,9 +114,9 @@ pub fn search(left: Field, right: Field, row: &mut [Problem], out: &mut [u8]) ->
 {
     let cap = row.len();
     let room = out.len();
-    let s = search_starts::begin(left, right, cap);
+    let s = search_steps::starts::begin(left, right, cap);
     let t = from_root(row, out, s);
-    let u = search_starts::again(s, t, room);
+    let u = search_steps::starts::again(s, t, room);
     let v = from_root(row, out, u);
     blank(row);
     report(t, room)

@@ -12,7 +12,7 @@ use Rattle.base_lists.specs.Seqs.{All}
 use Rattle.math_types.specs.Order.{Full}
 use Rattle.math_types.specs.Types.{Basic, basics, rank, entry}
 use Rattle.text_grammar.specs.Terms.{Con}
-use Rattle.text_constants.specs.Constants.{consts, con-eq}
+use Rattle.text_grammar.specs.constants.Constants.{consts, con-eq}
 use Rattle.math_overlaps.specs.Shapes.{fixed, free}
 use Rattle.math_search.specs.Problems.{atomic, listvar, Tm, Field, field-eq, termType, fieldType, fixed-once}
 use Rattle.math_search.specs.Rules as rules
@@ -21,8 +21,8 @@ use Rattle.math_codes.specs.Tables.{Made}
 use Rattle.math_codes.specs.Lines.{OurAtom, ourVars, ourRanks, pairPlaces}
 use Rattle.search_spec.specs.Answers.{setting}
 use Rattle.pair_row.specs.Row.{tableIn}
-use Rattle.search_codes.specs.Codes.{codeTm, codesOf, On}
-use Rattle.search_codes.proofs.Codes.{decided, code-tm-once}
+use Rattle.search_items.specs.codes.Codes.{codeTm, codesOf, On}
+use Rattle.search_items.proofs.codes.Codes.{decided, code-tm-once}
 use Rattle.search_items.specs.Items.{mostItems}
 use Rattle.search_items.specs.Values.{itemsValue}
 use Rattle.search_items.proofs.Agree.{items-of, same-agree, occurs-agree}

@@ -11,14 +11,14 @@ use borrow.Author.Tests.{le-leb}
 use Rattle.base_lists.specs.Seqs.{All}
 use Rattle.math_types.specs.Order.{Full, basic, list, full-le}
 use Rattle.math_types.specs.Types.{integer, string, atom, Basic, basic-eq, basics, rank, entry, full-is}
-use Rattle.text_constants.specs.Constants.{consts}
+use Rattle.text_grammar.specs.constants.Constants.{consts}
 use Rattle.math_search.specs.Problems.{Field, termType, fieldType}
 use Rattle.math_codes.specs.Tables.{Table, Made}
 use Rattle.math_codes.specs.Lines.{OurAtom, ourVars, ourRanks, pairPlaces}
 use Rattle.search_spec.specs.Answers.{setting}
 use Rattle.pair_row.specs.Row.{tableIn}
-use Rattle.search_codes.specs.Codes.{codeTm, codesOf, On}
-use Rattle.search_codes.proofs.Codes.{decided, variableTm, listTm, ListsBehind, code-kind, code-variable, code-list}
+use Rattle.search_items.specs.codes.Codes.{codeTm, codesOf, On}
+use Rattle.search_items.proofs.codes.Codes.{decided, variableTm, listTm, ListsBehind, code-kind, code-variable, code-list}
 use Rattle.search_rules.specs.declared.Head.{Head}
 use Rattle.search_rules.specs.Heads.{noHead, wholeBy, isSome, headOf}
 

@@ -12,7 +12,7 @@ use borrow.Author.Tests.{eq-eqb, ne-eqb}
 use Rattle.base_lists.specs.Seqs.{All}
 use Rattle.math_types.specs.Order.{Full, basic, list, full-le}
 use Rattle.math_types.specs.Types.{Basic, basics, basic-eq, rank, entry}
-use Rattle.text_constants.specs.Constants.{consts}
+use Rattle.text_grammar.specs.constants.Constants.{consts}
 use Rattle.math_overlaps.specs.Shapes.{fixed, free, Variable, kindIn}
 use Rattle.math_search.specs.Problems.{atomic, listvar, At, Tm, Field, at-eq, tm-eq, field-eq, termType, fieldType, putIn, solved, equation}
 use Rattle.math_search.specs.Rules.{Rule, keep, bind, rule, Remove, Decomp1, Decomp1′, Decomp2, Decomp2′, Decomp3, Decomp4}
@@ -23,8 +23,8 @@ use Rattle.math_codes.specs.Tables.{Made}
 use Rattle.math_codes.specs.Lines.{OurAtom, ourVars, ourRanks, pairPlaces}
 use Rattle.search_spec.specs.Answers.{setting}
 use Rattle.pair_row.specs.Row.{tableIn}
-use Rattle.search_codes.specs.Codes.{codeTm, codesOf, On}
-use Rattle.search_codes.proofs.Codes.{decided, listTm, code-tm-once, code-same, code-list}
+use Rattle.search_items.specs.codes.Codes.{codeTm, codesOf, On}
+use Rattle.search_items.proofs.codes.Codes.{decided, listTm, code-tm-once, code-same, code-list}
 use Rattle.search_items.specs.declared.Items.{Items}
 use Rattle.search_items.specs.Items.{mostItems}
 use Rattle.search_items.specs.Substitution.{sameCodes, occursIn}

@@ -10,7 +10,7 @@ use Rattle.math_search.specs.Rules.{Subst1, Subst2, Subst3, Orient1, Orient2, O
 use Rattle.math_search.specs.Rules as rules
 use Rattle.math_codes.specs.Lines.{OurAtom}
 use Rattle.search_spec.specs.Answers.{setting}
-use Rattle.search_codes.specs.Codes.{codeTm}
+use Rattle.search_items.specs.codes.Codes.{codeTm}
 use Rattle.search_items.specs.Values.{itemsValue}
 use Rattle.search_rules.specs.declared.Move.{Move}
 use Rattle.search_rules.specs.Moves.{noMove, solvedMove, solvedBy, kept, bound}

@@ -20,12 +20,12 @@ use Rattle.text_grammar.specs.Ascii.{newline}
 use Rattle.text_grammar.specs.Terms.{Con, int, str, OurTerm}
 use Rattle.text_grammar.specs.Plain.{TermOk, plain}
 use Rattle.text_grammar.specs.Limits.{TermIn, IsLeft}
-use Rattle.text_constants.specs.Constants.{consts}
+use Rattle.text_grammar.specs.constants.Constants.{consts}
 use Rattle.math_overlaps.specs.Substitutions.{Subst}
 use Rattle.math_overlaps.specs.Shapes.{fixed, free, Side, left, right, of}
-use Rattle.math_overlaps.specs.Overlaps.{Mark, rename}
+use Rattle.math_overlaps.specs.Overlaps.{Origin, rename}
 use Rattle.overlap_spec.specs.Lines as listing
-use Rattle.overlap_spec.specs.Lines.{Binding, Line, leftMark, rightMark, bindingsText, WritableBinding}
+use Rattle.overlap_spec.specs.Lines.{Binding, Line, leftTag, rightTag, bindingsText, WritableBinding}
 use Rattle.overlap_spec.specs.Variables.{Variable, variables}
 use Rattle.overlap_spec.specs.Fits.{nameOf, Solution}
 use Rattle.overlap_spec.proofs.Lines.{line-one}
@@ -34,7 +34,7 @@ use Rattle.math_search.specs.Problems.{atomic, listvar, Tm, Bindings}
 use Rattle.math_search.specs.Queue.{answers}
 use Rattle.math_search.specs.Answers.{StandsIn}
 use Rattle.math_search.proofs.Origins.{answers-from}
-use Rattle.search_spec.specs.Answers.{setting, fieldOn, found, markOf, numberIn, shownOn, AnswerLine, bindingsPart, lineText, linesText, WritableAnswer}
+use Rattle.search_spec.specs.Answers.{setting, fieldOn, found, originOf, numberIn, shownOn, AnswerLine, bindingsPart, lineText, linesText, WritableAnswer}
 use Rattle.search_spec.specs.Answers.{Gives, InstanceOfLine, answerLine}
 use Rattle.search_spec.proofs.Search.{equation-linear}
 use Rattle.search_spec.proofs.Short.{Ours}
@@ -48,7 +48,7 @@ Blank [] = Unit {0}
 Blank (c ∷ []) = ⊥
 Blank (c ∷ (b ∷ t)) = (c ≡ 32) × (b ≢ 10)
 
-part-blank : (a b : List Binding) → Blank (bindingsText leftMark a ++ bindingsText rightMark b)
+part-blank : (a b : List Binding) → Blank (bindingsText leftTag a ++ bindingsText rightTag b)
 part-blank [] [] = tt
 part-blank [] (x ∷ b) = (refl, λ e. omega arith)
 part-blank (x ∷ a) b = (refl, λ e. omega arith)
@@ -99,13 +99,13 @@ answer-lines-one (l ∷ ls) (m ∷ ms) p q e =
 -- ---- the lines of the answers can be written
 
 -- a term of document 01's can be written under any number
-term-ok : (ν : Kind → Mark ℕ → ℕ) (t : Tm setting) → Ours t → TermOk (rename ν (markOf t))
+term-ok : (ν : Kind → Origin ℕ → ℕ) (t : Tm setting) → Ours t → TermOk (rename ν (originOf t))
 term-ok ν (atomic (fixed (int n))) o = tt
 term-ok ν (atomic (fixed (str s))) o = o .0
 term-ok ν (atomic (free (of d k n))) o = tt
 term-ok ν (listvar n) o = tt
 
-terms-ok : (ν : Kind → Mark ℕ → ℕ) (ts : List (Tm setting)) → All Ours ts → All TermOk (map (rename ν) (map markOf ts))
+terms-ok : (ν : Kind → Origin ℕ → ℕ) (ts : List (Tm setting)) → All Ours ts → All TermOk (map (rename ν) (map originOf ts))
 terms-ok ν [] h = tt
 terms-ok ν (t ∷ ts) h = (term-ok ν t (h .0), terms-ok ν ts (h .1))
 
@@ -157,7 +157,7 @@ module _ (f g : List OurTerm) (is-f : IsLeft (f ∷ [])) (is-g : IsLeft (g ∷ [
       side : (d : Side) (e : List OurTerm) → IsLeft (e ∷ []) → (σ : Bindings setting) → ((t : Tm setting) → List·Memᴰ t (fieldOn d e) → All Ours (σ t))
           → All WritableBinding (map (bindingOf (shownOn d f g σ)) (variables (e ∷ [])))
       side d e is σ h = bindings-writable (shownOn d f g σ) (variables (e ∷ [])) (λ v i.
-          subst (λ (m : List (TermOver basics consts (Mark ℕ))). All TermOk (map (rename (numberIn f g σ)) m)) (sym (value-on d σ (v .0) (v .1)))
+          subst (λ (m : List (TermOver basics consts (Origin ℕ))). All TermOk (map (rename (numberIn f g σ)) m)) (sym (value-on d σ (v .0) (v .1)))
           (terms-ok (numberIn f g σ) (σ (termOn d (var (v .0) (v .1))))
           (h (termOn d (var (v .0) (v .1))) (stands-on d (v .0) (v .1) e (occurs-in e is (v .0) (v .1) i)))))
 

@@ -18,9 +18,9 @@ use Rattle.math_terms.specs.Seqs.{concat-map}
 use Rattle.math_terms.specs.Linear.{lists, LeftLinear}
 use Rattle.text_grammar.specs.Terms.{Con, OurTerm}
 use Rattle.text_grammar.specs.Limits.{TermIn, IsLeft}
-use Rattle.text_constants.specs.Constants.{consts}
-use Rattle.text_constants.specs.Matching.{Matches}
-use Rattle.text_constants.proofs.Linear.{left-linear}
+use Rattle.text_grammar.specs.constants.Constants.{consts}
+use Rattle.text_grammar.specs.constants.Matching.{Matches}
+use Rattle.text_grammar.proofs.constants.Linear.{left-linear}
 use Rattle.math_overlaps.specs.Shapes.{left, right, Variable}
 use Rattle.overlap_spec.specs.Overlaps.{OurEntry, entriesOf}
 use Rattle.math_search.specs.Problems.{Bindings}

@@ -20,10 +20,10 @@ use Rattle.text_grammar.specs.Grammar.{colons}
 use Rattle.text_grammar.specs.Plain.{rawOf, termText, fieldText}
 use Rattle.text_grammar.specs.Limits.{TermIn}
 use Rattle.text_grammar.proofs.Numbers.{digits-ten}
-use Rattle.text_constants.specs.Constants.{consts}
+use Rattle.text_grammar.specs.constants.Constants.{consts}
 use Rattle.math_overlaps.specs.Shapes.{fixed, free, Side, left, right, side-eq, of}
-use Rattle.math_overlaps.specs.Overlaps.{placeOf, without, firsts, namesOf, rename, Mark, named, place, mark-eq}
-use Rattle.overlap_spec.specs.Lines.{Binding, leftMark, rightMark, bindingText, bindingsText}
+use Rattle.math_overlaps.specs.Overlaps.{placeOf, without, firsts, namesOf, rename, Origin, named, place, origin-eq}
+use Rattle.overlap_spec.specs.Lines.{Binding, leftTag, rightTag, bindingText, bindingsText}
 use Rattle.overlap_spec.specs.Variables.{Variable, every, occurs, keep, variables}
 use Rattle.overlap_spec.specs.Overlaps.{bindingsOf}
 use Rattle.overlap_spec.proofs.Rising.{keep-mem}
@@ -32,7 +32,7 @@ use Rattle.math_search.specs.Problems.{atomic, listvar, Tm, Field, Bindings}
 use Rattle.math_search.specs.Fresh.{numbers}
 use Rattle.math_search.specs.Pairs.{sideTerm, sixteenAbove}
 use Rattle.math_search.specs.Answers.{StandsIn}
-use Rattle.search_spec.specs.Answers.{setting, fieldOn, markOf, valueOf, valuesOn, valuesOf, numberIn, AnswerLine, lineText, answerLine, answerText}
+use Rattle.search_spec.specs.Answers.{setting, fieldOn, originOf, valueOf, valuesOn, valuesOf, numberIn, AnswerLine, lineText, answerLine, answerText}
 
 -- a constant in a value is one of document 01's
 abbrev pub Ours : Tm setting → Type 0
@@ -44,9 +44,9 @@ Ours (listvar n) = Unit {0}
 abbrev pub Small : Field setting → Type 0
 Small L = (length L ≤ 17) × All Ours L
 
--- a value under its marks
-abbrev Marked : Type 0
-Marked = List (TermOver basics consts (Mark ℕ))
+-- a value under its origins
+abbrev OriginTerms : Type 0
+OriginTerms = List (TermOver basics consts (Origin ℕ))
 
 -- ---- the numbers of a line's names are at most as many as its values have terms
 
@@ -88,13 +88,13 @@ module _ {C K B : Type 0} (kind-eq : Discrete K) (k : K) where
 
 -- ---- the text of a value, under numbers that have at most ten digits
 
-module _ (ν : Kind → Mark ℕ → ℕ) (few : (k : Kind) (b : Mark ℕ) → ν k b ≤ largestInteger) where
+module _ (ν : Kind → Origin ℕ → ℕ) (few : (k : Kind) (b : Origin ℕ) → ν k b ≤ largestInteger) where
   abbrev shownTerm : Tm setting → OurTerm
-  shownTerm t = rename ν (markOf t)
+  shownTerm t = rename ν (originOf t)
 
   -- the terms behind the first
   abbrev behind : Field setting → List ℕ
-  behind L = colons (map rawOf (map (rename ν) (map markOf L)))
+  behind L = colons (map rawOf (map (rename ν) (map originOf L)))
 
   term-short : (t : Tm setting) → Ours t → length (termText (shownTerm t)) ≤ 17
   term-short (atomic (fixed (int n))) o = omega (arith, digits-ten n o)
@@ -106,7 +106,7 @@ module _ (ν : Kind → Mark ℕ → ℕ) (few : (k : Kind) (b : Mark ℕ) → �
   terms-short [] h = omega arith
   terms-short (t ∷ L) h = omega (arith, length-append (termText (shownTerm t)) (behind L), term-short t (h .0), terms-short L (h .1))
 
-  value-short : (L : Field setting) → Small L → length (fieldText (map (rename ν) (map markOf L))) ≤ 305
+  value-short : (L : Field setting) → Small L → length (fieldText (map (rename ν) (map originOf L))) ≤ 305
   value-short [] h = omega arith
   value-short (t ∷ L) h = omega (arith, length-append (termText (shownTerm t)) (behind L), term-short t (h .1 .0), terms-short L (h .1 .1), h .0)
 
@@ -116,21 +116,21 @@ module _ (ν : Kind → Mark ℕ → ℕ) (few : (k : Kind) (b : Mark ℕ) → �
 abbrev Short : (Kind → ℕ → List OurTerm) → Variable → Type 0
 Short θ v = (v .1 ≤ largestNumber) × (length (fieldText (θ (v .0) (v .1))) ≤ 305)
 
-module _ (mark : ℕ) (θ : Kind → ℕ → List OurTerm) where
+module _ (tag : ℕ) (θ : Kind → ℕ → List OurTerm) where
   abbrev bindingOf : Variable → Binding
   bindingOf v = record { kind = v .0; number = v .1; value = θ (v .0) (v .1) }
 
-  binding-short : (v : Variable) → Short θ v → length (bindingText mark (bindingOf v)) ≤ 319
+  binding-short : (v : Variable) → Short θ v → length (bindingText tag (bindingOf v)) ≤ 319
   binding-short v h =
       omega (arith, length-append (termText (var (v .0) (v .1))) (61 ∷ fieldText (θ (v .0) (v .1))), digits-ten (v .1) (omega (arith, h .0)), h .1)
 
   bindings-short : (vs : List Variable) → ((v : Variable) → List·Memᴰ v vs → Short θ v)
-      → length (bindingsText mark (map bindingOf vs)) ≤ 319 * length vs
+      → length (bindingsText tag (map bindingOf vs)) ≤ 319 * length vs
   bindings-short [] h = omega arith
   bindings-short (v ∷ vs) h =
       let first = binding-short v (h v (List·Memᴰ·head refl)) in
       let others = bindings-short vs (λ u i. h u (List·Memᴰ·tail i)) in
-      omega (arith, length-append (bindingText mark (bindingOf v)) (bindingsText mark (map bindingOf vs)), first, others)
+      omega (arith, length-append (bindingText tag (bindingOf v)) (bindingsText tag (map bindingOf vs)), first, others)
 
 -- ---- the variables of a field
 
@@ -169,45 +169,45 @@ module _ (d : Side) (f : List OurTerm) (σ : Bindings setting) (h : (t : Tm sett
       only (inl o) = o
       only (inr o) = absurd o
 
-  small-value : (k : Kind) (n : ℕ) → List·Memᴰ (k, n) (variables (f ∷ [])) → (L : Field setting) × (valueOf d σ k n ≡ map markOf L) × Small L
+  small-value : (k : Kind) (n : ℕ) → List·Memᴰ (k, n) (variables (f ∷ [])) → (L : Field setting) × (valueOf d σ k n ≡ map originOf L) × Small L
   small-value (basic k) n i = (σ (atomic (free (of d k n))), refl, h (atomic (free (of d k n))) (stands (basic k) n (listed (basic k) n i .1)))
   small-value list n i = (σ (listvar (sixteenAbove d n)), refl, h (listvar (sixteenAbove d n)) (stands list n (listed list n i .1)))
 
   values-few : (vs : List Variable) → ((v : Variable) → List·Memᴰ v vs → List·Memᴰ v (variables (f ∷ [])))
-      → All (λ (w : Marked). length w ≤ 17) (map (λ (v : Variable). valueOf d σ (v .0) (v .1)) vs)
+      → All (λ (w : OriginTerms). length w ≤ 17) (map (λ (v : Variable). valueOf d σ (v .0) (v .1)) vs)
   values-few [] u = tt
   values-few (v ∷ vs) u =
       let s = small-value (v .0) (v .1) (u v (List·Memᴰ·head refl)) in
-      (omega (arith, ap (λ (w : Marked). length w) (s .1), length-map (s .0) markOf, s .2 .0), values-few vs (λ w i. u w (List·Memᴰ·tail i)))
+      (omega (arith, ap (λ (w : OriginTerms). length w) (s .1), length-map (s .0) originOf, s .2 .0), values-few vs (λ w i. u w (List·Memᴰ·tail i)))
 
-  side-few : All (λ (w : Marked). length w ≤ 17) (valuesOn d f σ)
+  side-few : All (λ (w : OriginTerms). length w ≤ 17) (valuesOn d f σ)
   side-few = values-few (variables (f ∷ [])) (λ v i. i)
 
   -- what a line shows of the side, under numbers of at most ten digits
-  side-short : (mark : ℕ) (ν : Kind → Mark ℕ → ℕ) → ((k : Kind) (b : Mark ℕ) → ν k b ≤ largestInteger)
-      → length (bindingsText mark (bindingsOf (f ∷ []) (λ k n. map (rename ν) (valueOf d σ k n)))) ≤ 20416
-  side-short mark ν few =
-      omega (arith, variables-most (f ∷ []), bindings-short mark (λ k n. map (rename ν) (valueOf d σ k n)) (variables (f ∷ [])) (λ v i. each (v .0) (v .1) i))
+  side-short : (tag : ℕ) (ν : Kind → Origin ℕ → ℕ) → ((k : Kind) (b : Origin ℕ) → ν k b ≤ largestInteger)
+      → length (bindingsText tag (bindingsOf (f ∷ []) (λ k n. map (rename ν) (valueOf d σ k n)))) ≤ 20416
+  side-short tag ν few =
+      omega (arith, variables-most (f ∷ []), bindings-short tag (λ k n. map (rename ν) (valueOf d σ k n)) (variables (f ∷ [])) (λ v i. each (v .0) (v .1) i))
     where
       each : (k : Kind) (n : ℕ) → List·Memᴰ (k, n) (variables (f ∷ [])) → (n ≤ largestNumber) × (length (fieldText (map (rename ν) (valueOf d σ k n))) ≤ 305)
       each k n i =
           let s = small-value k n i in
-          (listed k n i .0, subst (λ (w : Marked). length (fieldText (map (rename ν) w)) ≤ 305) (sym (s .1)) (value-short ν few (s .0) (s .2)))
+          (listed k n i .0, subst (λ (w : OriginTerms). length (fieldText (map (rename ν) w)) ≤ 305) (sym (s .1)) (value-short ν few (s .0) (s .2)))
 
 -- ---- THE LINE
 
 -- the newline stands in place of the first blank
-line-short : (l : AnswerLine) (n : ℕ) → 1 ≤ n → length (bindingsText leftMark (l .left)) ≤ n → length (bindingsText rightMark (l .right)) ≤ n
+line-short : (l : AnswerLine) (n : ℕ) → 1 ≤ n → length (bindingsText leftTag (l .left)) ≤ n → length (bindingsText rightTag (l .right)) ≤ n
     → length (lineText l) ≤ n + n
 line-short l n some p q = simp (length-append, length-drop) (omega arith)
 
 module _ (f g : List OurTerm) (σ : Bindings setting)
     (h : (t : Tm setting) → StandsIn setting (fieldOn left f) (fieldOn right g) t → (length (σ t) ≤ 17) × All Ours (σ t)) where
-  values-short : All (λ (w : Marked). length w ≤ 17) (valuesOf f g σ)
+  values-short : All (λ (w : OriginTerms). length w ≤ 17) (valuesOf f g σ)
   values-short =
       let l = side-few left f σ (λ t i. h t (inl i)) in
       let r = side-few right g σ (λ t i. h t (inr i)) in
-      all-append (λ (w : Marked). length w ≤ 17) (valuesOn left f σ) (valuesOn right g σ) l r
+      all-append (λ (w : OriginTerms). length w ≤ 17) (valuesOn left f σ) (valuesOn right g σ) l r
 
   values-most : length (valuesOf f g σ) ≤ 128
   values-most =
@@ -215,9 +215,9 @@ module _ (f g : List OurTerm) (σ : Bindings setting)
       let r = length-map (variables (g ∷ [])) (λ v. valueOf right σ (v .0) (v .1)) in
       omega (arith, length-append (valuesOn left f σ) (valuesOn right g σ), l, r, variables-most (f ∷ []), variables-most (g ∷ []))
 
-  number-few : (k : Kind) (b : Mark ℕ) → numberIn f g σ k b ≤ largestInteger
+  number-few : (k : Kind) (b : Origin ℕ) → numberIn f g σ k b ≤ largestInteger
   number-few k b =
-      let eq = mark-eq side-eq ℕ-discrete ℕ-discrete in
+      let eq = origin-eq side-eq ℕ-discrete ℕ-discrete in
       let names = concat-map (namesOf (full-eq (basics .kind-eq)) k) (valuesOf f g σ) in
       omega (
         arith,
@@ -230,6 +230,6 @@ module _ (f g : List OurTerm) (σ : Bindings setting)
   -- 319 bytes for each of at most 128 bindings
   pub answer-short : length (answerText f g σ) ≤ 40832
   answer-short =
-      let short-l = side-short left f σ (λ t i. h t (inl i)) leftMark (numberIn f g σ) number-few in
-      let short-r = side-short right g σ (λ t i. h t (inr i)) rightMark (numberIn f g σ) number-few in
+      let short-l = side-short left f σ (λ t i. h t (inl i)) leftTag (numberIn f g σ) number-few in
+      let short-r = side-short right g σ (λ t i. h t (inr i)) rightTag (numberIn f g σ) number-few in
       line-short (answerLine f g σ) 20416 (omega arith) short-l short-r

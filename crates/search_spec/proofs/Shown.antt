@@ -24,10 +24,10 @@ use Rattle.math_terms.specs.Fillings.{Filling, Typed, value, fill, Occurs}
 use Rattle.math_terms.specs.Matching.{Matches}
 use Rattle.text_grammar.specs.Terms.{Con, OurTerm}
 use Rattle.text_grammar.specs.Limits.{TermIn, IsLeft}
-use Rattle.text_constants.specs.Constants.{consts}
+use Rattle.text_grammar.specs.constants.Constants.{consts}
 use Rattle.math_overlaps.specs.Substitutions.{substitute, TypedSubst, TermsOf}
 use Rattle.math_overlaps.specs.Shapes.{fixed, free, Side, left, right, side-eq, Variable, of}
-use Rattle.math_overlaps.specs.Overlaps.{Mark, named, place, mark-eq, rename}
+use Rattle.math_overlaps.specs.Overlaps.{Origin, named, place, origin-eq, rename}
 use Rattle.math_overlaps.proofs.Renumbered.{rename-substs, some-value-typed, someValue, renumbered-to}
 use Rattle.math_overlaps.proofs.Typed.{rename-typed}
 use Rattle.overlap_spec.specs.Fits.{Solution}
@@ -42,7 +42,7 @@ use Rattle.math_search.specs.Pairs as pairs
 use Rattle.math_search.specs.Fresh.{numbers}
 use Rattle.math_search.proofs.Seqs.{all-mem}
 use Rattle.math_search.proofs.Peak.{refused-peak, refused-queued}
-use Rattle.search_spec.specs.Answers.{setting, fieldOn, found, markOf, valueOf, valuesOn, valuesOf, numberIn, shownOn, answerText, Lines, lines, nine}
+use Rattle.search_spec.specs.Answers.{setting, fieldOn, found, originOf, valueOf, valuesOn, valuesOf, numberIn, shownOn, answerText, Lines, lines, nine}
 use Rattle.search_spec.specs.Answers.{linesIn, linesOf}
 use Rattle.search_spec.proofs.Search.{found-ends, answers-solve, answers-complete}
 
@@ -94,21 +94,21 @@ module _ (f g : List OurTerm) (σ : Bindings setting) (h : Solves setting (field
   value-typed d (basic k) n = go (h .1 (atomic (free (of d k n))))
     where
       go : Fits setting (atomic (free (of d k n))) (σ (atomic (free (of d k n)))) → TermsOf basics consts (basic k) (valueOf d σ (basic k) n)
-      go (fixed c, e, l) = (con c, ap (map markOf) e, l)
-      go (free (of s j m), e, l) = (var (basic j) (named s m), ap (map markOf) e, l)
+      go (fixed c, e, l) = (con c, ap (map originOf) e, l)
+      go (free (of s j m), e, l) = (var (basic j) (named s m), ap (map originOf) e, l)
 
   -- a field with its values is the side under the answer's bindings
-  substituted : (d : Side) (e : List OurTerm) → substitute (valueOf d σ) e ≡ map markOf (concat-map σ (fieldOn d e))
+  substituted : (d : Side) (e : List OurTerm) → substitute (valueOf d σ) e ≡ map originOf (concat-map σ (fieldOn d e))
   substituted d [] = refl
   substituted d (con c ∷ e) =
-      ap (λ (r : List (TermOver basics consts (Mark ℕ))). con c ∷ r) (substituted d e)
-      ∙ ap (λ (t : List (Tm setting)). map markOf (t ++ concat-map σ (fieldOn d e))) (sym (h .1 (atomic (fixed c))))
+      ap (λ (r : List (TermOver basics consts (Origin ℕ))). con c ∷ r) (substituted d e)
+      ∙ ap (λ (t : List (Tm setting)). map originOf (t ++ concat-map σ (fieldOn d e))) (sym (h .1 (atomic (fixed c))))
   substituted d (var (basic k) n ∷ e) =
-      ap (λ (r : List (TermOver basics consts (Mark ℕ))). valueOf d σ (basic k) n ++ r) (substituted d e)
-      ∙ sym (map-append markOf (σ (atomic (free (of d k n)))) (concat-map σ (fieldOn d e)))
+      ap (λ (r : List (TermOver basics consts (Origin ℕ))). valueOf d σ (basic k) n ++ r) (substituted d e)
+      ∙ sym (map-append originOf (σ (atomic (free (of d k n)))) (concat-map σ (fieldOn d e)))
   substituted d (var list n ∷ e) =
-      ap (λ (r : List (TermOver basics consts (Mark ℕ))). valueOf d σ list n ++ r) (substituted d e)
-      ∙ sym (map-append markOf (σ (listvar (sixteenAbove d n))) (concat-map σ (fieldOn d e)))
+      ap (λ (r : List (TermOver basics consts (Origin ℕ))). valueOf d σ list n ++ r) (substituted d e)
+      ∙ sym (map-append originOf (σ (listvar (sixteenAbove d n))) (concat-map σ (fieldOn d e)))
 
   pub shown-solution : Solution (f ∷ []) (g ∷ []) ℕ
   shown-solution =
@@ -124,7 +124,7 @@ module _ (f g : List OurTerm) (σ : Bindings setting) (h : Solves setting (field
       }
     where
       equal : map (substitute (valueOf left σ)) (f ∷ []) ≡ map (substitute (valueOf right σ)) (g ∷ [])
-      equal = ap (λ (e : List (TermOver basics consts (Mark ℕ))). e ∷ []) (substituted left f ∙ ap (map markOf) (h .0) ∙ sym (substituted right g))
+      equal = ap (λ (e : List (TermOver basics consts (Origin ℕ))). e ∷ []) (substituted left f ∙ ap (map originOf) (h .0) ∙ sym (substituted right g))
 
 -- ---- a solution by constants: a filling of each field, each by its type, that makes the two equal
 
@@ -161,26 +161,26 @@ module _ (φ ψ : Filling Con Kind ℕ) (t : Typed basics consts φ) (u : Typed 
   filled-right [] = refl
   filled-right (x ∷ e) = ap₂ (λ (a b : List Con). a ++ b) (right-term x) (filled-right e)
 
--- ---- values of an answer's variables, by their marks
+-- ---- values of an answer's variables, by their origins
 
 module _ (ρ : Variable Basic ℕ → Con) (m : ℕ → List Con) where
-  abbrev byMarks : Filling Con Kind (Mark ℕ)
-  byMarks (basic k) (named d n) = ρ (of d k n) ∷ []
-  byMarks (basic k) (place n) = someValue basics consts (basic k)
-  byMarks list (named d n) = []
-  byMarks list (place n) = m n
+  abbrev byOrigins : Filling Con Kind (Origin ℕ)
+  byOrigins (basic k) (named d n) = ρ (of d k n) ∷ []
+  byOrigins (basic k) (place n) = someValue basics consts (basic k)
+  byOrigins list (named d n) = []
+  byOrigins list (place n) = m n
 
-  marks-typed : WellTyped setting ρ → Typed basics consts byMarks
-  marks-typed t (basic k) (named d n) = (ρ (of d k n), refl, t (of d k n))
-  marks-typed t (basic k) (place n) = some-value-typed basics consts (basic k)
-  marks-typed t list (named d n) = tt
-  marks-typed t list (place n) = tt
+  origins-typed : WellTyped setting ρ → Typed basics consts byOrigins
+  origins-typed t (basic k) (named d n) = (ρ (of d k n), refl, t (of d k n))
+  origins-typed t (basic k) (place n) = some-value-typed basics consts (basic k)
+  origins-typed t list (named d n) = tt
+  origins-typed t list (place n) = tt
 
-  fill-marks : (ts : List (Tm setting)) → fill byMarks (map markOf ts) ≡ concat-map (ground setting ρ m) ts
-  fill-marks [] = refl
-  fill-marks (atomic (fixed c) ∷ ts) = ap (λ (r : List Con). c ∷ r) (fill-marks ts)
-  fill-marks (atomic (free (of d k n)) ∷ ts) = ap (λ (r : List Con). ρ (of d k n) ∷ r) (fill-marks ts)
-  fill-marks (listvar n ∷ ts) = ap (λ (r : List Con). m n ++ r) (fill-marks ts)
+  fill-origins : (ts : List (Tm setting)) → fill byOrigins (map originOf ts) ≡ concat-map (ground setting ρ m) ts
+  fill-origins [] = refl
+  fill-origins (atomic (fixed c) ∷ ts) = ap (λ (r : List Con). c ∷ r) (fill-origins ts)
+  fill-origins (atomic (free (of d k n)) ∷ ts) = ap (λ (r : List Con). ρ (of d k n) ∷ r) (fill-origins ts)
+  fill-origins (listvar n ∷ ts) = ap (λ (r : List Con). m n ++ r) (fill-origins ts)
 
 module _ {A B C : Type 0} (a : B → C) (b : A → B) (c : A → C) where
   -- where two maps agree, they agree at each member
@@ -208,7 +208,7 @@ number-in k n (con c ∷ e) i o = number-in k n e (i .1) o
 number-in k n (var j m ∷ e) i (inl q) = let l = i .0 in omega (arith, l, q .1)
 number-in k n (var j m ∷ e) i (inr o) = number-in k n e (i .1) o
 
-pub value-on : (d : Side) (σ : Bindings setting) (k : Kind) (n : ℕ) → valueOf d σ k n ≡ map markOf (σ (termOn d (var k n)))
+pub value-on : (d : Side) (σ : Bindings setting) (k : Kind) (n : ℕ) → valueOf d σ k n ≡ map originOf (σ (termOn d (var k n)))
 value-on d σ (basic k) n = refl
 value-on d σ list n = refl
 
@@ -245,11 +245,11 @@ module _ (f g : List OurTerm) (is-f : IsLeft (f ∷ [])) (is-g : IsLeft (g ∷ [
           (filled-left φ ψ t u f (is-f .0 .3 .0) ∙ e ∙ sym (filled-right φ ψ t u g))
 
       r : Matches basics consts (map (map (rename (numberIn f g (c .0)))) (valuesOf f g (c .0)))
-          (map (fill (byMarks (constantOf φ ψ t u) (c .2 .0))) (valuesOf f g (c .0)))
+          (map (fill (byOrigins (constantOf φ ψ t u) (c .2 .0))) (valuesOf f g (c .0)))
       r =
-          renumbered-to basics consts (mark-eq side-eq ℕ-discrete ℕ-discrete) (valuesOf f g (c .0))
-          (map (fill (byMarks (constantOf φ ψ t u) (c .2 .0))) (valuesOf f g (c .0)))
-          (byMarks (constantOf φ ψ t u) (c .2 .0), marks-typed (constantOf φ ψ t u) (c .2 .0) (constant-typed φ ψ t u), refl)
+          renumbered-to basics consts (origin-eq side-eq ℕ-discrete ℕ-discrete) (valuesOf f g (c .0))
+          (map (fill (byOrigins (constantOf φ ψ t u) (c .2 .0))) (valuesOf f g (c .0)))
+          (byOrigins (constantOf φ ψ t u) (c .2 .0), origins-typed (constantOf φ ψ t u) (c .2 .0) (constant-typed φ ψ t u), refl)
 
       -- a value of the line, filled
       shown-at : (d : Side) (k : Kind) (n : ℕ) → List·Memᴰ (valueOf d (c .0) k n) (valuesOf f g (c .0))
@@ -257,10 +257,10 @@ module _ (f g : List OurTerm) (is-f : IsLeft (f ∷ [])) (is-g : IsLeft (g ∷ [
           → ground setting (constantOf φ ψ t u) (listOf φ ψ t u) (termOn d (var k n)) ≡ fill (r .0) (shownOn d f g (c .0) k n)
       shown-at d k n i s =
           c .2 .1 (termOn d (var k n)) s
-          ∙ sym (fill-marks (constantOf φ ψ t u) (c .2 .0) ((c .0) (termOn d (var k n))))
-          ∙ ap (fill (byMarks (constantOf φ ψ t u) (c .2 .0))) (sym (value-on d (c .0) k n))
+          ∙ sym (fill-origins (constantOf φ ψ t u) (c .2 .0) ((c .0) (termOn d (var k n))))
+          ∙ ap (fill (byOrigins (constantOf φ ψ t u) (c .2 .0))) (sym (value-on d (c .0) k n))
           ∙ sym (maps-at (fill (r .0)) (map (rename (numberIn f g (c .0))))
-          (fill (byMarks (constantOf φ ψ t u) (c .2 .0))) (valuesOf f g (c .0)) (r .2) (valueOf d (c .0) k n) i)
+          (fill (byOrigins (constantOf φ ψ t u) (c .2 .0))) (valuesOf f g (c .0)) (r .2) (valueOf d (c .0) k n) i)
 
       lefts : (k : Kind) (n : ℕ) → Occurs k n f → φ k n ≡ fill (r .0) (shownOn left f g (c .0) k n)
       lefts k n o =

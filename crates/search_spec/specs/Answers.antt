@@ -13,15 +13,15 @@ use Rattle.math_terms.specs.Seqs.{concat-map}
 use Rattle.math_terms.specs.Fillings.{Filling, Typed, fill}
 use Rattle.text_grammar.specs.Terms.{Con, OurTerm}
 use Rattle.text_grammar.specs.Ascii.{newline}
-use Rattle.text_constants.specs.Constants.{consts}
+use Rattle.text_grammar.specs.constants.Constants.{consts}
 use Rattle.math_overlaps.specs.Substitutions.{Subst}
 use Rattle.math_overlaps.specs.Shapes.{free, Side, left, right, of}
-use Rattle.math_overlaps.specs.Overlaps.{Mark, place, termOf, rename, numbersOf}
+use Rattle.math_overlaps.specs.Overlaps.{Origin, place, termOf, rename, numbersOf}
 use Rattle.math_search.specs.Problems.{Setting, atomic, listvar, Tm, Field, Bindings}
 use Rattle.math_search.specs.Fresh.{numbers}
 use Rattle.math_search.specs.Queue.{Result, answers, refused, unfinished, searching}
 use Rattle.math_search.specs.Pairs.{pairSetting, sideField, sixteenAbove}
-use Rattle.overlap_spec.specs.Lines.{Binding, leftMark, rightMark, bindingsText, WritableBinding}
+use Rattle.overlap_spec.specs.Lines.{Binding, leftTag, rightTag, bindingsText, WritableBinding}
 use Rattle.overlap_spec.specs.Variables.{variables}
 use Rattle.overlap_spec.specs.Overlaps.{bindingsOf}
 
@@ -42,25 +42,25 @@ found room f g = searching setting room (fieldOn left f) (fieldOn right g)
 
 -- ---- what an answer gives the variables of the two fields
 
--- a term under the marks by which the names of a line are told apart: those of the two sides, and a list variable's number
-abbrev pub markOf : Tm setting → TermOver basics consts (Mark ℕ)
-markOf (atomic a) = termOf a
-markOf (listvar n) = var list (place n)
+-- a term under the origins by which the names of a line are told apart: those of the two sides, and a list variable's number
+abbrev pub originOf : Tm setting → TermOver basics consts (Origin ℕ)
+originOf (atomic a) = termOf a
+originOf (listvar n) = var list (place n)
 
-abbrev pub valueOf : Side → Bindings setting → Subst Con Kind ℕ (Mark ℕ)
-valueOf d σ (basic k) n = map markOf (σ (atomic (free (of d k n))))
-valueOf d σ list n = map markOf (σ (listvar (sixteenAbove d n)))
+abbrev pub valueOf : Side → Bindings setting → Subst Con Kind ℕ (Origin ℕ)
+valueOf d σ (basic k) n = map originOf (σ (atomic (free (of d k n))))
+valueOf d σ list n = map originOf (σ (listvar (sixteenAbove d n)))
 
 -- the values that a line shows of the field on a side, in its order
-abbrev pub valuesOn : Side → List OurTerm → Bindings setting → List (List (TermOver basics consts (Mark ℕ)))
+abbrev pub valuesOn : Side → List OurTerm → Bindings setting → List (List (TermOver basics consts (Origin ℕ)))
 valuesOn d f σ = map (λ v. valueOf d σ (v .0) (v .1)) (variables (f ∷ []))
 
 -- all of a line's values: those of the left field's variables, "then the same" of the right field's
-abbrev pub valuesOf : List OurTerm → List OurTerm → Bindings setting → List (List (TermOver basics consts (Mark ℕ)))
+abbrev pub valuesOf : List OurTerm → List OurTerm → Bindings setting → List (List (TermOver basics consts (Origin ℕ)))
 valuesOf f g σ = valuesOn left f σ ++ valuesOn right g σ
 
 -- "its values' variables are renumbered by first occurrence in the line", in each type: the names left of `=` do not count
-abbrev pub numberIn : List OurTerm → List OurTerm → Bindings setting → Kind → Mark ℕ → ℕ
+abbrev pub numberIn : List OurTerm → List OurTerm → Bindings setting → Kind → Origin ℕ → ℕ
 numberIn f g σ = numbersOf basics consts ℕ-discrete (valuesOf f g σ)
 
 -- a value as the line shows it
@@ -76,7 +76,7 @@ pub record AnswerLine : Type 0 where
 
 -- the bindings part of an overlap line
 abbrev pub bindingsPart : AnswerLine → List ℕ
-bindingsPart l = bindingsText leftMark (l .left) ++ bindingsText rightMark (l .right)
+bindingsPart l = bindingsText leftTag (l .left) ++ bindingsText rightTag (l .right)
 
 -- "A line is the bindings part of an overlap line, without the field text and the blank after it";
 -- "An equation without variables gives empty lines"

@@ -19,13 +19,13 @@ use Rattle.text_grammar.proofs.Accepted.{rule-iff}
 use Rattle.text_values.specs.declared.Term.{Term}
 use Rattle.text_values.specs.declared.Field.{Field}
 use Rattle.text_values.specs.declared.RuleSide.{RuleSide}
-use Rattle.text_linearity.specs.Lists.{linear}
+use Rattle.text_accepted.specs.linearity.Lists.{linear}
 use Rattle.text_values.specs.Values.{viewTerm, viewField, viewSide, blankField, blankSide, encodeTerm, encodeField, encodeSide, oneField}
 use Rattle.text_accepted.specs.Accepted.{fieldOk, fieldBlank, acceptedRight, acceptedLeft, acceptedField}
 use Rattle.base_lists.specs.Truths.{both-is}
-use Rattle.text_linearity.proofs.Linear.{linear-is, linear-field}
-use Rattle.text_canonical.proofs.Arrays.{Stands, encode-one, Counted, counted}
-use Rattle.text_canonical.proofs.Terms.{term-stands}
+use Rattle.text_accepted.proofs.linearity.Linear.{linear-is, linear-field}
+use Rattle.text_values.proofs.canonical.Arrays.{Stands, encode-one, Counted, counted}
+use Rattle.text_values.proofs.canonical.Terms.{term-stands}
 
 -- ---- fields and sides: a count and an array
 abbrev field-parts : Counted Term Field

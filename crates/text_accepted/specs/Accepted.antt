@@ -1,6 +1,6 @@
 -- The sides of rules and the fields that reading can return, as a test; every other value counts as one with no fields.
 -- `rule-value-iff`, `field-value-iff` of proofs/Accepted say that these are exactly the values that some text is read as; of right sides
--- `side-value-iff` there says that they are those within the limits, and `rule-value-iff` of text_accepted_rules the same of whole rules.
+-- `side-value-iff` there says that they are those within the limits, and `rule-value-iff` of text_accepted::rules the same of whole rules.
 use mathlib.Core.Bool.{Bool, _&&_, cond}
 use mathlib.Core.List.{List, []}
 use lib.Dec.{eqb, ltb}
@@ -9,10 +9,10 @@ use Rattle.text_grammar.specs.Terms.{OurTerm}
 use Rattle.text_grammar.specs.Read.{rule}
 use Rattle.text_values.specs.declared.Field.{Field}
 use Rattle.text_values.specs.declared.RuleSide.{RuleSide}
-use Rattle.text_linearity.specs.Lists.{linear}
+use Rattle.text_accepted.specs.linearity.Lists.{linear}
 use Rattle.text_values.specs.Values.{viewSide, oneField}
-use Rattle.text_canonical.specs.Filled.{filledTo}
-use Rattle.text_canonical.specs.Terms.{termOk, termBlank}
+use Rattle.text_values.specs.canonical.Filled.{filledTo}
+use Rattle.text_values.specs.canonical.Terms.{termOk, termBlank}
 
 abbrev pub fieldOk : Field → Bool
 fieldOk f = filledTo (rule .width) termOk termBlank (f .n) (f .terms)

@@ -1,1 +1,4 @@
 pub mod Accepted
+pub mod linearity
+pub mod rules
+pub mod slips

@@ -3,10 +3,16 @@ ghost use mathlib.Core.Path.{_≡_};
 ghost use mathlib.Core.Bool.{cond};
 ghost use Prim.Native.Nat.{min};
 ghost use Rattle.text_values.specs.Values.{viewTerm, viewField, viewSide};
-ghost use Rattle.text_linearity.specs.Lists.{addTerm, addField, linear};
+ghost use Rattle.text_accepted.specs.linearity.Lists.{addTerm, addField, linear};
 ghost use Rattle.text_accepted.specs.Accepted.{fieldOk, fieldBlank, acceptedRight, acceptedLeft, acceptedField};
+
+pub mod linearity; // which list variables were met
+pub mod rules; // which rules reading can return
+pub mod slips; // which slips reading can return
+pub mod variables; // which variables a side has
+
+use crate::linearity::Lists;
 use math_types::Kind;
-use text_linearity::Lists;
 use text_values::Field;
 use text_values::Form;
 use text_values::RuleSide;
@@ -22,7 +28,7 @@ fn has_terms(f: Field) -> bool
     }
     let mut i: usize = 0;
     while i < 16 {
-        if !text_canonical::is_place(f.terms[i], i < n) {
+        if !text_values::canonical::is_place(f.terms[i], i < n) {
             return false;
         }
         i += 1;
@@ -43,7 +49,7 @@ fn is_field_place(f: Field, used: bool) -> bool
 }
 
 // Whether reading can return this right side, or none.
-pub fn is_right(r: RuleSide) -> bool
+pub(crate) fn is_right(r: RuleSide) -> bool
     ensures { λ b. ⌜ b ≡ acceptedRight r ⌝ }
 {
     let n = r.n;

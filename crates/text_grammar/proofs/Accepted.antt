@@ -14,9 +14,9 @@ use Rattle.text_grammar.specs.Machine.{place2}
 use Rattle.text_grammar.specs.Place.{Answers, Stops}
 use Rattle.text_grammar.specs.Numbers.{value}
 use Rattle.text_grammar.specs.Leftmost.{NoneOf, leftmost, LeftmostAt}
-use Rattle.text_grammar.specs.Marks.{Mark, marks, FifthField, TooMany, Over, MarkOver, IsVar, MarkVar}
+use Rattle.text_grammar.specs.Tokens.{Token, tokens, FifthField, TooMany, Over, TokenOver, IsVar, TokenVar}
 use Rattle.text_grammar.specs.Terms.{OurTerm, int, str, termOf, fieldOf, fieldsOf}
-use Rattle.text_grammar.specs.Read.{Reason, long, grammar, fields, terms, limits, linear, variable, Sort, rule, slip, Bad, bad?, placeOfMark, FirstBad}
+use Rattle.text_grammar.specs.Read.{Reason, long, grammar, fields, terms, limits, linear, variable, Sort, rule, slip, Bad, bad?, placeOfToken, FirstBad}
 use Rattle.text_grammar.specs.Read.{Refuses}
 use Rattle.text_grammar.specs.Read.{said, Never, accepted, readSide, readSlip}
 use Rattle.text_grammar.specs.Plain.{rawOf, rawField, plain, TermOk, RuleOk}
@@ -27,21 +27,21 @@ use Rattle.text_grammar.proofs.Numbers.{digits-value, digits-ten}
 use Rattle.text_grammar.proofs.Leftmost.{leftmost-is, none-not, Found, none-all, all-none}
 use Rattle.text_grammar.proofs.Read.{read-accepted}
 use Rattle.text_grammar.proofs.Plain.{plain-says, plain-said, back}
-use Rattle.text_grammar.proofs.Fields.{few-to, few-from, width-to, width-from, each, linear-marks}
+use Rattle.text_grammar.proofs.Fields.{few-to, few-from, width-to, width-from, each, linear-tokens}
 
 -- REASONS AND MARKS
 module _ (w : ℕ) (o : Reason) (t : List ℕ) (x : List (List Raw)) (s : Says t x) where
-  pub clean-to : Never (FirstBad w o t) → NoneOf (Bad w o) [] (marks x)
-  clean-to n = go (leftmost (Bad w o) (bad? w o) [] (marks x)) (leftmost-is (Bad w o) (bad? w o) (marks x) [])
+  pub clean-to : Never (FirstBad w o t) → NoneOf (Bad w o) [] (tokens x)
+  clean-to n = go (leftmost (Bad w o) (bad? w o) [] (tokens x)) (leftmost-is (Bad w o) (bad? w o) (tokens x) [])
     where
-      go : (a : Option Mark) → Found (Bad w o) (bad? w o) [] (marks x) a → NoneOf (Bad w o) [] (marks x)
+      go : (a : Option Token) → Found (Bad w o) (bad? w o) [] (tokens x) a → NoneOf (Bad w o) [] (tokens x)
       go none h = h
-      go (some m) h = absurd (n (placeOfMark m) (x, s, (m, h, refl)))
+      go (some m) h = absurd (n (placeOfToken m) (x, s, (m, h, refl)))
 
-  pub clean-from : NoneOf (Bad w o) [] (marks x) → Never (FirstBad w o t)
+  pub clean-from : NoneOf (Bad w o) [] (tokens x) → Never (FirstBad w o t)
   clean-from h p f =
-      let g = subst (λ (y : List (List Raw)). LeftmostAt (Bad w o) placeOfMark (marks y) p) (says-one t (f .0) x (f .1) s) (f .2) in
-      none-not (Bad w o) (bad? w o) (marks x) [] (g .0) h (g .1)
+      let g = subst (λ (y : List (List Raw)). LeftmostAt (Bad w o) placeOfToken (tokens y) p) (says-one t (f .0) x (f .1) s) (f .2) in
+      none-not (Bad w o) (bad? w o) (tokens x) [] (g .0) h (g .1)
 
 pub in-grammar : (t : List ℕ) → Never (Stops t) → Grammar t
 in-grammar t n = go (place2 t) refl (place2-is t)
@@ -88,15 +88,15 @@ widths-in : (w : ℕ) (x : List (List Raw)) → All (λ f. length f ≤ w) x →
 widths-in w [] a = tt
 widths-in w (f ∷ fs) a = (omega (arith, field-short f, a .0), widths-in w fs (a .1))
 
-pub within-to : (w : ℕ) (x : List (List Raw)) → TextOk x → NoneOf (Bad w fields) [] (marks x)
-    → NoneOf (Bad w terms) [] (marks x) → NoneOf (Bad w limits) [] (marks x) → Within w (fieldsOf x)
+pub within-to : (w : ℕ) (x : List (List Raw)) → TextOk x → NoneOf (Bad w fields) [] (tokens x)
+    → NoneOf (Bad w terms) [] (tokens x) → NoneOf (Bad w limits) [] (tokens x) → Within w (fieldsOf x)
 within-to w [] ok a b c = absurd (ok .0)
 within-to w (f ∷ fs) ok a b c =
     let x = f ∷ fs in (
       tt,
-      omega (arith, few-to x 0 1 (ok .1) (omega arith) (none-all FifthField (marks x) [] a), length-map x fieldOf),
-      widths-in w x (width-to w x 0 1 (none-all (TooMany w) (marks x) [] b)),
-      terms-in x (ok .1) (each (λ r. Over r → ⊥) x 0 1 .0 (none-all MarkOver (marks x) [] c)),
+      omega (arith, few-to x 0 1 (ok .1) (omega arith) (none-all FifthField (tokens x) [] a), length-map x fieldOf),
+      widths-in w x (width-to w x 0 1 (none-all (TooMany w) (tokens x) [] b)),
+      terms-in x (ok .1) (each (λ r. Over r → ⊥) x 0 1 .0 (none-all TokenOver (tokens x) [] c)),
     )
 
 no-names : (rs : List Raw) → All (λ r. IsVar r → ⊥) rs ↔ All IsCon (fieldOf rs)
@@ -110,10 +110,10 @@ no-names-all : (x : List (List Raw)) → All (All (λ r. IsVar r → ⊥)) x ↔
 no-names-all [] = (λ h. tt, λ h. tt)
 no-names-all (f ∷ fs) = (λ h. (no-names f .0 (h .0), no-names-all fs .0 (h .1)), λ h. (no-names f .1 (h .0), no-names-all fs .1 (h .1)))
 
-pub names-marks : (x : List (List Raw)) → NoneOf (λ b m. MarkVar m) [] (marks x) ↔ All (All IsCon) (fieldsOf x)
-names-marks x = (
-  λ h. no-names-all x .0 (each (λ r. IsVar r → ⊥) x 0 1 .0 (none-all MarkVar (marks x) [] h)),
-  λ h. all-none MarkVar (marks x) [] (each (λ r. IsVar r → ⊥) x 0 1 .1 (no-names-all x .1 h)),
+pub names-tokens : (x : List (List Raw)) → NoneOf (λ b m. TokenVar m) [] (tokens x) ↔ All (All IsCon) (fieldsOf x)
+names-tokens x = (
+  λ h. no-names-all x .0 (each (λ r. IsVar r → ⊥) x 0 1 .0 (none-all TokenVar (tokens x) [] h)),
+  λ h. all-none TokenVar (tokens x) [] (each (λ r. IsVar r → ⊥) x 0 1 .1 (no-names-all x .1 h)),
 )
 
 -- FROM THE LIMITS TO THE PLAIN TEXT
@@ -204,11 +204,11 @@ module _ (S : Sort) (w : ℕ) (same : S .width ≡ suc w) (r : List (List OurTer
     λ p k. omega (arith, k .0),
     grammar-never (plain r) (map rawField r, says),
     clean-from (S .width) fields (plain r) (map rawField r) says
-        (all-none FifthField (marks (map rawField r)) [] (few-from (map rawField r) 0 1 (omega (arith, length-map r rawField, h .1)))),
-    clean-from (S .width) terms (plain r) (map rawField r) says (all-none (TooMany (S .width)) (marks (map rawField r)) []
+        (all-none FifthField (tokens (map rawField r)) [] (few-from (map rawField r) 0 1 (omega (arith, length-map r rawField, h .1)))),
+    clean-from (S .width) terms (plain r) (map rawField r) says (all-none (TooMany (S .width)) (tokens (map rawField r)) []
         (width-from (S .width) (map rawField r) 0 1 (subst (λ (n : ℕ). All (λ f. length f ≤ n) (map rawField r)) (sym same) (raw-widths w r (h .2))))),
     clean-from (S .width) limits (plain r) (map rawField r) says
-        (all-none MarkOver (marks (map rawField r)) [] (each (λ u. Over u → ⊥) (map rawField r) 0 1 .1 (not-over-fields r (h .3)))),
+        (all-none TokenOver (tokens (map rawField r)) [] (each (λ u. Over u → ⊥) (map rawField r) 0 1 .1 (not-over-fields r (h .3)))),
   )
 
 -- a rule that is read is within the limits
@@ -217,7 +217,7 @@ rule-read t r e =
     let a = read-accepted rule t r .0 e in
     let n = a .0 in
     let b = base-to rule t (n .0, n .1 .0, n .1 .1 .0, n .1 .1 .1 .0, n .1 .1 .1 .1 .0) in
-    let l = linear-marks (b .0) .0 (clean-to 16 linear t (b .0) (b .1) (n .1 .1 .1 .1 .1 .0)) in
+    let l = linear-tokens (b .0) .0 (clean-to 16 linear t (b .0) (b .1) (n .1 .1 .1 .1 .1 .0)) in
     subst IsLeft (ap fieldsOf (sym (said-is t (b .0) (b .1))) ∙ a .1) (b .2, l)
 
 -- and one within the limits is read from its plain text
@@ -225,7 +225,7 @@ pub rule-plain : (r : List (List OurTerm)) → IsLeft r → readSide (plain r) �
 rule-plain r h =
     let b = plain-base rule 15 refl r (h .0) (omega (arith, rule-length r (h .0))) in
     let s = plain-says r (rule-ok 16 r (h .0)) in
-    let l = clean-from 16 linear (plain r) (map rawField r) s (linear-marks (map rawField r) .1 (subst Linear (sym (back r)) (h .1))) in
+    let l = clean-from 16 linear (plain r) (map rawField r) s (linear-tokens (map rawField r) .1 (subst Linear (sym (back r)) (h .1))) in
     read-accepted rule (plain r) r .1 ((b .0, (b .1, (b .2, (b .3, (b .4, (l, tt)))))), plain-said r (rule-ok 16 r (h .0)))
 
 pub slip-read : (t : List ℕ) (r : List (List OurTerm)) → readSlip t ≡ accepted r → IsSlip r
@@ -233,7 +233,7 @@ slip-read t r e =
     let a = read-accepted slip t r .0 e in
     let n = a .0 in
     let b = base-to slip t (n .0, n .1 .0, n .1 .1 .0, n .1 .1 .1 .0, n .1 .1 .1 .1 .0) in
-    let l = names-marks (b .0) .0 (clean-to 64 variable t (b .0) (b .1) (n .1 .1 .1 .1 .1 .0)) in
+    let l = names-tokens (b .0) .0 (clean-to 64 variable t (b .0) (b .1) (n .1 .1 .1 .1 .1 .0)) in
     subst IsSlip (ap fieldsOf (sym (said-is t (b .0) (b .1))) ∙ a .1) (b .2, l)
 
 pub slip-plain : (r : List (List OurTerm)) → IsSlip r → readSlip (plain r) ≡ accepted r
@@ -241,7 +241,7 @@ slip-plain r h =
     let b = plain-base slip 63 refl r (h .0) (omega (arith, slip-length r (h .0))) in
     let s = plain-says r (rule-ok 64 r (h .0)) in
     let l = clean-from 64 variable (plain r) (map rawField r) s
-    (names-marks (map rawField r) .1 (subst (λ (q : List (List OurTerm)). All (All IsCon) q) (sym (back r)) (h .1))) in
+    (names-tokens (map rawField r) .1 (subst (λ (q : List (List OurTerm)). All (All IsCon) q) (sym (back r)) (h .1))) in
     read-accepted slip (plain r) r .1 ((b .0, (b .1, (b .2, (b .3, (b .4, (l, tt)))))), plain-said r (rule-ok 64 r (h .0)))
 
 -- ACCEPTED is within the limits

@@ -10,7 +10,7 @@ use Rattle.text_grammar.specs.Sizes.{mostDigits}
 use Rattle.text_grammar.specs.Grammar.{Raw, raw-int, raw-str, raw-var, raw-empty, Proper, FieldOk, TextOk, spell, spellF, colons, bars, spellT}
 use Rattle.text_grammar.specs.Numbers.{value}
 use Rattle.text_grammar.specs.Leftmost.{NoneOf}
-use Rattle.text_grammar.specs.Marks.{marks, FifthField, TooMany, Over, MarkOver}
+use Rattle.text_grammar.specs.Tokens.{tokens, FifthField, TooMany, Over, TokenOver}
 use Rattle.text_grammar.specs.Terms.{OurTerm}
 use Rattle.text_grammar.specs.Read.{fields, terms, limits, Sort, rule, slip, Bad, accepted, readSide, readSlip}
 use Rattle.text_grammar.proofs.Numbers.{digits-ten, digits-one}
@@ -42,15 +42,15 @@ raw-bars : (w : ℕ) (fs : List (List Raw)) → All (λ f. length f ≤ w) fs �
 raw-bars w [] l p n = omega arith
 raw-bars w (f ∷ fs) l p n = omega (arith, length-append (spellF f) (bars fs), raw-field w f (l .0) (p .0) (n .0), raw-bars w fs (l .1) (p .1) (n .1))
 
-pub raw-text : (w : ℕ) (x : List (List Raw)) → TextOk x → NoneOf (Bad w fields) [] (marks x) → NoneOf (Bad w terms) [] (marks x)
-    → NoneOf (Bad w limits) [] (marks x) → (n : ℕ) × (n ≤ 3) × (suc (length (spellT x)) ≤ 18 * w + n * (18 * w))
+pub raw-text : (w : ℕ) (x : List (List Raw)) → TextOk x → NoneOf (Bad w fields) [] (tokens x) → NoneOf (Bad w terms) [] (tokens x)
+    → NoneOf (Bad w limits) [] (tokens x) → (n : ℕ) × (n ≤ 3) × (suc (length (spellT x)) ≤ 18 * w + n * (18 * w))
 raw-text w [] ok a b c = absurd (ok .0)
 raw-text w (f ∷ fs) ok a b c =
     let x = f ∷ fs in
-    let l = width-to w x 0 1 (none-all (TooMany w) (marks x) [] b) in
-    let o = each (λ r. Over r → ⊥) x 0 1 .0 (none-all MarkOver (marks x) [] c) in (
+    let l = width-to w x 0 1 (none-all (TooMany w) (tokens x) [] b) in
+    let o = each (λ r. Over r → ⊥) x 0 1 .0 (none-all TokenOver (tokens x) [] c) in (
       length fs,
-      omega (arith, few-to x 0 1 (ok .1) (omega arith) (none-all FifthField (marks x) [] a)),
+      omega (arith, few-to x 0 1 (ok .1) (omega arith) (none-all FifthField (tokens x) [] a)),
       omega (arith, length-append (spellF f) (bars fs), raw-field w f (l .0) (ok .1 .0) (o .0), raw-bars w fs (l .1) (ok .1 .1) (o .1)),
     )
 

@@ -2,7 +2,7 @@ pub mod Parse
 pub mod Place
 pub mod Numbers
 pub mod Leftmost
-pub mod Marks
+pub mod Tokens
 pub mod Read
 pub mod Sharp
 pub mod Refused
@@ -14,3 +14,5 @@ pub mod Theorems
 pub mod Examples
 pub mod Walk
 pub mod Told
+pub mod constants
+pub mod rules

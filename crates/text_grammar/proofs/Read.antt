@@ -11,9 +11,9 @@ use Rattle.text_grammar.specs.Grammar.{Raw, Says}
 use Rattle.text_grammar.specs.Place.{Answers}
 use Rattle.text_grammar.specs.Machine.{parse}
 use Rattle.text_grammar.specs.Leftmost.{LeftmostAt}
-use Rattle.text_grammar.specs.Marks.{marks}
+use Rattle.text_grammar.specs.Tokens.{tokens}
 use Rattle.text_grammar.specs.Terms.{OurTerm, fieldsOf}
-use Rattle.text_grammar.specs.Read.{Reason, long, grammar, fields, terms, limits, linear, variable, unknown, Sort, Bad, bad?, placeOfMark, FirstBad}
+use Rattle.text_grammar.specs.Read.{Reason, long, grammar, fields, terms, limits, linear, variable, unknown, Sort, Bad, bad?, placeOfToken, FirstBad}
 use Rattle.text_grammar.specs.Read.{Refuses}
 use Rattle.text_grammar.specs.Read.{said, firstBad, placeOf, OutcomeOf, refused, accepted, tell, chain, NoReason, FirstReason, read}
 use Rattle.text_grammar.proofs.Parse.{Parsed, parsed, says-one}
@@ -23,13 +23,13 @@ use Rattle.text_grammar.proofs.Leftmost.{leftmost-answers}
 bad-answers : (w : ℕ) (r : Reason) (t : List ℕ) → Answers (FirstBad w r t) (firstBad w r (said t))
 bad-answers w r t = go (parse t) (parsed t)
   where
-    law : (x : List (List Raw)) → Answers (LeftmostAt (Bad w r) placeOfMark (marks x)) (firstBad w r x)
-    law x = leftmost-answers (Bad w r) (bad? w r) placeOfMark (marks x)
+    law : (x : List (List Raw)) → Answers (LeftmostAt (Bad w r) placeOfToken (tokens x)) (firstBad w r x)
+    law x = leftmost-answers (Bad w r) (bad? w r) placeOfToken (tokens x)
 
-    wrap : (x : List (List Raw)) → Says t x → (a : Option ℕ) → Answers (LeftmostAt (Bad w r) placeOfMark (marks x)) a → Answers (FirstBad w r t) a
-    wrap x s none h = λ p f. h p (subst (λ (y : List (List Raw)). LeftmostAt (Bad w r) placeOfMark (marks y) p) (says-one t (f .0) x (f .1) s) (f .2))
+    wrap : (x : List (List Raw)) → Says t x → (a : Option ℕ) → Answers (LeftmostAt (Bad w r) placeOfToken (tokens x)) a → Answers (FirstBad w r t) a
+    wrap x s none h = λ p f. h p (subst (λ (y : List (List Raw)). LeftmostAt (Bad w r) placeOfToken (tokens y) p) (says-one t (f .0) x (f .1) s) (f .2))
     wrap x s (some q) h =
-        ((x, s, h .0), λ p f. h .1 p (subst (λ (y : List (List Raw)). LeftmostAt (Bad w r) placeOfMark (marks y) p) (says-one t (f .0) x (f .1) s) (f .2)))
+        ((x, s, h .0), λ p f. h .1 p (subst (λ (y : List (List Raw)). LeftmostAt (Bad w r) placeOfToken (tokens y) p) (says-one t (f .0) x (f .1) s) (f .2)))
 
     go : (a : Option (List (List Raw))) → Parsed t a → Answers (FirstBad w r t) (firstBad w r (Option·getD a []))
     go none h = λ p f. h (f .0) (f .1)

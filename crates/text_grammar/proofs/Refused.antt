@@ -17,7 +17,7 @@ bad-in : (w : ℕ) (r : Reason) (t : List ℕ) (p : ℕ) → FirstBad w r t p �
 bad-in w r t p f =
     let b = first-bad w r t p .0 f in
     let s = b .stands in
-    omega (arith, ap length (s .there), length-append (s .before) (spell (b .mark .raw) ++ s .after), s .from, b .place)
+    omega (arith, ap length (s .there), length-append (s .before) (spell (b .token .raw) ++ s .after), s .from, b .place)
 
 place-in : (S : Sort) (t : List ℕ) (r : Reason) (p : ℕ) → Refuses S t r p → p ≤ length t
 place-in S t long p h = omega (arith, h .0, h .1)

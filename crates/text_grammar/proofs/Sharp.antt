@@ -11,76 +11,76 @@ use lib.ListN.{length, getElem?, length-append}
 use Rattle.base_lists.specs.Seqs.{All, all-right, all-append}
 use Rattle.text_grammar.specs.Grammar.{Raw, spell, spellF, FieldOk}
 use Rattle.text_grammar.specs.Leftmost.{NoneOf, FirstOf}
-use Rattle.text_grammar.specs.Marks.{Mark, marks, marksF, marksT, FifthField, TooMany}
+use Rattle.text_grammar.specs.Tokens.{Token, tokens, tokensF, tokensT, FifthField, TooMany}
 use Rattle.text_grammar.specs.Read.{Reason, long, grammar, fields, terms, limits, linear, variable, unknown, Bad, FirstBad}
-use Rattle.text_grammar.specs.Sharp.{Stands, Numbered, Stated, FirstBadMark}
-use Rattle.text_grammar.proofs.Marks.{From, Rising, rising, stands-in}
+use Rattle.text_grammar.specs.Sharp.{Stands, Numbered, Stated, FirstBadToken}
+use Rattle.text_grammar.proofs.Tokens.{From, Rising, rising, stands-in}
 
-rising-later : (ys zs : List Mark) (m k : Mark) → Rising (ys ++ m ∷ zs) → List·Memᴰ k zs → m .place < k .place
+rising-later : (ys zs : List Token) (m k : Token) → Rising (ys ++ m ∷ zs) → List·Memᴰ k zs → m .place < k .place
 rising-later [] zs m k r i = go zs (r .0) i
   where
-    go : (zs : List Mark) → All (From (suc (m .place))) zs → List·Memᴰ k zs → m .place < k .place
+    go : (zs : List Token) → All (From (suc (m .place))) zs → List·Memᴰ k zs → m .place < k .place
     go [] a j = absurd (List·Memᴰ·not-nil j)
     go (z ∷ zs) a j = on (List·Memᴰ·cases-cons j) (λ j′. go zs (a .1) j′)
       where
         on : (k ≡ z) ⊎ List·Memᴰ k zs → (List·Memᴰ k zs → m .place < k .place) → m .place < k .place
-        on (inl e) rec = subst (λ (u : Mark). m .place < u .place) (sym e) (a .0)
+        on (inl e) rec = subst (λ (u : Token). m .place < u .place) (sym e) (a .0)
         on (inr j′) rec = rec j′
 rising-later (y ∷ ys) zs m k r i = rising-later ys zs m k (r .1) i
 
--- LEFTMOST: no mark with the property has a smaller place
-module _ (P : List Mark → Mark → Type 0) where
-  pub first-least : (xs before : List Mark) (m k : Mark) → Rising xs → FirstOf P before xs m
-      → (us vs : List Mark) → xs ≡ us ++ k ∷ vs → P (before ++ us) k → m .place ≤ k .place
+-- LEFTMOST: no token with the property has a smaller place
+module _ (P : List Token → Token → Type 0) where
+  pub first-least : (xs before : List Token) (m k : Token) → Rising xs → FirstOf P before xs m
+      → (us vs : List Token) → xs ≡ us ++ k ∷ vs → P (before ++ us) k → m .place ≤ k .place
   first-least xs before m k r f us vs e p = go (f .0) xs before r (f .2) (f .4) us e p
     where
-      go : (ys xs before : List Mark) → Rising xs → xs ≡ ys ++ m ∷ f .1 → NoneOf P before ys
-          → (us : List Mark) → xs ≡ us ++ k ∷ vs → P (before ++ us) k → m .place ≤ k .place
-      go [] xs before r e₁ n [] e₂ p = let e : m ≡ k = head-eq-of-cons-eq (sym e₁ ∙ e₂) in subst (λ (u : Mark). m .place ≤ u .place) e (omega arith)
+      go : (ys xs before : List Token) → Rising xs → xs ≡ ys ++ m ∷ f .1 → NoneOf P before ys
+          → (us : List Token) → xs ≡ us ++ k ∷ vs → P (before ++ us) k → m .place ≤ k .place
+      go [] xs before r e₁ n [] e₂ p = let e : m ≡ k = head-eq-of-cons-eq (sym e₁ ∙ e₂) in subst (λ (u : Token). m .place ≤ u .place) e (omega arith)
       go [] xs before r e₁ n (u ∷ us) e₂ p =
           let t : f .1 ≡ us ++ k ∷ vs = tail-eq-of-cons-eq (sym e₁ ∙ e₂) in
-          let l = rising-later [] (f .1) m k (subst Rising e₁ r) (subst (λ (l : List Mark). List·Memᴰ k l) (sym t) (in-middle us)) in
+          let l = rising-later [] (f .1) m k (subst Rising e₁ r) (subst (λ (l : List Token). List·Memᴰ k l) (sym t) (in-middle us)) in
           omega arith
         where
-          in-middle : (us : List Mark) → List·Memᴰ k (us ++ k ∷ vs)
+          in-middle : (us : List Token) → List·Memᴰ k (us ++ k ∷ vs)
           in-middle [] = List·Memᴰ·head refl
           in-middle (w ∷ ws) = List·Memᴰ·tail (in-middle ws)
       go (y ∷ ys) xs before r e₁ n [] e₂ p =
-          absurd (n .0 (subst (P before) (head-eq-of-cons-eq (sym e₂ ∙ e₁)) (subst (λ (l : List Mark). P l k) (nil before) p)))
+          absurd (n .0 (subst (P before) (head-eq-of-cons-eq (sym e₂ ∙ e₁)) (subst (λ (l : List Token). P l k) (nil before) p)))
         where
-          nil : (l : List Mark) → l ++ [] ≡ l
+          nil : (l : List Token) → l ++ [] ≡ l
           nil [] = refl
-          nil (w ∷ l) = ap (λ (z : List Mark). w ∷ z) (nil l)
+          nil (w ∷ l) = ap (λ (z : List Token). w ∷ z) (nil l)
       go (y ∷ ys) xs before r e₁ n (u ∷ us) e₂ p =
           let same : y ≡ u = head-eq-of-cons-eq (sym e₁ ∙ e₂) in
           go ys (ys ++ m ∷ f .1) (before ++ y ∷ []) ((subst Rising e₁ r) .1) refl (n .1) us (tail-eq-of-cons-eq (sym e₁ ∙ e₂))
-          (subst (λ (l : List Mark). P l k) (ap (λ (z : Mark). before ++ z ∷ us) (sym same) ∙ sym (append-assoc before (y ∷ []) us)) p)
+          (subst (λ (l : List Token). P l k) (ap (λ (z : Token). before ++ z ∷ us) (sym same) ∙ sym (append-assoc before (y ∷ []) us)) p)
 
--- ---- the numbers of the marks
+-- ---- the numbers of the tokens
 
 -- numbers go up by one
-abbrev pub Next : ℕ → ℕ → Mark → Type 0
+abbrev pub Next : ℕ → ℕ → Token → Type 0
 Next n i m = ((m .inField ≡ n) × (m .index ≡ suc i)) ⊎ ((m .inField ≡ suc n) × (m .index ≡ 1))
 
-abbrev pub Steps : ℕ → ℕ → List Mark → Type 0
+abbrev pub Steps : ℕ → ℕ → List Token → Type 0
 Steps n i [] = Unit {0}
 Steps n i (m ∷ ms) = Next n i m × Steps (m .inField) (m .index) ms
 
-steps-f : (rs : List Raw) (p n i : ℕ) (later : List Mark) → ((j : ℕ) → Steps n j later) → Steps n i (marksF p n (suc i) rs ++ later)
+steps-f : (rs : List Raw) (p n i : ℕ) (later : List Token) → ((j : ℕ) → Steps n j later) → Steps n i (tokensF p n (suc i) rs ++ later)
 steps-f [] p n i later h = h i
 steps-f (r ∷ rs) p n i later h = (inl (refl, refl), steps-f rs (suc (p + length (spell r))) n (suc i) later h)
 
-pub steps-t : (x : List (List Raw)) (p n i : ℕ) → All FieldOk x → Steps n i (marksT p (suc n) x)
+pub steps-t : (x : List (List Raw)) (p n i : ℕ) → All FieldOk x → Steps n i (tokensT p (suc n) x)
 steps-t [] p n i g = tt
 steps-t ([] ∷ fs) p n i g = absurd (g .0 .0)
 steps-t ((r ∷ rs) ∷ fs) p n i g = (
   inr (refl, refl),
-  steps-f rs (suc (p + length (spell r))) (suc n) 1 (marksT (suc (p + length (spellF (r ∷ rs)))) (suc (suc n)) fs)
+  steps-f rs (suc (p + length (spell r))) (suc n) 1 (tokensT (suc (p + length (spellF (r ∷ rs)))) (suc (suc n)) fs)
       (λ j. steps-t fs (suc (p + length (spellF (r ∷ rs)))) (suc n) j (g .1)),
 )
 
--- the first mark of a fifth field is its first term
-pub five : (ys zs : List Mark) (before : List Mark) (n i : ℕ) (m : Mark) → n ≤ 4 → Steps n i (ys ++ m ∷ zs)
+-- the first token of a fifth field is its first term
+pub five : (ys zs : List Token) (before : List Token) (n i : ℕ) (m : Token) → n ≤ 4 → Steps n i (ys ++ m ∷ zs)
     → NoneOf (λ b k. FifthField k) before ys → FifthField m → (m .inField ≡ 5) × (m .index ≡ 1)
 five [] zs before n i m h s k b = go (s .0)
   where
@@ -92,7 +92,7 @@ five (y ∷ ys) zs before n i m h s k b =
     five ys zs (before ++ y ∷ []) (y .inField) (y .index) m (omega arith) (s .1) (k .1) b
 
 -- the first term past the limit is the one just past it
-pub past : (w : ℕ) (ys zs : List Mark) (before : List Mark) (n i : ℕ) (m : Mark) → i ≤ w → Steps n i (ys ++ m ∷ zs) → NoneOf (λ b k. TooMany w k) before ys
+pub past : (w : ℕ) (ys zs : List Token) (before : List Token) (n i : ℕ) (m : Token) → i ≤ w → Steps n i (ys ++ m ∷ zs) → NoneOf (λ b k. TooMany w k) before ys
     → TooMany w m → m .index ≡ suc w
 past w [] zs before n i m h s k b = go (s .0)
   where
@@ -103,7 +103,7 @@ past w (y ∷ ys) zs before n i m h s k b =
     let low : (w < y .index) → ⊥ = k .0 in
     past w ys zs (before ++ y ∷ []) (y .inField) (y .index) m (omega arith) (s .1) (k .1) b
 
--- each mark's numbers are those of its term
+-- each token's numbers are those of its term
 at-middle : {A : Type 0} (us : List A) (a : A) (vs : List A) → getElem? (us ++ a ∷ vs) (length us) ≡ some a
 at-middle [] a vs = refl
 at-middle (u ∷ us) a vs = at-middle us a vs
@@ -115,27 +115,27 @@ one-longer : {A : Type 0} (us : List A) (a : A) (n : ℕ) → length us ≡ n �
 one-longer us a n e = omega (arith, length-append us (a ∷ []), e)
 
 numbered-f : (x : List (List Raw)) (f rs us : List Raw) (p n i : ℕ) → f ≡ us ++ rs → length us ≡ i → getElem? x n ≡ some f
-    → All (Numbered x) (marksF p (suc n) (suc i) rs)
+    → All (Numbered x) (tokensF p (suc n) (suc i) rs)
 numbered-f x f [] us p n i e l is = tt
 numbered-f x f (r ∷ rs) us p n i e l is = (
   record { i = n; j = i; field = f; in-field = refl; is-field = is; index = refl; is-term = rw (e, ← l) (at-middle us r rs) },
   numbered-f x f rs (us ++ r ∷ []) (suc (p + length (spell r))) n (suc i) (e ∙ behind-one us r rs) (one-longer us r i l) is,
 )
 
-pub numbered-t : (x fs ys : List (List Raw)) (p n : ℕ) → x ≡ ys ++ fs → length ys ≡ n → All (Numbered x) (marksT p (suc n) fs)
+pub numbered-t : (x fs ys : List (List Raw)) (p n : ℕ) → x ≡ ys ++ fs → length ys ≡ n → All (Numbered x) (tokensT p (suc n) fs)
 numbered-t x [] ys p n e l = tt
 numbered-t x (f ∷ fs) ys p n e l =
-    all-append (Numbered x) (marksF p (suc n) 1 f) (marksT (suc (p + length (spellF f))) (suc (suc n)) fs)
+    all-append (Numbered x) (tokensF p (suc n) 1 f) (tokensT (suc (p + length (spellF f))) (suc (suc n)) fs)
     (numbered-f x f f [] p n 0 refl refl (rw (e, ← l) (at-middle ys f fs)))
     (numbered-t x fs (ys ++ f ∷ []) (suc (p + length (spellF f))) (suc n) (e ∙ behind-one ys f fs) (one-longer ys f n l))
 
--- ---- the first bad mark
+-- ---- the first bad token
 
--- a mark's property, of the one in the middle
-pub pick : (P : Mark → Type 0) (ms ys zs : List Mark) (m : Mark) → All P ms → ms ≡ ys ++ m ∷ zs → P m
+-- a token's property, of the one in the middle
+pub pick : (P : Token → Type 0) (ms ys zs : List Token) (m : Token) → All P ms → ms ≡ ys ++ m ∷ zs → P m
 pick P ms ys zs m a e = all-right P ys (m ∷ zs) (subst (All P) e a) .0
 
-module _ (w : ℕ) (x : List (List Raw)) (good : All FieldOk x) (m : Mark) (ys zs : List Mark) (split : marks x ≡ ys ++ m ∷ zs) where
+module _ (w : ℕ) (x : List (List Raw)) (good : All FieldOk x) (m : Token) (ys zs : List Token) (split : tokens x ≡ ys ++ m ∷ zs) where
   steps-there : Steps 0 0 (ys ++ m ∷ zs)
   steps-there = subst (Steps 0 0) split (steps-t x 0 0 0 good)
 
@@ -150,10 +150,10 @@ module _ (w : ℕ) (x : List (List Raw)) (good : All FieldOk x) (m : Mark) (ys z
   stated unknown b n = absurd b
 
 -- WHAT STANDS AT THE PLACE of a refusal from 3 to 7
-pub first-bad : (w : ℕ) (o : Reason) (t : List ℕ) (p : ℕ) → FirstBad w o t p ↔ FirstBadMark w o t p
-first-bad w o t p = (to, λ h. (h .said, h .says, (h .mark, (h .earlier, h .later, h .split, h .bad, h .none-earlier), h .place)))
+pub first-bad : (w : ℕ) (o : Reason) (t : List ℕ) (p : ℕ) → FirstBad w o t p ↔ FirstBadToken w o t p
+first-bad w o t p = (to, λ h. (h .said, h .says, (h .token, (h .earlier, h .later, h .split, h .bad, h .none-earlier), h .place)))
   where
-    to : FirstBad w o t p → FirstBadMark w o t p
+    to : FirstBad w o t p → FirstBadToken w o t p
     to f =
         let x = f .0 in
         let m = f .2 .0 in
@@ -161,15 +161,15 @@ first-bad w o t p = (to, λ h. (h .said, h .says, (h .mark, (h .earlier, h .late
         record {
           said = x;
           says = f .1;
-          mark = m;
+          token = m;
           earlier = g .0;
           later = g .1;
           split = g .2;
           bad = g .3;
           none-earlier = g .4;
           place = f .2 .2;
-          stands = pick (Stands t) (marks x) (g .0) (g .1) m (stands-in t x (f .1 .1)) (g .2);
-          leftmost = λ us vs k e b. subst (λ (q : ℕ). q ≤ k .place) (sym (f .2 .2)) (first-least (Bad w o) (marks x) [] m k (rising x) g us vs e b);
-          numbered = pick (Numbered x) (marks x) (g .0) (g .1) m (numbered-t x x [] 0 0 refl refl) (g .2);
+          stands = pick (Stands t) (tokens x) (g .0) (g .1) m (stands-in t x (f .1 .1)) (g .2);
+          leftmost = λ us vs k e b. subst (λ (q : ℕ). q ≤ k .place) (sym (f .2 .2)) (first-least (Bad w o) (tokens x) [] m k (rising x) g us vs e b);
+          numbered = pick (Numbered x) (tokens x) (g .0) (g .1) m (numbered-t x x [] 0 0 refl refl) (g .2);
           stated = stated w x (f .1 .0 .1) m (g .0) (g .1) (g .2) o (g .3) (g .4);
         }

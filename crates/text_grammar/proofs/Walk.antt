@@ -1,4 +1,4 @@
--- The walk from the left meets the marks of what a text says.
+-- The walk from the left meets the tokens of what a text says.
 use mathlib.Core.Path.{_≡_, refl, sym, _∙_, ap}
 use mathlib.Core.Logic.{if-pos, if-neg}
 use mathlib.Core.List.{List, [], _∷_, _++_, append-assoc, append-nil}
@@ -12,7 +12,7 @@ use Rattle.math_types.specs.Order.{basic, list}
 use Rattle.math_types.specs.Types.{integer, string, atom, Kind}
 use Rattle.text_grammar.specs.Bytes.{Digit, Inside, letter, digit?, Begins, b-digit, b-quote, b-letter, b-e, b-none, begins}
 use Rattle.text_grammar.specs.Grammar.{Raw, raw-int, raw-str, raw-var, raw-empty, spell, Proper, colons, spellF, bars, spellT, FieldOk, TextOk, Says}
-use Rattle.text_grammar.specs.Marks.{Mark, marksF, marksT, marks}
+use Rattle.text_grammar.specs.Tokens.{Token, tokensF, tokensT, tokens}
 use Rattle.text_grammar.specs.Walk.{digits1, leadingDigits, quote1, untilQuote, frontB, front, walkOn, walk, walked}
 use Rattle.text_grammar.proofs.Numbers.{number-digits}
 
@@ -88,7 +88,7 @@ no-digit [] (f ∷ fs) = λ d. omega arith
 no-digit (r ∷ rs) fs = λ d. omega arith
 
 -- one step of the walk over a text that is not at its end
-abbrev pub next : ℕ → List ℕ → ℕ → ℕ → ℕ → Raw → List Mark
+abbrev pub next : ℕ → List ℕ → ℕ → ℕ → ℕ → Raw → List Token
 next room z p n i r = record { place = p; inField = n; index = i; raw = r } ∷ walkOn (walk room) (p + length (spell r)) n i (drop (length (spell r)) z)
 
 pub walk-step : (room : ℕ) (z : List ℕ) (p n i : ℕ) → IsCons z → walk (suc room) z p n i ≡ next room z p n i (front z)
@@ -117,34 +117,34 @@ total (f ∷ fs) = length f + total fs
 
 walk-from : (room : ℕ) (r : Raw) (rs : List Raw) (fs : List (List Raw)) (p n i : ℕ)
     → Proper r → All Proper rs → All FieldOk fs → suc (length rs) + total fs ≤ room
-    → walk room (spellF (r ∷ rs) ++ bars fs) p n i ≡ marksF p n i (r ∷ rs) ++ marksT (suc (p + length (spellF (r ∷ rs)))) (suc n) fs
+    → walk room (spellF (r ∷ rs) ++ bars fs) p n i ≡ tokensF p n i (r ∷ rs) ++ tokensT (suc (p + length (spellF (r ∷ rs)))) (suc n) fs
 walk-from zero r rs fs p n i a b c h = absurd (omega arith)
 walk-from (suc room) r rs fs p n i a b c h =
     ap (λ (z : List ℕ). walk (suc room) z p n i) (append-assoc (spell r) (colons rs) (bars fs))
     ∙ walk-term room r (colons rs ++ bars fs) p n i a (no-digit rs fs)
-    ∙ ap (λ (l : List Mark). record { place = p; inField = n; index = i; raw = r } ∷ l)
+    ∙ ap (λ (l : List Token). record { place = p; inField = n; index = i; raw = r } ∷ l)
     (go rs fs b c h (λ r′ rs′ fs′ p′ n′ i′ a′ b′ c′ h′. walk-from room r′ rs′ fs′ p′ n′ i′ a′ b′ c′ h′))
   where
     go : (rs : List Raw) (fs : List (List Raw)) → All Proper rs → All FieldOk fs → suc (length rs) + total fs ≤ suc room
         → ((r : Raw) (rs : List Raw) (fs : List (List Raw)) (p n i : ℕ) → Proper r → All Proper rs → All FieldOk fs → suc (length rs) + total fs ≤ room
-        → walk room (spellF (r ∷ rs) ++ bars fs) p n i ≡ marksF p n i (r ∷ rs) ++ marksT (suc (p + length (spellF (r ∷ rs)))) (suc n) fs)
+        → walk room (spellF (r ∷ rs) ++ bars fs) p n i ≡ tokensF p n i (r ∷ rs) ++ tokensT (suc (p + length (spellF (r ∷ rs)))) (suc n) fs)
         → walkOn (walk room) (p + length (spell r)) n i (colons rs ++ bars fs)
-        ≡ marksF (suc (p + length (spell r))) n (suc i) rs ++ marksT (suc (p + length (spellF (r ∷ rs)))) (suc n) fs
+        ≡ tokensF (suc (p + length (spell r))) n (suc i) rs ++ tokensT (suc (p + length (spellF (r ∷ rs)))) (suc n) fs
     go [] [] b c h rec = refl
     go [] ([] ∷ fs) b c h rec = absurd (c .0 .0)
     go [] ((s ∷ ss) ∷ fs) b c h rec =
         if-neg (ℕ-discrete 124 58) (λ e. omega arith) (walk room (spellF (s ∷ ss) ++ bars fs) (suc (p + length (spell r))) n (suc i))
         (walk room (spellF (s ∷ ss) ++ bars fs) (suc (p + length (spell r))) (suc n) 1)
         ∙ rec s ss fs (suc (p + length (spell r))) (suc n) 1 (c .0 .1 .0) (c .0 .1 .1) (c .1) (omega arith)
-        ∙ ap (λ (l : List ℕ). marksT (suc (p + length l)) (suc n) ((s ∷ ss) ∷ fs)) (sym (append-nil (spell r)))
+        ∙ ap (λ (l : List ℕ). tokensT (suc (p + length l)) (suc n) ((s ∷ ss) ∷ fs)) (sym (append-nil (spell r)))
     go (s ∷ ss) fs b c h rec =
         if-pos (ℕ-discrete 58 58) refl (walk room (spellF (s ∷ ss) ++ bars fs) (suc (p + length (spell r))) n (suc i))
         (walk room (spellF (s ∷ ss) ++ bars fs) (suc (p + length (spell r))) (suc n) 1)
         ∙ rec s ss fs (suc (p + length (spell r))) n (suc i) (b .0) (b .1) c (omega arith)
-        ∙ ap (λ (m : ℕ). marksF (suc (p + length (spell r))) n (suc i) (s ∷ ss) ++ marksT (suc m) (suc n) fs)
+        ∙ ap (λ (m : ℕ). tokensF (suc (p + length (spell r))) n (suc i) (s ∷ ss) ++ tokensT (suc m) (suc n) fs)
         (omega (arith, length-append (spell r) (colons (s ∷ ss))))
 
-pub walk-is : (x : List (List Raw)) (room : ℕ) → TextOk x → total x ≤ room → walk room (spellT x) 0 1 1 ≡ marks x
+pub walk-is : (x : List (List Raw)) (room : ℕ) → TextOk x → total x ≤ room → walk room (spellT x) 0 1 1 ≡ tokens x
 walk-is [] room ok h = absurd (ok .0)
 walk-is ([] ∷ fs) room ok h = absurd (ok .1 .0 .0)
 walk-is ((r ∷ rs) ∷ fs) room ok h = walk-from room r rs fs 0 1 1 (ok .1 .0 .1 .0) (ok .1 .0 .1 .1) (ok .1 .1) (omega arith)
@@ -173,5 +173,5 @@ pub text-many : (x : List (List Raw)) → All FieldOk x → total x ≤ length (
 text-many [] h = omega arith
 text-many (f ∷ fs) h = omega (arith, length-append (spellF f) (bars fs), field-many f (h .0 .1), bars-many fs (h .1))
 
-pub walk-says : (t : List ℕ) (x : List (List Raw)) → Says t x → walked t ≡ marks x
+pub walk-says : (t : List ℕ) (x : List (List Raw)) → Says t x → walked t ≡ tokens x
 walk-says t x s = ap (λ (l : List ℕ). walk (length l) l 0 1 1) (s .1) ∙ walk-is x (length (spellT x)) (s .0) (text-many x (s .0 .1))

@@ -6,7 +6,7 @@ pub mod Place
 pub mod Machine
 pub mod Numbers
 pub mod Leftmost
-pub mod Marks
+pub mod Tokens
 pub mod Terms
 pub mod Read
 pub mod Sharp
@@ -14,3 +14,5 @@ pub mod Plain
 pub mod Limits
 pub mod Walk
 pub mod Told
+pub mod constants
+pub mod rules

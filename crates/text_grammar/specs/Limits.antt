@@ -8,7 +8,7 @@ use Rattle.math_terms.specs.Terms.{con, var}
 use Rattle.text_grammar.specs.Sizes.{largestInteger, longestString, largestNumber, mostFields}
 use Rattle.text_grammar.specs.Bytes.{Inside}
 use Rattle.text_grammar.specs.Leftmost.{NoneOf}
-use Rattle.text_grammar.specs.Marks.{Occ, Clash}
+use Rattle.text_grammar.specs.Tokens.{Occ, Clash}
 use Rattle.text_grammar.specs.Terms.{OurTerm, int, str}
 use Rattle.text_grammar.specs.Read.{rule, slip}
 

@@ -10,9 +10,9 @@ use Rattle.text_grammar.specs.Grammar.{Raw, Says}
 use Rattle.text_grammar.specs.Place.{Stops}
 use Rattle.text_grammar.specs.Machine.{parse, place2}
 use Rattle.text_grammar.specs.Leftmost.{leftmost, LeftmostAt}
-use Rattle.text_grammar.specs.Marks.{Mark, marks, FifthField, TooMany, MarkOver, NotLinear, MarkVar, fifth?, many?, markOver?}
-use Rattle.text_grammar.specs.Marks.{notLinear?}
-use Rattle.text_grammar.specs.Marks.{markVar?}
+use Rattle.text_grammar.specs.Tokens.{Token, tokens, FifthField, TooMany, TokenOver, NotLinear, TokenVar, fifth?, many?, tokenOver?}
+use Rattle.text_grammar.specs.Tokens.{notLinear?}
+use Rattle.text_grammar.specs.Tokens.{tokenVar?}
 use Rattle.text_grammar.specs.Terms.{OurTerm, fieldsOf}
 
 -- why a text is refused: document 01's reasons, and document 02's "a right-side variable that the left lacks", which one side alone
@@ -45,32 +45,32 @@ abbrev pub slip : Sort
 slip = record { bytes = 8192; width = 64; order = long ∷ grammar ∷ fields ∷ terms ∷ limits ∷ variable ∷ [] }
 
 -- the terms that a reason is about, behind the terms before them
-abbrev pub Bad : ℕ → Reason → List Mark → Mark → Type 0
+abbrev pub Bad : ℕ → Reason → List Token → Token → Type 0
 Bad w long b m = ⊥
 Bad w grammar b m = ⊥
 Bad w fields b m = FifthField m
 Bad w terms b m = TooMany w m
-Bad w limits b m = MarkOver m
+Bad w limits b m = TokenOver m
 Bad w linear b m = NotLinear b m
-Bad w variable b m = MarkVar m
+Bad w variable b m = TokenVar m
 Bad w unknown b m = ⊥
 
-abbrev pub bad? : (w : ℕ) (r : Reason) (b : List Mark) (m : Mark) → Dec (Bad w r b m)
+abbrev pub bad? : (w : ℕ) (r : Reason) (b : List Token) (m : Token) → Dec (Bad w r b m)
 bad? w long b m = no (λ h. h)
 bad? w grammar b m = no (λ h. h)
 bad? w fields b m = fifth? b m
 bad? w terms b m = many? w b m
-bad? w limits b m = markOver? b m
+bad? w limits b m = tokenOver? b m
 bad? w linear b m = notLinear? b m
-bad? w variable b m = markVar? b m
+bad? w variable b m = tokenVar? b m
 bad? w unknown b m = no (λ h. h)
 
-abbrev pub placeOfMark : Mark → ℕ
-placeOfMark m = m .place
+abbrev pub placeOfToken : Token → ℕ
+placeOfToken m = m .place
 
 -- some term of what t says is bad, and p is the place of the first
 abbrev pub FirstBad : ℕ → Reason → List ℕ → ℕ → Type 0
-FirstBad w r t p = (x : List (List Raw)) × Says t x × LeftmostAt (Bad w r) placeOfMark (marks x) p
+FirstBad w r t p = (x : List (List Raw)) × Says t x × LeftmostAt (Bad w r) placeOfToken (tokens x) p
 
 -- THE REFUSALS: t is refused for r at p, if none that is tried before applies
 abbrev pub Refuses : Sort → List ℕ → Reason → ℕ → Type 0
@@ -111,7 +111,7 @@ abbrev pub said : List ℕ → List (List Raw)
 said t = Option·getD (parse t) []
 
 abbrev pub firstBad : ℕ → Reason → List (List Raw) → Option ℕ
-firstBad w r x = Option·map placeOfMark (leftmost (Bad w r) (bad? w r) [] (marks x))
+firstBad w r x = Option·map placeOfToken (leftmost (Bad w r) (bad? w r) [] (tokens x))
 
 abbrev pub longer : ℕ → ℕ → Option ℕ
 longer n m = ite (decLt n m) (some n) none

@@ -7,18 +7,18 @@ use Prim.Native.Nat.{ℕ, suc, _≤_}
 use lib.ListN.{length, getElem?}
 use Rattle.text_grammar.specs.Grammar.{Raw, spell, Says}
 use Rattle.text_grammar.specs.Leftmost.{NoneOf}
-use Rattle.text_grammar.specs.Marks.{Mark, marks, Over, NotLinear, IsVar}
+use Rattle.text_grammar.specs.Tokens.{Token, tokens, Over, NotLinear, IsVar}
 use Rattle.text_grammar.specs.Read.{Reason, long, grammar, fields, terms, limits, linear, variable, unknown, Bad}
 
--- the term of a mark stands in t, and the mark's place is that of its first byte
-pub record Stands (t : List ℕ) (m : Mark) : Type 0 where
+-- the term of a token stands in t, and the token's place is that of its first byte
+pub record Stands (t : List ℕ) (m : Token) : Type 0 where
   pub before : List ℕ
   pub after : List ℕ
   pub there : t ≡ before ++ (spell (m .raw) ++ after)
   pub from : length before ≡ m .place
 
--- a mark's numbers, both from 1, are those of its term in what is written: term j + 1 of field i + 1
-pub record Numbered (x : List (List Raw)) (m : Mark) : Type 0 where
+-- a token's numbers, both from 1, are those of its term in what is written: term j + 1 of field i + 1
+pub record Numbered (x : List (List Raw)) (m : Token) : Type 0 where
   pub i : ℕ
   pub j : ℕ
   pub field : List Raw
@@ -27,8 +27,8 @@ pub record Numbered (x : List (List Raw)) (m : Mark) : Type 0 where
   pub index : m .index ≡ suc j
   pub is-term : getElem? field j ≡ some (m .raw)
 
--- what a refusal says of the mark m, behind the marks b, for fields of at most w terms
-abbrev pub Stated : ℕ → Reason → List Mark → Mark → Type 0
+-- what a refusal says of the token m, behind the tokens b, for fields of at most w terms
+abbrev pub Stated : ℕ → Reason → List Token → Token → Type 0
 Stated w long b m = ⊥
 Stated w grammar b m = ⊥
 -- 3: "a fifth field, at its first byte": term 1 of field 5
@@ -44,21 +44,21 @@ Stated w variable b m = IsVar (m .raw)
 Stated w unknown b m = ⊥
 
 -- THE TERM AT THE PLACE p for which the text t is refused by o: the first bad term of what t says
-pub record FirstBadMark (w : ℕ) (o : Reason) (t : List ℕ) (p : ℕ) : Type 0 where
+pub record FirstBadToken (w : ℕ) (o : Reason) (t : List ℕ) (p : ℕ) : Type 0 where
   -- what t says, and its terms with their places: the bad one, those before it and those behind it
   pub said : List (List Raw)
   pub says : Says t said
-  pub mark : Mark
-  pub earlier : List Mark
-  pub later : List Mark
-  pub split : marks said ≡ earlier ++ mark ∷ later
+  pub token : Token
+  pub earlier : List Token
+  pub later : List Token
+  pub split : tokens said ≡ earlier ++ token ∷ later
   -- it is bad, and none before it is
-  pub bad : Bad w o earlier mark
+  pub bad : Bad w o earlier token
   pub none-earlier : NoneOf (Bad w o) [] earlier
   -- "the leftmost place is reported, counted from 0. For 4 to 7 it is the first byte of the term"
-  pub place : p ≡ mark .place
-  pub stands : Stands t mark
-  pub leftmost : (us vs : List Mark) (k : Mark) → marks said ≡ us ++ k ∷ vs → Bad w o us k → p ≤ k .place
+  pub place : p ≡ token .place
+  pub stands : Stands t token
+  pub leftmost : (us vs : List Token) (k : Token) → tokens said ≡ us ++ k ∷ vs → Bad w o us k → p ≤ k .place
   -- the number of its field and its number in the field are those of the text, and it is what the refusal says
-  pub numbered : Numbered said mark
-  pub stated : Stated w o earlier mark
+  pub numbered : Numbered said token
+  pub stated : Stated w o earlier token

@@ -1,5 +1,5 @@
 -- A text from the left, as code reads it: the term at its front, then the separator, then the next term.
--- `walk-says` of proofs/ says that on a text of the grammar this meets the marks of what the text says.
+-- `walk-says` of proofs/ says that on a text of the grammar this meets the tokens of what the text says.
 use mathlib.Core.Path.{_≡_}
 use mathlib.Core.Logic.{ite}
 use mathlib.Core.List.{List, [], _∷_}
@@ -8,7 +8,7 @@ use native.Mathlib.Decide.{ℕ-discrete}
 use lib.ListN.{length, drop}
 use Rattle.text_grammar.specs.Bytes.{Digit, digit?, Begins, b-digit, b-quote, b-letter, b-e, b-none, begins}
 use Rattle.text_grammar.specs.Grammar.{Raw, raw-int, raw-str, raw-var, raw-empty, spell}
-use Rattle.text_grammar.specs.Marks.{Mark}
+use Rattle.text_grammar.specs.Tokens.{Token}
 
 -- the digits that z begins with
 abbrev pub digits1 : {b : ℕ} → Dec (Digit b) → ℕ → List ℕ → List ℕ
@@ -41,11 +41,11 @@ front [] = raw-empty
 front (b ∷ z) = frontB b z (begins b)
 
 -- the terms of z, which stands at place p, the first of them term i of field n
-abbrev pub walkOn : (List ℕ → ℕ → ℕ → ℕ → List Mark) → ℕ → ℕ → ℕ → List ℕ → List Mark
+abbrev pub walkOn : (List ℕ → ℕ → ℕ → ℕ → List Token) → ℕ → ℕ → ℕ → List ℕ → List Token
 walkOn k p n i [] = []
 walkOn k p n i (c ∷ z) = ite (ℕ-discrete c 58) (k z (suc p) n (suc i)) (k z (suc p) (suc n) 1)
 
-abbrev pub walk : ℕ → List ℕ → ℕ → ℕ → ℕ → List Mark
+abbrev pub walk : ℕ → List ℕ → ℕ → ℕ → ℕ → List Token
 walk zero z p n i = []
 walk (suc room) [] p n i = []
 walk (suc room) (b ∷ z) p n i =
@@ -53,5 +53,5 @@ walk (suc room) (b ∷ z) p n i =
     ∷ walkOn (walk room) (p + length (spell (front (b ∷ z)))) n i (drop (length (spell (front (b ∷ z)))) (b ∷ z))
 
 -- all terms of a text: it has no more terms than bytes
-abbrev pub walked : List ℕ → List Mark
+abbrev pub walked : List ℕ → List Token
 walked t = walk (length t) t 0 1 1

@@ -15,7 +15,7 @@ use Rattle.math_types.specs.Values.{kindFrom}
 use Rattle.text_grammar.specs.Sizes.{largestInteger, longestString, largestNumber, mostFields}
 use Rattle.text_grammar.specs.Grammar.{Raw, raw-int, raw-str, raw-var, raw-empty, spell, spellF, FieldOk, TextOk}
 use Rattle.text_grammar.specs.Numbers.{value}
-use Rattle.text_grammar.specs.Marks.{Mark, marks, marksF, marksT, Over}
+use Rattle.text_grammar.specs.Tokens.{Token, tokens, tokensF, tokensT, Over}
 use Rattle.text_grammar.specs.Terms.{OurTerm, termOf, fieldOf, fieldsOf}
 use Rattle.text_grammar.specs.Read.{rule, slip}
 use Rattle.text_values.specs.declared.Term.{Term}
@@ -23,9 +23,9 @@ use Rattle.text_values.specs.declared.Form.the-variants.{Int, Str, Var}
 use Rattle.text_values.specs.declared.Field.{Field}
 use Rattle.text_values.specs.declared.SlipField.{SlipField}
 use Rattle.text_values.specs.Values.{pad, blankTerm, blankField, blankSlipField, encodeTerm, encodeField, encodeSide, encodeSlipField, encodeSlip}
-use Rattle.text_scan.specs.Pieces.{capped}
-use Rattle.text_term_at.specs.Terms.{termFrom}
-use Rattle.text_term_at.proofs.Copies.{pad-set}
+use Rattle.text_scan.specs.Lexemes.{capped}
+use Rattle.text_scan.specs.terms.Terms.{termFrom}
+use Rattle.text_scan.proofs.terms.Copies.{pad-set}
 use Rattle.text_passes.specs.Build.{isEmpty, addRaw, pushField, addItem, pushSlipField, turns, turned, put, whole, builtSide, builtSlip}
 
 -- one more in the place behind the used ones, of what a list of A is encoded as
@@ -77,11 +77,11 @@ module _ {F R : Type 0} (encF : List OurTerm → F) (encR : List (List OurTerm) 
       go false = refl
 
   -- the further terms of a field
-  more : (rs : List Raw) (p n i : ℕ) (b : R × F) → foldl (put blank add push) b (marksF p n (suc (suc i)) rs) ≡ (b .0, foldl add (b .1) rs)
+  more : (rs : List Raw) (p n i : ℕ) (b : R × F) → foldl (put blank add push) b (tokensF p n (suc (suc i)) rs) ≡ (b .0, foldl add (b .1) rs)
   more [] p n i b = refl
   more (r ∷ rs) p n i b =
       ap (λ (c : Bool). foldl (put blank add push) (turned blank add push c b .0, add (turned blank add push c b .1) r)
-      (marksF (suc (p + length (spell r))) n (suc (suc (suc i))) rs)) (turns-not n (suc (suc i)) (λ e. omega arith))
+      (tokensF (suc (p + length (spell r))) n (suc (suc (suc i))) rs)) (turns-not n (suc (suc i)) (λ e. omega arith))
       ∙ more rs (suc (p + length (spell r))) n (suc i) (b .0, add (b .1) r)
 
   turns-yes : (n : ℕ) → turns (suc (suc n)) 1 ≡ true
@@ -89,16 +89,16 @@ module _ {F R : Type 0} (encF : List OurTerm → F) (encR : List (List OurTerm) 
 
   -- the fields behind the first, which is cur
   later : (x : List (List Raw)) (p n : ℕ) (done : List (List OurTerm)) (cur : List OurTerm) → All FieldOk x → All Fine x → length done + length x < mostFields
-      → whole blank add push (foldl (put blank add push) (encR done, encF cur) (marksT p (suc (suc n)) x)) ≡ encR (done ++ cur ∷ fieldsOf x)
+      → whole blank add push (foldl (put blank add push) (encR done, encF cur) (tokensT p (suc (suc n)) x)) ≡ encR (done ++ cur ∷ fieldsOf x)
   later [] p n done cur g o h = push-is done cur (omega arith)
   later ([] ∷ fs) p n done cur g o h = absurd (g .0 .0)
   later ((r ∷ rs) ∷ fs) p n done cur g o h =
       let q = suc (p + length (spellF (r ∷ rs))) in
       let field = r ∷ rs in
-      ap (whole blank add push) (foldl-append (put blank add push) (encR done, encF cur) (marksF p (suc (suc n)) 1 field) (marksT q (suc (suc (suc n))) fs)
-      ∙ ap (λ (b : R × F). foldl (put blank add push) b (marksT q (suc (suc (suc n))) fs))
+      ap (whole blank add push) (foldl-append (put blank add push) (encR done, encF cur) (tokensF p (suc (suc n)) 1 field) (tokensT q (suc (suc (suc n))) fs)
+      ∙ ap (λ (b : R × F). foldl (put blank add push) b (tokensT q (suc (suc (suc n))) fs))
       (ap (λ (c : Bool). foldl (put blank add push) (turned blank add push c (encR done, encF cur) .0, add (turned blank add push c (encR done, encF cur) .1) r)
-      (marksF (suc (p + length (spell r))) (suc (suc n)) 2 rs)) (turns-yes n)
+      (tokensF (suc (p + length (spell r))) (suc (suc n)) 2 rs)) (turns-yes n)
       ∙ more rs (suc (p + length (spell r))) (suc (suc n)) 0 (push (encR done) (encF cur), add blank r)
       ∙ ap₂ (λ (a : R) (c : F). (a, c)) (push-is done cur (omega arith))
       (ap (λ (f : F). foldl add f field) (sym blank-is) ∙ adds encF add w add-is field [] (o .0 .0) (omega (arith, o .0 .1)))))
@@ -107,14 +107,14 @@ module _ {F R : Type 0} (encF : List OurTerm → F) (encR : List (List OurTerm) 
 
   -- THE WHOLE
   pub built-is : (x : List (List Raw)) → TextOk x → All Fine x → length x ≤ mostFields
-      → whole blank add push (foldl (put blank add push) (encR [], blank) (marks x)) ≡ encR (fieldsOf x)
+      → whole blank add push (foldl (put blank add push) (encR [], blank) (tokens x)) ≡ encR (fieldsOf x)
   built-is [] g o h = absurd (g .0)
   built-is ([] ∷ fs) g o h = absurd (g .1 .0 .0)
   built-is ((r ∷ rs) ∷ fs) g o h =
       let q = suc (0 + length (spellF (r ∷ rs))) in
       let field = r ∷ rs in
-      ap (whole blank add push) (foldl-append (put blank add push) (encR [], blank) (marksF 0 1 1 field) (marksT q 2 fs)
-      ∙ ap (λ (c : R × F). foldl (put blank add push) c (marksT q 2 fs))
+      ap (whole blank add push) (foldl-append (put blank add push) (encR [], blank) (tokensF 0 1 1 field) (tokensT q 2 fs)
+      ∙ ap (λ (c : R × F). foldl (put blank add push) c (tokensT q 2 fs))
       (more rs (suc (0 + length (spell r))) 1 0 (encR [], add blank r)
       ∙ ap (λ (c : F). (encR [], c)) (ap (λ (f : F). foldl add f field) (sym blank-is) ∙ adds encF add w add-is field [] (o .0 .0) (omega (arith, o .0 .1)))))
       ∙ later fs q 0 [] (fieldOf field) (g .1 .1) (o .1) (omega arith)
@@ -127,7 +127,7 @@ module _ {F R : Type 0} (blank : F) (add : F → Raw → F) (push : R → F → 
   pub turned-no : (c : Bool) (b : R × F) (r : R) (f : F) → c ≡ false → r ≡ b .0 → f ≡ b .1 → (r, f) ≡ turned blank add push c b
   turned-no c b r f e p q = ap₂ (λ (x : R) (y : F). (x, y)) p q ∙ ap (λ (d : Bool). turned blank add push d b) (sym e)
 
-  pub put-is : (b j : R × F) (m : Mark) (g : F) → j ≡ turned blank add push (turns (m .inField) (m .index)) b
+  pub put-is : (b j : R × F) (m : Token) (g : F) → j ≡ turned blank add push (turns (m .inField) (m .index)) b
       → g ≡ add (j .1) (m .raw) → (j .0, g) ≡ put blank add push b m
   put-is b j m g e q = ap (λ (y : F). (j .0, y)) q ∙ ap (λ (i : R × F). (i .0, add (i .1) (m .raw))) e
 
@@ -209,8 +209,8 @@ push-slip fs f h =
 abbrev pub Fits : ℕ → List (List Raw) → Type 0
 Fits w x = All (λ rs. All (λ r. Over r → ⊥) rs × (length rs ≤ w)) x × (length x ≤ mostFields)
 
-pub rule-built : (x : List (List Raw)) → TextOk x → Fits (rule .width) x → builtSide (marks x) ≡ encodeSide (fieldsOf x)
+pub rule-built : (x : List (List Raw)) → TextOk x → Fits (rule .width) x → builtSide (tokens x) ≡ encodeSide (fieldsOf x)
 rule-built x g f = built-is encodeField encodeSide blankField addRaw pushField (rule .width) refl add-rule push-rule x g (f .0) (f .1)
 
-pub slip-built : (x : List (List Raw)) → TextOk x → Fits (slip .width) x → builtSlip (marks x) ≡ encodeSlip (fieldsOf x)
+pub slip-built : (x : List (List Raw)) → TextOk x → Fits (slip .width) x → builtSlip (tokens x) ≡ encodeSlip (fieldsOf x)
 slip-built x g f = built-is encodeSlipField encodeSlip blankSlipField addItem pushSlipField (slip .width) refl add-slip push-slip x g (f .0) (f .1)

@@ -35,21 +35,21 @@ use denote.Triple.Statement.{Contract, Triple}
 use lib.Ieee.Bits.{is-true, is-false}
 use Rattle.text_grammar.specs.Grammar.{Raw}
 use Rattle.text_grammar.specs.Walk.{walked as terms-of}
-use Rattle.text_scan.specs.declared.Piece.{Piece}
-use Rattle.text_scan.specs.Pieces.{pieceOf}
-use Rattle.text_scan.proofs.Piece.Laws as O′
+use Rattle.text_scan.specs.declared.Lexeme.{Lexeme}
+use Rattle.text_scan.specs.Lexemes.{lexemeOf}
+use Rattle.text_scan.proofs.Lexeme.Laws as O′
 use Rattle.base_walks.proofs.Walk.{Spots, room, holds, envOf, cells, pos, allocs-all, frees-all, var, sets}
 use Rattle.base_walks.proofs.Returns.{Spelt, Good, Returns, Met, returns-plain, calls-plain, calls-shared}
 use Rattle.text_refusals.specs.declared.At.{At}
-use Rattle.text_passes.specs.Places.{first, termAt, markAt}
+use Rattle.text_passes.specs.Places.{first, termAt, tokenAt}
 use Rattle.text_passes.specs.Build.{turns, turned, put, whole as whole-of}
 use Rattle.text_refusals.proofs.At as P
 use Rattle.text_refusals.proofs.At.Laws as P′
 use Rattle.text_passes.proofs.Reader.Laws as R′
 use Rattle.text_passes.proofs.Build.{turned-yes, turned-no, put-is}
-use Rattle.text_passes.proofs.Loops.{within, within-fits, fewer-left, piece-small, Walked, walked-none, walked-one, walked-all}
-use Rattle.text_passes.proofs.Held.{reader, mach-text, mach-at, mach, mach-piece, Text, Token, Text-is, At-is, Piece-is, text-typed, at-typed}
-use Rattle.text_passes.proofs.Held.{piece-typed, reader-typedᵉ, at-of-is, reader-is, text-twice}
+use Rattle.text_passes.proofs.Loops.{within, within-fits, fewer-left, lexeme-small, Walked, walked-none, walked-one, walked-all}
+use Rattle.text_passes.proofs.Held.{reader, mach-text, mach-at, mach, mach-lexeme, Text, LifeToken, Text-is, At-is, Lexeme-is, text-typed, at-typed}
+use Rattle.text_passes.proofs.Held.{lexeme-typed, reader-typedᵉ, at-of-is, reader-is, text-twice}
 use Rattle.text_passes.proofs.Calls.{next-at, Start, HasTerm, Term, Passed, Kept, calls-start, calls-has-term, calls-term, calls-passed}
 use Rattle.text_passes.proofs.start.Symbol.{name as #text-passes·start}
 use Rattle.text_passes.proofs.has_term.Symbol.{name as #text-passes·has-term}
@@ -126,11 +126,11 @@ module _ {M : Type 1} (𝓤 : URA M) (H : Heap 𝓤) (A : Atoms 𝓤) (W : Given
   Nearer-wf = InvImage·wf (λ (j : Turn). length (now s) - j .0 .place) (Nat·lt-wfRel .wf)
 
   -- the term at the reader's place, and the place behind it
-  abbrev piece : At → Piece
-  piece a = pieceOf (termAt (now s) a)
+  abbrev lexeme : At → Lexeme
+  lexeme a = lexemeOf (termAt (now s) a)
 
   abbrev a′ : At → At
-  a′ a = next-at (now s) a (piece a)
+  a′ a = next-at (now s) a (lexeme a)
 
   -- a field with the term
   abbrev f′ : At → Y .row .Denot → Y .row .Denot
@@ -156,9 +156,9 @@ module _ {M : Type 1} (𝓤 : URA M) (H : Heap 𝓤) (A : Atoms 𝓤) (W : Given
       (k-field : Returns 𝓤 H A (𝓣 .C) #blank-field [] (Y .row) bF [] (raw (emp 𝓤)))
       (k-push : (x : X .row .Denot) (f : Y .row .Denot) → Good X x → Good Y f
       → Returns 𝓤 H A (𝓣 .C) #push (X .val x ∷ Y .val f ∷ []) (X .row) (push x f) [] (raw (emp 𝓤)))
-      (k-with : (f : Y .row .Denot) (a : At) → Good Y f → a .place < 2 ^ 64 → Piece-is (piece a) → a .place < length (now s)
-      → Returns 𝓤 H A (𝓣 .C) #with (Y .val f ∷ mach-text s ∷ vint w64 (a .place) ∷ mach-piece (piece a) ∷ []) (Y .row) (add f (termAt (now s) a))
-      (‵ (Text κ s) ∷ Token 𝓤 κ q ∷ []) (Token 𝓤 κ q)) where
+      (k-with : (f : Y .row .Denot) (a : At) → Good Y f → a .place < 2 ^ 64 → Lexeme-is (lexeme a) → a .place < length (now s)
+      → Returns 𝓤 H A (𝓣 .C) #with (Y .val f ∷ mach-text s ∷ vint w64 (a .place) ∷ mach-lexeme (lexeme a) ∷ []) (Y .row) (add f (termAt (now s) a))
+      (‵ (Text κ s) ∷ LifeToken 𝓤 κ q ∷ []) (LifeToken 𝓤 κ q)) where
     abbrev C : Calls 𝓤 H
     C = 𝓣 .C
 
@@ -175,7 +175,7 @@ module _ {M : Type 1} (𝓤 : URA M) (H : Heap 𝓤) (A : Atoms 𝓤) (W : Given
 
       abbrev In : Turn → List (Item 𝓤)
       In j =
-          ‵ (Text κ s) ∷ Token 𝓤 κ q
+          ‵ (Text κ s) ∷ LifeToken 𝓤 κ q
           ∷ cells 𝓤 H A En (room ∷ holds (mach-text s) ∷ holds (X .val (j .1 .0)) ∷ holds (Y .val (j .1 .1)) ∷ holds (mach (reader s (j .0))) ∷ [])
 
       abbrev ending : Body
@@ -189,22 +189,22 @@ module _ {M : Type 1} (𝓤 : URA M) (H : Heap 𝓤) (A : Atoms 𝓤) (W : Given
 
       -- behind the branch, with the whole and the field that it leaves
       joins : (j : Turn) (c : X .row .Denot × Y .row .Denot) → c ≡ turned bF add push (turning (j .0)) (j .1)
-          → Good X (c .0) → Good Y (c .1) → Piece-is (piece (j .0)) → j .0 .place < length (now s)
-          → Sq W (‵ (Text κ s) ∷ Token 𝓤 κ q ∷ cells 𝓤 H A En (room ∷ holds (mach-text s) ∷ holds (X .val (c .0)) ∷ holds (Y .val (c .1))
-          ∷ holds (mach (reader s (j .0))) ∷ holds (mach-piece (piece (j .0))) ∷ [])) (runs C Λ En joining (anyQ (Turned j)))
+          → Good X (c .0) → Good Y (c .1) → Lexeme-is (lexeme (j .0)) → j .0 .place < length (now s)
+          → Sq W (‵ (Text κ s) ∷ LifeToken 𝓤 κ q ∷ cells 𝓤 H A En (room ∷ holds (mach-text s) ∷ holds (X .val (c .0)) ∷ holds (Y .val (c .1))
+          ∷ holds (mach (reader s (j .0))) ∷ holds (mach-lexeme (lexeme (j .0))) ∷ [])) (runs C Λ En joining (anyQ (Turned j)))
       unfolding afterTurn
       joins j c is gc gf gp less =
           sets ! (of-opd ! (load ! (from ! (fld ! refl (stop !))) (look-in ! (L 4) (sub ! 0 refl (whole !)))))
           (init ! (L 13) refl (tt, text-typed 𝓤 H A W κ s gt)) $
           sets ! (of-opd ! (load ! (from ! (fld ! refl (fld ! refl (stop !)))) (look-in ! (L 4) (sub ! 0 refl (sub ! 1 refl (whole !))))))
           (init ! (L 14) refl (tt, record { fits = place-fits })) $
-          calls-shared ! (fmOf 𝓤 H (W .laws) 𝓣) (Y .row) (Y .val) (Y .tells) (f′ (j .0) (c .1)) (‵ (Text κ s)) (Token 𝓤 κ q) (text-twice 𝓤 H A W κ s)
+          calls-shared ! (fmOf 𝓤 H (W .laws) 𝓣) (Y .row) (Y .val) (Y .tells) (f′ (j .0) (c .1)) (‵ (Text κ s)) (LifeToken 𝓤 κ q) (text-twice 𝓤 H A W κ s)
           (k-with (c .1) (j .0) gf place-fits gp less)
           (λ Q. and-then ! (var ! (L 3) refl) (and-then ! (var ! (L 13) refl) (and-then ! (var ! (L 14) refl) (and-then ! (var ! (L 5) refl) (no-more !)))))
           (λ gf′. land ! (from ! (stop !)) (store ! (L 3) refl (Y .typed (f′ (j .0) (c .1)) gf′)) $
           sets ! (of-opd ! (var ! (L 4) refl)) (init ! (L 15) refl (at-reader (j .0) (j .3))) $
-          calls-passed ! mem run (fmOf 𝓤 H (W .laws) 𝓣) κ q s (j .0) (j .3) k-passed (piece (j .0)) gp
-          (within (length (now s)) (j .0 .place) less short, j .2 .0 .0, j .2 .0 .1, piece-small (now s) 8192 (j .0 .place) (piece (j .0)) refl short)
+          calls-passed ! mem run (fmOf 𝓤 H (W .laws) 𝓣) κ q s (j .0) (j .3) k-passed (lexeme (j .0)) gp
+          (within (length (now s)) (j .0 .place) less short, j .2 .0 .0, j .2 .0 .1, lexeme-small (now s) 8192 (j .0 .place) (lexeme (j .0)) refl short)
           (λ Q. and-then ! (var ! (L 15) refl) (and-then ! (var ! (L 5) refl) (no-more !)))
           (λ gr. land ! (from ! (stop !)) (init ! (L 7) refl (reader-typedᵉ 𝓤 H A W κ (reader s (a′ (j .0))) gr)) $
           assigns-last ! (of-opd ! (var ! (L 7) refl)) (from ! (stop !)) (store ! (L 4) refl (reader-typedᵉ 𝓤 H A W κ (reader s (a′ (j .0))) gr)) $
@@ -212,8 +212,8 @@ module _ {M : Type 1} (𝓤 : URA M) (H : Heap 𝓤) (A : Atoms 𝓤) (W : Given
           again ! Nearer In j (
             a′ (j .0),
             (c .0, f′ (j .0) (c .1)),
-            walked-one (put bF add push) (now s) (bR, bF) (j .0) (j .1) (piece (j .0)) (c .0, f′ (j .0) (c .1)) (a′ (j .0)) (j .2) less refl
-                (put-is bF add push (j .1) c (markAt (j .0) (termAt (now s) (j .0))) (f′ (j .0) (c .1)) is refl) refl,
+            walked-one (put bF add push) (now s) (bR, bF) (j .0) (j .1) (lexeme (j .0)) (c .0, f′ (j .0) (c .1)) (a′ (j .0)) (j .2) less refl
+                (put-is bF add push (j .1) c (tokenAt (j .0) (termAt (now s) (j .0))) (f′ (j .0) (c .1)) is refl) refl,
             at-of-is κ (reader s (a′ (j .0))) gr,
             gc,
             gf′,
@@ -223,7 +223,7 @@ module _ {M : Type 1} (𝓤 : URA M) (H : Heap 𝓤) (A : Atoms 𝓤) (W : Given
           place-fits = within-fits (length (now s)) (j .0 .place) less short
 
           nearer : length (now s) - a′ (j .0) .place < length (now s) - j .0 .place
-          nearer = fewer-left (now s) (j .0) (piece (j .0)) less
+          nearer = fewer-left (now s) (j .0) (lexeme (j .0)) less
 
       -- a turn, by how its test comes out
       turn-by : (j : Turn) (t : Bool) → ltb (j .0 .place) (length (now s)) ≡ t
@@ -236,7 +236,7 @@ module _ {M : Type 1} (𝓤 : URA M) (H : Heap 𝓤) (A : Atoms 𝓤) (W : Given
           rewrite ! (L 8) (λ (t : Bool). ‵ (fat fullShare tyBool (spotOf 𝓤 H En 8 .1) 0 (vbool t))) is refl $ stays ! (var ! (L 8) refl) $
           sets ! (of-opd ! (var ! (L 4) refl)) (init ! (L 10) refl (at-reader (j .0) (j .3))) $
           calls-term ! mem run (fmOf 𝓤 H (W .laws) 𝓣) κ q s (j .0) (j .3) k-term (λ Q. and-then ! (var ! (L 10) refl) (no-more !))
-          (λ gp. land ! (from ! (stop !)) (init ! (L 5) refl (piece-typed 𝓤 H A W (piece (j .0)) gp)) $
+          (λ gp. land ! (from ! (stop !)) (init ! (L 5) refl (lexeme-typed 𝓤 H A W (lexeme (j .0)) gp)) $
           sets ! (of-opd ! (load ! (from ! (fld ! refl (stop !))) (look-in ! (L 4) (sub ! 1 refl (whole !)))))
           (init ! (L 12) refl (at-typed 𝓤 H A W (j .0) (j .3))) $
           calls-plain ! (fmOf 𝓤 H (W .laws) 𝓣) Boolean vbool bool-tells (turning (j .0))

@@ -25,14 +25,14 @@ use denote.Struct.Laws as LL
 use denote.Struct.Rest.{rest}
 use denote.Triple.Statement.{Contract, Triple}
 use denote.Triple.Walked.{says}
-use Rattle.text_scan.specs.declared.Piece.{Piece}
-use Rattle.text_scan.specs.Pieces.{pieceOf}
-use Rattle.text_scan.proofs.Piece as O
-use Rattle.text_scan.proofs.Piece.Laws as O′
+use Rattle.text_scan.specs.declared.Lexeme.{Lexeme}
+use Rattle.text_scan.specs.Lexemes.{lexemeOf}
+use Rattle.text_scan.proofs.Lexeme as O
+use Rattle.text_scan.proofs.Lexeme.Laws as O′
 use Rattle.base_walks.proofs.Returns.{Met, returns-of, calls-shared}
 use Rattle.text_refusals.specs.declared.At.{At}
 use Rattle.text_passes.specs.Places.{first, spelled, behind, termAt}
-use Rattle.text_passes.proofs.Held.{B, D, F, reader, mach-text, mach, mach-piece, Text, Token, At-is, Piece-is, Reader-is, text-twice, held}
+use Rattle.text_passes.proofs.Held.{B, D, F, reader, mach-text, mach, mach-lexeme, Text, LifeToken, At-is, Lexeme-is, Reader-is, text-twice, held}
 use Rattle.text_passes.proofs.start as start
 use Rattle.text_passes.proofs.start.Symbol.{name as #text-passes·start}
 use Rattle.text_passes.proofs.has_term as has-term
@@ -43,7 +43,7 @@ use Rattle.text_passes.proofs.passed as passed
 use Rattle.text_passes.proofs.passed.Symbol.{name as #text-passes·passed}
 
 -- the place behind a term that stands at a
-abbrev pub next-at : List ℕ → At → Piece → At
+abbrev pub next-at : List ℕ → At → Lexeme → At
 next-at t a p = behind t a (a .place + spelled p)
 
 module _ {M : Type 1} (𝓤 : URA M) (H : Heap 𝓤) (A : Atoms 𝓤) (mem : Memory → SProp 𝓤) (run : Routine → Fun 𝓤) where
@@ -63,7 +63,7 @@ module _ {M : Type 1} (𝓤 : URA M) (H : Heap 𝓤) (A : Atoms 𝓤) (W : Given
     (mem : Memory → SProp 𝓤) (run : Routine → Fun 𝓤) (κ : Lft) (q : Share) (s : RefT (List ℕ)) where
   -- what is kept of the text
   abbrev pub Kept : List (Item 𝓤)
-  Kept = ‵ (Text κ s) ∷ Token 𝓤 κ q ∷ []
+  Kept = ‵ (Text κ s) ∷ LifeToken 𝓤 κ q ∷ []
 
   abbrev to-start : Start 𝓤 H A mem run .Ghost
   to-start = (((κ, tt), (q, tt), tt, (s, tt), (mach-text s ∷ [], tt)), tt)
@@ -87,10 +87,10 @@ module _ {M : Type 1} (𝓤 : URA M) (H : Heap 𝓤) (A : Atoms 𝓤) (W : Given
       qed W Kept ∵ use1 W (‵ (B (κ, tt) .own (reader s a) (mach (reader s a) ∷ []))) (held 𝓤 H A W κ s a g) $
       nothing ! $ move ! (1 ∷ 0 ∷ []) $ fjoin ! $ move ! (1 ∷ 0 ∷ []) $ join ! $ frame ! $ done !
 
-  abbrev to-passed : At → Piece → Passed 𝓤 H A mem run .Ghost
-  to-passed a p = (((κ, tt), (q, tt), tt, (reader s a, (p, tt)), (mach (reader s a) ∷ [], (mach-piece p ∷ [], tt))), tt)
+  abbrev to-passed : At → Lexeme → Passed 𝓤 H A mem run .Ghost
+  to-passed a p = (((κ, tt), (q, tt), tt, (reader s a, (p, tt)), (mach (reader s a) ∷ [], (mach-lexeme p ∷ [], tt))), tt)
 
-  gives-passed : (a : At) (p : Piece) → At-is a → Piece-is p → (a .place ≤ 8192) × (a .field ≤ a .place + 1) × (a .index ≤ a .place + 1) × (p .size ≤ 8192)
+  gives-passed : (a : At) (p : Lexeme) → At-is a → Lexeme-is p → (a .place ≤ 8192) × (a .field ≤ a .place + 1) × (a .index ≤ a .place + 1) × (p .size ≤ 8192)
       → ent 𝓤 (⋆ 𝓤 H A Kept) (Passed 𝓤 H A mem run .pre (to-passed a p))
   gives-passed a p g h low =
       qed W Kept ∵ says ! low $ use1 W (‵ (B (κ, tt) .own (reader s a) (mach (reader s a) ∷ []))) (held 𝓤 H A W κ s a g) $
@@ -101,41 +101,41 @@ module _ {M : Type 1} {𝓤 : URA M} {H : Heap 𝓤} {A : Atoms 𝓤} {K : Type 
     {E : Env 𝓤 H} {C : Calls 𝓤 H} {Λ : Loops 𝓤 H} {Q : After 𝓤 H} {d : Place} {rest : Body} {xs : List Operand} where
   module _ (t : K) (mem : Memory → SProp 𝓤) (run : Routine → Fun 𝓤) (fm : FmC 𝓤 H (W .laws) C) (κ : Lft) (q : Share) (s : RefT (List ℕ)) where
     pub calls-start : Triple 𝓤 (C #text-passes·start) (Start 𝓤 H A mem run) → ((P : SProp 𝓤) → Opds K W (raw P ∷ ‵ (Text κ s) ∷ Γ) E xs (mach-text s ∷ []))
-        → (Reader-is κ (reader s first) → Seq K W (‵ (Text κ s) ∷ Token 𝓤 κ q ∷ Γ) (lands C Λ E d (mach (reader s first)) rest Q))
-        → Seq K W (‵ (Text κ s) ∷ Token 𝓤 κ q ∷ Γ) (runs C Λ E (seq (call #text-passes·start xs d) rest) Q)
+        → (Reader-is κ (reader s first) → Seq K W (‵ (Text κ s) ∷ LifeToken 𝓤 κ q ∷ Γ) (lands C Λ E d (mach (reader s first)) rest Q))
+        → Seq K W (‵ (Text κ s) ∷ LifeToken 𝓤 κ q ∷ Γ) (runs C Λ E (seq (call #text-passes·start xs d) rest) Q)
     calls-start known ops k =
-        calls-shared t fm (B (κ, tt)) mach (LL.tells (D (κ, tt)) (F (κ, tt))) (reader s first) (‵ (Text κ s)) (Token 𝓤 κ q) (text-twice 𝓤 H A W κ s)
+        calls-shared t fm (B (κ, tt)) mach (LL.tells (D (κ, tt)) (F (κ, tt))) (reader s first) (‵ (Text κ s)) (LifeToken 𝓤 κ q) (text-twice 𝓤 H A W κ s)
         (returns-of 𝓤 H A start.ended (start.clauses 𝓤 H A mem run) C #text-passes·start known (to-start 𝓤 H A W mem run κ q s .0) tt (reader s first)
-        (λ z ws. id⊢ 𝓤 _) (Kept 𝓤 H A W mem run κ q s) (Token 𝓤 κ q) (gives-start 𝓤 H A W mem run κ q s) (id⊢ 𝓤 _)) ops k
+        (λ z ws. id⊢ 𝓤 _) (Kept 𝓤 H A W mem run κ q s) (LifeToken 𝓤 κ q) (gives-start 𝓤 H A W mem run κ q s) (id⊢ 𝓤 _)) ops k
 
     module _ (a : At) (g : At-is a) where
       pub calls-has-term : Triple 𝓤 (C #text-passes·has-term) (HasTerm 𝓤 H A mem run)
           → ((P : SProp 𝓤) → Opds K W (raw P ∷ ‵ (Text κ s) ∷ Γ) E xs (mach (reader s a) ∷ []))
-          → Seq K W (‵ (Text κ s) ∷ Token 𝓤 κ q ∷ Γ) (lands C Λ E d (vbool (ltb (a .place) (length (now s)))) rest Q)
-          → Seq K W (‵ (Text κ s) ∷ Token 𝓤 κ q ∷ Γ) (runs C Λ E (seq (call #text-passes·has-term xs d) rest) Q)
+          → Seq K W (‵ (Text κ s) ∷ LifeToken 𝓤 κ q ∷ Γ) (lands C Λ E d (vbool (ltb (a .place) (length (now s)))) rest Q)
+          → Seq K W (‵ (Text κ s) ∷ LifeToken 𝓤 κ q ∷ Γ) (runs C Λ E (seq (call #text-passes·has-term xs d) rest) Q)
       calls-has-term known ops k =
-          calls-shared t fm Boolean vbool bool-tells (ltb (a .place) (length (now s))) (‵ (Text κ s)) (Token 𝓤 κ q) (text-twice 𝓤 H A W κ s)
+          calls-shared t fm Boolean vbool bool-tells (ltb (a .place) (length (now s))) (‵ (Text κ s)) (LifeToken 𝓤 κ q) (text-twice 𝓤 H A W κ s)
           (returns-of 𝓤 H A has-term.ended (has-term.clauses 𝓤 H A mem run) C #text-passes·has-term known (to-has-term 𝓤 H A W mem run κ q s a .0) tt
-          (ltb (a .place) (length (now s))) (λ z ws. id⊢ 𝓤 _) (Kept 𝓤 H A W mem run κ q s) (Token 𝓤 κ q) (gives-has-term 𝓤 H A W mem run κ q s a g) (id⊢ 𝓤 _))
+          (ltb (a .place) (length (now s))) (λ z ws. id⊢ 𝓤 _) (Kept 𝓤 H A W mem run κ q s) (LifeToken 𝓤 κ q) (gives-has-term 𝓤 H A W mem run κ q s a g) (id⊢ 𝓤 _))
           ops (λ _. k)
 
       pub calls-term : Triple 𝓤 (C #text-passes·term) (Term 𝓤 H A mem run) → ((P : SProp 𝓤) → Opds K W (raw P ∷ ‵ (Text κ s) ∷ Γ) E xs (mach (reader s a) ∷ []))
-          → (Piece-is (pieceOf (termAt (now s) a)) → Seq K W (‵ (Text κ s) ∷ Token 𝓤 κ q ∷ Γ) (lands C Λ E d (mach-piece (pieceOf (termAt (now s) a))) rest Q))
-          → Seq K W (‵ (Text κ s) ∷ Token 𝓤 κ q ∷ Γ) (runs C Λ E (seq (call #text-passes·term xs d) rest) Q)
+          → (Lexeme-is (lexemeOf (termAt (now s) a)) → Seq K W (‵ (Text κ s) ∷ LifeToken 𝓤 κ q ∷ Γ) (lands C Λ E d (mach-lexeme (lexemeOf (termAt (now s) a))) rest Q))
+          → Seq K W (‵ (Text κ s) ∷ LifeToken 𝓤 κ q ∷ Γ) (runs C Λ E (seq (call #text-passes·term xs d) rest) Q)
       calls-term known ops k =
-          calls-shared t fm O.the-row mach-piece (LL.tells O.the-type O′.the-laws) (pieceOf (termAt (now s) a)) (‵ (Text κ s)) (Token 𝓤 κ q)
+          calls-shared t fm O.the-row mach-lexeme (LL.tells O.the-type O′.the-laws) (lexemeOf (termAt (now s) a)) (‵ (Text κ s)) (LifeToken 𝓤 κ q)
           (text-twice 𝓤 H A W κ s)
           (returns-of 𝓤 H A term.ended (term.clauses 𝓤 H A mem run) C #text-passes·term known (to-term 𝓤 H A W mem run κ q s a .0) tt
-          (pieceOf (termAt (now s) a)) (λ z ws. id⊢ 𝓤 _) (Kept 𝓤 H A W mem run κ q s) (Token 𝓤 κ q) (gives-term 𝓤 H A W mem run κ q s a g) (id⊢ 𝓤 _)) ops k
+          (lexemeOf (termAt (now s) a)) (λ z ws. id⊢ 𝓤 _) (Kept 𝓤 H A W mem run κ q s) (LifeToken 𝓤 κ q) (gives-term 𝓤 H A W mem run κ q s a g) (id⊢ 𝓤 _)) ops k
 
-      pub calls-passed : Triple 𝓤 (C #text-passes·passed) (Passed 𝓤 H A mem run) → (p : Piece) → Piece-is p
+      pub calls-passed : Triple 𝓤 (C #text-passes·passed) (Passed 𝓤 H A mem run) → (p : Lexeme) → Lexeme-is p
           → (a .place ≤ 8192) × (a .field ≤ a .place + 1) × (a .index ≤ a .place + 1) × (p .size ≤ 8192)
-          → ((P : SProp 𝓤) → Opds K W (raw P ∷ ‵ (Text κ s) ∷ Γ) E xs (mach (reader s a) ∷ mach-piece p ∷ []))
+          → ((P : SProp 𝓤) → Opds K W (raw P ∷ ‵ (Text κ s) ∷ Γ) E xs (mach (reader s a) ∷ mach-lexeme p ∷ []))
           → (Reader-is κ (reader s (next-at (now s) a p))
-          → Seq K W (‵ (Text κ s) ∷ Token 𝓤 κ q ∷ Γ) (lands C Λ E d (mach (reader s (next-at (now s) a p))) rest Q))
-          → Seq K W (‵ (Text κ s) ∷ Token 𝓤 κ q ∷ Γ) (runs C Λ E (seq (call #text-passes·passed xs d) rest) Q)
+          → Seq K W (‵ (Text κ s) ∷ LifeToken 𝓤 κ q ∷ Γ) (lands C Λ E d (mach (reader s (next-at (now s) a p))) rest Q))
+          → Seq K W (‵ (Text κ s) ∷ LifeToken 𝓤 κ q ∷ Γ) (runs C Λ E (seq (call #text-passes·passed xs d) rest) Q)
       calls-passed known p h low ops k =
-          calls-shared t fm (B (κ, tt)) mach (LL.tells (D (κ, tt)) (F (κ, tt))) (reader s (next-at (now s) a p)) (‵ (Text κ s)) (Token 𝓤 κ q)
+          calls-shared t fm (B (κ, tt)) mach (LL.tells (D (κ, tt)) (F (κ, tt))) (reader s (next-at (now s) a p)) (‵ (Text κ s)) (LifeToken 𝓤 κ q)
           (text-twice 𝓤 H A W κ s)
           (returns-of 𝓤 H A passed.ended (passed.clauses 𝓤 H A mem run) C #text-passes·passed known (to-passed 𝓤 H A W mem run κ q s a p .0) tt (reader s
-          (next-at (now s) a p)) (λ z ws. id⊢ 𝓤 _) (Kept 𝓤 H A W mem run κ q s) (Token 𝓤 κ q) (gives-passed 𝓤 H A W mem run κ q s a p g h low) (id⊢ 𝓤 _)) ops k
+          (next-at (now s) a p)) (λ z ws. id⊢ 𝓤 _) (Kept 𝓤 H A W mem run κ q s) (LifeToken 𝓤 κ q) (gives-passed 𝓤 H A W mem run κ q s a p g h low) (id⊢ 𝓤 _)) ops k

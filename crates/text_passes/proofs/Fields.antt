@@ -11,7 +11,7 @@ use lib.ListN.{length, getD, length-map, List·getD-eq-default}
 use Rattle.base_lists.specs.Seqs.{All}
 use Rattle.text_grammar.specs.Sizes.{mostFields}
 use Rattle.text_grammar.specs.Grammar.{Raw, spell, spellF, FieldOk, Says}
-use Rattle.text_grammar.specs.Marks.{marks, marksF, marksT, Over, FifthField, TooMany, MarkOver}
+use Rattle.text_grammar.specs.Tokens.{tokens, tokensF, tokensT, Over, FifthField, TooMany, TokenOver}
 use Rattle.text_grammar.specs.Terms.{OurTerm, termOf, fieldOf, fieldsOf}
 use Rattle.text_grammar.specs.Walk.{walked}
 use Rattle.text_grammar.specs.Read.{fields, terms, limits, Sort, rule, slip, said, OurFields, accepted, readSide, readSlip}
@@ -28,19 +28,19 @@ use Rattle.text_passes.proofs.Passes.{is-short}
 
 -- ---- how many
 
-same-field : (rs : List Raw) (p n i : ℕ) → foldl lastField n (marksF p n i rs) ≡ n
+same-field : (rs : List Raw) (p n i : ℕ) → foldl lastField n (tokensF p n i rs) ≡ n
 same-field [] p n i = refl
 same-field (r ∷ rs) p n i = same-field rs (suc (p + length (spell r))) n (suc i)
 
 -- the fields behind n others
-last-is : (x : List (List Raw)) (p n : ℕ) → All FieldOk x → foldl lastField n (marksT p (suc n) x) ≡ n + length x
+last-is : (x : List (List Raw)) (p n : ℕ) → All FieldOk x → foldl lastField n (tokensT p (suc n) x) ≡ n + length x
 last-is [] p n g = omega arith
 last-is ([] ∷ fs) p n g = absurd (g .0 .0)
 last-is ((r ∷ rs) ∷ fs) p n g =
     let q = suc (p + length (spellF (r ∷ rs))) in
     let e : suc n + length fs ≡ n + suc (length fs) = omega arith in
-    foldl-append lastField n (marksF p (suc n) 1 (r ∷ rs)) (marksT q (suc (suc n)) fs)
-    ∙ ap (λ (m : ℕ). foldl lastField m (marksT q (suc (suc n)) fs)) (same-field rs (suc (p + length (spell r))) (suc n) 2)
+    foldl-append lastField n (tokensF p (suc n) 1 (r ∷ rs)) (tokensT q (suc (suc n)) fs)
+    ∙ ap (λ (m : ℕ). foldl lastField m (tokensT q (suc (suc n)) fs)) (same-field rs (suc (p + length (spell r))) (suc n) 2)
     ∙ last-is fs q (suc n) (g .1)
     ∙ e
 
@@ -49,36 +49,36 @@ last-is ((r ∷ rs) ∷ fs) p n g =
 module _ {F : Type 0} (encF : List OurTerm → F) (blank : F) (add : F → Raw → F) (w : ℕ) (blank-is : encF [] ≡ blank)
     (add-is : (ts : List OurTerm) (r : Raw) → (Over r → ⊥) → length ts < w → add (encF ts) r ≡ encF (ts ++ termOf r)) where
   -- the terms of field n change no other field, and are the terms of their own
-  others : (j : ℕ) (rs : List Raw) (p n i : ℕ) (f : F) → n ≢ j + 1 → foldl (addTo j add) f (marksF p n i rs) ≡ f
+  others : (j : ℕ) (rs : List Raw) (p n i : ℕ) (f : F) → n ≢ j + 1 → foldl (addTo j add) f (tokensF p n i rs) ≡ f
   others j [] p n i f h = refl
   others j (r ∷ rs) p n i f h =
       let q = suc (p + length (spell r)) in
-      ap (λ (c : Bool). foldl (addTo j add) (cond c (add f r) f) (marksF q n (suc i) rs)) (ne-eqb n (j + 1) h) ∙ others j rs q n (suc i) f h
+      ap (λ (c : Bool). foldl (addTo j add) (cond c (add f r) f) (tokensF q n (suc i) rs)) (ne-eqb n (j + 1) h) ∙ others j rs q n (suc i) f h
 
-  own : (j : ℕ) (rs : List Raw) (p n i : ℕ) (f : F) → n ≡ j + 1 → foldl (addTo j add) f (marksF p n i rs) ≡ foldl add f rs
+  own : (j : ℕ) (rs : List Raw) (p n i : ℕ) (f : F) → n ≡ j + 1 → foldl (addTo j add) f (tokensF p n i rs) ≡ foldl add f rs
   own j [] p n i f h = refl
   own j (r ∷ rs) p n i f h =
       let q = suc (p + length (spell r)) in
-      ap (λ (c : Bool). foldl (addTo j add) (cond c (add f r) f) (marksF q n (suc i) rs)) (eq-eqb n (j + 1) h) ∙ own j rs q n (suc i) (add f r) h
+      ap (λ (c : Bool). foldl (addTo j add) (cond c (add f r) f) (tokensF q n (suc i) rs)) (eq-eqb n (j + 1) h) ∙ own j rs q n (suc i) (add f r) h
 
   -- the fields behind field j
-  later : (j : ℕ) (x : List (List Raw)) (p n : ℕ) (f : F) → j + 1 < n → foldl (addTo j add) f (marksT p n x) ≡ f
+  later : (j : ℕ) (x : List (List Raw)) (p n : ℕ) (f : F) → j + 1 < n → foldl (addTo j add) f (tokensT p n x) ≡ f
   later j [] p n f h = refl
   later j (g ∷ gs) p n f h =
       let q = suc (p + length (spellF g)) in
-      foldl-append (addTo j add) f (marksF p n 1 g) (marksT q (suc n) gs)
-      ∙ ap (λ (y : F). foldl (addTo j add) y (marksT q (suc n) gs)) (others j g p n 1 f (λ e. omega arith))
+      foldl-append (addTo j add) f (tokensF p n 1 g) (tokensT q (suc n) gs)
+      ∙ ap (λ (y : F). foldl (addTo j add) y (tokensT q (suc n) gs)) (others j g p n 1 f (λ e. omega arith))
       ∙ later j gs q (suc n) f (omega arith)
 
   -- field k of those behind n others
   picked : (x : List (List Raw)) (p n k : ℕ) → All (λ rs. All (λ r. Over r → ⊥) rs × (length rs ≤ w)) x
-      → foldl (addTo (n + k) add) blank (marksT p (suc n) x) ≡ getD (map encF (fieldsOf x)) k blank
+      → foldl (addTo (n + k) add) blank (tokensT p (suc n) x) ≡ getD (map encF (fieldsOf x)) k blank
   picked [] p n k o = refl
   picked (f ∷ fs) p n zero o =
       let q = suc (p + length (spellF f)) in
       let j = n + 0 in
-      foldl-append (addTo j add) blank (marksF p (suc n) 1 f) (marksT q (suc (suc n)) fs)
-      ∙ ap (λ (y : F). foldl (addTo j add) y (marksT q (suc (suc n)) fs)) (own j f p (suc n) 1 blank (omega arith))
+      foldl-append (addTo j add) blank (tokensF p (suc n) 1 f) (tokensT q (suc (suc n)) fs)
+      ∙ ap (λ (y : F). foldl (addTo j add) y (tokensT q (suc (suc n)) fs)) (own j f p (suc n) 1 blank (omega arith))
       ∙ later j fs q (suc (suc n)) (foldl add blank f) (omega arith)
       ∙ ap (λ (y : F). foldl add y f) (sym blank-is)
       ∙ adds encF add w add-is f [] (o .0 .0) (omega (arith, o .0 .1))
@@ -86,9 +86,9 @@ module _ {F : Type 0} (encF : List OurTerm → F) (blank : F) (add : F → Raw �
       let q = suc (p + length (spellF f)) in
       let j = n + suc k in
       let e : n + suc k ≡ suc n + k = omega arith in
-      foldl-append (addTo j add) blank (marksF p (suc n) 1 f) (marksT q (suc (suc n)) fs)
-      ∙ ap (λ (y : F). foldl (addTo j add) y (marksT q (suc (suc n)) fs)) (others j f p (suc n) 1 blank (λ i. omega arith))
-      ∙ ap (λ (i : ℕ). foldl (addTo i add) blank (marksT q (suc (suc n)) fs)) e
+      foldl-append (addTo j add) blank (tokensF p (suc n) 1 f) (tokensT q (suc (suc n)) fs)
+      ∙ ap (λ (y : F). foldl (addTo j add) y (tokensT q (suc (suc n)) fs)) (others j f p (suc n) 1 blank (λ i. omega arith))
+      ∙ ap (λ (i : ℕ). foldl (addTo i add) blank (tokensT q (suc (suc n)) fs)) e
       ∙ picked fs q (suc n) k (o .1)
 
   -- BOTH, of a text that says fields that fit
@@ -113,7 +113,7 @@ module _ {F : Type 0} (encF : List OurTerm → F) (blank : F) (add : F → Raw �
       field j (yes h) =
           let all : pickField add blank t j ≡ foldl (addTo j add) blank (walked t) = rw (is-short t short, lt-ltb j mostFields h) in
           let zero-more : j ≡ 0 + j = omega arith in
-          all ∙ ap (foldl (addTo j add) blank) (walk-says t y s) ∙ ap (λ (i : ℕ). foldl (addTo i add) blank (marks y)) zero-more ∙ picked y 0 0 j (fit .0)
+          all ∙ ap (foldl (addTo j add) blank) (walk-says t y s) ∙ ap (λ (i : ℕ). foldl (addTo i add) blank (tokens y)) zero-more ∙ picked y 0 0 j (fit .0)
       field j (no h) =
           let none : pickField add blank t j ≡ blank = rw (is-short t short, le-ltb j mostFields (omega arith)) in
           none ∙ sym (List·getD-eq-default (map encF (fieldsOf y)) blank {n = j} (omega (arith, length-map (fieldsOf y) encF, many, fit .1)))
@@ -126,8 +126,8 @@ fits S t h x s =
     let a = clean-to w fields t x s (h .2) in
     let b = clean-to w terms t x s (h .3) in
     let c = clean-to w limits t x s (h .4) in (
-      both x (each (λ r. Over r → ⊥) x 0 1 .0 (none-all MarkOver (marks x) [] c)) (width-to w x 0 1 (none-all (TooMany w) (marks x) [] b)),
-      omega (arith, few-to x 0 1 (s .0 .1) (omega arith) (none-all FifthField (marks x) [] a)),
+      both x (each (λ r. Over r → ⊥) x 0 1 .0 (none-all TokenOver (tokens x) [] c)) (width-to w x 0 1 (none-all (TooMany w) (tokens x) [] b)),
+      omega (arith, few-to x 0 1 (s .0 .1) (omega arith) (none-all FifthField (tokens x) [] a)),
     )
   where
     both : (y : List (List Raw)) → All (All (λ r. Over r → ⊥)) y → All (λ rs. length rs ≤ S .width) y

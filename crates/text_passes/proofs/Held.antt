@@ -26,9 +26,9 @@ use denote.Struct.Declared.{Declared}
 use denote.Struct.Laws as LL
 use denote.Struct.Rest.{all-own, ownAt, rest, own-open, own-out, own-shut}
 use denote.Struct.Values.{Values}
-use Rattle.text_scan.specs.declared.Piece.{Piece}
-use Rattle.text_scan.proofs.Piece as O
-use Rattle.text_scan.proofs.Piece.Laws as O′
+use Rattle.text_scan.specs.declared.Lexeme.{Lexeme}
+use Rattle.text_scan.proofs.Lexeme as O
+use Rattle.text_scan.proofs.Lexeme.Laws as O′
 use Rattle.text_refusals.specs.declared.At.{At}
 use Rattle.text_passes.specs.declared.Reader.{Reader}
 use Rattle.text_refusals.proofs.At as P
@@ -67,15 +67,15 @@ abbrev pub mach : Reader → Val
 mach r = R′.lowered r
 
 -- and of a term as it is written
-abbrev pub mach-piece : Piece → Val
-mach-piece p = LL.val O.the-type O′.the-laws p
+abbrev pub mach-lexeme : Lexeme → Val
+mach-lexeme p = LL.val O.the-type O′.the-laws p
 
 -- what is owned of a text, and its lifetime's token
 abbrev pub Text : Lft → RefT (List ℕ) → Fml
 Text κ s = ShrSlice (named 0) κ u8 .own s (mach-text s ∷ [])
 
-abbrev pub Token : {M : Type 1} (𝓤 : URA M) → Lft → Share → Item 𝓤
-Token 𝓤 κ q = ‵ (flft κ q) ⊛ ‵ ftrue
+abbrev pub LifeToken : {M : Type 1} (𝓤 : URA M) → Lft → Share → Item 𝓤
+LifeToken 𝓤 κ q = ‵ (flft κ q) ⊛ ‵ ftrue
 
 -- that a value is spelled so, for a text, a place, a term and a reader
 abbrev pub Text-is : Lft → RefT (List ℕ) → Type 0
@@ -84,8 +84,8 @@ Text-is κ s = Is (ShrSlice (named 0) κ u8) s (mach-text s ∷ [])
 abbrev pub At-is : At → Type 0
 At-is a = Is P.the-row a (mach-at a ∷ [])
 
-abbrev pub Piece-is : Piece → Type 0
-Piece-is p = Is O.the-row p (mach-piece p ∷ [])
+abbrev pub Lexeme-is : Lexeme → Type 0
+Lexeme-is p = Is O.the-row p (mach-lexeme p ∷ [])
 
 abbrev pub Reader-is : Lft → Reader → Type 0
 Reader-is κ r = Is (B (κ, tt)) r (mach r ∷ [])
@@ -110,8 +110,8 @@ module _ {M : Type 1} (𝓤 : URA M) (H : Heap 𝓤) (A : Atoms 𝓤) (W : Given
   pub at-typed : (a : At) → At-is a → Holds (hasTy P′.mir (mach-at a)) × WT (mach-at a)
   at-typed a g = LL.lawful P.the-type P′.the-laws 𝓤 H A W .typed a _ g .0
 
-  pub piece-typed : (p : Piece) → Piece-is p → Holds (hasTy O′.mir (mach-piece p)) × WT (mach-piece p)
-  piece-typed p g = LL.lawful O.the-type O′.the-laws 𝓤 H A W .typed p _ g .0
+  pub lexeme-typed : (p : Lexeme) → Lexeme-is p → Holds (hasTy O′.mir (mach-lexeme p)) × WT (mach-lexeme p)
+  lexeme-typed p g = LL.lawful O.the-type O′.the-laws 𝓤 H A W .typed p _ g .0
 
   pub reader-typed : (κ : Lft) (r : Reader) → Reader-is κ r → Holds (hasTy (R′.mir (named 0)) (mach r)) × WT (mach r)
   reader-typed κ r g = LL.lawful (D (κ, tt)) (F (κ, tt)) 𝓤 H A W .typed r _ g .0

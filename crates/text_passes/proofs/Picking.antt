@@ -14,11 +14,11 @@ use Rattle.text_grammar.specs.Walk.{front, walkOn, walk, walked}
 use Rattle.text_values.specs.declared.Term.{Term}
 use Rattle.text_values.specs.declared.Field.{Field}
 use Rattle.text_values.specs.declared.SlipField.{SlipField}
-use Rattle.text_scan.specs.declared.Piece.{Piece}
-use Rattle.text_scan.specs.Pieces.{pieceOf}
-use Rattle.text_term_at.specs.Terms.{termFrom}
+use Rattle.text_scan.specs.declared.Lexeme.{Lexeme}
+use Rattle.text_scan.specs.Lexemes.{lexemeOf}
+use Rattle.text_scan.specs.terms.Terms.{termFrom}
 use Rattle.text_refusals.specs.declared.At.{At}
-use Rattle.text_passes.specs.Places.{markAt, termAt}
+use Rattle.text_passes.specs.Places.{tokenAt, termAt}
 use Rattle.text_passes.specs.Build.{isEmpty}
 use Rattle.text_passes.specs.Fields.{addTo, stores}
 use Rattle.text_passes.proofs.Terms.{empty-is}
@@ -53,7 +53,7 @@ both : (a b : Bool) → (a && b) ≡ true → (a ≡ true) × (b ≡ true)
 both true b e = (refl, e)
 both false b e = (e, let z : _≡_ {A = ℕ} 0 1 = cc in absurd (omega arith))
 
-pub room-left : (p : Piece) (field wanted n places : ℕ) (k : Bool) → k ≡ stores p field wanted n places → k ≡ true → n < places
+pub room-left : (p : Lexeme) (field wanted n places : ℕ) (k : Bool) → k ≡ stores p field wanted n places → k ≡ true → n < places
 room-left p field wanted n places k is-k e = ltb-true n places (both (ltb n places) _ (both (eqb field wanted) _ (sym is-k ∙ e) .1) .0)
 
 -- one term, over any fields that are made of a count and the places
@@ -62,7 +62,7 @@ Adding make add w = (n : ℕ) (ts : List Term) (r : Raw)
     → add (make n ts) r ≡ cond (isEmpty r) (make n ts) (cond (ltb n w) (make (n + 1) (set ts n (termFrom r))) (make n ts))
 
 module _ {F : Type 0} (make : ℕ → List Term → F) (add : F → Raw → F) (w : ℕ) (add-is : Adding make add w) (j : ℕ) (t : List ℕ) (a : At) (n : ℕ) (ts : List Term)
-    (p : Piece) (is-p : p ≡ pieceOf (termAt t a)) (k : Bool) (is-k : k ≡ stores p (a .field) (j + 1) n w) where
+    (p : Lexeme) (is-p : p ≡ lexemeOf (termAt t a)) (k : Bool) (is-k : k ≡ stores p (a .field) (j + 1) n w) where
   abbrev r : Raw
   r = termAt t a
 
@@ -79,16 +79,16 @@ module _ {F : Type 0} (make : ℕ → List Term → F) (add : F → Raw → F) (
   by-tests true false false = refl
   by-tests false b l = refl
 
-  added : (c : Bool) → k ≡ c → cond c with without ≡ addTo j add without (markAt a r)
+  added : (c : Bool) → k ≡ c → cond c with without ≡ addTo j add without (tokenAt a r)
   added c e =
       ap (λ (d : Bool). cond d with without) (sym e ∙ is-k ∙ ap (λ (b : Bool). eqb (a .field) (j + 1) && (ltb n w && not b)) (empty-is p r is-p))
       ∙ by-tests (eqb (a .field) (j + 1)) (isEmpty r) (ltb n w)
       ∙ ap (λ (f : F). cond (eqb (a .field) (j + 1)) f without) (sym (add-is n ts r))
 
-  pub stored-yes : k ≡ true → (u : Term) → u ≡ termFrom r → make (n + 1) (set ts n u) ≡ addTo j add without (markAt a r)
+  pub stored-yes : k ≡ true → (u : Term) → u ≡ termFrom r → make (n + 1) (set ts n u) ≡ addTo j add without (tokenAt a r)
   stored-yes e u is-u = ap (λ (v : Term). make (n + 1) (set ts n v)) is-u ∙ added true e
 
-  pub stored-no : k ≡ false → without ≡ addTo j add without (markAt a r)
+  pub stored-no : k ≡ false → without ≡ addTo j add without (tokenAt a r)
   stored-no = added false
 
 abbrev pub makeSide : ℕ → List Term → Field

@@ -1,14 +1,14 @@
--- Whether a written term is `empty`, as code tells it from its piece.
+-- Whether a written term is `empty`, as code tells it from its lexeme.
 use mathlib.Core.Path.{_≡_, refl, _∙_, ap}
 use Rattle.text_grammar.specs.Grammar.{Raw, raw-int, raw-str, raw-var, raw-empty}
-use Rattle.text_scan.specs.declared.Piece.{Piece}
-use Rattle.text_scan.specs.Pieces.{pieceOf}
+use Rattle.text_scan.specs.declared.Lexeme.{Lexeme}
+use Rattle.text_scan.specs.Lexemes.{lexemeOf}
 use Rattle.text_passes.specs.Build.{isEmpty, emptyBy}
 
-pub empty-is : (p : Piece) (r : Raw) → p ≡ pieceOf r → emptyBy (p .what) ≡ isEmpty r
-empty-is p r e = ap (λ (x : Piece). emptyBy (x .what)) e ∙ go r
+pub empty-is : (p : Lexeme) (r : Raw) → p ≡ lexemeOf r → emptyBy (p .what) ≡ isEmpty r
+empty-is p r e = ap (λ (x : Lexeme). emptyBy (x .what)) e ∙ go r
   where
-    go : (r : Raw) → emptyBy ((pieceOf r) .what) ≡ isEmpty r
+    go : (r : Raw) → emptyBy ((lexemeOf r) .what) ≡ isEmpty r
     go (raw-int ds) = refl
     go (raw-str s) = refl
     go (raw-var k ds) = refl

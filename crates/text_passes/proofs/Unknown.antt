@@ -6,30 +6,30 @@ use mathlib.Core.List.{List, [], _∷_, foldl}
 use Prim.Native.Nat.{ℕ, _≤_}
 use lib.ListN.{length}
 use Rattle.text_grammar.specs.Grammar.{Raw, Says}
-use Rattle.text_grammar.specs.Marks.{Mark}
+use Rattle.text_grammar.specs.Tokens.{Token}
 use Rattle.text_grammar.specs.Read.{slip, OurFields}
 use Rattle.text_grammar.proofs.Walk.{walk-says}
-use Rattle.text_rules.specs.Judge.{lackingAt}
+use Rattle.text_grammar.specs.rules.Judge.{lackingAt}
 use Rattle.text_scan.specs.declared.Found.the-variants.{At, Nothing}
 use Rattle.text_scan.specs.Places.{foundOf}
-use Rattle.text_scan.specs.Pieces.{pieceOf}
-use Rattle.text_unknown.specs.Unknown.{unknownPiece, unknownAt}
-use Rattle.text_unknown.proofs.Unknown.{NumbersIn, unknown-is}
-use Rattle.text_passes.specs.Unknown.{unknownMark}
+use Rattle.text_scan.specs.Lexemes.{lexemeOf}
+use Rattle.text_refusals.specs.unknown.Unknown.{unknownLexeme, unknownAt}
+use Rattle.text_refusals.proofs.unknown.Unknown.{NumbersIn, unknown-is}
+use Rattle.text_passes.specs.Unknown.{unknownToken}
 use Rattle.text_passes.specs.Passes.{unknownIn}
 use Rattle.text_passes.proofs.Passes.{is-short}
 
 -- the first place found stays
-found-stays : (l : OurFields) (p : ℕ) (ms : List Mark) → foldl (unknownMark l) (At p) ms ≡ At p
+found-stays : (l : OurFields) (p : ℕ) (ms : List Token) → foldl (unknownToken l) (At p) ms ≡ At p
 found-stays l p [] = refl
 found-stays l p (m ∷ ms) = found-stays l p ms
 
-pub unknown-folds : (l : OurFields) (ms : List Mark) → foldl (unknownMark l) Nothing ms ≡ foundOf (unknownAt l ms)
+pub unknown-folds : (l : OurFields) (ms : List Token) → foldl (unknownToken l) Nothing ms ≡ foundOf (unknownAt l ms)
 unknown-folds l [] = refl
-unknown-folds l (m ∷ ms) = go (unknownPiece l (pieceOf (m .raw))) (unknown-folds l ms)
+unknown-folds l (m ∷ ms) = go (unknownLexeme l (lexemeOf (m .raw))) (unknown-folds l ms)
   where
-    go : (b : Bool) → foldl (unknownMark l) Nothing ms ≡ foundOf (unknownAt l ms)
-        → foldl (unknownMark l) (cond b (At (m .place)) Nothing) ms ≡ foundOf (cond b (some (m .place)) (unknownAt l ms))
+    go : (b : Bool) → foldl (unknownToken l) Nothing ms ≡ foundOf (unknownAt l ms)
+        → foldl (unknownToken l) (cond b (At (m .place)) Nothing) ms ≡ foundOf (cond b (some (m .place)) (unknownAt l ms))
     go true e = found-stays l (m .place) ms
     go false e = e
 

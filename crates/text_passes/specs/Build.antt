@@ -7,7 +7,7 @@ use lib.Dec.{eqb, ltb}
 use lib.ListN.{set}
 use Rattle.text_grammar.specs.Sizes.{mostFields}
 use Rattle.text_grammar.specs.Grammar.{Raw, raw-int, raw-str, raw-var, raw-empty}
-use Rattle.text_grammar.specs.Marks.{Mark}
+use Rattle.text_grammar.specs.Tokens.{Token}
 use Rattle.text_grammar.specs.Read.{rule, slip}
 use Rattle.text_values.specs.declared.Term.{Term}
 use Rattle.text_values.specs.declared.Field.{Field}
@@ -17,7 +17,7 @@ use Rattle.text_values.specs.declared.Slip.{Slip}
 use Rattle.text_values.specs.Values.{blankField, blankSide, blankSlipField, blankSlip}
 use Rattle.text_scan.specs.declared.Spelled.{Spelled}
 use Rattle.text_scan.specs.declared.Spelled.the-variants as spelled
-use Rattle.text_term_at.specs.Terms.{termFrom}
+use Rattle.text_scan.specs.terms.Terms.{termFrom}
 
 abbrev pub isEmpty : Raw → Bool
 isEmpty (raw-int ds) = false
@@ -64,14 +64,14 @@ module _ {F R : Type 0} (blank : F) (add : F → Raw → F) (push : R → F → 
   turned true b = (push (b .0) (b .1), blank)
   turned false b = b
 
-  abbrev pub put : Building → Mark → Building
+  abbrev pub put : Building → Token → Building
   put b m = let c = turned (turns (m .inField) (m .index)) b in (c .0, add (c .1) (m .raw))
 
   abbrev pub whole : Building → R
   whole b = push (b .0) (b .1)
 
-abbrev pub builtSide : List Mark → RuleSide
+abbrev pub builtSide : List Token → RuleSide
 builtSide ms = whole blankField addRaw pushField (foldl (put blankField addRaw pushField) (blankSide, blankField) ms)
 
-abbrev pub builtSlip : List Mark → Slip
+abbrev pub builtSlip : List Token → Slip
 builtSlip ms = whole blankSlipField addItem pushSlipField (foldl (put blankSlipField addItem pushSlipField) (blankSlip, blankSlipField) ms)

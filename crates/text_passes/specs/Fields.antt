@@ -6,25 +6,25 @@ use Prim.Native.Nat.{ℕ, _+_, min}
 use lib.Dec.{eqb, ltb}
 use Rattle.text_grammar.specs.Sizes.{mostFields}
 use Rattle.text_grammar.specs.Grammar.{Raw}
-use Rattle.text_grammar.specs.Marks.{Mark}
+use Rattle.text_grammar.specs.Tokens.{Token}
 use Rattle.text_grammar.specs.Walk.{walked}
 use Rattle.text_values.specs.declared.Field.{Field}
 use Rattle.text_values.specs.declared.SlipField.{SlipField}
 use Rattle.text_values.specs.Values.{blankField, blankSlipField}
-use Rattle.text_scan.specs.declared.Piece.{Piece}
+use Rattle.text_scan.specs.declared.Lexeme.{Lexeme}
 use Rattle.text_passes.specs.Build.{emptyBy, addRaw, addItem}
 use Rattle.text_passes.specs.Passes.{tooLong}
 
 -- a term's field is the last one so far
-abbrev pub lastField : ℕ → Mark → ℕ
+abbrev pub lastField : ℕ → Token → ℕ
 lastField n m = m .inField
 
 -- document 01: "A rule is one to four fields"; so is a slip
 abbrev pub fieldCount : List ℕ → ℕ
 fieldCount t = cond (tooLong t) 0 (min (foldl lastField 0 (walked t)) mostFields)
 
--- with a term more, where it is one of field j; fields are counted from 0 here, and from 1 in the marks
-abbrev pub addTo : {F : Type 0} → ℕ → (F → Raw → F) → F → Mark → F
+-- with a term more, where it is one of field j; fields are counted from 0 here, and from 1 in the tokens
+abbrev pub addTo : {F : Type 0} → ℕ → (F → Raw → F) → F → Token → F
 addTo j add f m = cond (eqb (m .inField) (j + 1)) (add f (m .raw)) f
 
 -- the terms of field j; there is no fifth field
@@ -38,5 +38,5 @@ abbrev pub slipField : List ℕ → ℕ → SlipField
 slipField t j = pickField addItem blankSlipField t j
 
 -- whether the term p is stored: it is one of the field that is wanted, there is a place left, and it is not `empty`
-abbrev pub stores : Piece → ℕ → ℕ → ℕ → ℕ → Bool
+abbrev pub stores : Lexeme → ℕ → ℕ → ℕ → ℕ → Bool
 stores p field wanted n places = eqb field wanted && (ltb n places && not (emptyBy (p .what)))

@@ -11,11 +11,11 @@ use Rattle.text_values.specs.declared.Slip.{Slip}
 use Rattle.text_values.specs.Values.{blankSide, blankSlip}
 use Rattle.text_scan.specs.declared.Found.{Found}
 use Rattle.text_scan.specs.declared.Found.the-variants.{Nothing}
-use Rattle.text_verdicts.specs.Verdicts.{sortOf}
+use Rattle.text_refusals.specs.verdicts.Verdicts.{sortOf}
 use Rattle.text_refusals.specs.declared.Survey.{Survey}
-use Rattle.text_refusals.specs.Refusals.{surveyMark, nothingYet}
+use Rattle.text_refusals.specs.Refusals.{surveyToken, nothingYet}
 use Rattle.text_scan.specs.Places.{foundOf}
-use Rattle.text_unknown.specs.Unknown.{unknownAt}
+use Rattle.text_refusals.specs.unknown.Unknown.{unknownAt}
 use Rattle.text_passes.specs.Build.{builtSide, builtSlip}
 
 -- more bytes than document 01 lets a slip have, the longer of the two
@@ -23,7 +23,7 @@ abbrev pub tooLong : List ℕ → Bool
 tooLong t = ltb (slip .bytes) (length t)
 
 abbrev pub surveyIn : Bool → List ℕ → Survey
-surveyIn asSlip t = cond (tooLong t) nothingYet (foldl (surveyMark asSlip ((sortOf asSlip) .width)) nothingYet (walked t))
+surveyIn asSlip t = cond (tooLong t) nothingYet (foldl (surveyToken asSlip ((sortOf asSlip) .width)) nothingYet (walked t))
 
 -- the first variable of a right side's text that the left side l lacks
 abbrev pub unknownIn : OurFields → List ℕ → Found

@@ -5,9 +5,9 @@ use Prim.Native.Nat.{ℕ, _+_, _-_}
 use lib.Dec.{eqb, ltb}
 use lib.ListN.{length, getD, drop}
 use Rattle.text_grammar.specs.Grammar.{Raw}
-use Rattle.text_grammar.specs.Marks.{Mark}
+use Rattle.text_grammar.specs.Tokens.{Token}
 use Rattle.text_grammar.specs.Walk.{front, walk}
-use Rattle.text_scan.specs.declared.Piece.{Piece}
+use Rattle.text_scan.specs.declared.Lexeme.{Lexeme}
 use Rattle.text_scan.specs.declared.Spelled.{Spelled}
 use Rattle.text_scan.specs.declared.Spelled.the-variants.{Int, Str, Var, Empty}
 use denote.Ref.{RefT, now}
@@ -25,7 +25,7 @@ spelledBy Str n = n + 2
 spelledBy (Var k) n = n + 1
 spelledBy Empty n = 5
 
-abbrev pub spelled : Piece → ℕ
+abbrev pub spelled : Lexeme → ℕ
 spelled p = spelledBy (p .what) (p .size)
 
 -- a `:` stands at e
@@ -38,21 +38,21 @@ behind t a e =
     cond (colonAt t e) (record { place = e + 1; field = a .field; index = a .index + 1 })
     (record { place = e + 1; field = a .field + 1; index = 1 })
 
-abbrev pub markAt : At → Raw → Mark
-markAt a r = record { place = a .place; inField = a .field; index = a .index; raw = r }
+abbrev pub tokenAt : At → Raw → Token
+tokenAt a r = record { place = a .place; inField = a .field; index = a .index; raw = r }
 
 -- the term that stands there
 abbrev pub termAt : List ℕ → At → Raw
 termAt t a = front (drop (a .place) t)
 
 -- the terms from there on
-abbrev pub marksFrom : List ℕ → At → List Mark
-marksFrom t a = walk (length t - a .place) (drop (a .place) t) (a .place) (a .field) (a .index)
+abbrev pub tokensFrom : List ℕ → At → List Token
+tokensFrom t a = walk (length t - a .place) (drop (a .place) t) (a .place) (a .field) (a .index)
 
 -- a text at its first term
 abbrev pub started : RefT (List ℕ) → Reader
 started t = record { text = t; at = first }
 
 -- the reader behind the term p, which stands at its place
-abbrev pub passed : Reader → Piece → Reader
+abbrev pub passed : Reader → Lexeme → Reader
 passed r p = record { text = r .text; at = behind (now (r .text)) (r .at) (r .at .place + spelled p) }

@@ -9,28 +9,28 @@ ghost use lib.ListN.{length, drop};
 ghost use Rattle.text_grammar.specs.Walk.{front, walked};
 ghost use Rattle.text_values.specs.Values.{viewSide};
 ghost use Rattle.text_scan.specs.declared.Found.the-variants.{Nothing};
-ghost use Rattle.text_scan.specs.Pieces.{pieceOf};
-ghost use Rattle.text_verdicts.specs.Verdicts.{sortOf};
-ghost use Rattle.text_refusals.specs.Refusals.{surveyMark, nothingYet};
+ghost use Rattle.text_scan.specs.Lexemes.{lexemeOf};
+ghost use Rattle.text_refusals.specs.verdicts.Verdicts.{sortOf};
+ghost use Rattle.text_refusals.specs.Refusals.{surveyToken, nothingYet};
 ghost use Rattle.text_passes.specs.Places.{first, spelled, colonAt, behind, termAt, started, passed};
 ghost use Rattle.text_passes.specs.Build.{emptyBy, pushTerm, addRaw, pushField, pushItem, addItem, pushSlipField, turns};
 ghost use Rattle.text_passes.specs.Build.{builtSide, builtSlip};
-ghost use Rattle.text_passes.specs.Unknown.{unknownWith, unknownMark};
+ghost use Rattle.text_passes.specs.Unknown.{unknownWith, unknownToken};
 ghost use Rattle.text_passes.specs.Passes.{surveyIn, unknownIn, sideIn, slipIn};
 ghost use Rattle.text_passes.specs.Fields.{stores, fieldCount, sideField, slipField};
 ghost use Rattle.text_passes.specs.Notes.{notedIn};
-use text_linearity::Lists;
+use text_accepted::linearity::Lists;
 use text_refusals::At;
 use text_refusals::Survey;
+use text_refusals::verdicts::Verdict;
 use text_scan::Found;
-use text_scan::Piece;
+use text_scan::Lexeme;
 use text_scan::Spelled;
 use text_values::Field;
 use text_values::RuleSide;
 use text_values::Slip;
 use text_values::SlipField;
 use text_values::Term;
-use text_verdicts::Verdict;
 
 // A text with the place where it is read. Document 01: "the reading place travels together with the text it reads".
 struct Reader<'a> {
@@ -39,7 +39,7 @@ struct Reader<'a> {
 }
 
 // The number of bytes of a written term.
-fn spelled(p: Piece) -> usize
+fn spelled(p: Lexeme) -> usize
     requires { ⌜ p .size ≤ 8192 ⌝ }
     ensures { λ r. ⌜ r ≡ spelled p ⌝ }
 {
@@ -63,7 +63,7 @@ fn colon_at(text: &[u8], e: usize) -> bool
 }
 
 // Where the term behind this one stands: behind `:` in the same field, behind `|` in the next.
-fn behind(text: &[u8], a: At, p: Piece) -> At
+fn behind(text: &[u8], a: At, p: Lexeme) -> At
     requires { ⌜ (a .place ≤ 8192) × (a .field ≤ a .place + 1) × (a .index ≤ a .place + 1) × (p .size ≤ 8192) ⌝ }
     ensures { λ r. ⌜ r ≡ behind (now (text .entry)) a (a .place + spelled p) ⌝ }
 {
@@ -104,14 +104,14 @@ fn has_term<'a>(r: Reader<'a>) -> bool
 }
 
 // The term at the reader's place.
-fn term<'a>(r: Reader<'a>) -> Piece
-    ensures { λ p. ⌜ p ≡ pieceOf (termAt (now (r .entry .text)) (r .entry .at)) ⌝ }
+fn term<'a>(r: Reader<'a>) -> Lexeme
+    ensures { λ p. ⌜ p ≡ lexemeOf (termAt (now (r .entry .text)) (r .entry .at)) ⌝ }
 {
-    text_scan::piece_at(r.text, r.at.place)
+    text_scan::lexeme_at(r.text, r.at.place)
 }
 
 // The reader moved behind the term p, which stands at its place.
-fn passed<'a>(r: Reader<'a>, p: Piece) -> Reader<'a>
+fn passed<'a>(r: Reader<'a>, p: Lexeme) -> Reader<'a>
     requires { ⌜ (r .at .place ≤ 8192) × (r .at .field ≤ r .at .place + 1) × (r .at .index ≤ r .at .place + 1) × (p .size ≤ 8192) ⌝ }
     ensures { λ q. ⌜ q ≡ passed (r .entry) p ⌝ }
 {
@@ -132,7 +132,7 @@ fn nothing_yet() -> Survey
 // All refusals from 3 on, in one pass over the terms.
 fn survey_of(text: &[u8], slip: bool) -> Survey
     requires { ⌜ length (now text) ≤ 8192 ⌝ }
-    ensures { λ r. ⌜ r ≡ foldl (surveyMark slip ((sortOf slip) .width)) nothingYet (walked (now (text .entry))) ⌝ }
+    ensures { λ r. ⌜ r ≡ foldl (surveyToken slip ((sortOf slip) .width)) nothingYet (walked (now (text .entry))) ⌝ }
 {
     let mut s = nothing_yet();
     let mut r = start(text);
@@ -153,13 +153,13 @@ fn nowhere() -> Found
 }
 
 // The first place so far, with the term p, which stands at this place.
-fn note_unknown(found: Found, left: RuleSide, place: usize, p: Piece) -> Found
+fn note_unknown(found: Found, left: RuleSide, place: usize, p: Lexeme) -> Found
     ensures { λ r. ⌜ r ≡ unknownWith (viewSide left) found place p ⌝ }
 {
     match found {
         Found::At(_) => found,
         Found::Nothing => {
-            if text_unknown::is_unknown(left, p) {
+            if text_refusals::unknown::is_unknown(left, p) {
                 return Found::At(place);
             }
             Found::Nothing
@@ -170,7 +170,7 @@ fn note_unknown(found: Found, left: RuleSide, place: usize, p: Piece) -> Found
 // The first variable that the side `left` lacks.
 fn unknown_of(text: &[u8], left: RuleSide) -> Found
     requires { ⌜ length (now text) ≤ 8192 ⌝ }
-    ensures { λ r. ⌜ r ≡ foldl (unknownMark (viewSide left)) Nothing (walked (now (text .entry))) ⌝ }
+    ensures { λ r. ⌜ r ≡ foldl (unknownToken (viewSide left)) Nothing (walked (now (text .entry))) ⌝ }
 {
     let mut found = nowhere();
     let mut r = start(text);
@@ -184,7 +184,7 @@ fn unknown_of(text: &[u8], left: RuleSide) -> Found
     found
 }
 
-fn is_empty(p: Piece) -> bool
+fn is_empty(p: Lexeme) -> bool
     ensures { λ r. ⌜ r ≡ emptyBy (p .what) ⌝ }
 {
     let what = p.what;
@@ -197,14 +197,14 @@ fn is_empty(p: Piece) -> bool
 }
 
 // The field with the term p behind its others; `empty` adds none.
-fn with_term(f: Field, text: &[u8], place: usize, p: Piece) -> Field
-    requires { ⌜ (place < length (now text)) × (p ≡ pieceOf (front (drop place (now text)))) ⌝ }
+fn with_term(f: Field, text: &[u8], place: usize, p: Lexeme) -> Field
+    requires { ⌜ (place < length (now text)) × (p ≡ lexemeOf (front (drop place (now text)))) ⌝ }
     ensures { λ r. ⌜ r ≡ addRaw f (front (drop place (now (text .entry)))) ⌝ }
 {
     if is_empty(p) {
         return f;
     }
-    let t = text_term_at::term_at(text, place);
+    let t = text_scan::terms::term_at(text, place);
     push_term(f, t)
 }
 
@@ -234,14 +234,14 @@ fn push_field(r: RuleSide, f: Field) -> RuleSide
     s
 }
 
-fn with_item(f: SlipField, text: &[u8], place: usize, p: Piece) -> SlipField
-    requires { ⌜ (place < length (now text)) × (p ≡ pieceOf (front (drop place (now text)))) ⌝ }
+fn with_item(f: SlipField, text: &[u8], place: usize, p: Lexeme) -> SlipField
+    requires { ⌜ (place < length (now text)) × (p ≡ lexemeOf (front (drop place (now text)))) ⌝ }
     ensures { λ r. ⌜ r ≡ addItem f (front (drop place (now (text .entry)))) ⌝ }
 {
     if is_empty(p) {
         return f;
     }
-    let t = text_term_at::term_at(text, place);
+    let t = text_scan::terms::term_at(text, place);
     push_item(f, t)
 }
 
@@ -381,7 +381,7 @@ fn first() -> At
 }
 
 // Whether the term p, which stands in this field, is stored as one of the field that is wanted, where n of the places are used.
-fn stores(p: Piece, field: usize, wanted: usize, n: usize, places: usize) -> bool
+fn stores(p: Lexeme, field: usize, wanted: usize, n: usize, places: usize) -> bool
     ensures { λ r. ⌜ r ≡ stores p field wanted n places ⌝ }
 {
     if field != wanted {
@@ -404,7 +404,7 @@ pub fn field_count(text: &[u8]) -> usize
     let mut a = first();
     while a.place < text.len() {
         n = a.field;
-        let p = text_scan::piece_at(text, a.place);
+        let p = text_scan::lexeme_at(text, a.place);
         a = behind(text, a, p);
     }
     if 4 < n {
@@ -428,9 +428,9 @@ pub fn side_field(text: &[u8], j: usize) -> Field
     let mut n: usize = 0;
     let mut a = first();
     while a.place < text.len() && a.field <= wanted {
-        let p = text_scan::piece_at(text, a.place);
+        let p = text_scan::lexeme_at(text, a.place);
         if stores(p, a.field, wanted, n, 16) {
-            f.terms[n] = text_term_at::term_at(text, a.place);
+            f.terms[n] = text_scan::terms::term_at(text, a.place);
             n += 1;
         }
         a = behind(text, a, p);
@@ -454,9 +454,9 @@ pub fn slip_field(text: &[u8], j: usize) -> SlipField
     let mut n: usize = 0;
     let mut a = first();
     while a.place < text.len() && a.field <= wanted {
-        let p = text_scan::piece_at(text, a.place);
+        let p = text_scan::lexeme_at(text, a.place);
         if stores(p, a.field, wanted, n, 64) {
-            f.terms[n] = text_term_at::term_at(text, a.place);
+            f.terms[n] = text_scan::terms::term_at(text, a.place);
             n += 1;
         }
         a = behind(text, a, p);
@@ -478,7 +478,7 @@ pub fn note_side(text: &[u8], right: bool, row: &mut [u8], texts: &mut [u8]) -> 
     let mut a = first();
     while a.place < text.len() {
         n = a.field;
-        let p = text_scan::piece_at(text, a.place);
+        let p = text_scan::lexeme_at(text, a.place);
         pair_table::note(row, texts, right, text, a.place, a.field, p);
         a = behind(text, a, p);
     }

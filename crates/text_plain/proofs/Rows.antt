@@ -11,7 +11,7 @@ abbrev pub fields : Row Field
 fields =
     record {
       item = λ f. fieldText (viewField f);
-      mark = 124;
+      separator = 124;
       rest = λ fs. bars (map rawField (map viewField fs));
       whole = λ fs. plain (map viewField fs);
       none = refl;

@@ -8,7 +8,11 @@ ghost use Rattle.text_grammar.specs.Plain.{fieldText, plain};
 ghost use Rattle.text_values.specs.Values.{viewField, viewSide};
 ghost use Rattle.text_accepted.specs.Accepted.{countedLeft};
 ghost use Rattle.text_write.specs.Answers.{Writes};
-ghost use Rattle.text_pieces.specs.Placed.{Placed};
+ghost use Rattle.text_write.specs.pieces.Placed.{Placed};
+
+pub mod rules; // rules with both sides
+pub mod slips; // slips
+
 use text_values::Field;
 use text_values::RuleSide;
 use text_write::Written;
@@ -28,20 +32,20 @@ fn put_field(f: Field, out: &mut [u8], at: usize) -> usize
 {
     let n = at_most(f.n, 16);
     if n == 0 {
-        return text_pieces::put_bytes(b"empty", out, at);
+        return text_write::pieces::put_bytes(b"empty", out, at);
     }
-    let mut p = text_pieces::put_term(f.terms[0], out, at);
+    let mut p = text_write::pieces::put_term(f.terms[0], out, at);
     let mut i: usize = 1;
     while i < n {
-        let a = text_pieces::put_bytes(b":", out, p);
-        p = text_pieces::put_term(f.terms[i], out, a);
+        let a = text_write::pieces::put_bytes(b":", out, p);
+        p = text_write::pieces::put_term(f.terms[i], out, a);
         i += 1;
     }
     p
 }
 
 // The fields with a `|` between them, of any value.
-pub fn put_side(r: RuleSide, out: &mut [u8], at: usize) -> usize
+pub(crate) fn put_side(r: RuleSide, out: &mut [u8], at: usize) -> usize
     ensures { λ p. ⌜ Placed (plain (viewSide r)) at (now (out .entry)) p (now (out .exit)) ⌝ }
 {
     let n = at_most(r.n, 4);
@@ -51,7 +55,7 @@ pub fn put_side(r: RuleSide, out: &mut [u8], at: usize) -> usize
     let mut p = put_field(r.fields[0], out, at);
     let mut i: usize = 1;
     while i < n {
-        let a = text_pieces::put_bytes(b"|", out, p);
+        let a = text_write::pieces::put_bytes(b"|", out, p);
         p = put_field(r.fields[i], out, a);
         i += 1;
     }
@@ -77,5 +81,5 @@ pub fn write_side(r: RuleSide, out: &mut [u8]) -> Written
     }
     let mut text = room();
     let n = put_side(r, &mut text, 0);
-    text_pieces::give(&text[..n], out)
+    text_write::pieces::give(&text[..n], out)
 }

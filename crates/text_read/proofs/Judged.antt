@@ -6,13 +6,13 @@ use native.Mathlib.Omega.{arith}
 use lib.ListN.{take}
 use Rattle.base_lists.specs.Seqs.{IsCons}
 use Rattle.text_grammar.specs.Read.{Reason, number, OutcomeOf, OurFields, Outcome, refused, accepted, readSide}
-use Rattle.text_rules.specs.Read.{OurRule, readRule}
-use Rattle.text_rules.proofs.Accepted.{rule-read}
-use Rattle.text_verdicts.specs.declared.Reason as values
-use Rattle.text_verdicts.specs.declared.Verdict.{Verdict}
-use Rattle.text_verdicts.specs.declared.Verdict.the-variants.{Accepted, Refused}
-use Rattle.text_verdicts.specs.Verdicts.{reasonFrom, numberOf, verdictOf}
-use Rattle.text_verdicts.proofs.Verdicts.{number-is}
+use Rattle.text_grammar.specs.rules.Read.{OurRule, readRule}
+use Rattle.text_grammar.proofs.rules.Accepted.{rule-read}
+use Rattle.text_refusals.specs.declared.verdicts.Reason as values
+use Rattle.text_refusals.specs.declared.verdicts.Verdict.{Verdict}
+use Rattle.text_refusals.specs.declared.verdicts.Verdict.the-variants.{Accepted, Refused}
+use Rattle.text_refusals.specs.verdicts.Verdicts.{reasonFrom, numberOf, verdictOf}
+use Rattle.text_refusals.proofs.verdicts.Verdicts.{number-is}
 use Rattle.text_read.specs.declared.LeftJudged.{LeftJudged}
 use Rattle.text_read.specs.Answers.{sideSaid, leftSaid, JudgesLeft}
 

@@ -1,4 +1,4 @@
--- What the code says of a rule text, case by case, is reading: `judge-is` of text_rules/proofs has reading side by side.
+-- What the code says of a rule text, case by case, is reading: `judge-is` of text_grammar/proofs/rules has reading side by side.
 use mathlib.Core.Path.{_≡_, refl, sym, _∙_, ap, ap₂, subst}
 use mathlib.Core.Logic.{inl, inr, if-pos, if-neg}
 use mathlib.Core.Bool.{Bool, true, false, cond}
@@ -23,27 +23,27 @@ use Rattle.text_grammar.proofs.Refused.{rule-place}
 use Rattle.text_grammar.proofs.Accepted.{Base, in-grammar, said-is, rule-read}
 use Rattle.text_grammar.proofs.Theorems.{rule-accepted, rule-refused}
 use Rattle.text_grammar.proofs.Walk.{walk-says}
-use Rattle.text_rules.specs.Place.{cut, placeRule}
-use Rattle.text_rules.specs.Read.{OurRule, readRule}
-use Rattle.text_rules.specs.Judge.{asRule, rightTold, lower, lackingAt, known, judgeTwo, judgeParts}
-use Rattle.text_rules.proofs.Judge.{judge-is}
-use Rattle.text_rules.proofs.Sharp as rules
+use Rattle.text_grammar.specs.rules.Place.{cut, placeRule}
+use Rattle.text_grammar.specs.rules.Read.{OurRule, readRule}
+use Rattle.text_grammar.specs.rules.Judge.{asRule, rightTold, lower, lackingAt, known, judgeTwo, judgeParts}
+use Rattle.text_grammar.proofs.rules.Judge.{judge-is}
+use Rattle.text_grammar.proofs.rules.Sharp as rules
 use Rattle.text_scan.specs.declared.Found.{Found}
 use Rattle.text_scan.specs.Places.{foundOf}
-use Rattle.text_split.specs.declared.Split.the-variants as split
-use Rattle.text_split.specs.Splits.{splitOf}
+use Rattle.text_scan.specs.declared.split.Split.the-variants as split
+use Rattle.text_scan.specs.split.Splits.{splitOf}
 use lib.Seq.{length-take-le, take-all}
-use Rattle.text_split.proofs.Splits.{stops-place, one-cut, TwoSides, two-sides}
-use Rattle.text_verdicts.specs.declared.Reason as values
-use Rattle.text_verdicts.specs.declared.Reason.the-variants.{Long, Grammar, Fields, Terms, Limits, Linear, Variable, Unknown}
-use Rattle.text_verdicts.specs.declared.Verdict.{Verdict}
-use Rattle.text_verdicts.specs.declared.Verdict.the-variants.{Accepted, Refused}
-use Rattle.text_verdicts.specs.Verdicts.{reasonFrom, numberOf, verdictOf, firstOf}
-use Rattle.text_verdicts.proofs.Verdicts.{number-is}
+use Rattle.text_scan.proofs.split.Splits.{stops-place, one-cut, TwoSides, two-sides}
+use Rattle.text_refusals.specs.declared.verdicts.Reason as values
+use Rattle.text_refusals.specs.declared.verdicts.Reason.the-variants.{Long, Grammar, Fields, Terms, Limits, Linear, Variable, Unknown}
+use Rattle.text_refusals.specs.declared.verdicts.Verdict.{Verdict}
+use Rattle.text_refusals.specs.declared.verdicts.Verdict.the-variants.{Accepted, Refused}
+use Rattle.text_refusals.specs.verdicts.Verdicts.{reasonFrom, numberOf, verdictOf, firstOf}
+use Rattle.text_refusals.proofs.verdicts.Verdicts.{number-is}
 use Rattle.text_values.specs.declared.RuleSide.{RuleSide}
 use Rattle.text_values.specs.Values.{viewSide, encodeSide}
 use Rattle.text_accepted.proofs.Accepted.{view-encode-rule}
-use Rattle.text_unknown.proofs.Unknown.{NumbersIn}
+use Rattle.text_refusals.proofs.unknown.Unknown.{NumbersIn}
 use Rattle.text_refusals.specs.declared.Survey.{Survey}
 use Rattle.text_passes.specs.Build.{builtSide}
 use Rattle.text_passes.specs.Passes.{surveyIn, sideIn, unknownIn}

@@ -9,17 +9,17 @@ use lib.ListN.{length, take, drop}
 use lib.Seq.{take-all}
 use Rattle.text_grammar.specs.Terms.{fieldsOf}
 use Rattle.text_grammar.specs.Read.{rule, said, unknown, OutcomeOf, OurFields, Outcome, refused, accepted, tell, readSide}
-use Rattle.text_rules.specs.Read.{OurRule, readRule}
-use Rattle.text_rules.specs.Judge.{asRule, lackingAt, known}
+use Rattle.text_grammar.specs.rules.Read.{OurRule, readRule}
+use Rattle.text_grammar.specs.rules.Judge.{asRule, lackingAt, known}
 use Rattle.text_values.specs.declared.RuleSide.{RuleSide}
 use Rattle.text_values.specs.declared.Rule.{Rule}
 use Rattle.text_values.specs.Values.{blankSide, blankRule}
-use Rattle.text_split.specs.declared.Split.{Split}
-use Rattle.text_split.specs.declared.Split.the-variants as split
-use Rattle.text_split.specs.Splits.{splitOf}
-use Rattle.text_verdicts.specs.declared.Verdict.{Verdict}
-use Rattle.text_verdicts.specs.declared.Verdict.the-variants.{Accepted, Refused}
-use Rattle.text_verdicts.specs.Verdicts.{verdictOf}
+use Rattle.text_scan.specs.declared.split.Split.{Split}
+use Rattle.text_scan.specs.declared.split.Split.the-variants as split
+use Rattle.text_scan.specs.split.Splits.{splitOf}
+use Rattle.text_refusals.specs.declared.verdicts.Verdict.{Verdict}
+use Rattle.text_refusals.specs.declared.verdicts.Verdict.the-variants.{Accepted, Refused}
+use Rattle.text_refusals.specs.verdicts.Verdicts.{verdictOf}
 use Rattle.text_passes.specs.Passes.{sideIn}
 use Rattle.text_read.specs.Sides.{endOf}
 use Rattle.text_read.specs.Answers.{ruleRead, sideSaid, leftSaid, leftEnd, JudgesLeft}

@@ -10,7 +10,7 @@ use native.Mathlib.Decide.{decLt}
 use lib.ListN.{length}
 use Rattle.text_grammar.specs.Grammar.{Raw}
 use Rattle.text_grammar.specs.Machine.{place2}
-use Rattle.text_grammar.specs.Marks.{Mark}
+use Rattle.text_grammar.specs.Tokens.{Token}
 use Rattle.text_grammar.specs.Terms.{OurTerm, fieldsOf}
 use Rattle.text_grammar.specs.Walk.{walked}
 use Rattle.text_grammar.specs.Read.{Reason, long, grammar, Sort, slip, said, firstBad, placeOf, Outcome, refused, accepted, tell, chain, read, readSlip}
@@ -23,14 +23,14 @@ use Rattle.text_values.specs.Values.{blankSlip}
 use Rattle.text_scan.specs.declared.Found.{Found}
 use Rattle.text_scan.specs.declared.Found.the-variants as found
 use Rattle.text_scan.specs.Places.{foundOf}
-use Rattle.text_split.proofs.Splits.{found-at, found-none}
-use Rattle.text_verdicts.specs.declared.Verdict.{Verdict}
-use Rattle.text_verdicts.specs.declared.Verdict.the-variants.{Accepted, Refused}
+use Rattle.text_scan.proofs.split.Splits.{found-at, found-none}
+use Rattle.text_refusals.specs.declared.verdicts.Verdict.{Verdict}
+use Rattle.text_refusals.specs.declared.verdicts.Verdict.the-variants.{Accepted, Refused}
 use Rattle.text_refusals.specs.declared.Survey.{Survey}
 use Rattle.text_passes.specs.Build.{builtSlip}
 use Rattle.text_passes.specs.Passes.{surveyIn, slipIn}
-use Rattle.text_verdicts.specs.Verdicts.{sortOf, reasonFrom, verdictOf}
-use Rattle.text_refusals.specs.Refusals.{surveyMark, nothingYet}
+use Rattle.text_refusals.specs.verdicts.Verdicts.{sortOf, reasonFrom, verdictOf}
+use Rattle.text_refusals.specs.Refusals.{surveyToken, nothingYet}
 use Rattle.text_refusals.proofs.Refusals.{reasons, survey-is}
 use Rattle.text_read.specs.Answers.{slipRead}
 use Rattle.text_passes.proofs.Build.{slip-built}
@@ -66,11 +66,11 @@ module _ (s : Bool) (t : List ℕ) where
   read-grammar p h e = short h ∙ ap (λ (q : Option ℕ). tell grammar q rest) e
 
   -- in one pass, where the text is of the grammar
-  read-survey : length t ≤ S .bytes → place2 t ≡ none → (foldl (surveyMark s (S .width)) nothingYet (walked t)) .verdict ≡ verdictOf (read S t)
+  read-survey : length t ≤ S .bytes → place2 t ≡ none → (foldl (surveyToken s (S .width)) nothingYet (walked t)) .verdict ≡ verdictOf (read S t)
   read-survey h e =
       let g = place2-none t .1 e in
       let x = g .0 in
-      ap (λ (ms : List Mark). (foldl (surveyMark s (S .width)) nothingYet ms) .verdict) (walk-says t x (g .1))
+      ap (λ (ms : List Token). (foldl (surveyToken s (S .width)) nothingYet ms) .verdict) (walk-says t x (g .1))
       ∙ survey-is s (S .width) x (fieldsOf (said t)) (g .1 .0 .1)
       ∙ ap (λ (y : List (List Raw)). verdictOf (chain (λ (r : Reason). firstBad (S .width) r y) (reasons s) (fieldsOf (said t)))) (sym (said-is t x (g .1)))
       ∙ ap verdictOf (sym (short h ∙ ap (λ (q : Option ℕ). tell grammar q rest) e ∙ chained s))
@@ -109,7 +109,7 @@ slip-accepted t e =
 -- a text of the grammar, in one pass
 pub surveyed-is : (s : Bool) (t : List ℕ) → length t ≤ (sortOf s) .bytes → place2 t ≡ none → (surveyIn s t) .verdict ≡ verdictOf (read (sortOf s) t)
 surveyed-is s t h e =
-    let whole : surveyIn s t ≡ foldl (surveyMark s ((sortOf s) .width)) nothingYet (walked t) = rw (is-short t (bytes-small s h)) in
+    let whole : surveyIn s t ≡ foldl (surveyToken s ((sortOf s) .width)) nothingYet (walked t) = rw (is-short t (bytes-small s h)) in
     ap (λ (x : Survey). x .verdict) whole ∙ read-survey s t h e
   where
     bytes-small : (s : Bool) → length t ≤ (sortOf s) .bytes → length t ≤ slip .bytes

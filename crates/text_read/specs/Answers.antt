@@ -4,12 +4,12 @@ use mathlib.Core.List.{List, []}
 use Prim.Native.Nat.{ℕ, _≤_}
 use lib.ListN.{length, take}
 use Rattle.text_grammar.specs.Read.{OutcomeOf, Outcome, refused, accepted, OurFields, readSide, readSlip}
-use Rattle.text_rules.specs.Read.{OurRule, readRule}
+use Rattle.text_grammar.specs.rules.Read.{OurRule, readRule}
 use Rattle.text_values.specs.Values.{blankRule, blankSlip, encodeRule, encodeSlip}
-use Rattle.text_split.specs.Splits.{splitOf}
-use Rattle.text_verdicts.specs.declared.Verdict.{Verdict}
-use Rattle.text_verdicts.specs.declared.Verdict.the-variants.{Accepted, Refused}
-use Rattle.text_verdicts.specs.Verdicts.{reasonFrom, verdictOf}
+use Rattle.text_scan.specs.split.Splits.{splitOf}
+use Rattle.text_refusals.specs.declared.verdicts.Verdict.{Verdict}
+use Rattle.text_refusals.specs.declared.verdicts.Verdict.the-variants.{Accepted, Refused}
+use Rattle.text_refusals.specs.verdicts.Verdicts.{reasonFrom, verdictOf}
 use Rattle.text_read.specs.declared.RuleRead.{RuleRead}
 use Rattle.text_read.specs.declared.SlipRead.{SlipRead}
 use Rattle.text_read.specs.declared.LeftJudged.{LeftJudged}

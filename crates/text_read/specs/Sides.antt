@@ -2,11 +2,11 @@
 use Prim.Native.Nat.{ℕ, _+_, _≤_}
 use Rattle.text_scan.specs.declared.Found.{Found}
 use Rattle.text_scan.specs.declared.Found.the-variants.{At, Nothing}
-use Rattle.text_split.specs.declared.Split.{Split}
-use Rattle.text_split.specs.declared.Split.the-variants.{One, Two, Stops}
-use Rattle.text_verdicts.specs.declared.Reason.the-variants.{Long, Grammar, Fields, Terms, Limits, Linear, Variable, Unknown}
-use Rattle.text_verdicts.specs.declared.Verdict.{Verdict}
-use Rattle.text_verdicts.specs.declared.Verdict.the-variants.{Accepted, Refused}
+use Rattle.text_scan.specs.declared.split.Split.{Split}
+use Rattle.text_scan.specs.declared.split.Split.the-variants.{One, Two, Stops}
+use Rattle.text_refusals.specs.declared.verdicts.Reason.the-variants.{Long, Grammar, Fields, Terms, Limits, Linear, Variable, Unknown}
+use Rattle.text_refusals.specs.declared.verdicts.Verdict.{Verdict}
+use Rattle.text_refusals.specs.declared.verdicts.Verdict.the-variants.{Accepted, Refused}
 
 -- what the right side's own verdict says: 6 is none there, and the side begins at place d
 abbrev pub rightOf : ℕ → Verdict → Verdict

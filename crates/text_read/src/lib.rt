@@ -4,19 +4,19 @@ ghost use mathlib.Core.Path.{_≡_};
 ghost use Prim.Native.Nat.{_≤_};
 ghost use lib.ListN.{length};
 ghost use Rattle.text_grammar.specs.Read.{readSlip};
-ghost use Rattle.text_rules.specs.Read.{readRule};
-ghost use Rattle.text_verdicts.specs.Verdicts.{verdictOf};
-ghost use Rattle.text_split.specs.Splits.{splitOf};
-ghost use Rattle.text_split.specs.declared.Split.the-variants.{Two};
-ghost use Rattle.text_verdicts.specs.declared.Verdict.the-variants.{Accepted};
+ghost use Rattle.text_grammar.specs.rules.Read.{readRule};
+ghost use Rattle.text_refusals.specs.verdicts.Verdicts.{verdictOf};
+ghost use Rattle.text_scan.specs.split.Splits.{splitOf};
+ghost use Rattle.text_scan.specs.declared.split.Split.the-variants.{Two};
+ghost use Rattle.text_refusals.specs.declared.verdicts.Verdict.the-variants.{Accepted};
 ghost use Rattle.text_read.specs.Answers.{ruleRead, ReadsRule, ReadsSlip, JudgesLeft};
 ghost use Rattle.text_read.specs.Sides.{rightOf, unknownOf, PlacedIn, FoundIn, endOf};
+use text_refusals::verdicts::Reason;
+use text_refusals::verdicts::Verdict;
 use text_scan::Found;
-use text_split::Split;
+use text_scan::split::Split;
 use text_values::Rule;
 use text_values::Slip;
-use text_verdicts::Reason;
-use text_verdicts::Verdict;
 
 pub struct RuleRead {
     pub verdict: Verdict,
@@ -76,7 +76,7 @@ fn right_verdict(v: Verdict, d: usize) -> Verdict
     match v {
         Verdict::Accepted => Verdict::Accepted,
         Verdict::Refused(r, p) => {
-            if text_verdicts::number(r) == 6 {
+            if text_refusals::verdicts::number(r) == 6 {
                 return Verdict::Accepted;
             }
             Verdict::Refused(r, d + p)
@@ -105,7 +105,7 @@ fn judge_two(text: &[u8], p: usize) -> Verdict
     let r = text_passes::survey(&text[d..], false);
     let left = l.verdict;
     let right = r.verdict;
-    let both = text_verdicts::first(left, right_verdict(right, d));
+    let both = text_refusals::verdicts::first(left, right_verdict(right, d));
     match both {
         Verdict::Accepted => {
             let side = text_passes::side_in(&text[..p]);
@@ -159,7 +159,7 @@ fn rule_of(text: &[u8], split: Split) -> Rule
 pub fn read_rule(text: &[u8]) -> RuleRead
     ensures { λ r. ⌜ ReadsRule (now (text .entry)) r ⌝ }
 {
-    let split = text_split::split_of(text);
+    let split = text_scan::split::split_of(text);
     let verdict = judge_rule(text, split);
     match verdict {
         Verdict::Accepted => RuleRead {
@@ -188,7 +188,7 @@ fn left_end(text: &[u8], split: Split) -> usize
 pub fn judge_left(text: &[u8]) -> LeftJudged
     ensures { λ r. ⌜ JudgesLeft (now (text .entry)) r ⌝ }
 {
-    let split = text_split::split_of(text);
+    let split = text_scan::split::split_of(text);
     let verdict = judge_rule(text, split);
     match verdict {
         Verdict::Accepted => LeftJudged {

@@ -17,23 +17,23 @@ use Rattle.text_grammar.specs.Sizes.{mostDigits, largestInteger, longestString,
 use Rattle.text_grammar.specs.Grammar.{Raw, raw-int, raw-str, raw-var, raw-empty, spell, spellF, FieldOk}
 use Rattle.text_grammar.specs.Numbers.{value}
 use Rattle.text_grammar.specs.Leftmost.{leftmost}
-use Rattle.text_grammar.specs.Marks.{Mark, marks, marksF, marksT, FifthField, TooMany, Over, over?, fifth?, many?, IsVar, isVar?}
-use Rattle.text_grammar.specs.Marks.{listNo, Occ, occ, occs, Clash, ClashOf, clashOf?}
-use Rattle.text_grammar.specs.Read.{Reason, fields, terms, limits, linear, variable, Bad, bad?, placeOfMark, firstBad, chain}
+use Rattle.text_grammar.specs.Tokens.{Token, tokens, tokensF, tokensT, FifthField, TooMany, Over, over?, fifth?, many?, IsVar, isVar?}
+use Rattle.text_grammar.specs.Tokens.{listNo, Occ, occ, occs, Clash, ClashOf, clashOf?}
+use Rattle.text_grammar.specs.Read.{Reason, fields, terms, limits, linear, variable, Bad, bad?, placeOfToken, firstBad, chain}
 use Rattle.text_grammar.proofs.Fields.{occs-append}
-use Rattle.text_linearity.specs.declared.Lists.{Lists}
-use Rattle.text_linearity.specs.Lists.{noLists, nextField, stillOk, addList}
-use Rattle.text_linearity.proofs.Linear.{Tracks, tracks-none, tracks-next, tracks-add, tracks-clash}
-use Rattle.text_scan.specs.Pieces.{capped, pieceOf}
-use Rattle.text_verdicts.specs.declared.Reason as values
-use Rattle.text_verdicts.specs.declared.Reason.the-variants.{Fields, Terms, Limits, Linear, Variable}
-use Rattle.text_verdicts.specs.declared.Verdict.{Verdict}
-use Rattle.text_verdicts.specs.declared.Verdict.the-variants.{Accepted, Refused}
-use Rattle.text_verdicts.specs.Verdicts.{numberOf, reasonFrom, verdictOf, firstOf}
-use Rattle.text_verdicts.proofs.Verdicts.{first-former, first-latter, first-none, first-assoc, first-keeps, first-takes}
-use Rattle.text_verdicts.proofs.Verdicts.{refusedBy, verdictBy, verdict-chain, Behind, behind-less, Rising, verdict-behind}
+use Rattle.text_accepted.specs.declared.linearity.Lists.{Lists}
+use Rattle.text_accepted.specs.linearity.Lists.{noLists, nextField, stillOk, addList}
+use Rattle.text_accepted.proofs.linearity.Linear.{Tracks, tracks-none, tracks-next, tracks-add, tracks-clash}
+use Rattle.text_scan.specs.Lexemes.{capped, lexemeOf}
+use Rattle.text_refusals.specs.declared.verdicts.Reason as values
+use Rattle.text_refusals.specs.declared.verdicts.Reason.the-variants.{Fields, Terms, Limits, Linear, Variable}
+use Rattle.text_refusals.specs.declared.verdicts.Verdict.{Verdict}
+use Rattle.text_refusals.specs.declared.verdicts.Verdict.the-variants.{Accepted, Refused}
+use Rattle.text_refusals.specs.verdicts.Verdicts.{numberOf, reasonFrom, verdictOf, firstOf}
+use Rattle.text_refusals.proofs.verdicts.Verdicts.{first-former, first-latter, first-none, first-assoc, first-keeps, first-takes}
+use Rattle.text_refusals.proofs.verdicts.Verdicts.{refusedBy, verdictBy, verdict-chain, Behind, behind-less, Rising, verdict-behind}
 use Rattle.text_refusals.specs.declared.Survey.{Survey}
-use Rattle.text_refusals.specs.Refusals.{overPiece, isList, clashBy, variableBy, lastBad, lastReason, met, addBy, listsAt, atOf, surveyMark, nothingYet}
+use Rattle.text_refusals.specs.Refusals.{overLexeme, isList, clashBy, variableBy, lastBad, lastReason, met, addBy, listsAt, atOf, surveyToken, nothingYet}
 
 -- ---- the tests of the code and the decisions of the definition
 
@@ -55,7 +55,7 @@ lt-same a b c f g = go (decLt a b)
 capped-test : (a v : ℕ) → a ≤ largestInteger → ltb a (capped v) ≡ ltb a v
 capped-test a v h = lt-same a (capped v) v (λ k. omega arith) (λ k. omega arith)
 
-over-cond : {A : Type 0} (r : Raw) (d : Dec (Over r)) (x y : A) → cond (overPiece (pieceOf r)) x y ≡ ite d x y
+over-cond : {A : Type 0} (r : Raw) (d : Dec (Over r)) (x y : A) → cond (overLexeme (lexemeOf r)) x y ≡ ite d x y
 over-cond (raw-int ds) d x y = rw (capped-test largestInteger (value ds) (omega arith)) (go (decLt mostDigits (length ds)) (decLt largestInteger (value ds)) d)
   where
     go : Dec (mostDigits < length ds) → Dec (largestInteger < value ds) → (d : Dec (Over (raw-int ds)))
@@ -84,16 +84,16 @@ rising true = (omega arith, (omega arith, (omega arith, (omega arith, tt))))
 rising false = (omega arith, (omega arith, (omega arith, (omega arith, tt))))
 
 module _ (w : ℕ) where
-  -- where a reason applies first, behind the marks b
-  abbrev places : List Mark → List Mark → Reason → Option ℕ
-  places b ms r = Option·map placeOfMark (leftmost (Bad w r) (bad? w r) b ms)
+  -- where a reason applies first, behind the tokens b
+  abbrev places : List Token → List Token → Reason → Option ℕ
+  places b ms r = Option·map placeOfToken (leftmost (Bad w r) (bad? w r) b ms)
 
   -- the first of the reasons that m is bad for
-  abbrev metBy : List Mark → Mark → List Reason → Verdict
+  abbrev metBy : List Token → Token → List Reason → Verdict
   metBy b m [] = Accepted
   metBy b m (r ∷ rs) = ite (bad? w r b m) (Refused (reasonFrom r) (m .place)) (metBy b m rs)
 
-  met-behind : (n : ℕ) (b : List Mark) (m : Mark) (rs : List Reason) → Rising n rs → Behind n (metBy b m rs)
+  met-behind : (n : ℕ) (b : List Token) (m : Token) (rs : List Reason) → Rising n rs → Behind n (metBy b m rs)
   met-behind n b m [] h = tt
   met-behind n b m (r ∷ rs) h = go (bad? w r b m) (met-behind (numberOf (reasonFrom r)) b m rs (h .1))
     where
@@ -101,8 +101,8 @@ module _ (w : ℕ) where
       go (yes x) g = h .0
       go (no x) g = behind-less n (numberOf (reasonFrom r)) (metBy b m rs) (h .0) g
 
-  -- with a mark more in front: what it meets, or what is met behind it
-  met-step : (n : ℕ) (b : List Mark) (m : Mark) (ms : List Mark) (rs : List Reason) → Rising n rs
+  -- with a token more in front: what it meets, or what is met behind it
+  met-step : (n : ℕ) (b : List Token) (m : Token) (ms : List Token) (rs : List Reason) → Rising n rs
       → verdictBy (places b (m ∷ ms)) rs ≡ firstOf (metBy b m rs) (verdictBy (places (b ++ m ∷ []) ms) rs)
   met-step n b m ms [] h = refl
   met-step n b m ms (r ∷ rs) h =
@@ -111,10 +111,10 @@ module _ (w : ℕ) where
       go (bad? w r b m) (leftmost (Bad w r) (bad? w r) (b ++ m ∷ []) ms) (verdictBy (places b (m ∷ ms)) rs) (metBy b m rs) later (met-step k b m ms rs (h .1))
       (met-behind k b m rs (h .1)) (verdict-behind k (places (b ++ m ∷ []) ms) rs (h .1))
     where
-      go : (d : Dec (Bad w r b m)) (o : Option Mark) (v u v′ : Verdict) → v ≡ firstOf u v′
+      go : (d : Dec (Bad w r b m)) (o : Option Token) (v u v′ : Verdict) → v ≡ firstOf u v′
           → Behind (numberOf (reasonFrom r)) u → Behind (numberOf (reasonFrom r)) v′
-          → refusedBy r (Option·map placeOfMark (ite d (some m) o)) v
-          ≡ firstOf (ite d (Refused (reasonFrom r) (m .place)) u) (refusedBy r (Option·map placeOfMark o) v′)
+          → refusedBy r (Option·map placeOfToken (ite d (some m) o)) v
+          ≡ firstOf (ite d (Refused (reasonFrom r) (m .place)) u) (refusedBy r (Option·map placeOfToken o) v′)
       go (yes x) (some k) v u v′ e g g′ = sym (first-former (reasonFrom r) (reasonFrom r) (m .place) (k .place) (omega arith))
       go (yes x) none v u v′ e g g′ = sym (first-keeps (reasonFrom r) (m .place) v′ g′)
       go (no x) (some k) v u v′ e g g′ = sym (first-takes (reasonFrom r) (k .place) u g)
@@ -164,12 +164,12 @@ late-same (Refused r q) p c d h = cond-is c ∙ sym (ite-is d)
     ite-is (no x) = refl
 
 -- what is known of the list variables before a term of field n: nothing is needed of a slip, nor where 6 does not count any more
-abbrev Valid : Bool → List Mark → ℕ → Lists → Verdict → Type 0
+abbrev Valid : Bool → List Token → ℕ → Lists → Verdict → Type 0
 Valid true b n l v = Unit {0}
 Valid false b n l v = Late v ⊎ (Tracks (occs b) n l × (l .ok ≡ true))
 
 module _ (w : ℕ) where
-  variable-last : {A : Type 0} (r : Raw) (d : Dec (IsVar r)) (x y : A) → cond (variableBy ((pieceOf r) .what)) x y ≡ ite d x y
+  variable-last : {A : Type 0} (r : Raw) (d : Dec (IsVar r)) (x y : A) → cond (variableBy ((lexemeOf r) .what)) x y ≡ ite d x y
   variable-last (raw-int ds) (yes h) x y = absurd h
   variable-last (raw-int ds) (no h) x y = refl
   variable-last (raw-str s) (yes h) x y = absurd h
@@ -181,7 +181,7 @@ module _ (w : ℕ) where
 
   linear-last : {A : Type 0} (b : List Occ) (n : ℕ) (l : Lists) (r : Raw) (d : Dec (ClashOf b n (listNo r))) (x y : A)
       → Tracks b n l → l .ok ≡ true → (Over r → ⊥)
-      → cond (clashBy ((pieceOf r) .what) ((pieceOf r) .value) l) x y ≡ ite d x y
+      → cond (clashBy ((lexemeOf r) .what) ((lexemeOf r) .value) l) x y ≡ ite d x y
   linear-last b n l (raw-int ds) (yes h) x y t o v = absurd h
   linear-last b n l (raw-int ds) (no h) x y t o v = refl
   linear-last b n l (raw-str s) (yes h) x y t o v = absurd h
@@ -205,28 +205,28 @@ module _ (w : ℕ) where
   linear-last b n l raw-empty (no h) x y t o v = refl
 
   -- the last reason, as the code finds it
-  abbrev lastMet : Bool → Mark → Lists → Verdict
-  lastMet slip m l = cond (lastBad slip (pieceOf (m .raw)) l) (Refused (lastReason slip) (m .place)) Accepted
+  abbrev lastMet : Bool → Token → Lists → Verdict
+  lastMet slip m l = cond (lastBad slip (lexemeOf (m .raw)) l) (Refused (lastReason slip) (m .place)) Accepted
 
   -- a term that is not refused before: the last reason
-  last-is : (slip : Bool) (b : List Mark) (m : Mark) (l : Lists) (v : Verdict) → Valid slip b (m .inField) l v → (Over (m .raw) → ⊥)
+  last-is : (slip : Bool) (b : List Token) (m : Token) (l : Lists) (v : Verdict) → Valid slip b (m .inField) l v → (Over (m .raw) → ⊥)
       → firstOf v (lastMet slip m l) ≡ firstOf v (metBy w b m (drop 3 (reasons slip)))
   last-is true b m l v a o = ap (firstOf v) (variable-last (m .raw) (isVar? (m .raw)) (Refused Variable (m .place)) Accepted)
-  last-is false b m l v (inl h) o = late-same v (m .place) (lastBad false (pieceOf (m .raw)) l) (clashOf? (occs b) (m .inField) (listNo (m .raw))) h
+  last-is false b m l v (inl h) o = late-same v (m .place) (lastBad false (lexemeOf (m .raw)) l) (clashOf? (occs b) (m .inField) (listNo (m .raw))) h
   last-is false b m l v (inr h) o =
       let d = clashOf? (occs b) (m .inField) (listNo (m .raw)) in
       ap (firstOf v) (linear-last (occs b) (m .inField) l (m .raw) d (Refused Linear (m .place)) Accepted (h .0) (h .1) o)
 
-  reasons-are : (slip : Bool) (b : List Mark) (m : Mark)
+  reasons-are : (slip : Bool) (b : List Token) (m : Token)
       → metBy w b m (reasons slip)
       ≡ ite (fifth? b m) (Refused Fields (m .place))
       (ite (many? w b m) (Refused Terms (m .place)) (ite (over? (m .raw)) (Refused Limits (m .place)) (metBy w b m (drop 3 (reasons slip)))))
   reasons-are true b m = refl
   reasons-are false b m = refl
 
-  -- the code finds the first reason that a mark is bad for, or another that does not count
-  close : (slip : Bool) (b : List Mark) (m : Mark) (l : Lists) (v : Verdict) → Valid slip b (m .inField) l v
-      → firstOf v (met slip w (atOf m) (pieceOf (m .raw)) l) ≡ firstOf v (metBy w b m (reasons slip))
+  -- the code finds the first reason that a token is bad for, or another that does not count
+  close : (slip : Bool) (b : List Token) (m : Token) (l : Lists) (v : Verdict) → Valid slip b (m .inField) l v
+      → firstOf v (met slip w (atOf m) (lexemeOf (m .raw)) l) ≡ firstOf v (metBy w b m (reasons slip))
   close slip b m l v a =
       ap (firstOf v) (lt-cond mostFields (m .inField) (fifth? b m) (Refused Fields (m .place)) _
       ∙ ap (ite (fifth? b m) (Refused Fields (m .place))) (lt-cond w (m .index) (many? w b m) (Refused Terms (m .place)) _
@@ -242,32 +242,32 @@ module _ (w : ℕ) where
       go (no n) (no k) (yes h) x y f = refl
       go (no n) (no k) (no u) x y f = f u
 
--- ---- from mark to mark
+-- ---- from token to token
 
--- a mark begins the next field, or goes on in this one
-abbrev Onward : ℕ → Mark → Type 0
+-- a token begins the next field, or goes on in this one
+abbrev Onward : ℕ → Token → Type 0
 Onward n m = ((m .index ≡ 1) × (m .inField ≡ suc n)) ⊎ ((m .index ≢ 1) × (m .inField ≡ n))
 
-abbrev Steps : ℕ → List Mark → Type 0
+abbrev Steps : ℕ → List Token → Type 0
 Steps n [] = Unit {0}
 Steps n (m ∷ ms) = Onward n m × Steps (m .inField) ms
 
-steps-field : (rs : List Raw) (p n i : ℕ) (ms : List Mark) → Steps n ms → Steps n (marksF p n (suc (suc i)) rs ++ ms)
+steps-field : (rs : List Raw) (p n i : ℕ) (ms : List Token) → Steps n ms → Steps n (tokensF p n (suc (suc i)) rs ++ ms)
 steps-field [] p n i ms h = h
 steps-field (r ∷ rs) p n i ms h = (inr (λ e. omega arith, refl), steps-field rs (suc (p + length (spell r))) n (suc i) ms h)
 
-pub steps-text : (x : List (List Raw)) (p n : ℕ) → All FieldOk x → Steps n (marksT p (suc n) x)
+pub steps-text : (x : List (List Raw)) (p n : ℕ) → All FieldOk x → Steps n (tokensT p (suc n) x)
 steps-text [] p n g = tt
 steps-text ([] ∷ fs) p n g = absurd (g .0 .0)
 steps-text ((r ∷ rs) ∷ fs) p n g =
     let k = suc (p + length (spellF (r ∷ rs))) in
-    (inl (refl, refl), steps-field rs (suc (p + length (spell r))) (suc n) 0 (marksT k (suc (suc n)) fs) (steps-text fs k (suc n) (g .1)))
+    (inl (refl, refl), steps-field rs (suc (p + length (spell r))) (suc n) 0 (tokensT k (suc (suc n)) fs) (steps-text fs k (suc n) (g .1)))
 
-occs-one : (b : List Mark) (m : Mark) → occs (b ++ m ∷ []) ≡ occs b ++ occ (m .inField) (listNo (m .raw))
+occs-one : (b : List Token) (m : Token) → occs (b ++ m ∷ []) ≡ occs b ++ occ (m .inField) (listNo (m .raw))
 occs-one b m = occs-append b (m ∷ []) ∙ ap (λ (l : List Occ). occs b ++ l) (append-nil (occ (m .inField) (listNo (m .raw))))
 
 -- where a field begins
-entered : (slip : Bool) (b : List Mark) (n : ℕ) (m : Mark) (l : Lists) (v : Verdict) → Onward n m → Valid slip b n l v
+entered : (slip : Bool) (b : List Token) (n : ℕ) (m : Token) (l : Lists) (v : Verdict) → Onward n m → Valid slip b n l v
     → Valid slip b (m .inField) (listsAt (atOf m) l) v
 entered true b n m l v s a = tt
 entered false b n m l v s (inl h) = inl h
@@ -278,11 +278,11 @@ entered false b n m l v (inr s) (inr a) =
 
 -- the list variables with a term
 abbrev addRaw : Raw → Lists → Lists
-addRaw r l = addBy ((pieceOf r) .what) ((pieceOf r) .value) l
+addRaw r l = addBy ((lexemeOf r) .what) ((lexemeOf r) .value) l
 
 module _ (w : ℕ) where
   -- behind a term
-  module _ (b : List Mark) (m : Mark) (l : Lists) (v : Verdict) (t : Tracks (occs b) (m .inField) l) (o : l .ok ≡ true) where
+  module _ (b : List Token) (m : Token) (l : Lists) (v : Verdict) (t : Tracks (occs b) (m .inField) l) (o : l .ok ≡ true) where
     abbrev Follows : Raw → Type 0
     Follows r = Tracks (occs b ++ occ (m .inField) (listNo r)) (m .inField) (addRaw r l) × ((addRaw r l) .ok ≡ true)
 
@@ -320,7 +320,7 @@ module _ (w : ℕ) where
         go (no n) (no k) (no u) (yes x) = inl (late-met v Linear (m .place) (omega arith))
         go (no n) (no k) (no u) (no x) = inr (added (m .raw) u x)
 
-  behind : (slip : Bool) (b : List Mark) (m : Mark) (l : Lists) (v : Verdict) → Valid slip b (m .inField) l v
+  behind : (slip : Bool) (b : List Token) (m : Token) (l : Lists) (v : Verdict) → Valid slip b (m .inField) l v
       → Valid slip (b ++ m ∷ []) (m .inField) (addRaw (m .raw) l) (firstOf v (metBy w b m (reasons slip)))
   behind true b m l v a = tt
   behind false b m l v (inl h) = inl (late-first v (metBy w b m (reasons false)) h)
@@ -330,8 +330,8 @@ module _ (w : ℕ) where
       (sym (occs-one b m)) (follows b m l v (a .0) (a .1))
 
 module _ (slip : Bool) (w : ℕ) where
-  survey-from : (ms b : List Mark) (n : ℕ) (s : Survey) → Steps n ms → Valid slip b n (s .lists) (s .verdict)
-      → (foldl (surveyMark slip w) s ms) .verdict ≡ firstOf (s .verdict) (verdictBy (places w b ms) (reasons slip))
+  survey-from : (ms b : List Token) (n : ℕ) (s : Survey) → Steps n ms → Valid slip b n (s .lists) (s .verdict)
+      → (foldl (surveyToken slip w) s ms) .verdict ≡ firstOf (s .verdict) (verdictBy (places w b ms) (reasons slip))
   survey-from [] b n s h a = none-left slip
     where
       none-left : (slip : Bool) → s .verdict ≡ firstOf (s .verdict) (verdictBy (places w b []) (reasons slip))
@@ -343,16 +343,16 @@ module _ (slip : Bool) (w : ℕ) where
       let here = metBy w b m (reasons slip) in
       let at = entered slip b n m (s .lists) v (h .0) a in
       let e = close w slip b m l v at in
-      survey-from ms (b ++ m ∷ []) (m .inField) (surveyMark slip w s m) (h .1)
+      survey-from ms (b ++ m ∷ []) (m .inField) (surveyToken slip w s m) (h .1)
       (subst (Valid slip (b ++ m ∷ []) (m .inField) (addRaw (m .raw) l)) (sym e) (behind w slip b m l v at))
       ∙ ap (λ (z : Verdict). firstOf z (verdictBy (places w (b ++ m ∷ []) ms) (reasons slip))) e
       ∙ first-assoc v here (verdictBy (places w (b ++ m ∷ []) ms) (reasons slip))
       ∙ ap (firstOf v) (sym (met-step w 2 b m ms (reasons slip) (rising slip)))
 
-  -- THE SURVEY of a text's marks: the first refusal from 3 on that applies, at its leftmost place
+  -- THE SURVEY of a text's tokens: the first refusal from 3 on that applies, at its leftmost place
   pub survey-by : (x : List (List Raw)) → All FieldOk x
-      → (foldl (surveyMark slip w) nothingYet (marks x)) .verdict ≡ verdictBy (λ (r : Reason). firstBad w r x) (reasons slip)
-  survey-by x g = survey-from (marks x) [] 0 nothingYet (steps-text x 0 0 g) (start slip)
+      → (foldl (surveyToken slip w) nothingYet (tokens x)) .verdict ≡ verdictBy (λ (r : Reason). firstBad w r x) (reasons slip)
+  survey-by x g = survey-from (tokens x) [] 0 nothingYet (steps-text x 0 0 g) (start slip)
     where
       start : (slip : Bool) → Valid slip [] 0 noLists Accepted
       start true = tt
@@ -360,5 +360,5 @@ module _ (slip : Bool) (w : ℕ) where
 
   -- whatever is accepted otherwise
   pub survey-is : {X : Type 0} (x : List (List Raw)) (y : X) → All FieldOk x
-      → (foldl (surveyMark slip w) nothingYet (marks x)) .verdict ≡ verdictOf (chain (λ (r : Reason). firstBad w r x) (reasons slip) y)
+      → (foldl (surveyToken slip w) nothingYet (tokens x)) .verdict ≡ verdictOf (chain (λ (r : Reason). firstBad w r x) (reasons slip) y)
   survey-is x y g = survey-by x g ∙ sym (verdict-chain (λ (r : Reason). firstBad w r x) (reasons slip) y)

@@ -7,18 +7,18 @@ use Rattle.math_types.specs.Order.{basic, list}
 use Rattle.math_types.specs.Types.{Kind}
 use Rattle.math_types.specs.Values.{kindOf}
 use Rattle.text_grammar.specs.Sizes.{mostDigits, largestInteger, longestString, largestNumber, mostFields}
-use Rattle.text_grammar.specs.Marks.{Mark}
-use Rattle.text_linearity.specs.declared.Lists.{Lists}
-use Rattle.text_linearity.specs.Lists.{noLists, nextField, stillOk, addList}
-use Rattle.text_scan.specs.declared.Piece.{Piece}
+use Rattle.text_grammar.specs.Tokens.{Token}
+use Rattle.text_accepted.specs.declared.linearity.Lists.{Lists}
+use Rattle.text_accepted.specs.linearity.Lists.{noLists, nextField, stillOk, addList}
+use Rattle.text_scan.specs.declared.Lexeme.{Lexeme}
 use Rattle.text_scan.specs.declared.Spelled.{Spelled}
 use Rattle.text_scan.specs.declared.Spelled.the-variants.{Int, Str, Var, Empty}
-use Rattle.text_scan.specs.Pieces.{pieceOf}
-use Rattle.text_verdicts.specs.declared.Reason.{Reason}
-use Rattle.text_verdicts.specs.declared.Reason.the-variants.{Fields, Terms, Limits, Linear, Variable}
-use Rattle.text_verdicts.specs.declared.Verdict.{Verdict}
-use Rattle.text_verdicts.specs.declared.Verdict.the-variants.{Accepted, Refused}
-use Rattle.text_verdicts.specs.Verdicts.{firstOf}
+use Rattle.text_scan.specs.Lexemes.{lexemeOf}
+use Rattle.text_refusals.specs.declared.verdicts.Reason.{Reason}
+use Rattle.text_refusals.specs.declared.verdicts.Reason.the-variants.{Fields, Terms, Limits, Linear, Variable}
+use Rattle.text_refusals.specs.declared.verdicts.Verdict.{Verdict}
+use Rattle.text_refusals.specs.declared.verdicts.Verdict.the-variants.{Accepted, Refused}
+use Rattle.text_refusals.specs.verdicts.Verdicts.{firstOf}
 use Rattle.text_refusals.specs.declared.At.{At}
 use Rattle.text_refusals.specs.declared.Survey.{Survey}
 
@@ -29,8 +29,8 @@ overBy Str n v = ltb longestString n
 overBy (Var k) n v = ltb largestNumber v
 overBy Empty n v = false
 
-abbrev pub overPiece : Piece → Bool
-overPiece p = overBy (p .what) (p .size) (p .value)
+abbrev pub overLexeme : Lexeme → Bool
+overLexeme p = overBy (p .what) (p .size) (p .value)
 
 abbrev pub isList : Kind → Bool
 isList (basic k) = false
@@ -51,7 +51,7 @@ variableBy (Var k) = true
 variableBy Empty = false
 
 -- the refusal that is tried last: of a slip 7, of a rule 6
-abbrev pub lastBad : Bool → Piece → Lists → Bool
+abbrev pub lastBad : Bool → Lexeme → Lists → Bool
 lastBad true p l = variableBy (p .what)
 lastBad false p l = clashBy (p .what) (p .value) l
 
@@ -60,11 +60,11 @@ lastReason true = Variable
 lastReason false = Linear
 
 -- the first refusal that a term meets, at its place
-abbrev pub met : Bool → ℕ → At → Piece → Lists → Verdict
+abbrev pub met : Bool → ℕ → At → Lexeme → Lists → Verdict
 met slip w a p l =
     cond (ltb mostFields (a .field)) (Refused Fields (a .place))
     (cond (ltb w (a .index)) (Refused Terms (a .place))
-    (cond (overPiece p) (Refused Limits (a .place)) (cond (lastBad slip p l) (Refused (lastReason slip) (a .place)) Accepted)))
+    (cond (overLexeme p) (Refused Limits (a .place)) (cond (lastBad slip p l) (Refused (lastReason slip) (a .place)) Accepted)))
 
 -- the list variables with this term
 abbrev pub addBy : Spelled → ℕ → Lists → Lists
@@ -78,16 +78,16 @@ abbrev pub listsAt : At → Lists → Lists
 listsAt a l = cond (eqb (a .index) 1) (nextField l) l
 
 -- the survey with one term more
-abbrev pub surveyed : Bool → ℕ → Survey → At → Piece → Survey
+abbrev pub surveyed : Bool → ℕ → Survey → At → Lexeme → Survey
 surveyed slip w s a p =
     let l = listsAt a (s .lists) in
     record { verdict = firstOf (s .verdict) (met slip w a p l); lists = addBy (p .what) (p .value) l }
 
-abbrev pub atOf : Mark → At
+abbrev pub atOf : Token → At
 atOf m = record { place = m .place; field = m .inField; index = m .index }
 
-abbrev pub surveyMark : Bool → ℕ → Survey → Mark → Survey
-surveyMark slip w s m = surveyed slip w s (atOf m) (pieceOf (m .raw))
+abbrev pub surveyToken : Bool → ℕ → Survey → Token → Survey
+surveyToken slip w s m = surveyed slip w s (atOf m) (lexemeOf (m .raw))
 
 -- before the first term
 abbrev pub nothingYet : Survey

@@ -1,15 +1,19 @@
 // Which refusal from 3 on a written term meets, and the first that is tried over the terms of a text so far.
 ghost use mathlib.Core.Path.{_≡_};
 ghost use Rattle.math_types.specs.Values.{kindOf};
-ghost use Rattle.text_verdicts.specs.Verdicts.{sortOf};
-ghost use Rattle.text_refusals.specs.Refusals.{overPiece, isList, clashBy, variableBy, lastBad, lastReason, met, addBy, listsAt};
+ghost use Rattle.text_refusals.specs.verdicts.Verdicts.{sortOf};
+ghost use Rattle.text_refusals.specs.Refusals.{overLexeme, isList, clashBy, variableBy, lastBad, lastReason, met, addBy, listsAt};
 ghost use Rattle.text_refusals.specs.Refusals.{surveyed};
+
+pub mod unknown; // refusal 10
+pub mod verdicts; // what is said of a text
+
+use crate::verdicts::Reason;
+use crate::verdicts::Verdict;
 use math_types::Kind;
-use text_linearity::Lists;
-use text_scan::Piece;
+use text_accepted::linearity::Lists;
+use text_scan::Lexeme;
 use text_scan::Spelled;
-use text_verdicts::Reason;
-use text_verdicts::Verdict;
 
 // Where a term stands: its first byte, the number of its field and its number there, both from 1.
 pub struct At {
@@ -25,8 +29,8 @@ pub struct Survey {
 }
 
 // Refusal 5: a value, digit count, variable number or string length over its limit.
-fn is_over(p: Piece) -> bool
-    ensures { λ r. ⌜ r ≡ overPiece p ⌝ }
+fn is_over(p: Lexeme) -> bool
+    ensures { λ r. ⌜ r ≡ overLexeme p ⌝ }
 {
     let what = p.what;
     let n = p.size;
@@ -56,7 +60,7 @@ fn is_list(k: Kind) -> bool
 }
 
 // Refusal 6: a list variable that loses left-linearity.
-fn is_clash(p: Piece, l: Lists) -> bool
+fn is_clash(p: Lexeme, l: Lists) -> bool
     ensures { λ r. ⌜ r ≡ clashBy (p .what) (p .value) l ⌝ }
 {
     let what = p.what;
@@ -75,7 +79,7 @@ fn is_clash(p: Piece, l: Lists) -> bool
 }
 
 // Refusal 7: a variable in a slip.
-fn is_variable(p: Piece) -> bool
+fn is_variable(p: Lexeme) -> bool
     ensures { λ r. ⌜ r ≡ variableBy (p .what) ⌝ }
 {
     let what = p.what;
@@ -88,7 +92,7 @@ fn is_variable(p: Piece) -> bool
 }
 
 // Whether a term meets the refusal that is tried last: of a slip 7, of a rule 6.
-fn is_last(slip: bool, p: Piece, l: Lists) -> bool
+fn is_last(slip: bool, p: Lexeme, l: Lists) -> bool
     ensures { λ r. ⌜ r ≡ lastBad slip p l ⌝ }
 {
     if slip {
@@ -108,7 +112,7 @@ fn last_reason(slip: bool) -> Reason
 }
 
 // The first refusal from 3 on that a term meets, at its place.
-fn met(slip: bool, width: usize, a: At, p: Piece, l: Lists) -> Verdict
+fn met(slip: bool, width: usize, a: At, p: Lexeme, l: Lists) -> Verdict
     ensures { λ r. ⌜ r ≡ met slip width a p l ⌝ }
 {
     if 4 < a.field {
@@ -126,7 +130,7 @@ fn met(slip: bool, width: usize, a: At, p: Piece, l: Lists) -> Verdict
     Verdict::Accepted
 }
 
-fn add_piece(l: Lists, p: Piece) -> Lists
+fn add_lexeme(l: Lists, p: Lexeme) -> Lists
     ensures { λ r. ⌜ r ≡ addBy (p .what) (p .value) l ⌝ }
 {
     let what = p.what;
@@ -161,7 +165,7 @@ fn width_of(slip: bool) -> usize
 }
 
 // The survey with the term p, which stands at a.
-pub fn note(s: Survey, slip: bool, a: At, p: Piece) -> Survey
+pub fn note(s: Survey, slip: bool, a: At, p: Lexeme) -> Survey
     ensures { λ r. ⌜ r ≡ surveyed slip ((sortOf slip) .width) s a p ⌝ }
 {
     let before = s.lists;
@@ -169,8 +173,8 @@ pub fn note(s: Survey, slip: bool, a: At, p: Piece) -> Survey
     let width = width_of(slip);
     let here = met(slip, width, a, p, lists);
     let so_far = s.verdict;
-    let verdict = text_verdicts::first(so_far, here);
-    let after = add_piece(lists, p);
+    let verdict = crate::verdicts::first(so_far, here);
+    let after = add_lexeme(lists, p);
     Survey {
         verdict,
         lists: after,

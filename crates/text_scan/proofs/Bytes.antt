@@ -17,7 +17,7 @@ use Rattle.math_types.specs.declared.Kind.the-variants.{Integer, String, Atom, 
 use Rattle.math_types.specs.Values.{kindFrom}
 use Rattle.text_grammar.specs.Bytes.{Digit, letter, digit?, Begins, b-digit, b-quote, b-letter, b-e, b-none, begins}
 use Rattle.text_scan.specs.Classes.{within, fineOf}
-use Rattle.text_scan.specs.Pieces.{begun, isDigit}
+use Rattle.text_scan.specs.Lexemes.{begun, isDigit}
 use Rattle.text_scan.specs.declared.Spelled.{Spelled}
 use Rattle.text_scan.specs.declared.Spelled.the-variants.{Int, Str, Var, Empty}
 

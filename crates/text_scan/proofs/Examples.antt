@@ -8,17 +8,17 @@ use Rattle.math_types.specs.declared.Kind.the-variants.{Integer, List}
 use Rattle.text_grammar.specs.Bytes.{digit?, begins}
 use Rattle.text_grammar.specs.Walk.{front}
 use Rattle.text_grammar.proofs.Examples.{bytes}
-use Rattle.text_scan.specs.Pieces.{pieceOf}
-use Rattle.text_scan.specs.declared.Piece.{Piece}
+use Rattle.text_scan.specs.Lexemes.{lexemeOf}
+use Rattle.text_scan.specs.declared.Lexeme.{Lexeme}
 use Rattle.text_scan.specs.declared.Spelled.{Spelled}
 use Rattle.text_scan.specs.declared.Spelled.the-variants.{Int, Str, Var, Empty}
 
-abbrev made : Spelled → ℕ → ℕ → Piece
+abbrev made : Spelled → ℕ → ℕ → Lexeme
 made w n v = record { what = w; size = n; value = v }
 
 -- the largest integer and the next, both exact; a larger one, capped; leading zeros; strings; variables; `empty`, and what begins no term
-pub pieces :
-    map (λ (t : String). pieceOf (front (bytes t))) (
+pub lexemes :
+    map (λ (t : String). lexemeOf (front (bytes t))) (
     "2147483647"
     ∷ "2147483648"
     ∷ "99999999999999999999999"
@@ -45,4 +45,4 @@ pub pieces :
     ∷ made Empty 0 0
     ∷ []
 unfolding bytes begins digit? decLe ℕ-discrete
-pieces = refl
+lexemes = refl

@@ -14,7 +14,7 @@ use Rattle.text_grammar.specs.Bytes.{Digit, digit?}
 use Rattle.text_grammar.specs.Numbers.{val, value}
 use Rattle.text_grammar.specs.Sizes.{largestInteger}
 use Rattle.text_grammar.specs.Walk.{digits1, leadingDigits, quote1, untilQuote}
-use Rattle.text_scan.specs.Pieces.{capped, counted, isDigit}
+use Rattle.text_scan.specs.Lexemes.{capped, counted, isDigit}
 
 -- ---- digits
 

@@ -7,10 +7,12 @@ ghost use Rattle.text_grammar.specs.Bytes.{begins};
 ghost use Rattle.text_grammar.specs.Machine.{place2};
 ghost use Rattle.text_grammar.specs.Walk.{leadingDigits, untilQuote, front};
 ghost use Rattle.text_scan.specs.Classes.{fineOf};
-ghost use Rattle.text_scan.specs.Pieces.{capped, counted, withDigits, pieceOf, begun, isDigit};
+ghost use Rattle.text_scan.specs.Lexemes.{capped, counted, withDigits, lexemeOf, begun, isDigit};
 ghost use Rattle.text_scan.specs.Places.{foundOf};
 ghost use Rattle.text_scan.specs.Steps.{next};
 
+pub mod split; // the sides of a rule text
+pub mod terms; // the value of the term at a place
 mod tables;
 
 use math_types::Kind;
@@ -38,13 +40,13 @@ pub enum Spelled {
 
 // A term as it is written: how many digits an integer or a variable has, or how many bytes a string, and the digits' value.
 // The value is exact up to the largest integer and stops one above it, so that any number of digits can be read.
-pub struct Piece {
+pub struct Lexeme {
     pub what: Spelled,
     pub size: usize,
     pub value: u32,
 }
 
-// How many digits stand at a place, and their value, kept as a piece keeps it.
+// How many digits stand at a place, and their value, kept as a lexeme keeps it.
 struct Digits {
     count: usize,
     value: u32,
@@ -146,10 +148,10 @@ fn begun_by(b: u8) -> Spelled
     }
 }
 
-fn with_digits(what: Spelled, d: Digits) -> Piece
+fn with_digits(what: Spelled, d: Digits) -> Lexeme
     ensures { λ r. ⌜ r ≡ withDigits what d ⌝ }
 {
-    Piece {
+    Lexeme {
         what,
         size: d.count,
         value: d.value,
@@ -157,11 +159,11 @@ fn with_digits(what: Spelled, d: Digits) -> Piece
 }
 
 // The term that stands at a place, told by its first byte. Where none begins, as past the end, it counts as `empty`.
-pub fn piece_at(text: &[u8], at: usize) -> Piece
-    ensures { λ r. ⌜ r ≡ pieceOf (front (drop at (now (text .entry)))) ⌝ }
+pub fn lexeme_at(text: &[u8], at: usize) -> Lexeme
+    ensures { λ r. ⌜ r ≡ lexemeOf (front (drop at (now (text .entry)))) ⌝ }
 {
     if text.len() <= at {
-        return Piece {
+        return Lexeme {
             what: Spelled::Empty,
             size: 0,
             value: 0,
@@ -171,12 +173,12 @@ pub fn piece_at(text: &[u8], at: usize) -> Piece
     match what {
         Spelled::Int => with_digits(what, digits_from(text, at)),
         Spelled::Var(_) => with_digits(what, digits_from(text, at + 1)),
-        Spelled::Str => Piece {
+        Spelled::Str => Lexeme {
             what,
             size: quoted_from(text, at + 1),
             value: 0,
         },
-        Spelled::Empty => Piece {
+        Spelled::Empty => Lexeme {
             what,
             size: 0,
             value: 0,

@@ -1,6 +1,9 @@
 // Terms, fields, rules and slips as values. A value's unused places are blank (every number zero), so that there is one value for one rule.
 ghost use mathlib.Core.Path.{_≡_};
 ghost use Rattle.text_values.specs.Values.{blankTerm, blankField, blankSide, blankRule, blankSlipField, blankSlip, oneField};
+
+pub mod canonical; // which terms reading can return, and the blank of unused places
+
 use math_types::Kind;
 
 // What a term is: an integer's value, a string's length (its bytes stand beside, since an enum holds no array),

@@ -9,19 +9,19 @@ use Rattle.text_values.specs.Values.{viewTerm}
 
 pub record Row (A : Type 0) : Type 0 where
   pub item : A → List ℕ
-  pub mark : ℕ
-  -- the items with a mark in front of each, and the row
+  pub separator : ℕ
+  -- the items with a between in front of each, and the row
   pub rest : List A → List ℕ
   pub whole : List A → List ℕ
   pub none : rest [] ≡ []
-  pub one : (x : A) (xs : List A) → rest (x ∷ xs) ≡ mark ∷ (item x ++ rest xs)
+  pub one : (x : A) (xs : List A) → rest (x ∷ xs) ≡ separator ∷ (item x ++ rest xs)
   pub first : (x : A) (xs : List A) → whole (x ∷ xs) ≡ item x ++ rest xs
 
 abbrev pub terms : Row Term
 terms =
     record {
       item = λ t. termText (viewTerm t);
-      mark = 58;
+      separator = 58;
       rest = λ ts. colons (map rawOf (map viewTerm ts));
       whole = λ ts. fieldText (map viewTerm ts);
       none = refl;

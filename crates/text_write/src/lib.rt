@@ -12,6 +12,9 @@ ghost use Rattle.text_grammar.specs.Plain.{termText};
 ghost use Rattle.text_values.specs.Values.{viewTerm};
 ghost use Rattle.text_write.specs.Room.{Room, Put};
 ghost use Rattle.text_write.specs.Answers.{Writes};
+
+pub mod pieces; // pieces of a text, one behind the other
+
 use math_types::Kind;
 use text_values::Form;
 use text_values::Term;
@@ -46,7 +49,7 @@ fn digits_size(n: u64) -> usize
     size
 }
 
-pub fn term_size(t: Term) -> usize
+fn term_size(t: Term) -> usize
     ensures { λ r. ⌜ (r ≡ length (termText (viewTerm t))) × (r ≤ 17) ⌝ }
 {
     let form = t.form;
@@ -129,7 +132,7 @@ fn put_term(t: Term, out: &mut [u8], at: usize) -> usize
 // ---- the public functions
 
 // A term's text, which has at most 17 bytes.
-pub fn write_term(t: Term, out: &mut [u8]) -> Written
+pub(crate) fn write_term(t: Term, out: &mut [u8]) -> Written
     ensures { λ w. ⌜ Writes (termText (viewTerm t)) (now (out .entry)) w (now (out .exit)) ⌝ }
     ensures { λ _. ⌜ length (termText (viewTerm t)) ≤ 17 ⌝ }
 {
@@ -141,7 +144,7 @@ pub fn write_term(t: Term, out: &mut [u8]) -> Written
 }
 
 // A number's digits, without leading zeros.
-pub fn write_number(n: u64, out: &mut [u8]) -> Written
+pub(crate) fn write_number(n: u64, out: &mut [u8]) -> Written
     ensures { λ w. ⌜ Writes (digitsOf n) (now (out .entry)) w (now (out .exit)) ⌝ }
 {
     let size = digits_size(n);

@@ -5,11 +5,11 @@ use Prim.Native.Nat.{ℕ}
 use lib.ListN.{length}
 use Rattle.text_grammar.specs.Told.{Told, byRoom}
 use Rattle.text_grammar.specs.Read.{OutcomeOf, refused, accepted}
-use Rattle.text_rules.specs.Read.{OurRule, readRule}
+use Rattle.text_grammar.specs.rules.Read.{OurRule, readRule}
 use Rattle.text_read.specs.declared.RuleRead.{RuleRead}
-use Rattle.text_verdicts.specs.Verdicts.{verdictOf}
+use Rattle.text_refusals.specs.verdicts.Verdicts.{verdictOf}
 use Rattle.text_read.specs.Answers.{ruleRead, leftSaid}
-use Rattle.text_verdicts.proofs.Verdicts.{number-is}
+use Rattle.text_refusals.proofs.verdicts.Verdicts.{number-is}
 use Rattle.overlap_spec.specs.Overlaps.{linesOf, overlapText}
 use Rattle.overlap_list.specs.declared.Listed.{Listed}
 use Rattle.overlap_list.specs.declared.Listed.the-variants.{Lines, TooSmall}

@@ -7,7 +7,7 @@ use Prim.Native.Nat.{ℕ}
 use lib.ListN.{length}
 use Rattle.text_grammar.specs.Told.{byRoom}
 use Rattle.text_grammar.specs.Read.{number, OutcomeOf, refused, accepted}
-use Rattle.text_rules.specs.Read.{OurRule, readRule}
+use Rattle.text_grammar.specs.rules.Read.{OurRule, readRule}
 use Rattle.text_write.specs.Answers.{after}
 use Rattle.overlap_spec.specs.Overlaps.{linesOf, overlapText}
 use Rattle.text_read.specs.Answers.{leftSaid}

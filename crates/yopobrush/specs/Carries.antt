@@ -8,8 +8,8 @@ use Rattle.math_terms.specs.Terms.{con}
 use Rattle.text_grammar.specs.Told.{byRoom}
 use Rattle.text_grammar.specs.Plain.{plain}
 use Rattle.text_grammar.specs.Read.{OutcomeOf, Outcome, OurFields, refused, accepted, readSlip}
-use Rattle.text_rules.specs.Read.{OurRule, readRule}
-use Rattle.text_constants.specs.Matching.{constants}
+use Rattle.text_grammar.specs.rules.Read.{OurRule, readRule}
+use Rattle.text_grammar.specs.constants.Matching.{constants}
 use Rattle.apply_spec.specs.Carrying.{Carried, result, unmatched, tooLong}
 use Rattle.apply_spec.specs.Rules.{OurSlip, carried}
 use Rattle.text_read.specs.Answers.{sideSaid}

@@ -1,9 +1,9 @@
 -- The same answers, from what reading and listing return: `text-said` and `texts-said` of proofs/Said say that they are the same.
 use Prim.Native.Nat.{ℕ}
 use Rattle.text_grammar.specs.Told.{Told}
-use Rattle.text_verdicts.specs.declared.Verdict.{Verdict}
-use Rattle.text_verdicts.specs.declared.Verdict.the-variants.{Accepted, Refused}
-use Rattle.text_verdicts.specs.Verdicts.{numberOf}
+use Rattle.text_refusals.specs.declared.verdicts.Verdict.{Verdict}
+use Rattle.text_refusals.specs.declared.verdicts.Verdict.the-variants.{Accepted, Refused}
+use Rattle.text_refusals.specs.verdicts.Verdicts.{numberOf}
 use Rattle.overlap_list.specs.declared.Listed.{Listed}
 use Rattle.overlap_list.specs.declared.Listed.the-variants.{Lines, TooSmall}
 use Rattle.overlap_list.specs.Answers.{told}

@@ -3,14 +3,14 @@
 // Numbers and byte slices cross the boundary, and structs of numbers in C's layout; to C a slice is a pointer and a length.
 // A name belongs to the whole program, as in C, so each begins with the library's.
 ghost use mathlib.Core.Path.{_≡_};
-ghost use Rattle.text_rules.specs.Read.{readRule};
+ghost use Rattle.text_grammar.specs.rules.Read.{readRule};
 ghost use Rattle.yopobrush.specs.Answers.{readingOf, LibraryLists};
 ghost use Rattle.yopobrush.specs.Values.{readingBy, listingBy};
 ghost use Rattle.yopobrush.specs.Carries.{LibraryCarries};
 ghost use Rattle.yopobrush.specs.CarryValues.{numberBy, carryingBy};
 use apply_rules::Carry;
 use overlap_list::Listed;
-use text_verdicts::Verdict;
+use text_refusals::verdicts::Verdict;
 use text_write::Written;
 
 // How a rule text is read: the refusal's number and its place, or 0 and 0 where there is none.
@@ -39,7 +39,7 @@ fn reading_of(v: Verdict) -> Reading
             place: 0,
         },
         Verdict::Refused(reason, place) => Reading {
-            refusal: text_verdicts::number(reason) as u64,
+            refusal: text_refusals::verdicts::number(reason) as u64,
             place: place as u64,
         },
     }
@@ -142,7 +142,7 @@ pub extern "C" fn yopobrush_carry_out(rule: &[u8], slip: &[u8], out: &mut [u8]) 
     let c = apply_rules::carry_out(r.rule, s.slip);
     let answer = c.answer;
     let given = c.slip;
-    let written = text_plain_slips::write_slip(given, out);
+    let written = text_plain::slips::write_slip(given, out);
     carrying_of(
         reading_of(rule_verdict),
         reading_of(slip_verdict),

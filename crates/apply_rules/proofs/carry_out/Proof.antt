@@ -3,7 +3,7 @@ use mathlib.Core.Path.{_≡_, sym, _∙_}
 use mathlib.Core.Bool.{true}
 use borrow.Author.Needs.{needs}
 use borrow.Author.Tests.{not-true, not-false}
-use Rattle.text_accepted_rules.specs.Rules.{acceptedRule}
+use Rattle.text_accepted.specs.rules.Rules.{acceptedRule}
 use Rattle.apply_rules.proofs.Answers.{not-rule, no-right, no-match, too-long, carried-out}
 use Rattle.apply_rules.proofs.carry_out.Statement.{statement}
 use Rattle.apply_rules.proofs.carry_out.Tie as tie

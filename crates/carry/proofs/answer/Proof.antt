@@ -4,7 +4,7 @@ use native.Mathlib.Omega.{arith}
 use lib.ListN.{replicate}
 use lib.Seq.{length-take-le}
 use borrow.Author.Needs.{needs}
-use Rattle.text_pieces.proofs.Pieces.{written-in}
+use Rattle.text_write.proofs.pieces.Pieces.{written-in}
 use Rattle.print_carry.specs.Carry.{carryAnswer}
 use Rattle.carry.proofs.answer.Statement.{statement}
 use Rattle.carry.proofs.answer.Tie as tie

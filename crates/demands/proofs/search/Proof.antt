@@ -47,7 +47,7 @@ use Rattle.search_row.proofs.Calls.{mach-field, mach-answer}
 use Rattle.search_row.proofs.search.Symbol as search-def
 use Rattle.search_row.proofs.search.Symbol.{name as #search-row·search}
 use Rattle.search_row.proofs.search.Met as search-thm
-use Rattle.search_run.proofs.Calls.{Search, calls-search}
+use Rattle.search_row.proofs.own.Calls.{Search, calls-search}
 use Rattle.demands.specs.Searching.{SearchDemand, search-demand}
 use Rattle.demands.proofs.search.Key.{name as #demands·search}
 use Rattle.demands.proofs.search as search′

@@ -1,7 +1,7 @@
 -- `match_fields::is_list_term` meets its contract. Assumes nothing.
 use mathlib.Core.Path.{_∙_}
 use Rattle.math_types.specs.Values.{kindOf}
-use Rattle.match_items.proofs.Tests.{list-kind}
+use Rattle.match_fields.proofs.items.Tests.{list-kind}
 use borrow.Author.Needs.{needs}
 use Rattle.match_fields.proofs.is_list_term.Statement.{statement}
 use Rattle.match_fields.proofs.is_list_term.Tie as tie

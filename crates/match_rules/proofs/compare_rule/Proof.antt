@@ -4,8 +4,8 @@ use borrow.Author.Needs.{needs}
 use Rattle.text_grammar.specs.Read.{OurFields}
 use Rattle.text_values.specs.declared.RuleSide.{RuleSide}
 use Rattle.text_accepted.specs.Accepted.{countedLeft}
-use Rattle.text_accepted_rules.proofs.Rules.{left-counted}
-use Rattle.text_accepted_slips.specs.Slips.{countedSlip}
+use Rattle.text_accepted.proofs.rules.Rules.{left-counted}
+use Rattle.text_accepted.specs.slips.Slips.{countedSlip}
 use Rattle.match_rules.specs.Answers.{comparison}
 use Rattle.match_rules.proofs.compare_rule.Statement.{statement}
 use Rattle.match_rules.proofs.compare_rule.Tie as tie

@@ -6,7 +6,7 @@ use borrow.Author.Needs.{needs}
 use borrow.Author.Tests.{not-true, not-false}
 use lib.ListN.{take}
 use Rattle.text_accepted.specs.Accepted.{acceptedLeft}
-use Rattle.text_accepted_slips.specs.Slips.{acceptedSlip}
+use Rattle.text_accepted.specs.slips.Slips.{acceptedSlip}
 use Rattle.match_fields.specs.declared.Progress.{Progress}
 use Rattle.match_rules.specs.declared.Match.{Match}
 use Rattle.match_rules.specs.Answers.{foundBy}

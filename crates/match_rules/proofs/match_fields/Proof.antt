@@ -5,7 +5,7 @@ use native.Mathlib.Omega.{arith}
 use borrow.Author.Needs.{needs}
 use lib.ListN.{length, take}
 use Rattle.base_lists.specs.Seqs.{long-mapped}
-use Rattle.match_bindings.specs.declared.Values.{Values}
+use Rattle.match_fields.specs.declared.bindings.Values.{Values}
 use Rattle.match_rules.specs.Tests.{fieldsProgress, noValues}
 use Rattle.match_rules.proofs.Walks.{Passed, passed-none, passed-one, passed-fail, passed-all}
 use Rattle.match_rules.proofs.match_fields.Statement.{statement}

@@ -1,7 +1,7 @@
 -- `match_rules::no_match` meets its contract. Assumes nothing.
 use mathlib.Core.Path.{_∙_, ap}
 use Rattle.match_rules.specs.Answers.{fillingOf}
-use Rattle.match_bindings.specs.declared.Filling.{Filling}
+use Rattle.match_fields.specs.declared.bindings.Filling.{Filling}
 use mathlib.Core.Bool.{false}
 use borrow.Author.Needs.{needs}
 use Rattle.match_rules.proofs.no_match.Statement.{statement}

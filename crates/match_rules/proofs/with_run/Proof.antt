@@ -9,10 +9,10 @@ use lib.Seq.{set-out}
 use Prim.Native.Nat.{ℕ}
 use Rattle.base_lists.specs.Seqs.{long-mapped}
 use Rattle.text_values.specs.declared.Form.{Form}
-use Rattle.match_bindings.specs.declared.Run.{Run}
-use Rattle.match_bindings.specs.declared.Filling.{Filling}
+use Rattle.match_fields.specs.declared.bindings.Run.{Run}
+use Rattle.match_fields.specs.declared.bindings.Filling.{Filling}
 use Rattle.math_types.specs.Values.{kindOf}
-use Rattle.match_items.proofs.Tests.{list-kind}
+use Rattle.match_fields.proofs.items.Tests.{list-kind}
 use Rattle.match_rules.specs.Tests.{runBy}
 use Rattle.match_rules.proofs.with_run.Statement.{statement}
 use Rattle.match_rules.proofs.with_run.Tie as tie

@@ -3,7 +3,7 @@ use mathlib.Core.Path.{sym}
 use native.Mathlib.Omega.{arith}
 use lib.Seq.{length-take-le}
 use borrow.Author.Needs.{needs}
-use Rattle.text_pieces.proofs.Pieces.{written-in}
+use Rattle.text_write.proofs.pieces.Pieces.{written-in}
 use Rattle.print_matches.specs.Matches.{matchAnswer}
 use Rattle.matches.proofs.answer.Statement.{statement}
 use Rattle.matches.proofs.answer.Tie as tie

@@ -6,7 +6,7 @@ use native.Mathlib.Omega.{arith}
 use lib.ListN.{length}
 use lib.Seq.{sets}
 use borrow.Author.Needs.{needs}
-use Rattle.text_pieces.specs.Stored.{bytesOf}
+use Rattle.text_write.specs.pieces.Stored.{bytesOf}
 use Rattle.overlap_list.specs.declared.Tally.{Tally}
 use Rattle.overlap_list.specs.declared.Listed.the-variants.{TooSmall}
 use Rattle.overlap_list.specs.Listing.{allLines, longestLine}

@@ -2,7 +2,7 @@
 use lib.ListN.{replicate}
 use Rattle.text_grammar.specs.Plain.{plain}
 use Rattle.text_accepted.specs.Accepted.{countedLeft}
-use Rattle.text_pieces.proofs.Pieces.{written-long, written-count, written-front}
+use Rattle.text_write.proofs.pieces.Pieces.{written-long, written-count, written-front}
 use Rattle.text_plain.proofs.Lengths.{plain-short}
 use borrow.Author.Needs.{needs}
 use Rattle.overlap_list.proofs.Texts.{sides-listed}

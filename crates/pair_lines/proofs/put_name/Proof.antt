@@ -7,7 +7,7 @@ use native.Mathlib.Omega.{arith}
 use borrow.Author.Needs.{needs}
 use Rattle.text_grammar.specs.Numbers.{digitsOf}
 use Rattle.math_codes.specs.Lines.{letterAt}
-use Rattle.pair_lines.specs.Lines.{markOf, blank}
+use Rattle.pair_lines.specs.Lines.{tagOf, blank}
 use Rattle.pair_lines.proofs.Puts.{puts-as, puts-next, blank-few, blank-led}
 use Rattle.pair_lines.proofs.put_name.Statement.{statement}
 use Rattle.pair_lines.proofs.put_name.Tie as tie
@@ -60,9 +60,9 @@ put-byte-requires-3 c κs =
 same-length : tie.Need-same-length
 same-length c = search needs
 
--- the mark's byte
-mark : (c : tie.Joined1) → c .if1 .put-byte ≡ markOf (c .before .before .before .before .before .before .args .right)
-mark c = ⊎-elim (λ w. w .1 ∙ ap markOf (sym (w .0 .taken))) (λ w. w .1 ∙ ap markOf (sym (w .0 .left))) (c .if1 .came)
+-- the tag's byte
+tag : (c : tie.Joined1) → c .if1 .put-byte ≡ tagOf (c .before .before .before .before .before .before .args .right)
+tag c = ⊎-elim (λ w. w .1 ∙ ap tagOf (sym (w .0 .taken))) (λ w. w .1 ∙ ap tagOf (sym (w .0 .left))) (c .if1 .came)
 
 returns : tie.Need-returns
 returns c =
@@ -75,18 +75,18 @@ returns c =
     let z = c20 .before .before .before .args in
     let at = z .at in
     let l = z .out .now in
-    let m = markOf (z .right) in
+    let m = tagOf (z .right) in
     let k = letterAt (z .rank) in
     let A = c20 .put-blank in
     let B = c15 .put-byte in
     let C = c10 .put-byte2 in
-    let second = puts-as (A .result) (A .last .1 .0) (ap (λ (b : ℕ). b ∷ []) (mark (c17))) (B .ensures) in
+    let second = puts-as (A .result) (A .last .1 .0) (ap (λ (b : ℕ). b ∷ []) (tag (c17))) (B .ensures) in
     let third = puts-as (B .result) (B .last .1 .0) (ap (λ (b : ℕ). b ∷ []) (c12 .letter .ensures)) (C .ensures) in
     let end = puts-next (digitsOf (z .n)) (61 ∷ []) (C .result) (C .last .1 .0) (c6 .put-digits .ensures) (c .before .before .put-byte3 .ensures) in
     let named = puts-next (k ∷ []) (digitsOf (z .n) ++ 61 ∷ []) (B .result) (B .last .1 .0) third end in
-    let marked = puts-next (m ∷ []) (k ∷ (digitsOf (z .n) ++ 61 ∷ [])) (A .result) (A .last .1 .0) second named in
+    let tagged = puts-next (m ∷ []) (k ∷ (digitsOf (z .n) ++ 61 ∷ [])) (A .result) (A .last .1 .0) second named in
     let t = m ∷ (k ∷ (digitsOf (z .n) ++ 61 ∷ [])) in
-    puts-as at l (blank-led (z .led) at t) (puts-next (blank (z .led) at) t at l (A .ensures) marked)
+    puts-as at l (blank-led (z .led) at t) (puts-next (blank (z .led) at) t at l (A .ensures) tagged)
 
 pub put-name-spec : {M : Type 1} → statement M
 put-name-spec =

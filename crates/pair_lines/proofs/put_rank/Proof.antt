@@ -12,7 +12,7 @@ use Rattle.math_overlaps.specs.Candidates.{range}
 use Rattle.math_codes.specs.Lines.{itemsText}
 use Rattle.math_codes.specs.Index.{nameAt}
 use Rattle.pair_row.specs.Row.{tableIn, textIn, indexIn, topIn}
-use Rattle.pair_lines.specs.Lines.{Puts, runBy, markOf, unled, valueIn, rankIn}
+use Rattle.pair_lines.specs.Lines.{Puts, runBy, tagOf, unled, valueIn, rankIn}
 use Rattle.pair_lines.proofs.Puts.{puts-none, puts-as, puts-next, puts-moved, puts-long, unled-none, unled-few, unled-behind, unled-next}
 use Rattle.pair_lines.proofs.Values.{nameIn, shownIn, name-long, shown-there, shown-not, shown-long, shown-led, all-led, texts-one, texts-room}
 use Rattle.pair_lines.proofs.put_rank.Statement.{statement}
@@ -112,7 +112,7 @@ turn c =
     ⊎-elim
     (λ w. puts-moved (unled (z .led) q x) q l (w .10) (w .9)
     (puts-as q l
-    (unled-behind (z .led) q 32 (markOf (z .right) ∷ (nameAt (z .rank) v ++ 61 ∷ [])) value
+    (unled-behind (z .led) q 32 (tagOf (z .right) ∷ (nameAt (z .rank) v ++ 61 ∷ [])) value
     ∙ ap (unled (z .led) q)
     (shown-there (z .row .now) (z .texts .now) (z .numbers .now) (z .right) (z .atoms .now) runs (z .rank) v (there (c .before) (w .0 .taken))))
     (puts-next (unled (z .led) q (nameIn (z .right) (z .rank) v)) value q l (w .2 .ensures) (w .6 .ensures))))

@@ -5,7 +5,7 @@ use Prim.Native.Nat.{ℕ}
 use native.Mathlib.Omega.{arith}
 use Rattle.text_grammar.specs.Ascii.{newline}
 use Rattle.text_write.specs.Answers.{Writes}
-use Rattle.text_pieces.proofs.Pieces.{placed-three, front-is, front-size}
+use Rattle.text_write.proofs.pieces.Pieces.{placed-three, front-is, front-size}
 use Rattle.print_carry.specs.Carry.{titleText, lineText, carryAnswer}
 use Rattle.print_carry.proofs.Lengths.{answer-short}
 use borrow.Author.Needs.{needs}

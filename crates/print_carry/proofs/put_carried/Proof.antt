@@ -3,7 +3,7 @@ use mathlib.Core.Path.{sym, ap}
 use borrow.Author.Needs.{needs}
 use Rattle.text_grammar.specs.Plain.{plain}
 use Rattle.text_values.specs.Values.{viewSlip}
-use Rattle.text_pieces.proofs.Pieces.{placed-as, placed-next}
+use Rattle.text_write.proofs.pieces.Pieces.{placed-as, placed-next}
 use Rattle.print_carry.specs.Values.{saidAnswer, saidCarried}
 use Rattle.print_carry.proofs.put_carried.Statement.{statement}
 use Rattle.print_carry.proofs.put_carried.Tie as tie

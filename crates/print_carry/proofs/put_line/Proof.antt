@@ -1,7 +1,7 @@
 -- `print_carry::put_line` meets its contract: too long, or what is said of the two parts. Assumes nothing.
 use mathlib.Core.Path.{sym}
 use lib.Seq.{length-take-le}
-use Rattle.text_pieces.proofs.Pieces.{placed-as}
+use Rattle.text_write.proofs.pieces.Pieces.{placed-as}
 use Rattle.print_carry.proofs.Said.{line-said}
 use Rattle.print_carry.proofs.Lengths.{line-long}
 use borrow.Author.Needs.{needs}

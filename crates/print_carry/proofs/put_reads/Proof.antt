@@ -1,6 +1,6 @@
 -- `print_carry::put_reads` meets its contract: by the verdict. Assumes nothing.
 use Rattle.text_grammar.specs.Ascii.{ascii}
-use Rattle.text_pieces.proofs.Pieces.{placed-as}
+use Rattle.text_write.proofs.pieces.Pieces.{placed-as}
 use Rattle.print_carry.proofs.Values.{text-accepted, text-refused}
 use borrow.Author.Needs.{needs}
 use Rattle.print_carry.proofs.put_reads.Statement.{statement}

@@ -1,6 +1,6 @@
 -- `print_carry::put_words` meets its contract: by the answer. Assumes nothing.
 use borrow.Author.Needs.{needs}
-use Rattle.text_pieces.proofs.Pieces.{placed-as}
+use Rattle.text_write.proofs.pieces.Pieces.{placed-as}
 use Rattle.print_carry.proofs.Values.{words-yes, words-no, words-long}
 use Rattle.print_carry.proofs.put_words.Statement.{statement}
 use Rattle.print_carry.proofs.put_words.Tie as tie

@@ -1,6 +1,6 @@
 -- `print_matches::put_answer` meets its contract: three pieces. Assumes nothing.
 use Rattle.text_grammar.specs.Ascii.{newline}
-use Rattle.text_pieces.proofs.Pieces.{placed-three}
+use Rattle.text_write.proofs.pieces.Pieces.{placed-three}
 use Rattle.print_matches.specs.Matches.{titleText, lineText, matchAnswer}
 use borrow.Author.Needs.{needs}
 use Rattle.print_matches.proofs.put_answer.Statement.{statement}

@@ -2,7 +2,7 @@
 use mathlib.Core.Path.{sym}
 use lib.ListN.{take}
 use lib.Seq.{length-take-le}
-use Rattle.text_pieces.proofs.Pieces.{placed-as}
+use Rattle.text_write.proofs.pieces.Pieces.{placed-as}
 use Rattle.text_read.proofs.Judged.{judged-accepted, judged-refused}
 use Rattle.print_matches.proofs.Said.{slip-said, rule-said}
 use borrow.Author.Needs.{needs}

@@ -1,7 +1,7 @@
 -- `print_matches::put_slip` meets its contract: by the verdict. Assumes nothing.
 use mathlib.Core.Path.{sym, _∙_}
 use Rattle.text_grammar.specs.Ascii.{ascii}
-use Rattle.text_pieces.proofs.Pieces.{placed-as}
+use Rattle.text_write.proofs.pieces.Pieces.{placed-as}
 use Rattle.print_matches.proofs.Values.{text-accepted, text-refused}
 use borrow.Author.Needs.{needs}
 use Rattle.print_matches.proofs.put_slip.Statement.{statement}

@@ -1,6 +1,6 @@
 -- `print_matches::straight` meets its contract: the lent bytes have room for the whole answer. Assumes nothing.
 use native.Mathlib.Omega.{arith}
-use Rattle.text_pieces.proofs.Pieces.{front-written}
+use Rattle.text_write.proofs.pieces.Pieces.{front-written}
 use Rattle.print_matches.specs.Matches.{matchAnswer}
 use Rattle.print_matches.proofs.Lengths.{answer-short}
 use borrow.Author.Needs.{needs}

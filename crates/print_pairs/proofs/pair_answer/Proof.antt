@@ -6,7 +6,7 @@ use native.Mathlib.Omega.{arith}
 use lib.ListN.{length}
 use Rattle.text_write.specs.Answers.{Writes}
 use Rattle.text_write.proofs.Answers.{wrote}
-use Rattle.text_pieces.proofs.Pieces.{front-is, front-size}
+use Rattle.text_write.proofs.pieces.Pieces.{front-is, front-size}
 use Rattle.print_pairs.specs.Pairs.{pairAnswer}
 use borrow.Author.Needs.{needs}
 use Rattle.print_pairs.proofs.pair_answer.Statement.{statement}

@@ -1,6 +1,6 @@
 -- `print_pairs::put_answer` meets its contract: two pieces. Assumes nothing.
 use native.Mathlib.Omega.{arith}
-use Rattle.text_pieces.proofs.Pieces.{placed-next}
+use Rattle.text_write.proofs.pieces.Pieces.{placed-next}
 use Rattle.print_pairs.specs.Pairs.{titleText, lineText, pairAnswer}
 use Rattle.print_pairs.proofs.Lengths.{title-short, answer-short}
 use borrow.Author.Needs.{needs}

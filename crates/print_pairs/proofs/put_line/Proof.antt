@@ -4,8 +4,8 @@ use Prim.Native.Nat.{_-_}
 use native.Mathlib.Omega.{arith}
 use lib.ListN.{length}
 use lib.Seq.{length-take-le}
-use Rattle.text_pieces.proofs.Bounds.{piece-as}
-use Rattle.print_overlaps.specs.Texts.{mostBytes}
+use Rattle.text_write.proofs.pieces.Bounds.{piece-as}
+use Rattle.print_pairs.specs.overlaps.Texts.{mostBytes}
 use Rattle.print_pairs.proofs.Said.{line-said}
 use Rattle.print_pairs.proofs.Lengths.{line-long}
 use borrow.Author.Needs.{needs}

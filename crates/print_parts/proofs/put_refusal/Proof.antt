@@ -2,8 +2,8 @@
 use mathlib.Core.Path.{sym, ap}
 use mathlib.Core.List.{_++_}
 use Prim.Native.Nat.{ℕ}
-use Rattle.text_pieces.specs.Refusals.{numberAt}
-use Rattle.text_pieces.proofs.Pieces.{placed-next, placed-as}
+use Rattle.text_write.specs.pieces.Refusals.{numberAt}
+use Rattle.text_write.proofs.pieces.Pieces.{placed-next, placed-as}
 use borrow.Author.Needs.{needs}
 use Rattle.print_parts.proofs.put_refusal.Statement.{statement}
 use Rattle.print_parts.proofs.put_refusal.Tie as tie

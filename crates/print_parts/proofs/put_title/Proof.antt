@@ -1,7 +1,7 @@
 -- `print_parts::put_title` meets its contract: three pieces. Assumes nothing.
 use Rattle.text_grammar.specs.Numbers.{digitsOf}
 use Rattle.text_grammar.specs.Ascii.{newline}
-use Rattle.text_pieces.proofs.Pieces.{placed-three}
+use Rattle.text_write.proofs.pieces.Pieces.{placed-three}
 use borrow.Author.Needs.{needs}
 use Rattle.print_parts.proofs.put_title.Statement.{statement}
 use Rattle.print_parts.proofs.put_title.Tie as tie

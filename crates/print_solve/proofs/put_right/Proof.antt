@@ -2,8 +2,8 @@
 use mathlib.Core.Path.{sym}
 use lib.Seq.{length-take-le}
 use Rattle.text_accepted.specs.Accepted.{countedField}
-use Rattle.text_pieces.proofs.Bounds.{piece-as}
-use Rattle.print_search.specs.Found.{longestBody}
+use Rattle.text_write.proofs.pieces.Bounds.{piece-as}
+use Rattle.print_solve.specs.search.Found.{longestBody}
 use Rattle.print_solve.proofs.Said.{right-said}
 use borrow.Author.Needs.{needs}
 use Rattle.print_solve.proofs.put_right.Statement.{statement}

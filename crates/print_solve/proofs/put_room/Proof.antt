@@ -4,11 +4,11 @@ use mathlib.Core.Option.{some}
 use Prim.Native.Nat.{ℕ, min}
 use native.Mathlib.Omega.{arith}
 use Rattle.text_accepted.specs.Accepted.{countedField}
-use Rattle.text_pieces.proofs.Bounds.{piece-as}
+use Rattle.text_write.proofs.pieces.Bounds.{piece-as}
 use Rattle.search_spec.specs.Answers.{linesFor}
-use Rattle.print_sizes.specs.Sizes.{sizeOf}
-use Rattle.print_sizes.proofs.Digits.{size-least, size-of, size-bad}
-use Rattle.print_search.specs.Found.{mostRecords, mostBytes, foundText, longestBody}
+use Rattle.print_parts.specs.sizes.Sizes.{sizeOf}
+use Rattle.print_parts.proofs.sizes.Digits.{size-least, size-of, size-bad}
+use Rattle.print_solve.specs.search.Found.{mostRecords, mostBytes, foundText, longestBody}
 use Rattle.print_solve.specs.Solve.{searchText}
 use borrow.Author.Needs.{needs}
 use Rattle.print_solve.proofs.put_room.Statement.{statement}

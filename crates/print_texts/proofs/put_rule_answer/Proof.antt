@@ -1,7 +1,7 @@
 -- `print_texts::put_rule_answer` meets its contract: three pieces. Assumes nothing.
 use borrow.Author.Needs.{needs}
 use Rattle.text_grammar.specs.Ascii.{ascii, newline}
-use Rattle.text_pieces.proofs.Pieces.{placed-three, placed-as}
+use Rattle.text_write.proofs.pieces.Pieces.{placed-three, placed-as}
 use Rattle.print_texts.specs.Verdicts.{ruleSaid}
 use Rattle.print_texts.proofs.Verdicts.{rule-pieces}
 use Rattle.print_texts.proofs.put_rule_answer.Statement.{statement}

@@ -1,8 +1,8 @@
 -- `print_texts::put_rule_read` meets its contract: by the verdict. Assumes nothing.
 use borrow.Author.Needs.{needs}
 use Rattle.text_values.specs.Values.{viewRule}
-use Rattle.text_rules.specs.Plain.{plainBoth}
-use Rattle.text_pieces.proofs.Pieces.{placed-as}
+use Rattle.text_grammar.specs.rules.Plain.{plainBoth}
+use Rattle.text_write.proofs.pieces.Pieces.{placed-as}
 use Rattle.print_texts.proofs.Verdicts.{text-accepted, text-refused}
 use Rattle.print_texts.proofs.put_rule_read.Statement.{statement}
 use Rattle.print_texts.proofs.put_rule_read.Tie as tie

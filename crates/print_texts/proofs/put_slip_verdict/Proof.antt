@@ -1,7 +1,7 @@
 -- `print_texts::put_slip_verdict` meets its contract: by the verdict. Assumes nothing.
 use borrow.Author.Needs.{needs}
 use Rattle.text_grammar.specs.Ascii.{ascii}
-use Rattle.text_pieces.proofs.Pieces.{placed-as}
+use Rattle.text_write.proofs.pieces.Pieces.{placed-as}
 use Rattle.print_texts.proofs.Verdicts.{text-accepted, text-refused}
 use Rattle.print_texts.proofs.put_slip_verdict.Statement.{statement}
 use Rattle.print_texts.proofs.put_slip_verdict.Tie as tie

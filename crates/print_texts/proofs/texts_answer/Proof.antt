@@ -5,7 +5,7 @@ use Prim.Native.Nat.{ℕ}
 use native.Mathlib.Omega.{arith}
 use borrow.Author.Needs.{needs}
 use Rattle.text_write.specs.Answers.{Writes}
-use Rattle.text_pieces.proofs.Pieces.{placed-next, front-is, front-size}
+use Rattle.text_write.proofs.pieces.Pieces.{placed-next, front-is, front-size}
 use Rattle.print_texts.specs.Texts.{ruleAnswer, slipAnswer, textsAnswer}
 use Rattle.print_texts.proofs.Lengths.{texts-short}
 use Rattle.print_texts.proofs.texts_answer.Statement.{statement}

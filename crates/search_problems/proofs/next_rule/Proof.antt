@@ -2,7 +2,7 @@
 use mathlib.Core.Path.{_≡_, sym, _∙_, ap₂}
 use Prim.Native.Nat.{_-_}
 use native.Mathlib.Omega.{arith}
-use Rattle.math_worklist.specs.Next.{nextOk, next-end, next-here, next-on}
+use Rattle.math_search.specs.worklist.Next.{nextOk, next-end, next-here, next-on}
 use Rattle.pair_row.specs.Row.{tableIn}
 use Rattle.search_items.specs.Items.{itemsOf}
 use Rattle.search_rules.specs.declared.Head.{Head}

@@ -41,7 +41,7 @@ use denote.Triple.Table.{entered, cited}
 use denote.Triple.Walked.{says, Stays, stay-slice, walkOf, goes-slice, ends-at, walked, walk-meets}
 use Rattle.search_problems.specs.declared.Problem.{Problem}
 use Rattle.search_problems.specs.Values.{blankProblem}
-use Rattle.search_step.specs.Row.{blanks, Upto, one-more, upto-all}
+use Rattle.search_steps.specs.Row.{blanks, Upto, one-more, upto-all}
 use Rattle.search_problems.proofs.Problem as T
 use Rattle.search_problems.proofs.Problem.Laws as T′
 use Rattle.base_walks.proofs.Walk.{Spots, room, holds, envOf, cells, pos, allocs-all, frees-all, var, sets, reborrows}

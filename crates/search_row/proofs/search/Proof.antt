@@ -41,21 +41,21 @@ use Rattle.text_values.proofs.Field.Laws as F′
 use Rattle.search_problems.specs.declared.Problem.{Problem}
 use Rattle.search_problems.specs.Values.{blankProblem}
 use Rattle.search_problems.proofs.Problem as T
-use Rattle.search_turns.specs.declared.State.{State}
-use Rattle.search_step.specs.Row.{blanks}
-use Rattle.search_starts.specs.Starts.{begun, again}
-use Rattle.search_step.specs.Machine.{Config, conf, Ends, Reaches, fromRoot}
-use Rattle.search_turns.proofs.State as S
-use Rattle.search_turns.proofs.State.Laws as S′
+use Rattle.search_steps.specs.declared.turns.State.{State}
+use Rattle.search_steps.specs.Row.{blanks}
+use Rattle.search_steps.specs.starts.Starts.{begun, again}
+use Rattle.search_steps.specs.Machine.{Config, conf, Ends, Reaches, fromRoot}
+use Rattle.search_steps.proofs.turns.State as S
+use Rattle.search_steps.proofs.turns.State.Laws as S′
 use Rattle.base_walks.proofs.Walk.{holds, envOf, pos, allocs-all, frees-all, var, sets, reborrows}
 use Rattle.search_row.proofs.Lending.{x, Own}
 use Rattle.search_row.proofs.Drives.{mach-state, Blanks, Searching, calls-blank, calls-drive}
-use Rattle.search_starts.proofs.begin.Symbol as begin-def
-use Rattle.search_starts.proofs.begin.Symbol.{name as #search-starts·begin}
-use Rattle.search_starts.proofs.begin.Met as begin-thm
-use Rattle.search_starts.proofs.again.Symbol as again-def
-use Rattle.search_starts.proofs.again.Symbol.{name as #search-starts·again}
-use Rattle.search_starts.proofs.again.Met as again-thm
+use Rattle.search_steps.proofs.starts.begin.Symbol as begin-def
+use Rattle.search_steps.proofs.starts.begin.Symbol.{name as #search-starts·begin}
+use Rattle.search_steps.proofs.starts.begin.Met as begin-thm
+use Rattle.search_steps.proofs.starts.again.Symbol as again-def
+use Rattle.search_steps.proofs.starts.again.Symbol.{name as #search-starts·again}
+use Rattle.search_steps.proofs.starts.again.Met as again-thm
 use Rattle.search_row.proofs.from_root.Symbol as from-root-def
 use Rattle.search_row.proofs.from_root.Symbol.{name as #search-row·from-root}
 use Rattle.search_row.proofs.from_root.Met as from-root-thm

@@ -34,23 +34,23 @@ use denote.Triple.Table.{entered, cited}
 use denote.Triple.Walked.{says, Stays, stay-slice, stay-none, walkOf, goes-slice, goes-none, ends-at, walked, walk-meets}
 use denote.Exit.{yes}
 use Rattle.search_problems.specs.declared.Problem.{Problem}
-use Rattle.search_turns.specs.declared.Turn.{Turn}
-use Rattle.search_step.specs.Machine.{Config, conf, read, moved, next}
+use Rattle.search_steps.specs.declared.turns.Turn.{Turn}
+use Rattle.search_steps.specs.Machine.{Config, conf, read, moved, next}
 use Rattle.search_problems.proofs.Problem as T
 use Rattle.search_problems.proofs.Problem.Laws as T′
-use Rattle.search_turns.proofs.State as S
-use Rattle.search_turns.proofs.State.Laws as S′
-use Rattle.search_turns.proofs.Turn as U
-use Rattle.search_turns.proofs.Turn.Laws as U′
+use Rattle.search_steps.proofs.turns.State as S
+use Rattle.search_steps.proofs.turns.State.Laws as S′
+use Rattle.search_steps.proofs.turns.Turn as U
+use Rattle.search_steps.proofs.turns.Turn.Laws as U′
 use Rattle.base_walks.proofs.Walk.{holds, envOf, pos, allocs-all, frees-all, var, sets, reborrows}
 use Rattle.search_row.proofs.Lending.{x, Own}
 use Rattle.search_row.proofs.Drives.{mach, mach-state, mach-turn, Take, Advance, Put, calls-take, calls-advance, calls-put}
 use Rattle.search_row.proofs.take.Symbol as take-def
 use Rattle.search_row.proofs.take.Symbol.{name as #search-row·take}
 use Rattle.search_row.proofs.take.Met as take-thm
-use Rattle.search_step.proofs.advance.Symbol as advance-def
-use Rattle.search_step.proofs.advance.Symbol.{name as #search-step·advance}
-use Rattle.search_step.proofs.advance.Met as advance-thm
+use Rattle.search_steps.proofs.advance.Symbol as advance-def
+use Rattle.search_steps.proofs.advance.Symbol.{name as #search-step·advance}
+use Rattle.search_steps.proofs.advance.Met as advance-thm
 use Rattle.search_row.proofs.put.Symbol as put-def
 use Rattle.search_row.proofs.put.Symbol.{name as #search-row·put}
 use Rattle.search_row.proofs.put.Met as put-thm

@@ -4,7 +4,7 @@ use native.Mathlib.Omega.{arith}
 use lib.ListN.{replicate}
 use lib.Seq.{length-take-le}
 use borrow.Author.Needs.{needs}
-use Rattle.text_pieces.proofs.Pieces.{written-in}
+use Rattle.text_write.proofs.pieces.Pieces.{written-in}
 use Rattle.print_solve.specs.Solve.{solveAnswer}
 use Rattle.solve.proofs.answer.Statement.{statement}
 use Rattle.solve.proofs.answer.Tie as tie

@@ -5,7 +5,7 @@ use Prim.Native.Nat.{_-_, min}
 use native.Mathlib.Omega.{arith}
 use lib.ListN.{length, length-take}
 use Rattle.text_values.specs.Values.{viewTerm}
-use Rattle.text_linearity.specs.Lists.{addTerm}
+use Rattle.text_accepted.specs.linearity.Lists.{addTerm}
 use Rattle.base_lists.specs.Seqs.{long-mapped}
 use Rattle.text_accepted.proofs.Folds.{Folded, folded-none, folded-one, folded-all}
 use Rattle.text_accepted.proofs.add_field.Statement.{statement}

@@ -3,9 +3,9 @@ use borrow.Author.Needs.{needs}
 use Prim.Native.Nat.{_-_}
 use mathlib.Core.Path.{_≡_}
 use lib.ListN.{length}
-use Rattle.text_canonical.specs.Terms.{termOk, termBlank}
+use Rattle.text_values.specs.canonical.Terms.{termOk, termBlank}
 use Rattle.base_lists.specs.Seqs.{long-mapped}
-use Rattle.text_canonical.proofs.Filled.{Passed, passed-none, passed-one, passed-not, passed-all, passed-over}
+use Rattle.text_values.proofs.canonical.Filled.{Passed, passed-none, passed-one, passed-not, passed-all, passed-over}
 use Rattle.text_accepted.proofs.has_terms.Statement.{statement}
 use Rattle.text_accepted.proofs.has_terms.Tie as tie
 

@@ -1,13 +1,13 @@
 -- `text_accepted::is_linear` meets its contract. The loop's invariant says what is left to do.
 use mathlib.Core.List.{map, foldl}
-use Rattle.text_linearity.specs.declared.Lists.{Lists}
+use Rattle.text_accepted.specs.declared.linearity.Lists.{Lists}
 use borrow.Author.Needs.{needs}
 use mathlib.Core.Path.{_≡_, _∙_, ap}
 use Prim.Native.Nat.{_-_, min}
 use native.Mathlib.Omega.{arith}
 use lib.ListN.{length, take, length-take}
 use Rattle.text_values.specs.Values.{viewField}
-use Rattle.text_linearity.specs.Lists.{addField}
+use Rattle.text_accepted.specs.linearity.Lists.{addField}
 use Rattle.base_lists.specs.Seqs.{long-mapped}
 use Rattle.text_accepted.proofs.Folds.{Folded, folded-none, folded-one, folded-all}
 use Rattle.text_accepted.proofs.is_linear.Statement.{statement}

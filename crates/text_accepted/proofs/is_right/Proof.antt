@@ -5,7 +5,7 @@ use mathlib.Core.Path.{_≡_}
 use lib.ListN.{length}
 use Rattle.text_accepted.specs.Accepted.{fieldOk, fieldBlank}
 use Rattle.base_lists.specs.Seqs.{long-mapped}
-use Rattle.text_canonical.proofs.Filled.{Passed, passed-none, passed-one, passed-not, passed-all, passed-over}
+use Rattle.text_values.proofs.canonical.Filled.{Passed, passed-none, passed-one, passed-not, passed-all, passed-over}
 use Rattle.text_accepted.proofs.is_right.Statement.{statement}
 use Rattle.text_accepted.proofs.is_right.Tie as tie
 

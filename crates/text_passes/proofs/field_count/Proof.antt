@@ -30,27 +30,27 @@ loop-holds c =
     let t = c .before .before .before .args .text .now in
     (c .before .if1 .left, subst (λ (a : At). Walked lastField t 0 a 0) (sym (c .first .ensures)) (walked-none lastField t 0))
 
-piece-at-requires : tie.Need-piece-at-requires Inv-loop μ-loop
-piece-at-requires c κs = search needs
+lexeme-at-requires : tie.Need-lexeme-at-requires Inv-loop μ-loop
+lexeme-at-requires c κs = search needs
 
 behind-requires : tie.Need-behind-requires Inv-loop μ-loop
 behind-requires c κs =
     let l = c .before .before .before .loop in
     let t = c .before .before .before .before .before .before .before .args .text .now in
-    may-pass t (l .a) (c .piece-at .result) (c .piece-at .ensures) (c .before .if2 .taken) (l .inv .0) (l .inv .1 .0)
+    may-pass t (l .a) (c .lexeme-at .result) (c .lexeme-at .ensures) (c .before .if2 .taken) (l .inv .0) (l .inv .1 .0)
 
 loop-less : tie.Need-loop-less Inv-loop μ-loop
 loop-less c =
     let l = c .before .before .before .before .loop in
     let t = c .before .before .before .before .before .before .before .before .args .text .now in
-    let p = c .before .piece-at in
+    let p = c .before .lexeme-at in
     nearer t (l .a) (p .result) (p .ensures) (c .before .before .if2 .taken) (c .behind .result) (c .behind .ensures)
 
 loop-again : tie.Need-loop-again Inv-loop μ-loop
 loop-again c =
     let l = c .before .before .before .before .loop in
     let t = c .before .before .before .before .before .before .before .before .args .text .now in
-    let p = c .before .piece-at in
+    let p = c .before .lexeme-at in
     let less = c .before .before .if2 .taken in
     let b = c .behind in
     (l .inv .0, walked-one lastField t 0 (l .a) (l .n) (p .result) (l .a .field) (b .result) (l .inv .1) less (p .ensures) refl (b .ensures))
@@ -78,7 +78,7 @@ field-count-spec =
     returns
     first-requires
     loop-holds
-    piece-at-requires
+    lexeme-at-requires
     behind-requires
     loop-less
     loop-again

@@ -35,7 +35,7 @@ use denote.Exit.{yes}
 use Rattle.base_walks.proofs.Walk.{holds, envOf, pos, allocs-all, frees-all, var, sets}
 use Rattle.text_passes.specs.declared.Reader.{Reader}
 use Rattle.text_passes.proofs.Reader.Laws as R′
-use Rattle.text_passes.proofs.Held.{B, D, F, mach, Token, reader-typed}
+use Rattle.text_passes.proofs.Held.{B, D, F, mach, LifeToken, reader-typed}
 use Rattle.text_passes.proofs.has_term.Key.{name as #text-passes·has-term}
 use Rattle.text_passes.proofs.has_term as has
 use Rattle.text_passes.proofs.has_term.Statement as stated
@@ -60,7 +60,7 @@ module _ {M : Type 1} (𝓤 : URA M) (H : Heap 𝓤) (A : Atoms 𝓤) (W : Given
 
   -- the token, and the reader
   abbrev Kept : List (Item 𝓤)
-  Kept = Token 𝓤 κ q ∷ ‵ (owns (B (κ, tt) ∷ []) (r, tt) (mach r ∷ [], tt)) ∷ []
+  Kept = LifeToken 𝓤 κ q ∷ ‵ (owns (B (κ, tt) ∷ []) (r, tt) (mach r ∷ [], tt)) ∷ []
 
   exits : ent 𝓤 (⋆ 𝓤 H A Kept) (Post (vbool t))
   exits = qed W Kept ∵ suffices ! _ (ends-at 𝓤 H A has.ended stayed (has.clauses 𝓤 H A mem run) W bound (vbool t) t (tt, tt) (tt, tt)) $ says ! refl $

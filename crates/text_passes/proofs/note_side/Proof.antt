@@ -5,10 +5,10 @@ use Prim.Native.Nat.{ℕ, _-_, _≤_}
 use native.Mathlib.Omega.{arith}
 use lib.ListN.{length}
 use Rattle.text_grammar.specs.Walk.{walked}
-use Rattle.text_scan.specs.declared.Piece.{Piece}
+use Rattle.text_scan.specs.declared.Lexeme.{Lexeme}
 use Rattle.text_refusals.specs.declared.At.{At}
-use Rattle.pair_table.specs.Notes.{notePiece, noteMark, sideNoted}
-use Rattle.text_passes.specs.Places.{markAt, termAt}
+use Rattle.pair_table.specs.Notes.{noteLexeme, noteToken, sideNoted}
+use Rattle.text_passes.specs.Places.{tokenAt, termAt}
 use Rattle.text_passes.specs.Fields.{lastField}
 use Rattle.text_passes.proofs.Passes.{is-long, is-short}
 use Rattle.text_passes.proofs.Loops.{may-pass, nearer, Walked, walked-none, walked-one, walked-all}
@@ -25,7 +25,7 @@ Inv-loop text right row₀ texts₀ n₀ a₀ row texts n a =
     × (length row ≡ length row₀)
     × (length texts ≡ length texts₀)
     × Walked lastField text 0 a n
-    × Walked (noteMark right text) text (row₀, texts₀) a (row, texts)
+    × Walked (noteToken right text) text (row₀, texts₀) a (row, texts)
 
 abbrev μ-loop : tie.MeasureT-loop
 μ-loop text right row₀ texts₀ n₀ a₀ row texts n a = length text - a .place
@@ -46,11 +46,11 @@ loop-holds c =
       refl,
       refl,
       subst (λ (a : At). Walked lastField t 0 a 0) e (walked-none lastField t 0),
-      subst (λ (a : At). Walked (noteMark (z .right) t) t x a x) e (walked-none (noteMark (z .right) t) t x),
+      subst (λ (a : At). Walked (noteToken (z .right) t) t x a x) e (walked-none (noteToken (z .right) t) t x),
     )
 
-piece-at-requires : tie.Need-piece-at-requires Inv-loop μ-loop
-piece-at-requires c κs = search needs
+lexeme-at-requires : tie.Need-lexeme-at-requires Inv-loop μ-loop
+lexeme-at-requires c κs = search needs
 
 note-requires : tie.Need-note-requires Inv-loop μ-loop
 note-requires c κs = search needs
@@ -63,7 +63,7 @@ behind-requires c κs =
     let c16 = c10 .before .before .before .before .before .before in
     let l = c10 .loop in
     let t = c16 .args .text .now in
-    let p = c7 .piece-at in
+    let p = c7 .lexeme-at in
     may-pass t (l .a) (p .result) (p .ensures) (c8 .if2 .taken) (l .inv .0) (l .inv .3 .0)
 
 loop-less : tie.Need-loop-less Inv-loop μ-loop
@@ -74,7 +74,7 @@ loop-less c =
     let c17 = c11 .before .before .before .before .before .before in
     let l = c11 .loop in
     let t = c17 .args .text .now in
-    let p = c8 .piece-at in
+    let p = c8 .lexeme-at in
     nearer t (l .a) (p .result) (p .ensures) (c9 .if2 .taken) (c .behind .result) (c .behind .ensures)
 
 loop-again : tie.Need-loop-again Inv-loop μ-loop
@@ -87,15 +87,15 @@ loop-again c =
     let l = c11 .loop in
     let z = c17 .args in
     let t = z .text .now in
-    let p = c8 .piece-at in
+    let p = c8 .lexeme-at in
     let q = c5 .note in
     let less = c9 .if2 .taken in
     let b = c .behind in
-    let f = noteMark (z .right) t in
+    let f = noteToken (z .right) t in
     let x : Rows = (z .row .now, z .texts .now) in
-    let e : (q .last .0, q .last .1 .0) ≡ f (l .row, l .texts) (markAt (l .a) (termAt t (l .a))) =
+    let e : (q .last .0, q .last .1 .0) ≡ f (l .row, l .texts) (tokenAt (l .a) (termAt t (l .a))) =
     ap₂ (λ (r s : List ℕ). (r, s)) (q .ensures .0) (q .ensures .1)
-    ∙ ap (λ (u : Piece). notePiece (z .right) t (l .a .place) (l .a .field) u (l .row) (l .texts)) (p .ensures) in (
+    ∙ ap (λ (u : Lexeme). noteLexeme (z .right) t (l .a .place) (l .a .field) u (l .row) (l .texts)) (p .ensures) in (
       l .inv .0,
       q .kept .0 ∙ l .inv .1,
       q .kept .1 .0 ∙ l .inv .2,
@@ -118,7 +118,7 @@ returns-2 c =
     let t = z .text .now in
     let n : l .n ≡ foldl lastField 0 (walked t) = walked-all lastField t 0 (l .a) (l .n) (l .inv .3) (c .before .if2 .left) in
     let x : (l .row, l .texts) ≡ sideNoted (z .right) t (z .row .now, z .texts .now) =
-    walked-all (noteMark (z .right) t) t (z .row .now, z .texts .now) (l .a) (l .row, l .texts) (l .inv .4) (c .before .if2 .left) in
+    walked-all (noteToken (z .right) t) t (z .row .now, z .texts .now) (l .a) (l .row, l .texts) (l .inv .4) (c .before .if2 .left) in
     rw (is-short t (l .inv .0)) (omega (arith, n, c .if3 .taken), (ap (λ (y : Rows). y .0) x, ap (λ (y : Rows). y .1) x))
 
 same-length-3 : tie.Need-same-length-3 Inv-loop μ-loop
@@ -136,7 +136,7 @@ returns-3 c =
     let t = z .text .now in
     let n : l .n ≡ foldl lastField 0 (walked t) = walked-all lastField t 0 (l .a) (l .n) (l .inv .3) (c .before .if2 .left) in
     let x : (l .row, l .texts) ≡ sideNoted (z .right) t (z .row .now, z .texts .now) =
-    walked-all (noteMark (z .right) t) t (z .row .now, z .texts .now) (l .a) (l .row, l .texts) (l .inv .4) (c .before .if2 .left) in
+    walked-all (noteToken (z .right) t) t (z .row .now, z .texts .now) (l .a) (l .row, l .texts) (l .inv .4) (c .before .if2 .left) in
     rw (is-short t (l .inv .0)) (omega (arith, n, c .if3 .left), (ap (λ (y : Rows). y .0) x, ap (λ (y : Rows). y .1) x))
 
 pub note-side-spec : {M : Type 1} → statement M
@@ -148,7 +148,7 @@ note-side-spec =
     returns
     first-requires
     loop-holds
-    piece-at-requires
+    lexeme-at-requires
     note-requires
     behind-requires
     loop-less

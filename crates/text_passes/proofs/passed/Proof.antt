@@ -31,9 +31,9 @@ use denote.Triple.Spec.{tripleOf}
 use denote.Triple.Table.{entered, cited}
 use denote.Triple.Walked.{says, needs, Stays, stay-none, walkOf, goes-none, ends-at, walked, walk-meets}
 use denote.Exit.{yes}
-use Rattle.text_scan.specs.declared.Piece.{Piece}
-use Rattle.text_scan.proofs.Piece as O
-use Rattle.text_scan.proofs.Piece.Laws as O′
+use Rattle.text_scan.specs.declared.Lexeme.{Lexeme}
+use Rattle.text_scan.proofs.Lexeme as O
+use Rattle.text_scan.proofs.Lexeme.Laws as O′
 use Rattle.base_walks.proofs.Walk.{holds, envOf, pos, allocs-all, frees-all, var, sets}
 use Rattle.base_walks.proofs.Returns.{Met, returns-of, calls-shared}
 use Rattle.text_refusals.specs.declared.At.{At}
@@ -43,7 +43,7 @@ use Rattle.text_refusals.proofs.At as P
 use Rattle.text_refusals.proofs.At.Laws as P′
 use Rattle.text_passes.proofs.Reader.Laws as R′
 use Rattle.text_passes.proofs.Held.{B, D, F, mach-text, mach-at, mach, Text, At-is, Reader-is, text-of-is, at-of-is, reader-is, at-typed, reader-typed}
-use Rattle.text_passes.proofs.Held.{text-twice, held, text-of, mach-piece, Token, Piece-is, piece-typed}
+use Rattle.text_passes.proofs.Held.{text-twice, held, text-of, mach-lexeme, LifeToken, Lexeme-is, lexeme-typed}
 use Rattle.text_passes.proofs.behind as behind′
 use Rattle.text_passes.proofs.behind.Symbol as behind-def
 use Rattle.text_passes.proofs.behind.Symbol.{name as #text-passes·behind}
@@ -57,25 +57,25 @@ abbrev stayed : Stays (passed′.ended .signature .params) (passed′.ended .kep
 stayed = (stay-none B yes, (stay-none (λ _. O.the-row) yes, tt))
 
 module _ {M : Type 1} (𝓤 : URA M) (H : Heap 𝓤) (A : Atoms 𝓤) (W : Given 𝓤 H A) (mem : Memory → SProp 𝓤)
-    (run : Routine → Fun 𝓤) (κ : Lft) (q : Share) (r : Reader) (p : Piece) where
+    (run : Routine → Fun 𝓤) (κ : Lft) (q : Share) (r : Reader) (p : Lexeme) where
   -- the place behind the term
   abbrev a : At
   a = behind (now (r .text)) (r .at) (r .at .place + spelled p)
 
   abbrev bound : walkOf 𝓤 H A passed′.ended stayed (passed′.clauses 𝓤 H A mem run) .Ghost
-  bound = (((κ, tt), (q, tt), tt, (r, (p, tt)), (mach r ∷ [], (mach-piece p ∷ [], tt))), tt)
+  bound = (((κ, tt), (q, tt), tt, (r, (p, tt)), (mach r ∷ [], (mach-lexeme p ∷ [], tt))), tt)
 
   abbrev Post : Val → SProp 𝓤
   Post = walkOf 𝓤 H A passed′.ended stayed (passed′.clauses 𝓤 H A mem run) .post bound
 
   -- the call of `behind`
   abbrev to : Met 𝓤 H A behind′.ended (behind′.clauses 𝓤 H A mem run) .Ghost
-  to = (((κ, tt), (q, tt), tt, (r .text, (r .at, (p, tt))), (mach-text (r .text) ∷ [], (mach-at (r .at) ∷ [], (mach-piece p ∷ [], tt)))), tt)
+  to = (((κ, tt), (q, tt), tt, (r .text, (r .at, (p, tt))), (mach-text (r .text) ∷ [], (mach-at (r .at) ∷ [], (mach-lexeme p ∷ [], tt)))), tt)
 
-  module _ (g : Reader-is κ r) (gp : Piece-is p) where
-    exits : At-is a → ent 𝓤 (⋆ 𝓤 H A (‵ (Text κ (r .text)) ∷ Token 𝓤 κ q ∷ [])) (Post (mach (passed r p)))
+  module _ (g : Reader-is κ r) (gp : Lexeme-is p) where
+    exits : At-is a → ent 𝓤 (⋆ 𝓤 H A (‵ (Text κ (r .text)) ∷ LifeToken 𝓤 κ q ∷ [])) (Post (mach (passed r p)))
     exits ga =
-        qed W (‵ (Text κ (r .text)) ∷ Token 𝓤 κ q ∷ []) ∵ suffices !
+        qed W (‵ (Text κ (r .text)) ∷ LifeToken 𝓤 κ q ∷ []) ∵ suffices !
         _ (ends-at 𝓤 H A passed′.ended stayed (passed′.clauses 𝓤 H A mem run) W bound (mach (passed r p)) (passed r p) (tt, (tt, tt)) (tt, (tt, tt))) $
         says ! refl $
         move ! (1 ∷ []) $ frame ! $ use1 W (‵ (Text κ (r .text)) ⊛ ‵ (Text κ (r .text))) (text-twice 𝓤 H A W κ (r .text)) $
@@ -85,9 +85,9 @@ module _ {M : Type 1} (𝓤 : URA M) (H : Heap 𝓤) (A : Atoms 𝓤) (W : Given
 
     -- what it asks
     gives : (r .at .place ≤ 8192) × (r .at .field ≤ r .at .place + 1) × (r .at .index ≤ r .at .place + 1) × (p .size ≤ 8192)
-        → ent 𝓤 (⋆ 𝓤 H A (‵ (Text κ (r .text)) ∷ Token 𝓤 κ q ∷ [])) (Met 𝓤 H A behind′.ended (behind′.clauses 𝓤 H A mem run) .pre to)
+        → ent 𝓤 (⋆ 𝓤 H A (‵ (Text κ (r .text)) ∷ LifeToken 𝓤 κ q ∷ [])) (Met 𝓤 H A behind′.ended (behind′.clauses 𝓤 H A mem run) .pre to)
     gives low =
-        qed W (‵ (Text κ (r .text)) ∷ Token 𝓤 κ q ∷ []) ∵ says ! low $ nothing ! $
+        qed W (‵ (Text κ (r .text)) ∷ LifeToken 𝓤 κ q ∷ []) ∵ says ! low $ nothing ! $
         owned ! O.the-row (Is O.the-row) (LL.makes O.the-type O′.the-plain 𝓤 H A) p _ gp $ fjoin ! $
         owned ! P.the-row (Is P.the-row) (LL.makes P.the-type P′.the-plain 𝓤 H A) (r .at) _ (at-of-is κ r g) $
         fjoin ! $ move ! (1 ∷ 0 ∷ []) $ fjoin ! $ move ! (1 ∷ 0 ∷ []) $ frame ! $ done !
@@ -99,27 +99,27 @@ module _ {M : Type 1} (𝓤 : URA M) (H : Heap 𝓤) (A : Atoms 𝓤) (W : Given
     walk : Holds (hasTy (R′.mir (named 0)) (mach r)) × WT (mach r)
         → (r .at .place ≤ 8192) × (r .at .field ≤ r .at .place + 1) × (r .at .index ≤ r .at .place + 1) × (p .size ≤ 8192)
         → (𝓣 : Tables 𝓤 H) → Triple 𝓤 (𝓣 .C #text-passes·behind) (Met 𝓤 H A behind′.ended (behind′.clauses 𝓤 H A mem run))
-        → ent 𝓤 (onEntry 𝓤 H A passed′.signature (κ, tt) (q, tt) (r, (p, tt)) (mach r ∷ [], (mach-piece p ∷ [], tt)))
-        (WpFn 𝓤 H (𝓣 .C) (𝓣 .Λ) code.function (mach r ∷ mach-piece p ∷ []) Post)
+        → ent 𝓤 (onEntry 𝓤 H A passed′.signature (κ, tt) (q, tt) (r, (p, tt)) (mach r ∷ [], (mach-lexeme p ∷ [], tt)))
+        (WpFn 𝓤 H (𝓣 .C) (𝓣 .Λ) code.function (mach r ∷ mach-lexeme p ∷ []) Post)
     walk wt low 𝓣 known =
-        qed W (Token 𝓤 κ q ∷ ‵ (owns (B (κ, tt) ∷ O.the-row ∷ []) (r, (p, tt)) (mach r ∷ [], (mach-piece p ∷ [], tt))) ∷ []) ∵ move ! (1 ∷ []) $
+        qed W (LifeToken 𝓤 κ q ∷ ‵ (owns (B (κ, tt) ∷ O.the-row ∷ []) (r, (p, tt)) (mach r ∷ [], (mach-lexeme p ∷ [], tt))) ∷ []) ∵ move ! (1 ∷ []) $
         fsplit ! $ move ! (1 ∷ []) $ drop ! $ use1 W (‵ (Text κ (r .text))) (text-of 𝓤 H A W κ r) $
-        enter ! (𝓣 .C) (𝓣 .Λ) code.function (mach r ∷ mach-piece p ∷ []) _ $ allocs-all ! (code.function .locals) (λ l. params1 ! $ move ! (14 ∷ 15 ∷ []) $
-        pass1 ! (init ! (L 1) refl wt) $ pass1 ! (init ! (L 2) refl (piece-typed 𝓤 H A W p gp)) $ pass0 ! $
+        enter ! (𝓣 .C) (𝓣 .Λ) code.function (mach r ∷ mach-lexeme p ∷ []) _ $ allocs-all ! (code.function .locals) (λ l. params1 ! $ move ! (14 ∷ 15 ∷ []) $
+        pass1 ! (init ! (L 1) refl wt) $ pass1 ! (init ! (L 2) refl (lexeme-typed 𝓤 H A W p gp)) $ pass0 ! $
         sets ! (of-opd ! (load ! (from ! (fld ! refl (stop !))) (look-in ! (L 1) (sub ! 0 refl (whole !))))) (init ! (L 4) refl (tt, wt .1 .0)) $
         sets ! (of-opd ! (load ! (from ! (fld ! refl (stop !))) (look-in ! (L 1) (sub ! 1 refl (whole !)))))
         (init ! (L 5) refl (at-typed 𝓤 H A W (r .at) (at-of-is κ r g))) $
-        calls-shared ! (fmOf 𝓤 H (W .laws) 𝓣) P.the-row mach-at (LL.tells P.the-type P′.the-laws) a (‵ (Text κ (r .text))) (Token 𝓤 κ q)
+        calls-shared ! (fmOf 𝓤 H (W .laws) 𝓣) P.the-row mach-at (LL.tells P.the-type P′.the-laws) a (‵ (Text κ (r .text))) (LifeToken 𝓤 κ q)
         (text-twice 𝓤 H A W κ (r .text))
         (returns-of 𝓤 H A behind′.ended (behind′.clauses 𝓤 H A mem run) (𝓣 .C) #text-passes·behind known (to .0) tt a (λ z ws. id⊢ 𝓤 _)
-        (‵ (Text κ (r .text)) ∷ Token 𝓤 κ q ∷ []) (Token 𝓤 κ q) (gives low) (id⊢ 𝓤 _))
+        (‵ (Text κ (r .text)) ∷ LifeToken 𝓤 κ q ∷ []) (LifeToken 𝓤 κ q) (gives low) (id⊢ 𝓤 _))
         (λ Q. and-then ! (var ! (L 4) refl) (and-then ! (var ! (L 5) refl) (and-then ! (var ! (L 2) refl) (no-more !))))
         (λ ga. land ! (from ! (stop !)) (init ! (L 3) refl (at-typed 𝓤 H A W a ga)) $
         sets ! (of-opd ! (load ! (from ! (fld ! refl (stop !))) (look-in ! (L 1) (sub ! 0 refl (whole !))))) (init ! (L 6) refl (tt, wt .1 .0)) $
         sets ! (agg ! (and-then ! (var ! (L 6) refl) (and-then ! (var ! (L 3) refl) (no-more !))))
         (init ! (L 0) refl (reader-typed 𝓤 H A W κ (passed r p) (reader-is κ (r .text) a (text-of-is κ r g) ga))) $
-        returns ! (look ! (L 0) refl) $ frees-all W ! (‵ (Text κ (r .text)) ∷ Token 𝓤 κ q ∷ []) (envOf 𝓤 H A (code.function .locals) l)
-        (holds (mach (passed r p)) ∷ holds (mach r) ∷ holds (mach-piece p) ∷ holds (mach-at a)
+        returns ! (look ! (L 0) refl) $ frees-all W ! (‵ (Text κ (r .text)) ∷ LifeToken 𝓤 κ q ∷ []) (envOf 𝓤 H A (code.function .locals) l)
+        (holds (mach (passed r p)) ∷ holds (mach r) ∷ holds (mach-lexeme p) ∷ holds (mach-at a)
         ∷ holds (mach-text (r .text)) ∷ holds (mach-at (r .at)) ∷ holds (mach-text (r .text)) ∷ []) (exits ga)))
 
 pub passed-spec : {M : Type 1} → stated.statement M

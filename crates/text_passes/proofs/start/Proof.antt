@@ -31,7 +31,7 @@ use denote.Triple.Walked.{says, Stays, stay-none-slice, walkOf, goes-none-slice,
 use denote.Exit.{yes}
 use Rattle.base_walks.proofs.Walk.{holds, envOf, pos, allocs-all, frees-all, var, sets}
 use Rattle.text_passes.specs.Places.{first}
-use Rattle.text_passes.proofs.Held.{Token, reader, mach-text, mach-at, mach, Text, Text-is, At-is, at-is, reader-is, text-typed, at-typed, reader-typed}
+use Rattle.text_passes.proofs.Held.{LifeToken, reader, mach-text, mach-at, mach, Text, Text-is, At-is, at-is, reader-is, text-typed, at-typed, reader-typed}
 use Rattle.text_passes.proofs.Held.{text-twice, held}
 use Rattle.text_passes.proofs.start.Key.{name as #text-passes·start}
 use Rattle.text_passes.proofs.start as start
@@ -54,7 +54,7 @@ module _ {M : Type 1} (𝓤 : URA M) (H : Heap 𝓤) (A : Atoms 𝓤) (W : Given
 
   -- the token, and the text
   abbrev Kept : List (Item 𝓤)
-  Kept = Token 𝓤 κ q ∷ ‵ (owns (ShrSlice (named 0) κ u8 ∷ []) (s, tt) (mach-text s ∷ [], tt)) ∷ []
+  Kept = LifeToken 𝓤 κ q ∷ ‵ (owns (ShrSlice (named 0) κ u8 ∷ []) (s, tt) (mach-text s ∷ [], tt)) ∷ []
 
   exits : ent 𝓤 (⋆ 𝓤 H A Kept) (Post (mach (reader s first)))
   exits =

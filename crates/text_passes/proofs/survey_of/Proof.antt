@@ -42,25 +42,25 @@ use denote.Triple.Table.{entered, cited}
 use denote.Triple.Walked.{says, needs, Stays, stay-none, stay-none-slice, walkOf, goes-none, goes-none-slice, ends-at, walked, walk-meets}
 use denote.Exit.{yes}
 use Rattle.text_grammar.specs.Walk.{walked as terms-of}
-use Rattle.text_scan.specs.declared.Piece.{Piece}
-use Rattle.text_scan.specs.Pieces.{pieceOf}
-use Rattle.text_scan.proofs.Piece as O
-use Rattle.text_scan.proofs.Piece.Laws as O′
+use Rattle.text_scan.specs.declared.Lexeme.{Lexeme}
+use Rattle.text_scan.specs.Lexemes.{lexemeOf}
+use Rattle.text_scan.proofs.Lexeme as O
+use Rattle.text_scan.proofs.Lexeme.Laws as O′
 use Rattle.base_walks.proofs.Walk.{Spots, room, holds, envOf, cells, pos, allocs-all, frees-all, var, sets}
 use Rattle.base_walks.proofs.Returns.{Met, returns-plain, calls-plain}
-use Rattle.text_verdicts.specs.Verdicts.{sortOf}
+use Rattle.text_refusals.specs.verdicts.Verdicts.{sortOf}
 use Rattle.text_refusals.specs.declared.At.{At}
 use Rattle.text_refusals.specs.declared.Survey.{Survey}
 use Rattle.text_passes.specs.Places.{first, termAt}
-use Rattle.text_refusals.specs.Refusals.{surveyed, surveyMark, nothingYet}
+use Rattle.text_refusals.specs.Refusals.{surveyed, surveyToken, nothingYet}
 use Rattle.text_refusals.proofs.At as P
 use Rattle.text_refusals.proofs.At.Laws as P′
 use Rattle.text_passes.proofs.Reader.Laws as R′
 use Rattle.text_refusals.proofs.Survey as S
 use Rattle.text_refusals.proofs.Survey.Laws as S′
-use Rattle.text_passes.proofs.Loops.{within, fewer-left, piece-small, Walked, walked-none, walked-one, walked-all}
+use Rattle.text_passes.proofs.Loops.{within, fewer-left, lexeme-small, Walked, walked-none, walked-one, walked-all}
 use Rattle.text_passes.proofs.Held.{reader, mach-text, mach-at, mach, Text, Text-is, At-is, text-typed, at-typed, reader-typedᵉ, at-of-is, reader-is}
-use Rattle.text_passes.proofs.Held.{mach-piece, Token, piece-typed}
+use Rattle.text_passes.proofs.Held.{mach-lexeme, LifeToken, lexeme-typed}
 use Rattle.text_passes.proofs.Calls.{next-at, Start, HasTerm, Term, Passed, Kept, calls-start, calls-has-term, calls-term, calls-passed}
 use Rattle.text_passes.proofs.nothing_yet as nothing-yet
 use Rattle.text_passes.proofs.nothing_yet.Symbol as nothing-yet-def
@@ -123,7 +123,7 @@ module _ {M : Type 1} (𝓤 : URA M) (H : Heap 𝓤) (A : Atoms 𝓤) (W : Given
 
   -- where the loop is: the reader's place, and the survey so far
   abbrev Turn : Type 0
-  Turn = (a : At) × (x : Survey) × Walked (surveyMark slip width) (now s) nothingYet a x × At-is a × Survey-is x
+  Turn = (a : At) × (x : Survey) × Walked (surveyToken slip width) (now s) nothingYet a x × At-is a × Survey-is x
 
   abbrev Nearer : Turn → Turn → Type 0
   Nearer k j = length (now s) - k .0 .place < length (now s) - j .0 .place
@@ -132,15 +132,15 @@ module _ {M : Type 1} (𝓤 : URA M) (H : Heap 𝓤) (A : Atoms 𝓤) (W : Given
   Nearer-wf = InvImage·wf (λ (j : Turn). length (now s) - j .0 .place) (Nat·lt-wfRel .wf)
 
   -- the term at the reader's place
-  abbrev piece : At → Piece
-  piece a = pieceOf (termAt (now s) a)
+  abbrev lexeme : At → Lexeme
+  lexeme a = lexemeOf (termAt (now s) a)
 
   -- the place and the survey behind it
   abbrev a′ : Turn → At
-  a′ j = next-at (now s) (j .0) (piece (j .0))
+  a′ j = next-at (now s) (j .0) (lexeme (j .0))
 
   abbrev x′ : Turn → Survey
-  x′ j = surveyed slip width (j .1) (j .0) (piece (j .0))
+  x′ j = surveyed slip width (j .1) (j .0) (lexeme (j .0))
 
   -- where local k stands, behind what is kept, and behind what a callee asks too
   abbrev L : ℕ → ℕ
@@ -150,7 +150,7 @@ module _ {M : Type 1} (𝓤 : URA M) (H : Heap 𝓤) (A : Atoms 𝓤) (W : Given
   L′ k = pos 3 13 k
 
   module _ (gt : Text-is κ s) (short : length (now s) ≤ 8192) where
-    exits : (x : Survey) → Survey-is x → x ≡ foldl (surveyMark slip width) nothingYet (terms-of (now s)) → ent 𝓤 (⋆ 𝓤 H A Own) (Post (mach-survey x))
+    exits : (x : Survey) → Survey-is x → x ≡ foldl (surveyToken slip width) nothingYet (terms-of (now s)) → ent 𝓤 (⋆ 𝓤 H A Own) (Post (mach-survey x))
     exits x gx is =
         qed W Own ∵
         suffices ! _ (ends-at 𝓤 H A survey-of.ended stayed (survey-of.clauses 𝓤 H A mem run) W bound (mach-survey x) x (tt, (tt, tt)) (tt, (tt, tt))) $
@@ -175,7 +175,7 @@ module _ {M : Type 1} (𝓤 : URA M) (H : Heap 𝓤) (A : Atoms 𝓤) (W : Given
 
         abbrev In : Turn → List (Item 𝓤)
         In j =
-            ‵ (Text κ s) ∷ Token 𝓤 κ q
+            ‵ (Text κ s) ∷ LifeToken 𝓤 κ q
             ∷ cells 𝓤 H A En (room ∷ holds (mach-text s) ∷ holds (vbool slip) ∷ holds (mach-survey (j .1)) ∷ holds (mach (reader s (j .0))) ∷ [])
 
         abbrev Turned : Turn → Out → SProp 𝓤
@@ -192,7 +192,7 @@ module _ {M : Type 1} (𝓤 : URA M) (H : Heap 𝓤) (A : Atoms 𝓤) (W : Given
             rewrite ! (L 8) (λ (t : Bool). ‵ (fat fullShare tyBool (spotOf 𝓤 H En 8 .1) 0 (vbool t))) is refl $ stays ! (var ! (L 8) refl) $
             sets ! (of-opd ! (var ! (L 4) refl)) (init ! (L 10) refl (at-reader (j .0) (j .3))) $
             calls-term ! mem run (fmOf 𝓤 H (W .laws) 𝓣) κ q s (j .0) (j .3) k-term (λ Q. and-then ! (var ! (L 10) refl) (no-more !))
-            (λ gp. land ! (from ! (stop !)) (init ! (L 5) refl (piece-typed 𝓤 H A W (piece (j .0)) gp)) $
+            (λ gp. land ! (from ! (stop !)) (init ! (L 5) refl (lexeme-typed 𝓤 H A W (lexeme (j .0)) gp)) $
             sets ! (of-opd ! (load ! (from ! (fld ! refl (stop !))) (look-in ! (L 4) (sub ! 1 refl (whole !)))))
             (init ! (L 11) refl (at-typed 𝓤 H A W (j .0) (j .3))) $
             calls-plain ! (fmOf 𝓤 H (W .laws) 𝓣) S.the-row mach-survey (LL.tells S.the-type S′.the-laws) (x′ j)
@@ -200,8 +200,8 @@ module _ {M : Type 1} (𝓤 : URA M) (H : Heap 𝓤) (A : Atoms 𝓤) (W : Given
               tt,
               tt,
               tt,
-              (j .1, (slip, (j .0, (piece (j .0), tt)))),
-              (mach-survey (j .1) ∷ [], (vbool slip ∷ [], (mach-at (j .0) ∷ [], (mach-piece (piece (j .0)) ∷ [], tt)))),
+              (j .1, (slip, (j .0, (lexeme (j .0), tt)))),
+              (mach-survey (j .1) ∷ [], (vbool slip ∷ [], (mach-at (j .0) ∷ [], (mach-lexeme (lexeme (j .0)) ∷ [], tt)))),
             ) tt (x′ j)
             (λ z ws. id⊢ 𝓤 _) W (id⊢ 𝓤 _) (id⊢ 𝓤 _) (id⊢ 𝓤 _) (
               LL.makes S.the-type S′.the-plain 𝓤 H A,
@@ -211,8 +211,8 @@ module _ {M : Type 1} (𝓤 : URA M) (H : Heap 𝓤) (A : Atoms 𝓤) (W : Given
             and-then ! (var ! (L′ 3) refl) (and-then ! (var ! (L′ 2) refl) (and-then ! (var ! (L′ 11) refl) (and-then ! (var ! (L′ 5) refl) (no-more !)))))
             (λ gx. land ! (from ! (stop !)) (init ! (L 6) refl (survey-typed (x′ j) gx)) $
             sets ! (of-opd ! (var ! (L 4) refl)) (init ! (L 12) refl (at-reader (j .0) (j .3))) $
-            calls-passed ! mem run (fmOf 𝓤 H (W .laws) 𝓣) κ q s (j .0) (j .3) k-passed (piece (j .0)) gp
-            (within (length (now s)) (j .0 .place) less short, j .2 .0 .0, j .2 .0 .1, piece-small (now s) 8192 (j .0 .place) (piece (j .0)) refl short)
+            calls-passed ! mem run (fmOf 𝓤 H (W .laws) 𝓣) κ q s (j .0) (j .3) k-passed (lexeme (j .0)) gp
+            (within (length (now s)) (j .0 .place) less short, j .2 .0 .0, j .2 .0 .1, lexeme-small (now s) 8192 (j .0 .place) (lexeme (j .0)) refl short)
             (λ Q. and-then ! (var ! (L 12) refl) (and-then ! (var ! (L 5) refl) (no-more !)))
             (λ gr. land ! (from ! (stop !)) (init ! (L 7) refl (reader-typedᵉ 𝓤 H A W κ (reader s (a′ j)) gr)) $
             sets ! (of-opd ! (var ! (L 6) refl)) (store ! (L 3) refl (survey-typed (x′ j) gx)) $
@@ -222,7 +222,7 @@ module _ {M : Type 1} (𝓤 : URA M) (H : Heap 𝓤) (A : Atoms 𝓤) (W : Given
             again ! Nearer In j (
               a′ j,
               x′ j,
-              walked-one (surveyMark slip width) (now s) nothingYet (j .0) (j .1) (piece (j .0)) (x′ j) (a′ j) (j .2) less refl refl refl,
+              walked-one (surveyToken slip width) (now s) nothingYet (j .0) (j .1) (lexeme (j .0)) (x′ j) (a′ j) (j .2) less refl refl refl,
               at-of-is κ (reader s (a′ j)) gr,
               gx,
             ) nearer))))
@@ -234,7 +234,7 @@ module _ {M : Type 1} (𝓤 : URA M) (H : Heap 𝓤) (A : Atoms 𝓤) (W : Given
             less = ltb→lt (j .0 .place) (length (now s)) (subst Holds (sym is) tt)
 
             nearer : length (now s) - a′ j .place < length (now s) - j .0 .place
-            nearer = fewer-left (now s) (j .0) (piece (j .0)) less
+            nearer = fewer-left (now s) (j .0) (lexeme (j .0)) less
         turn-by j false is =
             sets ! (of-opd ! (var ! (L 4) refl)) (init ! (L 9) refl (reader-typedᵉ 𝓤 H A W κ (reader s (j .0)) (reader-is κ s (j .0) gt (j .3)))) $
             calls-has-term ! mem run (fmOf 𝓤 H (W .laws) 𝓣) κ q s (j .0) (j .3) k-has (λ Q. and-then ! (var ! (L 9) refl) (no-more !))
@@ -245,13 +245,13 @@ module _ {M : Type 1} (𝓤 : URA M) (H : Heap 𝓤) (A : Atoms 𝓤) (W : Given
             returns ! (look ! (L 0) refl) $ frees-all W ! Own En
             (holds (mach-survey (j .1)) ∷ holds (mach-text s) ∷ holds (vbool slip) ∷ holds (mach-survey (j .1))
             ∷ holds (mach (reader s (j .0))) ∷ room ∷ room ∷ room ∷ holds (vbool false) ∷ holds (mach (reader s (j .0))) ∷ [])
-            (exits (j .1) (j .4) (walked-all (surveyMark slip width) (now s) nothingYet (j .0) (j .1) (j .2)
+            (exits (j .1) (j .4) (walked-all (surveyToken slip width) (now s) nothingYet (j .0) (j .1) (j .2)
             (nltb→le (j .0 .place) (length (now s)) (subst (λ (t : Bool). Holds (not t)) (sym is) tt)))))
 
       walk : ent 𝓤 (onEntry 𝓤 H A survey-of.signature (κ, tt) (q, tt) (bound .0 .3) (bound .0 .4))
           (WpFn 𝓤 H (𝓣 .C) (𝓣 .Λ) code.function (mach-text s ∷ vbool slip ∷ []) Post)
       walk =
-          qed W (Token 𝓤 κ q ∷ ‵ (owns (ShrSlice (named 0) κ u8 ∷ Boolean ∷ []) (bound .0 .3) (bound .0 .4)) ∷ []) ∵ move ! (1 ∷ []) $
+          qed W (LifeToken 𝓤 κ q ∷ ‵ (owns (ShrSlice (named 0) κ u8 ∷ Boolean ∷ []) (bound .0 .3) (bound .0 .4)) ∷ []) ∵ move ! (1 ∷ []) $
           fsplit ! $ move ! (1 ∷ []) $ drop ! $
           enter ! (𝓣 .C) (𝓣 .Λ) code.function (mach-text s ∷ vbool slip ∷ []) _ $ allocs-all ! (code.function .locals) (λ l. params1 ! $ move ! (26 ∷ 27 ∷ []) $
           -- [the text; its token; _12; …; _0; …]
@@ -264,7 +264,7 @@ module _ {M : Type 1} (𝓤 : URA M) (H : Heap 𝓤) (A : Atoms 𝓤) (W : Given
           (λ gr. land ! (from ! (stop !)) (init ! (L 4) refl (reader-typedᵉ 𝓤 H A W κ (reader s first) gr)) $
           first-part ! $ blocks ! $
           loops ! 𝓣 Nearer Nearer-wf (In l) (λ j. turn-by l j (ltb (j .0 .place) (length (now s))) refl)
-          (first, nothingYet, walked-none (surveyMark slip width) (now s) nothingYet, at-of-is κ (reader s first) gr, gx))))
+          (first, nothingYet, walked-none (surveyToken slip width) (now s) nothingYet, at-of-is κ (reader s first) gr, gx))))
 
 pub survey-of-spec : {M : Type 1} → stated.statement M
 unfolding code.routine tablesOf

@@ -42,17 +42,17 @@ use denote.Triple.Spec.{tripleOf}
 use denote.Triple.Table.{entered, cited}
 use denote.Triple.Walked.{says, needs, Stays, stay-none, stay-none-slice, walkOf, goes-none, goes-none-slice, ends-at, walked, walk-meets}
 use denote.Exit.{yes}
-use Rattle.text_grammar.specs.Marks.{Mark}
+use Rattle.text_grammar.specs.Tokens.{Token}
 use Rattle.text_grammar.specs.Walk.{walked as terms-of}
-use Rattle.text_scan.specs.declared.Piece.{Piece}
-use Rattle.text_scan.specs.Pieces.{pieceOf}
-use Rattle.text_scan.proofs.Piece as O
-use Rattle.text_scan.proofs.Piece.Laws as O′
+use Rattle.text_scan.specs.declared.Lexeme.{Lexeme}
+use Rattle.text_scan.specs.Lexemes.{lexemeOf}
+use Rattle.text_scan.proofs.Lexeme as O
+use Rattle.text_scan.proofs.Lexeme.Laws as O′
 use Rattle.base_walks.proofs.Walk.{Spots, room, holds, envOf, cells, pos, allocs-all, frees-all, var, sets}
 use Rattle.base_walks.proofs.Returns.{Met, returns-plain, calls-plain}
 use Rattle.text_refusals.specs.declared.At.{At}
 use Rattle.text_passes.specs.Places.{first, termAt}
-use Rattle.text_passes.specs.Unknown.{unknownWith, unknownMark}
+use Rattle.text_passes.specs.Unknown.{unknownWith, unknownToken}
 use Rattle.text_passes.proofs.Reader.Laws as R′
 use Rattle.text_values.specs.declared.RuleSide.{RuleSide}
 use Rattle.text_values.specs.Values.{viewSide}
@@ -62,9 +62,9 @@ use Rattle.text_scan.specs.declared.Found.{Found}
 use Rattle.text_scan.specs.declared.Found.the-variants.{Nothing}
 use Rattle.text_scan.proofs.Found as F
 use Rattle.text_scan.proofs.Found.Laws as F′
-use Rattle.text_passes.proofs.Loops.{within, within-fits, fewer-left, piece-small, Walked, walked-none, walked-one, walked-all}
+use Rattle.text_passes.proofs.Loops.{within, within-fits, fewer-left, lexeme-small, Walked, walked-none, walked-one, walked-all}
 use Rattle.text_passes.proofs.Held.{reader, mach-text, mach, Text, Text-is, At-is}
-use Rattle.text_passes.proofs.Held.{text-typed, reader-typedᵉ, at-of-is, reader-is, mach-piece, Token, piece-typed}
+use Rattle.text_passes.proofs.Held.{text-typed, reader-typedᵉ, at-of-is, reader-is, mach-lexeme, LifeToken, lexeme-typed}
 use Rattle.text_passes.proofs.Calls.{next-at, Start, HasTerm, Term, Passed, Kept, calls-start, calls-has-term, calls-term, calls-passed}
 use Rattle.text_passes.proofs.nowhere as nowhere
 use Rattle.text_passes.proofs.nowhere.Symbol as nowhere-def
@@ -110,8 +110,8 @@ Side-is l = Is N.the-row l (mach-side l ∷ [])
 module _ {M : Type 1} (𝓤 : URA M) (H : Heap 𝓤) (A : Atoms 𝓤) (W : Given 𝓤 H A) (mem : Memory → SProp 𝓤) (run : Routine → Fun 𝓤) (κ : Lft) (q : Share)
     (s : RefT (List ℕ)) (left : RuleSide) where
   -- one term more
-  abbrev more : Found → Mark → Found
-  more = unknownMark (viewSide left)
+  abbrev more : Found → Token → Found
+  more = unknownToken (viewSide left)
 
   abbrev bound : walkOf 𝓤 H A unknown-of.ended stayed (unknown-of.clauses 𝓤 H A mem run) .Ghost
   bound = (((κ, tt), (q, tt), tt, (s, (left, tt)), (mach-text s ∷ [], (mach-side left ∷ [], tt))), tt)
@@ -146,15 +146,15 @@ module _ {M : Type 1} (𝓤 : URA M) (H : Heap 𝓤) (A : Atoms 𝓤) (W : Given
   Nearer-wf = InvImage·wf (λ (j : Turn). length (now s) - j .0 .place) (Nat·lt-wfRel .wf)
 
   -- the term at the reader's place
-  abbrev piece : At → Piece
-  piece a = pieceOf (termAt (now s) a)
+  abbrev lexeme : At → Lexeme
+  lexeme a = lexemeOf (termAt (now s) a)
 
   -- the place behind it, and what is found with it
   abbrev a′ : Turn → At
-  a′ j = next-at (now s) (j .0) (piece (j .0))
+  a′ j = next-at (now s) (j .0) (lexeme (j .0))
 
   abbrev x′ : Turn → Found
-  x′ j = unknownWith (viewSide left) (j .1) (j .0 .place) (piece (j .0))
+  x′ j = unknownWith (viewSide left) (j .1) (j .0 .place) (lexeme (j .0))
 
   -- where local k stands, behind what is kept, and behind what a callee asks too
   abbrev L : ℕ → ℕ
@@ -188,7 +188,7 @@ module _ {M : Type 1} (𝓤 : URA M) (H : Heap 𝓤) (A : Atoms 𝓤) (W : Given
 
         abbrev In : Turn → List (Item 𝓤)
         In j =
-            ‵ (Text κ s) ∷ Token 𝓤 κ q ∷ cells 𝓤 H A En (room ∷ holds (mach-text s) ∷ holds (mach-side left) ∷ holds (mach-found (j .1)) ∷ holds
+            ‵ (Text κ s) ∷ LifeToken 𝓤 κ q ∷ cells 𝓤 H A En (room ∷ holds (mach-text s) ∷ holds (mach-side left) ∷ holds (mach-found (j .1)) ∷ holds
             (mach (reader s (j .0))) ∷ [])
 
         abbrev Turned : Turn → Out → SProp 𝓤
@@ -205,7 +205,7 @@ module _ {M : Type 1} (𝓤 : URA M) (H : Heap 𝓤) (A : Atoms 𝓤) (W : Given
             rewrite ! (L 8) (λ (t : Bool). ‵ (fat fullShare tyBool (spotOf 𝓤 H En 8 .1) 0 (vbool t))) is refl $ stays ! (var ! (L 8) refl) $
             sets ! (of-opd ! (var ! (L 4) refl)) (init ! (L 10) refl (at-reader (j .0) (j .3))) $
             calls-term ! mem run (fmOf 𝓤 H (W .laws) 𝓣) κ q s (j .0) (j .3) k-term (λ Q. and-then ! (var ! (L 10) refl) (no-more !))
-            (λ gp. land ! (from ! (stop !)) (init ! (L 5) refl (piece-typed 𝓤 H A W (piece (j .0)) gp)) $
+            (λ gp. land ! (from ! (stop !)) (init ! (L 5) refl (lexeme-typed 𝓤 H A W (lexeme (j .0)) gp)) $
             sets ! (of-opd ! (load ! (from ! (fld ! refl (fld ! refl (stop !)))) (look-in ! (L 4) (sub ! 0 refl (sub ! 1 refl (whole !))))))
             (init ! (L 11) refl (tt, record { fits = place-fits })) $
             calls-plain ! (fmOf 𝓤 H (W .laws) 𝓣) F.the-row mach-found (EL.tells F.the-type F′.the-laws) (x′ j)
@@ -213,8 +213,8 @@ module _ {M : Type 1} (𝓤 : URA M) (H : Heap 𝓤) (A : Atoms 𝓤) (W : Given
               tt,
               tt,
               tt,
-              (j .1, (left, (j .0 .place, (piece (j .0), tt)))),
-              (mach-found (j .1) ∷ [], (mach-side left ∷ [], (vint w64 (j .0 .place) ∷ [], (mach-piece (piece (j .0)) ∷ [], tt)))),
+              (j .1, (left, (j .0 .place, (lexeme (j .0), tt)))),
+              (mach-found (j .1) ∷ [], (mach-side left ∷ [], (vint w64 (j .0 .place) ∷ [], (mach-lexeme (lexeme (j .0)) ∷ [], tt)))),
             ) tt (x′ j)
             (λ z ws. id⊢ 𝓤 _) W (id⊢ 𝓤 _) (id⊢ 𝓤 _) (id⊢ 𝓤 _) (
               EL.makes F.the-type F′.the-plain 𝓤 H A,
@@ -227,8 +227,8 @@ module _ {M : Type 1} (𝓤 : URA M) (H : Heap 𝓤) (A : Atoms 𝓤) (W : Given
             (and-then ! (var ! (L′ 11) refl) (and-then ! (var ! (L′ 5) refl) (no-more !)))))
             (λ gx. land ! (from ! (stop !)) (init ! (L 6) refl (found-typed (x′ j) gx)) $
             sets ! (of-opd ! (var ! (L 4) refl)) (init ! (L 12) refl (at-reader (j .0) (j .3))) $
-            calls-passed ! mem run (fmOf 𝓤 H (W .laws) 𝓣) κ q s (j .0) (j .3) k-passed (piece (j .0)) gp
-            (within (length (now s)) (j .0 .place) less short, j .2 .0 .0, j .2 .0 .1, piece-small (now s) 8192 (j .0 .place) (piece (j .0)) refl short)
+            calls-passed ! mem run (fmOf 𝓤 H (W .laws) 𝓣) κ q s (j .0) (j .3) k-passed (lexeme (j .0)) gp
+            (within (length (now s)) (j .0 .place) less short, j .2 .0 .0, j .2 .0 .1, lexeme-small (now s) 8192 (j .0 .place) (lexeme (j .0)) refl short)
             (λ Q. and-then ! (var ! (L 12) refl) (and-then ! (var ! (L 5) refl) (no-more !)))
             (λ gr. land ! (from ! (stop !)) (init ! (L 7) refl (reader-typedᵉ 𝓤 H A W κ (reader s (a′ j)) gr)) $
             sets ! (of-opd ! (var ! (L 6) refl)) (store ! (L 3) refl (found-typed (x′ j) gx)) $
@@ -238,7 +238,7 @@ module _ {M : Type 1} (𝓤 : URA M) (H : Heap 𝓤) (A : Atoms 𝓤) (W : Given
             again ! Nearer In j (
               a′ j,
               x′ j,
-              walked-one more (now s) Nothing (j .0) (j .1) (piece (j .0)) (x′ j) (a′ j) (j .2) less refl refl refl,
+              walked-one more (now s) Nothing (j .0) (j .1) (lexeme (j .0)) (x′ j) (a′ j) (j .2) less refl refl refl,
               at-of-is κ (reader s (a′ j)) gr,
               gx,
             ) nearer))))
@@ -253,7 +253,7 @@ module _ {M : Type 1} (𝓤 : URA M) (H : Heap 𝓤) (A : Atoms 𝓤) (W : Given
             place-fits = within-fits (length (now s)) (j .0 .place) less short
 
             nearer : length (now s) - a′ j .place < length (now s) - j .0 .place
-            nearer = fewer-left (now s) (j .0) (piece (j .0)) less
+            nearer = fewer-left (now s) (j .0) (lexeme (j .0)) less
         turn-by j false is =
             sets ! (of-opd ! (var ! (L 4) refl)) (init ! (L 9) refl (reader-typedᵉ 𝓤 H A W κ (reader s (j .0)) (reader-is κ s (j .0) gt (j .3)))) $
             calls-has-term ! mem run (fmOf 𝓤 H (W .laws) 𝓣) κ q s (j .0) (j .3) k-has (λ Q. and-then ! (var ! (L 9) refl) (no-more !))
@@ -270,7 +270,7 @@ module _ {M : Type 1} (𝓤 : URA M) (H : Heap 𝓤) (A : Atoms 𝓤) (W : Given
       walk : ent 𝓤 (onEntry 𝓤 H A unknown-of.signature (κ, tt) (q, tt) (bound .0 .3) (bound .0 .4))
           (WpFn 𝓤 H (𝓣 .C) (𝓣 .Λ) code.function (mach-text s ∷ mach-side left ∷ []) Post)
       walk =
-          qed W (Token 𝓤 κ q ∷ ‵ (owns (ShrSlice (named 0) κ u8 ∷ N.the-row ∷ []) (bound .0 .3) (bound .0 .4)) ∷ []) ∵ move ! (1 ∷ []) $ fsplit ! $ move !
+          qed W (LifeToken 𝓤 κ q ∷ ‵ (owns (ShrSlice (named 0) κ u8 ∷ N.the-row ∷ []) (bound .0 .3) (bound .0 .4)) ∷ []) ∵ move ! (1 ∷ []) $ fsplit ! $ move !
           (1 ∷ []) $ drop ! $
           enter ! (𝓣 .C) (𝓣 .Λ) code.function (mach-text s ∷ mach-side left ∷ []) _ $ allocs-all ! (code.function .locals)
           (λ l. params1 ! $ move ! (26 ∷ 27 ∷ []) $

@@ -6,8 +6,8 @@ use lib.ListN.{length}
 use borrow.Author.Needs.{needs}
 use Rattle.base_lists.specs.Seqs.{long-mapped}
 use Rattle.text_write.proofs.Rows.{terms}
-use Rattle.text_pieces.proofs.Pieces.{placed-as}
-use Rattle.text_pieces.proofs.Rows.{no-term, Putting, row-none, putting-start, putting-next, putting-last, putting-whole}
+use Rattle.text_write.proofs.pieces.Pieces.{placed-as}
+use Rattle.text_write.proofs.pieces.Rows.{no-term, Putting, row-none, putting-start, putting-next, putting-last, putting-whole}
 use Rattle.text_plain.proofs.put_field.Statement.{statement}
 use Rattle.text_plain.proofs.put_field.Tie as tie
 

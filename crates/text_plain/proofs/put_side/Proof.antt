@@ -5,8 +5,8 @@ use native.Mathlib.Omega.{arith}
 use lib.ListN.{length}
 use borrow.Author.Needs.{needs}
 use Rattle.base_lists.specs.Seqs.{long-mapped}
-use Rattle.text_pieces.proofs.Pieces.{placed-as, placed-none}
-use Rattle.text_pieces.proofs.Rows.{Putting, row-none, putting-start, putting-next, putting-last, putting-whole}
+use Rattle.text_write.proofs.pieces.Pieces.{placed-as, placed-none}
+use Rattle.text_write.proofs.pieces.Rows.{Putting, row-none, putting-start, putting-next, putting-last, putting-whole}
 use Rattle.text_plain.proofs.Rows.{fields, no-field}
 use Rattle.text_plain.proofs.put_side.Statement.{statement}
 use Rattle.text_plain.proofs.put_side.Tie as tie

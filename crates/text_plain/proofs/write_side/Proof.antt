@@ -11,7 +11,7 @@ use Rattle.text_grammar.specs.Plain.{plain}
 use Rattle.text_values.specs.Values.{viewSide}
 use Rattle.text_accepted.specs.Accepted.{acceptedLeft}
 use Rattle.text_write.specs.Answers.{Writes}
-use Rattle.text_pieces.proofs.Pieces.{front-is, front-size}
+use Rattle.text_write.proofs.pieces.Pieces.{front-is, front-size}
 use Rattle.text_plain.proofs.Answers.{of-none, of-side}
 use Rattle.text_plain.proofs.Lengths.{left-short}
 use Rattle.text_plain.proofs.write_side.Statement.{statement}

@@ -2,7 +2,7 @@
 use mathlib.Core.Path.{sym, _∙_, ap}
 use mathlib.Core.Bool.{false}
 use Rattle.text_refusals.specs.declared.Survey.{Survey}
-use Rattle.text_split.proofs.Splits.{one-side}
+use Rattle.text_scan.proofs.split.Splits.{one-side}
 use Rattle.text_read.proofs.Verdicts.{surveyed-is}
 use Rattle.text_read.proofs.Rules.{judged-long, judged-stops, judged-one}
 use borrow.Author.Needs.{needs}

@@ -2,7 +2,7 @@
 use mathlib.Core.Path.{sym, _∙_, ap}
 use native.Mathlib.Omega.{arith}
 use lib.Seq.{length-take-le}
-use Rattle.text_split.proofs.Splits.{two-sides}
+use Rattle.text_scan.proofs.split.Splits.{two-sides}
 use Rattle.text_read.specs.Sides.{unknownOf}
 use Rattle.text_read.proofs.Rules.{right-surveyed, right-placed, first-found, unknown-found, unknown-placed, judged-first, judged-unknown}
 use borrow.Author.Needs.{needs}

@@ -2,7 +2,7 @@
 use mathlib.Core.Path.{sym}
 use native.Mathlib.Omega.{arith}
 use lib.Seq.{length-take-le}
-use Rattle.text_split.proofs.Splits.{two-sides}
+use Rattle.text_scan.proofs.split.Splits.{two-sides}
 use Rattle.text_read.proofs.Values.{two-rule}
 use borrow.Author.Needs.{needs}
 use Rattle.text_read.proofs.two_sides.Statement.{statement}

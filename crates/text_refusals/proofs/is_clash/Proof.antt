@@ -1,5 +1,5 @@
 -- `text_refusals::is_clash` meets its contract.
-use Rattle.text_linearity.specs.declared.Lists.{Lists}
+use Rattle.text_accepted.specs.declared.linearity.Lists.{Lists}
 use mathlib.Core.Path.{ap}
 use mathlib.Core.Bool.{not}
 use borrow.Author.Tests.{not-true, not-false}

@@ -15,8 +15,8 @@ met-requires c κs = search needs
 first-requires : tie.Need-first-requires
 first-requires c κs = search needs
 
-add-piece-requires : tie.Need-add-piece-requires
-add-piece-requires c κs = search needs
+add-lexeme-requires : tie.Need-add-lexeme-requires
+add-lexeme-requires c κs = search needs
 
 returns : tie.Need-returns
 returns c =
@@ -24,7 +24,7 @@ returns c =
     let k = f .before in
     let w = k .before in
     let l = w .before in
-    rw (c .add-piece .ensures, f .first .ensures, k .met .ensures, w .width-of .ensures, l .lists-at .ensures)
+    rw (c .add-lexeme .ensures, f .first .ensures, k .met .ensures, w .width-of .ensures, l .lists-at .ensures)
 
 pub note-spec : {M : Type 1} → statement M
-note-spec = tie.close (tie.spec lists-at-requires width-of-requires met-requires first-requires add-piece-requires returns)
+note-spec = tie.close (tie.spec lists-at-requires width-of-requires met-requires first-requires add-lexeme-requires returns)

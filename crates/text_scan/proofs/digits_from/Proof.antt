@@ -8,7 +8,7 @@ use Prim.Native.Nat.{_-_}
 use native.Mathlib.Omega.{arith}
 use borrow.Author.Needs.{needs}
 use lib.ListN.{length, getD}
-use Rattle.text_scan.specs.Pieces.{isDigit}
+use Rattle.text_scan.specs.Lexemes.{isDigit}
 use Rattle.text_scan.proofs.Runs.{is-digit, DigitsTo, digits-begin, digits-more, digits-past, digits-other}
 use Rattle.text_scan.proofs.digits_from.Statement.{statement}
 use Rattle.text_scan.proofs.digits_from.Tie as tie

@@ -1,0 +1,72 @@
+-- A field made term by term: up to 64 terms it is the field of these terms, and the count of one with more is 65. Assumes nothing.
+use mathlib.Core.Path.{_≡_, sym, ap, ap₂, _∙_}
+use mathlib.Core.Bool.{true, false}
+use mathlib.Core.List.{List, [], _∷_, _++_, foldl, append-nil, append-assoc}
+use Prim.Native.Nat.{ℕ, suc, _+_, _-_, _<_, _≤_, min}
+use native.Mathlib.Omega.{arith}
+use native.Mathlib.Decide.{decLe}
+use borrow.Author.Tests.{le-leb, lt-leb}
+use lib.Dec.{leb}
+use lib.ListN.{length, set, replicate, length-append}
+use lib.Seq.{set-append-seam}
+use Rattle.text_values.specs.declared.Term.{Term}
+use Rattle.text_values.specs.declared.SlipField.{SlipField}
+use Rattle.text_values.specs.Values.{pad, blankTerm}
+use Rattle.apply_rules.specs.filling.Filled.{slipField}
+use Rattle.apply_rules.specs.filling.Pushes.{pushed, collected}
+
+-- one more in the place behind the used ones
+pub pad-more : {A : Type 0} (w : ℕ) (d : A) (s : List A) (a : A) → length s < w → set (pad w d s) (length s) a ≡ pad w d (s ++ a ∷ [])
+pad-more w d s a h =
+    let k = w - (length s + 1) in
+    let e : w - length s ≡ suc k = omega arith in
+    let e′ : w - length (s ++ a ∷ []) ≡ k = omega (arith, length-append s (a ∷ [])) in
+    ap (λ (m : ℕ). set (s ++ replicate m d) (length s) a) e
+    ∙ set-append-seam s d (replicate k d) a
+    ∙ sym (append-assoc s (a ∷ []) (replicate k d))
+    ∙ ap (λ (m : ℕ). (s ++ a ∷ []) ++ replicate m d) (sym e′)
+
+push-short : (s : List Term) (t : Term) → length s < 64 → pushed (slipField s) t ≡ slipField (s ++ t ∷ [])
+push-short s t h =
+    rw (lt-leb 64 (length s) h)
+    (ap₂ (λ (n : ℕ) (l : List Term). record { n = n; terms = l }) (sym (length-append s (t ∷ []))) (pad-more 64 blankTerm s t h))
+
+fold-short : (ts s : List Term) → length s + length ts ≤ 64 → foldl pushed (slipField s) ts ≡ slipField (s ++ ts)
+fold-short [] s h = ap slipField (sym (append-nil s))
+fold-short (t ∷ ts) s h =
+    ap (λ (w : SlipField). foldl pushed w ts) (push-short s t (omega arith))
+    ∙ fold-short ts (s ++ t ∷ []) (omega (arith, length-append s (t ∷ [])))
+    ∙ ap slipField (append-assoc s (t ∷ []) ts)
+
+pub collected-short : (ts : List Term) → length ts ≤ 64 → collected ts ≡ slipField ts
+collected-short ts h = fold-short ts [] (omega arith)
+
+push-count : (w : SlipField) (t : Term) → (pushed w t) .n ≡ min (w .n + 1) 65
+push-count w t = go (decLe 64 (w .n))
+  where
+    go : Dec (64 ≤ w .n) → (pushed w t) .n ≡ min (w .n + 1) 65
+    go (yes h) = rw (le-leb 64 (w .n) h) (let e : 65 ≡ min (w .n + 1) 65 = omega arith in e)
+    go (no h) = rw (lt-leb 64 (w .n) (omega arith)) (let e : w .n + 1 ≡ min (w .n + 1) 65 = omega arith in e)
+
+fold-count : (ts : List Term) (w : SlipField) → w .n ≤ 65 → (foldl pushed w ts) .n ≡ min (w .n + length ts) 65
+fold-count [] w h = let e : w .n ≡ min (w .n + 0) 65 = omega arith in e
+fold-count (t ∷ ts) w h =
+    let c = push-count w t in
+    fold-count ts (pushed w t) (omega arith) ∙ (let e : min ((pushed w t) .n + length ts) 65 ≡ min (w .n + length (t ∷ ts)) 65 = omega arith in e)
+
+pub collected-count : (ts : List Term) → (collected ts) .n ≡ min (length ts) 65
+collected-count ts = fold-count ts (slipField []) (omega arith) ∙ (let e : min ((slipField []) .n + length ts) 65 ≡ min (length ts) 65 = omega arith in e)
+
+-- ---- what the count tells
+
+module _ (ts : List Term) (f : SlipField) (is-f : f ≡ collected ts) where
+  count-is : f .n ≡ min (length ts) 65
+  count-is = ap (λ (w : SlipField). w .n) is-f ∙ collected-count ts
+
+  pub short-by : (f .n ≤ 64) → (leb (length ts) 64 ≡ true) × (f ≡ slipField ts)
+  short-by h =
+      let k : length ts ≤ 64 = omega (arith, count-is) in
+      (le-leb (length ts) 64 k, is-f ∙ collected-short ts k)
+
+  pub long-by : 64 < f .n → leb (length ts) 64 ≡ false
+  long-by h = lt-leb (length ts) 64 (omega (arith, count-is))

@@ -1,0 +1,75 @@
+-- `match_fields::items::test_term` meets its contract. Assumes nothing.
+use mathlib.Core.Bool.{Bool}
+use Rattle.text_values.specs.declared.Form.{Form}
+use Rattle.match_fields.specs.items.Tests.{testBy}
+use mathlib.Core.Path.{sym, _∙_, ap}
+use Rattle.math_types.specs.Values.{kindOf}
+use Rattle.match_fields.proofs.items.Tests.{list-kind, test-list, test-basic}
+use borrow.Author.Needs.{needs}
+use Rattle.match_fields.proofs.items.test_term.Statement.{statement}
+use Rattle.match_fields.proofs.items.test_term.Tie as tie
+
+enum-told : tie.Need-enum-told
+enum-told c = search needs
+
+same-term-requires : tie.Need-same-term-requires
+same-term-requires c κs = search needs
+
+enum-told-2 : tie.Need-enum-told-2
+enum-told-2 c = search needs
+
+same-term-requires-2 : tie.Need-same-term-requires-2
+same-term-requires-2 c κs = search needs
+
+enum-known-form : tie.Need-enum-known-form
+enum-known-form c = search needs
+
+same-kind-requires : tie.Need-same-kind-requires
+same-kind-requires c κs = search needs
+
+returns : tie.Need-returns
+returns c =
+    let z = c .before .before .before .before .before .args in
+    let x = c .before .before .before .form .given in
+    rw (x .1)
+    (test-list (kindOf (x .0 .0)) (x .0 .1 .0) (z .item) (z .v) (sym (list-kind (kindOf (x .0 .0))) ∙ sym (c .before .same-kind .ensures) ∙ c .if1 .taken))
+
+test-atom-requires : tie.Need-test-atom-requires
+test-atom-requires c κs = search needs
+
+returns-2 : tie.Need-returns-2
+returns-2 c =
+    let z = c .before .before .before .args in
+    ap (λ (b : Bool). record { ok = b; values = z .v }) (c .same-term .ensures)
+    ∙ sym (ap (λ (f : Form). testBy f (z .t) (z .item) (z .v)) (c .before .enum-told .given .1))
+
+returns-3 : tie.Need-returns-3
+returns-3 c =
+    let z = c .before .before .before .args in
+    ap (λ (b : Bool). record { ok = b; values = z .v }) (c .same-term2 .ensures)
+    ∙ sym (ap (λ (f : Form). testBy f (z .t) (z .item) (z .v)) (c .before .enum-told2 .given .1))
+
+returns-4 : tie.Need-returns-4
+returns-4 c =
+    let z = c .before .before .before .before .before .before .args in
+    let x = c .before .before .before .before .form .given in
+    rw (x .1)
+    (c .test-atom .ensures
+    ∙ test-basic (kindOf (x .0 .0)) (x .0 .1 .0) (z .item) (z .v)
+    (sym (list-kind (kindOf (x .0 .0))) ∙ sym (c .before .before .same-kind .ensures) ∙ c .before .if1 .left))
+
+pub test-term-spec : {M : Type 1} → statement M
+test-term-spec =
+    tie.close
+    (tie.spec
+    enum-told
+    same-term-requires
+    enum-told-2
+    same-term-requires-2
+    enum-known-form
+    same-kind-requires
+    returns
+    test-atom-requires
+    returns-2
+    returns-3
+    returns-4)

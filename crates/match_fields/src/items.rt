@@ -1,0 +1,140 @@
+// Matching one term of a rule with one item of a slip, under the values that its atom variables have so far.
+ghost use mathlib.Core.Path.{_≡_};
+ghost use mathlib.Core.Bool.{false};
+ghost use lib.ListN.{getD};
+ghost use Rattle.math_types.specs.Values.{kindOf, kindFrom};
+ghost use Rattle.match_fields.specs.bindings.Values.{slot};
+ghost use Rattle.match_fields.specs.items.Tests.{sameBytes, sameTerm, itemKind, bound, met, tested};
+use crate::bindings::Values;
+use math_types::Kind;
+use text_values::Form;
+use text_values::Term;
+
+// The values so far, or that a test has failed.
+pub struct Tested {
+    pub ok: bool,
+    pub values: Values,
+}
+
+fn same_bytes(a: [u8; 15], b: [u8; 15]) -> bool
+    ensures { λ r. ⌜ r ≡ sameBytes a b ⌝ }
+{
+    let mut i: usize = 0;
+    while i < 15 {
+        if a[i] != b[i] {
+            return false;
+        }
+        i += 1;
+    }
+    true
+}
+
+// Whether two constants are one. (A variable is none.)
+fn same_term(a: Term, b: Term) -> bool
+    ensures { λ r. ⌜ r ≡ sameTerm a b ⌝ }
+{
+    let x = a.form;
+    let y = b.form;
+    let s = a.text;
+    let t = b.text;
+    match x {
+        Form::Int(m) => match y {
+            Form::Int(n) => m == n,
+            Form::Str(_) => false,
+            Form::Var(_, _) => false,
+        },
+        Form::Str(k) => match y {
+            Form::Int(_) => false,
+            Form::Str(l) => {
+                if k != l {
+                    return false;
+                }
+                same_bytes(s, t)
+            }
+            Form::Var(_, _) => false,
+        },
+        Form::Var(_, _) => false,
+    }
+}
+
+// The type of a constant.
+fn item_kind(t: Term) -> Kind
+    ensures { λ r. ⌜ r ≡ kindFrom (itemKind (t .form)) ⌝ }
+{
+    let form = t.form;
+    match form {
+        Form::Int(_) => Kind::Integer,
+        Form::Str(_) => Kind::String,
+        Form::Var(k, _) => k,
+    }
+}
+
+fn is_known(v: Values, i: usize) -> bool
+    ensures { λ r. ⌜ r ≡ getD (v .known) i false ⌝ }
+{
+    if 48 <= i {
+        return false;
+    }
+    v.known[i]
+}
+
+fn bind(v: Values, i: usize, t: Term) -> Values
+    ensures { λ r. ⌜ r ≡ bound v i t ⌝ }
+{
+    if 48 <= i {
+        return v;
+    }
+    let mut w = v;
+    w.known[i] = true;
+    w.terms[i] = t;
+    w
+}
+
+// An atom variable against an item: its earlier value, or else an item of its type.
+fn test_atom(k: Kind, n: u8, item: Term, v: Values) -> Tested
+    ensures { λ r. ⌜ r ≡ met (getD (v .known) (slot (kindOf k) n) false) (kindOf k) (slot (kindOf k) n) item v ⌝ }
+{
+    let i = crate::bindings::slot(k, n);
+    if is_known(v, i) {
+        return Tested {
+            ok: same_term(crate::bindings::value_of(v, k, n), item),
+            values: v,
+        };
+    }
+    if math_types::below(item_kind(item), k) {
+        return Tested {
+            ok: true,
+            values: bind(v, i, item),
+        };
+    }
+    Tested {
+        ok: false,
+        values: v,
+    }
+}
+
+// A term of the rule against an item of the slip.
+pub(crate) fn test_term(t: Term, item: Term, v: Values) -> Tested
+    ensures { λ r. ⌜ r ≡ tested t item v ⌝ }
+{
+    let form = t.form;
+    match form {
+        Form::Int(_) => Tested {
+            ok: same_term(t, item),
+            values: v,
+        },
+        Form::Str(_) => Tested {
+            ok: same_term(t, item),
+            values: v,
+        },
+        Form::Var(k, n) => {
+            if math_types::same_kind(k, Kind::List) {
+                return Tested {
+                    ok: true,
+                    values: v,
+                };
+            }
+            test_atom(k, n, item, v)
+        }
+    }
+}

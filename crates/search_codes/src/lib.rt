@@ -1,1 +1,0 @@
-// No code: the search's terms as codes of the pair's table, and what the codes tell of the terms.

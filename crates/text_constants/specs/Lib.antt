@@ -1,3 +1,0 @@
-pub mod Constants
-pub mod Matching
-pub mod Written

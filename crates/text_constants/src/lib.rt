@@ -1,1 +1,0 @@
-// The theory at document 01's types, constants and variables. Specs and their proofs only.

@@ -1,0 +1,45 @@
+-- A term as it is written, as the code answers it: what it is, how long its digits or its bytes are, and their value.
+-- The bytes themselves stay in the text.
+use mathlib.Core.Bool.{Bool, decide}
+use mathlib.Core.List.{List}
+use Prim.Native.Nat.{ℕ, suc, min}
+use lib.ListN.{length}
+use Rattle.math_types.specs.Values.{kindFrom}
+use Rattle.text_grammar.specs.Bytes.{digit?, Begins, b-digit, b-quote, b-letter, b-e, b-none}
+use Rattle.text_grammar.specs.Grammar.{Raw, raw-int, raw-str, raw-var, raw-empty}
+use Rattle.text_grammar.specs.Numbers.{value}
+use Rattle.text_grammar.specs.Sizes.{largestInteger}
+use Rattle.text_scan.specs.declared.Digits.{Digits}
+use Rattle.text_scan.specs.declared.Lexeme.{Lexeme}
+use Rattle.text_scan.specs.declared.Spelled.{Spelled}
+use Rattle.text_scan.specs.declared.Spelled.the-variants.{Int, Str, Var, Empty}
+
+-- A value is exact up to the largest integer, and stops one above it:
+-- it never overflows, and one that is too large is still told from those that are not.
+abbrev pub capped : ℕ → ℕ
+capped n = min n (suc largestInteger)
+
+abbrev pub lexemeOf : Raw → Lexeme
+lexemeOf (raw-int ds) = record { what = Int; size = length ds; value = capped (value ds) }
+lexemeOf (raw-str s) = record { what = Str; size = length s; value = 0 }
+lexemeOf (raw-var k ds) = record { what = Var (kindFrom k); size = length ds; value = capped (value ds) }
+lexemeOf raw-empty = record { what = Empty; size = 0; value = 0 }
+
+-- ---- the parts that the code answers one by one
+
+abbrev pub counted : List ℕ → Digits
+counted ds = record { count = length ds; value = capped (value ds) }
+
+abbrev pub withDigits : Spelled → Digits → Lexeme
+withDigits w d = record { what = w; size = d .count; value = d .value }
+
+-- what a byte begins; one that begins no term counts as beginning `empty`, as in `front`
+abbrev pub begun : {b : ℕ} → Begins b → Spelled
+begun (b-digit h) = Int
+begun (b-quote h) = Str
+begun (b-letter k h) = Var (kindFrom k)
+begun (b-e h) = Empty
+begun (b-none d q l e) = Empty
+
+abbrev pub isDigit : ℕ → Bool
+isDigit b = decide (digit? b)

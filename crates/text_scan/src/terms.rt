@@ -1,0 +1,64 @@
+// The value of the term that is written at a place of a text.
+ghost use mathlib.Core.Path.{_≡_};
+ghost use Prim.Native.Nat.{_≤_, min};
+ghost use lib.ListN.{length, take, drop};
+ghost use Rattle.text_grammar.specs.Sizes.{longestString};
+ghost use Rattle.text_grammar.specs.Walk.{front};
+ghost use Rattle.text_values.specs.Values.{pad};
+ghost use Rattle.text_scan.specs.terms.Terms.{termFrom};
+use crate::Spelled;
+use text_values::Form;
+use text_values::Term;
+
+fn at_most(n: usize, limit: usize) -> usize
+    ensures { λ r. ⌜ r ≡ min n limit ⌝ }
+{
+    if n < limit { n } else { limit }
+}
+
+// The bytes of a string: n of the text from `from` on, as far as there are any.
+fn string_at(text: &[u8], from: usize, n: usize) -> [u8; 15]
+    requires { ⌜ (from ≤ length (now text)) × (n ≤ 15) ⌝ }
+    ensures { λ r. ⌜ r ≡ pad longestString 0 (take n (drop from (now (text .entry)))) ⌝ }
+{
+    let mut bytes = [0u8; 15];
+    let mut i: usize = 0;
+    while i < n {
+        if text.len() - from <= i {
+            return bytes;
+        }
+        bytes[i] = text[from + i];
+        i += 1;
+    }
+    bytes
+}
+
+// The term at a place, told by its first byte. Where none begins, as past the end, it is the blank one.
+pub fn term_at(text: &[u8], place: usize) -> Term
+    ensures { λ r. ⌜ r ≡ termFrom (front (drop place (now (text .entry)))) ⌝ }
+{
+    if text.len() <= place {
+        return text_values::blank_term();
+    }
+    let p = crate::lexeme_at(text, place);
+    let what = p.what;
+    match what {
+        Spelled::Int => Term {
+            form: Form::Int(p.value),
+            text: [0; 15],
+        },
+        Spelled::Str => {
+            let n = at_most(p.size, 15);
+            let bytes = string_at(text, place + 1, n);
+            Term {
+                form: Form::Str(n as u8),
+                text: bytes,
+            }
+        }
+        Spelled::Var(k) => Term {
+            form: Form::Var(k, (p.value % 256) as u8),
+            text: [0; 15],
+        },
+        Spelled::Empty => text_values::blank_term(),
+    }
+}
