@@ -8,6 +8,7 @@ use Prim.Native.Nat.{ℕ}
 use borrow.Author.Tests.{le-leb, leb-true}
 use lib.Dec.{eqb, leb}
 use lib.ListN.{length, take}
+use Rattle.base_limits.specs.Limits.{mostItems}
 use Rattle.base_lists.specs.Seqs.{IsCons}
 use Rattle.base_lists.specs.Truths.{both-is}
 use Rattle.math_types.specs.Types.{Kind, basics}
@@ -44,25 +45,26 @@ use Rattle.apply_rules.proofs.Gives.{filled}
 
 -- ---- the limit
 
-short-true : (w : List (List Con)) → Short 64 w → allShort w ≡ true
+short-true : (w : List (List Con)) → Short mostItems w → allShort w ≡ true
 short-true [] h = refl
-short-true (f ∷ w) h = both-is (leb (length f) 64) (allShort w) .1 (le-leb (length f) 64 (h .0), short-true w (h .1))
+short-true (f ∷ w) h = both-is (leb (length f) mostItems) (allShort w) .1 (le-leb (length f) mostItems (h .0), short-true w (h .1))
 
-true-short : (w : List (List Con)) → allShort w ≡ true → Short 64 w
+true-short : (w : List (List Con)) → allShort w ≡ true → Short mostItems w
 true-short [] e = tt
-true-short (f ∷ w) e = let b = both-is (leb (length f) 64) (allShort w) .0 e in (leb-true (length f) 64 (b .0), true-short w (b .1))
+true-short (f ∷ w) e = let b = both-is (leb (length f) mostItems) (allShort w) .0 e in (leb-true (length f) mostItems (b .0), true-short w (b .1))
 
 -- the answer by what was filled in
 abbrev byFilled : Slip → Filled → CarriedValue
 byFilled s f = cond (f .ok) (record { answer = Yes; slip = f .slip }) (record { answer = TooLong; slip = s })
 
-limited-filled : (s : Slip) (w : List (List Con)) → byFilled s (filledWith w) ≡ answerOf s (limited 64 w)
+limited-filled : (s : Slip) (w : List (List Con)) → byFilled s (filledWith w) ≡ answerOf s (limited mostItems w)
 limited-filled s w = go (allShort w) refl
   where
     go : (b : Bool) → allShort w ≡ b
-        → byFilled s (cond b (record { ok = true; slip = encodeSlip (map (map con) w) }) (record { ok = false; slip = blankSlip })) ≡ answerOf s (limited 64 w)
-    go true e = sym (ap (answerOf s) (if-pos (short? 64 w) (true-short w e) (result w) tooLong))
-    go false e = sym (ap (answerOf s) (if-neg (short? 64 w) (λ h. false≢true (sym e ∙ short-true w h)) (result w) tooLong))
+        → byFilled s (cond b (record { ok = true; slip = encodeSlip (map (map con) w) }) (record { ok = false; slip = blankSlip }))
+        ≡ answerOf s (limited mostItems w)
+    go true e = sym (ap (answerOf s) (if-pos (short? mostItems w) (true-short w e) (result w) tooLong))
+    go false e = sym (ap (answerOf s) (if-neg (short? mostItems w) (λ h. false≢true (sym e ∙ short-true w h)) (result w) tooLong))
 
 -- ---- matching
 
@@ -153,7 +155,7 @@ module _ (r : Rule) (s : Slip) where
       by-match (g ∷ l) w i e = rw e
 
       by-filling : (l : List (List OurTerm)) (w : OurSlip) (φ : Filling Con Kind ℕ) → IsCons l → matcher x w ≡ some φ
-          → carried (x, l) w ≡ limited 64 (map (fill (complete basics consts φ)) l)
+          → carried (x, l) w ≡ limited mostItems (map (fill (complete basics consts φ)) l)
       by-filling [] w φ i e = absurd i
       by-filling (g ∷ l) w φ i e = rw e
 

@@ -5,6 +5,7 @@ use mathlib.Core.Option.{some}
 use mathlib.Core.List.{List, [], _∷_, map}
 use Prim.Native.Nat.{ℕ}
 use native.Mathlib.Omega.{arith}
+use Rattle.base_limits.specs.Limits.{mostItems}
 use Rattle.base_lists.specs.Seqs.{All}
 use Rattle.math_types.specs.Types.{Kind}
 use Rattle.math_terms.specs.Terms.{con}
@@ -99,14 +100,14 @@ module _ (v : Rule) (s : Slip) (read-v : acceptedRule v ≡ true) (read-s : acce
   readable-w = subst IsSlip (sym (terms-again (viewSlip s) (is-slip .1))) is-slip
 
   same-result : (θ : Filling Con Kind ℕ) → Makes x w θ → (u : OurSlip) → a ≡ result u → map (fill θ) y ≡ u
-  same-result θ m u e = limited-result 64 (map (fill θ) y) u (sym (out .any-filling (out .yes u .0 e .0) θ (m .0) (m .1)) ∙ e) .0
+  same-result θ m u e = limited-result mostItems (map (fill θ) y) u (sym (out .any-filling (out .yes u .0 e .0) θ (m .0) (m .1)) ∙ e) .0
 
   on-answer : CarriesOn x y w (answerOf s a)
   on-answer = record {
     yes = (
       λ e. let q = yes-is s a e in
           let h = out .yes (q .0) .0 (q .1) in
-          (h .0, (h .1 .0, (h .1 .1, h .1 .2), subst (Short 64) (sym (h .1 .3)) (h .1 .4))),
+          (h .0, (h .1 .0, (h .1 .1, h .1 .2), subst (Short mostItems) (sym (h .1 .3)) (h .1 .4))),
       λ h. ap (λ (b : Carried OurSlip). answerOf s b .answer)
           (out .yes (map (fill (h .1 .0)) y) .1 (h .0, (h .1 .0, h .1 .1 .0, h .1 .1 .1, refl, h .1 .2))),
     );

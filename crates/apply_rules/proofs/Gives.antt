@@ -6,6 +6,7 @@ use mathlib.Core.Option.{some}
 use mathlib.Core.List.{List, [], _∷_, map}
 use Prim.Native.Nat.{ℕ, _≤_}
 use native.Mathlib.Omega.{arith}
+use Rattle.base_limits.specs.Limits.{largestNumber}
 use Rattle.base_lists.specs.Seqs.{All, Any}
 use Rattle.math_types.specs.Order.{basic, list}
 use Rattle.math_types.specs.Types.{Kind, basics}
@@ -27,13 +28,13 @@ use Rattle.apply_rules.specs.filling.Filled.{filledSide}
 use Rattle.apply_rules.proofs.filling.Fills.{enc, Gives, filledWith, fills}
 
 -- a variable of a rule has a number from 0 to 15
-field-number : (k : Kind) (n : ℕ) (f : List OurTerm) → All TermIn f → Occurs k n f → n ≤ 15
+field-number : (k : Kind) (n : ℕ) (f : List OurTerm) → All TermIn f → Occurs k n f → n ≤ largestNumber
 field-number k n [] i o = absurd o
 field-number k n (con c ∷ f) i o = field-number k n f (i .1) o
 field-number k n (var j m ∷ f) i (inl p) = omega (arith, i .0, p .1)
 field-number k n (var j m ∷ f) i (inr o) = field-number k n f (i .1) o
 
-side-number : (k : Kind) (n : ℕ) (r : List (List OurTerm)) → All (All TermIn) r → Any (Occurs k n) r → n ≤ 15
+side-number : (k : Kind) (n : ℕ) (r : List (List OurTerm)) → All (All TermIn) r → Any (Occurs k n) r → n ≤ largestNumber
 side-number k n [] i o = absurd o
 side-number k n (f ∷ r) i (inl o) = field-number k n f (i .0) o
 side-number k n (f ∷ r) i (inr o) = side-number k n r (i .1) o
@@ -46,7 +47,7 @@ module _ (x w : List (List OurTerm)) (is-left : IsLeft x) (is-slip : IsSlip w) (
   abbrev pub shown : FillingValue
   shown = record { values = encodeValues φ; runs = runsOf x items }
 
-  gives : (k : Kind) (n : ℕ) → Any (Occurs k n) x → n ≤ 15 → Gives shown (encodeSlip w) (complete basics consts φ) k n
+  gives : (k : Kind) (n : ℕ) → Any (Occurs k n) x → n ≤ largestNumber → Gives shown (encodeSlip w) (complete basics consts φ) k n
   gives (basic k) n o h =
       let v = atom-value x (is-left .1) items φ yes-φ k n o in
       ap (λ (t : Term). t ∷ []) (atom-at φ k n h ∙ ap valueTerm (v .1))

@@ -6,6 +6,7 @@ use mathlib.Core.Bool.{true, false}
 use mathlib.Core.Option.{some}
 use mathlib.Core.List.{List, map}
 use Prim.Native.Nat.{ℕ}
+use Rattle.base_limits.specs.Limits.{mostItems}
 use Rattle.base_lists.specs.Seqs.{IsCons}
 use Rattle.math_types.specs.Types.{Kind, basics}
 use Rattle.math_terms.specs.Terms.{con}
@@ -14,7 +15,6 @@ use Rattle.text_grammar.specs.Terms.{Con, OurTerm}
 use Rattle.text_grammar.specs.constants.Constants.{consts}
 use Rattle.text_grammar.specs.constants.Matching.{constants, Matches}
 use Rattle.apply_spec.specs.Carrying.{Short, Over}
-use Rattle.apply_spec.specs.Rules.{mostItems}
 use Rattle.text_values.specs.declared.Rule.{Rule}
 use Rattle.text_values.specs.declared.Slip.{Slip}
 use Rattle.text_values.specs.Values.{viewSide, viewSlip, encodeSlip}
@@ -31,7 +31,7 @@ Makes x w θ = Typed basics consts θ × (map (fill θ) x ≡ w)
 -- of a rule with the sides x and y and a slip w, as reading returns them
 pub record CarriesOn (x y : List (List OurTerm)) (w : List (List Con)) (c : Carried) : Type 0 where
   -- "Carrying out a rule on a slip it matches gives ..": yes exactly when there is a right side, some filling makes the left side the slip,
-  -- and no field of the right side with it put in has more than 64 terms
+  -- and no field of the right side with it put in has more terms than a slip's field may have
   pub yes : (c .answer ≡ Yes) ↔ (IsCons y × ((θ : Filling Con Kind ℕ) × Makes x w θ × Short mostItems (map (fill θ) y)))
   -- ".. the right side with the filling put in", whichever filling it is
   pub result : c .answer ≡ Yes → (θ : Filling Con Kind ℕ) → Makes x w θ → c .slip ≡ encodeSlip (map (map con) (map (fill θ) y))

@@ -1,14 +1,13 @@
 // A filling put into a side of a rule: each variable replaced by its value, list variables by terms of the slip.
 ghost use mathlib.Core.Path.{_≡_};
 ghost use mathlib.Core.List.{foldl};
-ghost use Prim.Native.Nat.{min};
 ghost use lib.ListN.{getD};
 ghost use Rattle.text_values.specs.Values.{blankSlipField};
 ghost use Rattle.apply_rules.specs.filling.Filled.{someItems, runItems, filledTerm, filledField, filledSide};
 ghost use Rattle.apply_rules.specs.filling.Pushes.{pushed, collected};
+use base_numbers::at_most;
 use match_fields::bindings::Filling;
 use match_fields::bindings::Run;
-use math_types::Kind;
 use text_values::Field;
 use text_values::Form;
 use text_values::RuleSide;
@@ -16,27 +15,23 @@ use text_values::Slip;
 use text_values::SlipField;
 use text_values::Term;
 
-// The filled side; `ok` is false where a field has more than 64 terms, and the slip is blank then.
+// The filled side; `ok` is false where a field has more terms than a slip's may have, and the slip is blank then.
 pub struct Filled {
     pub ok: bool,
     pub slip: Slip,
 }
 
-// A count beyond the places counts for all of them.
-fn at_most(n: usize, places: usize) -> usize
-    ensures { λ r. ⌜ r ≡ min n places ⌝ }
-{
-    if n < places { n } else { places }
-}
+// The count of a field with more terms than it has places for.
+const OVERFULL: usize = base_limits::MOST_ITEMS + 1;
 
-// The field with t behind its terms. A full field has no place for it: its count says so by 65.
+// The field with t behind its terms. A full field has no place for it, and its count says so.
 fn push(w: SlipField, t: Term) -> SlipField
     ensures { λ r. ⌜ r ≡ pushed w t ⌝ }
 {
     let n = w.n;
     let mut x = w;
-    if 64 <= n {
-        x.n = 65;
+    if base_limits::MOST_ITEMS <= n {
+        x.n = OVERFULL;
         return x;
     }
     x.n = n + 1;
@@ -48,7 +43,7 @@ fn push(w: SlipField, t: Term) -> SlipField
 fn push_items(w: SlipField, f: SlipField, start: usize, count: usize) -> SlipField
     ensures { λ r. ⌜ r ≡ foldl pushed w (someItems f start count) ⌝ }
 {
-    let n = at_most(f.n, 64);
+    let n = at_most(f.n, base_limits::MOST_ITEMS);
     let mut y = w;
     let mut i = start;
     let mut left = count;
@@ -66,7 +61,7 @@ fn push_items(w: SlipField, f: SlipField, start: usize, count: usize) -> SlipFie
 fn field_at(s: Slip, j: usize) -> SlipField
     ensures { λ f. ⌜ f ≡ getD (s .fields) j blankSlipField ⌝ }
 {
-    if 4 <= j {
+    if base_limits::MOST_FIELDS <= j {
         return text_values::blank_slip_field();
     }
     s.fields[j]
@@ -90,7 +85,7 @@ fn push_term(w: SlipField, t: Term, x: Filling, s: Slip) -> SlipField
         Form::Int(_) => push(w, t),
         Form::Str(_) => push(w, t),
         Form::Var(k, n) => {
-            if math_types::same_kind(k, Kind::List) {
+            if math_types::is_list(k) {
                 return push_run(w, s, match_fields::bindings::run_of(x, n));
             }
             push(w, match_fields::bindings::value_of(x.values, k, n))
@@ -101,7 +96,7 @@ fn push_term(w: SlipField, t: Term, x: Filling, s: Slip) -> SlipField
 fn fill_field(f: Field, x: Filling, s: Slip) -> SlipField
     ensures { λ y. ⌜ y ≡ collected (filledField x s f) ⌝ }
 {
-    let n = at_most(f.n, 16);
+    let n = at_most(f.n, base_limits::MOST_TERMS);
     let mut y = text_values::blank_slip_field();
     let mut i: usize = 0;
     while i < n {
@@ -111,17 +106,17 @@ fn fill_field(f: Field, x: Filling, s: Slip) -> SlipField
     y
 }
 
-// The side with the filling put in, where every field then has at most 64 terms.
+// The side with the filling put in, where no field then has more terms than a slip's.
 pub(crate) fn fill_side(side: RuleSide, x: Filling, s: Slip) -> Filled
     ensures { λ r. ⌜ r ≡ filledSide side x s ⌝ }
 {
-    let n = at_most(side.n, 4);
+    let n = at_most(side.n, base_limits::MOST_FIELDS);
     let mut out = text_values::blank_slip();
     out.n = n;
     let mut i: usize = 0;
     while i < n {
         let f = fill_field(side.fields[i], x, s);
-        if 64 < f.n {
+        if base_limits::MOST_ITEMS < f.n {
             return Filled {
                 ok: false,
                 slip: text_values::blank_slip(),

@@ -7,7 +7,7 @@ mod filling; // a filling put into a side
 use text_values::Rule;
 use text_values::Slip;
 
-// Yes with the result; no; or a field of the result would have more than 64 terms, refusal 11.
+// Yes with the result; no; or a field of the result would have more terms than a slip's may have, refusal 11.
 pub enum Carry {
     Yes,
     No,

@@ -12,7 +12,7 @@ use Rattle.text_grammar.specs.constants.Matching.{Matches}
 use Rattle.text_grammar.specs.rules.Read.{OurRule}
 use Rattle.text_grammar.specs.rules.Limits.{IsRule}
 use Rattle.apply_spec.specs.Carrying.{Carried, result, unmatched, tooLong, limited, Short, Over}
-use Rattle.apply_spec.specs.Rules.{OurSlip, mostItems, carried}
+use Rattle.apply_spec.specs.Rules.{OurSlip, carried}
 use Rattle.apply_spec.specs.Carried.{CarriesOut}
 use Rattle.apply_spec.proofs.Rules.{no-right, matches?, carried-by, yes-iff, over-iff, no-iff, yes-right, over-right, result-readable}
 

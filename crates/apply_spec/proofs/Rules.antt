@@ -7,6 +7,7 @@ use Prim.Native.Nat.{ℕ}
 use native.Mathlib.Omega.{arith}
 use native.Mathlib.Decide.{ℕ-discrete}
 use lib.ListN.{length-map}
+use Rattle.base_limits.specs.Limits.{mostItems}
 use Rattle.base_lists.specs.Seqs.{All, IsCons}
 use Rattle.math_types.specs.Types.{Kind, basics}
 use Rattle.math_terms.specs.Fillings.{Filling, Typed, fill}
@@ -19,7 +20,7 @@ use Rattle.overlap_spec.specs.Fits.{OurCon}
 use Rattle.text_grammar.specs.rules.Read.{OurRule}
 use Rattle.text_grammar.specs.rules.Limits.{IsRule}
 use Rattle.apply_spec.specs.Carrying.{Short, Over, result, unmatched, tooLong, limited}
-use Rattle.apply_spec.specs.Rules.{OurSlip, Readable, mostItems, carried}
+use Rattle.apply_spec.specs.Rules.{OurSlip, Readable, carried}
 use Rattle.apply_spec.proofs.Fills.{cons-map, values-in, fills-in}
 use Rattle.apply_spec.proofs.Slips.{readable, readable-ours, terms-ours}
 use Rattle.apply_spec.proofs.Carrying as theory

@@ -4,16 +4,16 @@ use mathlib.Core.List.{List, [], _∷_, map}
 use Prim.Native.Nat.{_≤_}
 use native.Mathlib.Omega.{arith}
 use lib.ListN.{length, length-map}
+use Rattle.base_limits.specs.Limits.{mostFields, mostItems}
 use Rattle.base_lists.specs.Seqs.{All, IsCons, all-map}
 use Rattle.math_terms.specs.Terms.{con, var}
-use Rattle.text_grammar.specs.Sizes.{mostFields}
 use Rattle.text_grammar.specs.Terms.{Con, OurTerm}
 use Rattle.text_grammar.specs.Limits.{TermIn, IsCon}
 use Rattle.text_grammar.specs.Read.{slip, OurFields}
 use Rattle.math_overlaps.specs.Constants.{ConstantIn}
 use Rattle.overlap_spec.specs.Fits.{OurCon}
 use Rattle.apply_spec.specs.Carrying.{Short}
-use Rattle.apply_spec.specs.Rules.{OurSlip, Readable, mostItems}
+use Rattle.apply_spec.specs.Rules.{OurSlip, Readable}
 use Rattle.apply_spec.proofs.Fills.{cons-map}
 
 -- the limit of results is the limit of reading

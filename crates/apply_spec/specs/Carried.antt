@@ -4,6 +4,7 @@ use mathlib.Core.Path.{_≡_}
 use mathlib.Core.Logic.{_↔_}
 use mathlib.Core.List.{map}
 use Prim.Native.Nat.{ℕ}
+use Rattle.base_limits.specs.Limits.{mostItems}
 use Rattle.base_lists.specs.Seqs.{IsCons}
 use Rattle.math_types.specs.Types.{Kind, basics}
 use Rattle.math_terms.specs.Fillings.{Filling, Typed, fill}
@@ -12,7 +13,7 @@ use Rattle.text_grammar.specs.constants.Constants.{consts}
 use Rattle.text_grammar.specs.constants.Matching.{Matches}
 use Rattle.text_grammar.specs.rules.Read.{OurRule}
 use Rattle.apply_spec.specs.Carrying.{Carried, result, unmatched, tooLong, limited, Short, Over}
-use Rattle.apply_spec.specs.Rules.{OurSlip, Readable, mostItems}
+use Rattle.apply_spec.specs.Rules.{OurSlip, Readable}
 
 -- the answer to carrying out the rule r on the slip w
 pub record CarriesOut (r : OurRule) (w : OurSlip) (answer : Carried OurSlip) : Type 0 where

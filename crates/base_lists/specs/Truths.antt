@@ -14,3 +14,16 @@ not-is false = (λ e k. false≢true k, λ h. refl)
 pub false-is : (a : Bool) → (a ≡ false) ↔ (a ≡ true → ⊥)
 false-is true = (λ e k. true≢false e, λ h. absurd (h refl))
 false-is false = (λ e k. false≢true k, λ h. refl)
+
+-- whether a decided statement holds
+abbrev pub decided : {A : Type 0} → Dec A → Bool
+decided (yes p) = true
+decided (no n) = false
+
+pub decided-true : {A : Type 0} (c : Dec A) → decided c ≡ true → A
+decided-true (yes p) e = p
+decided-true (no n) e = absurd (false≢true e)
+
+pub true-decided : {A : Type 0} (c : Dec A) → A → decided c ≡ true
+true-decided (yes p) a = refl
+true-decided (no n) a = absurd (n a)

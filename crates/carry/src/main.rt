@@ -3,9 +3,9 @@ use line_io::Output;
 use line_io::State;
 use text_write::Written;
 
-// Puts the answer to line number k behind those that wait. It has room: an answer has at most 4,646 bytes (`carry_answer` ensures it).
+// Puts the answer to line number k behind those that wait. It has room: no answer has more bytes (`carry_answer` ensures it).
 fn answer(k: u64, line: &[u8], buffer: &mut [u8], output: Output) -> Output {
-    let mut text = [0u8; 4646];
+    let mut text = [0u8; print_carry::LONGEST_ANSWER];
     match print_carry::carry_answer(k, line, &mut text) {
         Written::Bytes(n) => line_io::put(&text[..n], buffer, output),
         Written::TooSmall(_) => output,
@@ -40,10 +40,13 @@ fn answer_all(chunk: &mut [u8], line: &mut [u8], buffer: &mut [u8]) {
     line_io::finish(s, buffer);
 }
 
-// Of a line no more than 12,290 bytes are kept: with more it is too long whatever they are (`cut-same` of print_carry' proofs/Lengths).
+// Of a line one byte more is kept than it may have: with more it is too long whatever they are (`cut-same` of print_carry's
+// proofs/Lengths).
+const LINE: usize = base_limits::SLIP_LINE + 1;
+
 fn main() {
     let mut chunk = io::large_buffer();
-    let mut line = [0u8; 12290];
+    let mut line = [0u8; LINE];
     let mut buffer = io::large_buffer();
     answer_all(&mut chunk, &mut line, &mut buffer);
 }

@@ -9,6 +9,7 @@ use mathlib.Core.Logic.{_↔_}
 use mathlib.Core.Bool.{Bool, true, false, cond, false≢true}
 use mathlib.Core.List.{List, [], map}
 use Prim.Native.Nat.{ℕ}
+use Rattle.base_limits.specs.Limits.{mostItems}
 use Rattle.base_lists.specs.Seqs.{IsCons}
 use Rattle.math_types.specs.Types.{Kind}
 use Rattle.math_terms.specs.Terms.{con}
@@ -161,7 +162,7 @@ module _ (v : Rule) (s : Slip) (c : Carried) (h : Carries v s c) where
           let k = on .yes .0 is-yes in
           let z = map (fill (k .1 .0)) (viewSide (v .right)) in
           let a = out .yes z .1 (k .0, (k .1 .0, k .1 .1 .0, k .1 .1 .1, refl, k .1 .2)) in
-          a ∙ ap result (sym (limited-result 64 u z (sym (out .any-filling (k .0) θ (m .0) (m .1)) ∙ a) .0))
+          a ∙ ap result (sym (limited-result mostItems u z (sym (out .any-filling (k .0) θ (m .0) (m .1)) ∙ a) .0))
 
       in-limits : IsSlip (map (map con) u)
       in-limits = out .readable (subst IsSlip (sym (terms-again (viewSlip s) (is-slip .1))) is-slip) u found

@@ -8,6 +8,7 @@ use Prim.Native.Nat.{ℕ, suc, _≤_, _<_}
 use native.Mathlib.Omega.{arith}
 use native.Mathlib.Decide.{ℕ-discrete}
 use lib.ListN.{length, getElem?}
+use Rattle.base_limits.specs.Limits.{largestNumber, largestEntryNumber, entryTerms}
 use Rattle.base_lists.specs.Seqs.{All, Any, IsCons}
 use Rattle.math_types.specs.Order.{Full, basic, list}
 use Rattle.math_types.specs.Types.{Kind, basics}
@@ -15,7 +16,6 @@ use Rattle.math_terms.specs.Terms.{Term, con, var}
 use Rattle.math_terms.specs.Fillings.{Filling, Typed, fill, Occurs}
 use Rattle.math_terms.specs.Linear.{LeftLinear}
 use Rattle.math_terms.proofs.Fillings.{fills-agree}
-use Rattle.text_grammar.specs.Sizes.{largestNumber, mostFields}
 use Rattle.text_grammar.specs.Terms.{Con, OurTerm}
 use Rattle.text_grammar.specs.Limits.{TermIn, IsLeft}
 use Rattle.text_grammar.specs.constants.Constants.{consts, some-of, some-of-le}
@@ -66,8 +66,8 @@ filled-by rule is σ ψ w t h =
 
 -- "their numbers may reach 31 and its fields 31 terms"
 pub record Sized (l : Line) : Type 0 where
-  pub short : All (λ f. length f ≤ 31) (l .fields)
-  pub small : (k : Kind) (n : ℕ) → Any (Occurs k n) (l .fields) → n ≤ 31
+  pub short : All (λ f. length f ≤ entryTerms) (l .fields)
+  pub small : (k : Kind) (n : ℕ) → Any (Occurs k n) (l .fields) → n ≤ largestEntryNumber
 
 module _ (r₁ r₂ : List (List OurTerm)) (is₁ : IsLeft r₁) (is₂ : IsLeft r₂) where
   lin₁ : LeftLinear r₁
@@ -115,10 +115,10 @@ module _ (r₁ r₂ : List (List OurTerm)) (is₁ : IsLeft r₁) (is₂ : IsLeft
       e : (e : OurEntry) × List·Memᴰ e (overlaps basics consts ℕ-discrete r₁ r₂) × (lineOf r₁ r₂ e ≡ l)
       e = entry-of i l p
 
-      short : All (λ f. length f ≤ 31) (e .0 .fields)
+      short : All (λ f. length f ≤ entryTerms) (e .0 .fields)
       short = entries.fields-short basics consts ℕ-discrete r₁ r₂ lin₁ lin₂ (is₁ .0 .2) (is₂ .0 .2) (e .0) (e .1)
 
-      small : (k : Kind) (n : ℕ) → Any (Occurs k n) (e .0 .fields) → n ≤ 31
+      small : (k : Kind) (n : ℕ) → Any (Occurs k n) (e .0 .fields) → n ≤ largestEntryNumber
       small (basic k) n o =
           let h = entries.numbers-few basics consts ℕ-discrete r₁ r₂ lin₁ lin₂ (e .0) (e .1) k numbers numbers
           (λ a q. number-in r₁ is₁ (basic k) a q) (λ a q. number-in r₂ is₂ (basic k) a q) n o in

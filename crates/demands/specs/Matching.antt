@@ -12,6 +12,7 @@ use mathlib.Core.List.{List, [], _∷_, map}
 use Prim.Native.Nat.{ℕ, _≤_}
 use native.Mathlib.Omega.{arith}
 use lib.ListN.{getD}
+use Rattle.base_limits.specs.Limits.{largestNumber}
 use Rattle.base_lists.specs.Seqs.{All, Any}
 use Rattle.math_types.specs.Order.{basic, list}
 use Rattle.math_types.specs.Types.{Basic, Kind, basics}
@@ -21,7 +22,6 @@ use Rattle.math_terms.specs.Laws.{expr}
 use Rattle.math_terms.specs.Matching.{MatchesByLaws}
 use Rattle.math_terms.specs.Matcher.{complete}
 use Rattle.text_grammar.specs.Grammar.{Raw, Says}
-use Rattle.text_grammar.specs.Sizes.{largestNumber}
 use Rattle.text_grammar.specs.Terms.{Con, OurTerm, fieldsOf}
 use Rattle.text_grammar.specs.Limits.{TermIn, IsCon, IsLeft, IsSlip}
 use Rattle.text_grammar.specs.Read.{OutcomeOf, Outcome, refused, accepted, readSide, readSlip}
@@ -106,7 +106,7 @@ module _ (rule : List (List OurTerm)) (is-rule : IsLeft rule) (slip : List (List
     blank-of : (k : Kind) (n : ℕ) → (Any (Occurs k n) rule → ⊥) → φ k n ≡ []
     blank-of = match-blank rule (is-rule .1) slip φ yes-φ
 
-    number-of : (k : Kind) (n : ℕ) → Any (Occurs k n) rule → n ≤ 15
+    number-of : (k : Kind) (n : ℕ) → Any (Occurs k n) rule → n ≤ largestNumber
     number-of k n o = number-in k n rule (is-rule .0 .3) o
 
     shows : Shows rule slip shown φ

@@ -13,6 +13,7 @@ use lib.ListN.{length, take, drop, length-take, length-drop}
 use lib.Seq.{take-at, drop-at}
 use borrow.Author.Tests.{le-leb, lt-leb, le-ltb}
 use Rattle.bytes.specs.Bytes.{indexOf}
+use Rattle.base_limits.specs.Limits.{mostListBytes, pairLine}
 use Rattle.text_grammar.specs.Ascii.{ascii, newline}
 use Rattle.text_grammar.specs.Numbers.{digitsOf}
 use Rattle.text_grammar.specs.Terms.{OurTerm}
@@ -24,8 +25,8 @@ use Rattle.text_write.specs.declared.Written.{Written}
 use Rattle.text_write.specs.Answers.{told, Writes}
 use Rattle.text_write.specs.pieces.Refusals.{numberAt}
 use Rattle.overlap_spec.specs.Overlaps.{linesOf, overlapText}
-use Rattle.print_pairs.specs.overlaps.Texts.{mostBytes, listedText, readText}
-use Rattle.print_pairs.specs.Pairs.{longestLine, tab, leftPart, rightPart, lineText, titleText, longestAnswer, pairAnswer}
+use Rattle.print_pairs.specs.overlaps.Texts.{listedText, readText}
+use Rattle.print_pairs.specs.Pairs.{tab, leftPart, rightPart, lineText, titleText, longestAnswer, pairAnswer}
 use Rattle.print_pairs.proofs.Lengths.{line-long}
 use Rattle.demands.specs.Overlaps.{Demand3, of-rules}
 
@@ -62,16 +63,16 @@ read-short t x e = go (decLt (rule .bytes) (length t))
 
 -- so a line of two of them is not too long
 both-short : (t : List ℕ) (x y : OurRule) → readRule (leftPart t) ≡ accepted x → readRule (rightPart t) ≡ accepted y
-    → length t ≤ longestLine
+    → length t ≤ pairLine
 both-short t x y e f =
     let i = indexOf tab t in
     omega (arith, read-short (leftPart t) x e, read-short (rightPart t) y f, length-take i t, length-drop (suc i) t)
 
-short-said : (t : List ℕ) → length t ≤ longestLine → lineText t ≡ readText (readRule (leftPart t)) (readRule (rightPart t))
+short-said : (t : List ℕ) → length t ≤ pairLine → lineText t ≡ readText (readRule (leftPart t)) (readRule (rightPart t))
 unfolding lineText
 short-said t h =
     let both = readText (readRule (leftPart t)) (readRule (rightPart t)) in
-    ap (λ (b : Bool). cond b (ascii "line too long" ++ newline) both) (le-ltb longestLine (length t) h)
+    ap (λ (b : Bool). cond b (ascii "line too long" ++ newline) both) (le-ltb pairLine (length t) h)
 
 both-said : (t : List ℕ) (x y : OurRule) → readRule (leftPart t) ≡ accepted x → readRule (rightPart t) ≡ accepted y
     → lineText t ≡ listedText (overlapText (x .0) (y .0))
@@ -93,33 +94,33 @@ module _ (k : ℕ) (t : List ℕ) {old : List ℕ} {r : Written} {new : List ℕ
 
   -- of a line whose two parts are read as the rules x and y, with a list of at most 65,536 bytes
   pub pair-demand-3 : (B : Type 0) (x y : OurRule)
-      → readRule (leftPart t) ≡ accepted x → readRule (rightPart t) ≡ accepted y → length (overlapText (x .0) (y .0)) ≤ mostBytes
+      → readRule (leftPart t) ≡ accepted x → readRule (rightPart t) ≡ accepted y → length (overlapText (x .0) (y .0)) ≤ mostListBytes
       → PrintsShared B k (x .0) (y .0) old r new
   pair-demand-3 B x y e f fits =
       record {
         list = overlapText (x .0) (y .0);
         demanded = of-rules B (x .0) (y .0) (rule-read (leftPart t) x e .0) (rule-read (rightPart t) y f .0);
-        printed = said (both-said t x y e f ∙ rw (le-leb (length (overlapText (x .0) (y .0))) mostBytes fits));
+        printed = said (both-said t x y e f ∙ rw (le-leb (length (overlapText (x .0) (y .0))) mostListBytes fits));
       }
 
   -- "`too long B` where B bytes exceed its 65,536"
   pub pair-long : (x y : OurRule) → readRule (leftPart t) ≡ accepted x → readRule (rightPart t) ≡ accepted y
-      → mostBytes < length (overlapText (x .0) (y .0))
+      → mostListBytes < length (overlapText (x .0) (y .0))
       → Prints (titleText k ++ (ascii "too long " ++ digitsOf (length (overlapText (x .0) (y .0))) ++ newline)) old r new
-  pair-long x y e f more = said (both-said t x y e f ∙ rw (lt-leb (length (overlapText (x .0) (y .0))) mostBytes more))
+  pair-long x y e f more = said (both-said t x y e f ∙ rw (lt-leb (length (overlapText (x .0) (y .0))) mostListBytes more))
 
   -- "`refused left N at P`, or else `refused right N at P`, N the number and P the place"
-  pub pair-left-refused : (s : Reason) (p : ℕ) → length t ≤ longestLine → readRule (leftPart t) ≡ refused s p
+  pub pair-left-refused : (s : Reason) (p : ℕ) → length t ≤ pairLine → readRule (leftPart t) ≡ refused s p
       → Prints (titleText k ++ (ascii "refused left " ++ numberAt (number s) p ++ newline)) old r new
   pair-left-refused s p h e = said (short-said t h ∙ ap (λ (o : OutcomeOf OurRule). readText o (readRule (rightPart t))) e)
 
-  pub pair-right-refused : (x : OurRule) (s : Reason) (p : ℕ) → length t ≤ longestLine
+  pub pair-right-refused : (x : OurRule) (s : Reason) (p : ℕ) → length t ≤ pairLine
       → readRule (leftPart t) ≡ accepted x → readRule (rightPart t) ≡ refused s p
       → Prints (titleText k ++ (ascii "refused right " ++ numberAt (number s) p ++ newline)) old r new
   pair-right-refused x s p h e f = said (short-said t h ∙ ap₂ readText e f)
 
   -- "`line too long` beyond" document 02's 8,193 bytes, "the newline not counted"
-  pub pair-line-long : longestLine < length t → Prints (titleText k ++ (ascii "line too long" ++ newline)) old r new
+  pub pair-line-long : pairLine < length t → Prints (titleText k ++ (ascii "line too long" ++ newline)) old r new
   pair-line-long h = said (line-long t h)
 
 -- ---- what src/ ensures
@@ -127,16 +128,16 @@ module _ (k : ℕ) (t : List ℕ) {old : List ℕ} {r : Written} {new : List ℕ
 -- of `pair_answer`: of whatever line, demand 3 at the numbers as names, or the line in the list's place
 pub record PairSaid (k : ℕ) (t old : List ℕ) (r : Written) (new : List ℕ) : Type 0 where
   pub shared : (x y : OurRule) → readRule (leftPart t) ≡ accepted x → readRule (rightPart t) ≡ accepted y
-      → length (overlapText (x .0) (y .0)) ≤ mostBytes → PrintsShared ℕ k (x .0) (y .0) old r new
+      → length (overlapText (x .0) (y .0)) ≤ mostListBytes → PrintsShared ℕ k (x .0) (y .0) old r new
   pub too-long : (x y : OurRule) → readRule (leftPart t) ≡ accepted x → readRule (rightPart t) ≡ accepted y
-      → mostBytes < length (overlapText (x .0) (y .0))
+      → mostListBytes < length (overlapText (x .0) (y .0))
       → Prints (titleText k ++ (ascii "too long " ++ digitsOf (length (overlapText (x .0) (y .0))) ++ newline)) old r new
-  pub left-refused : (s : Reason) (p : ℕ) → length t ≤ longestLine → readRule (leftPart t) ≡ refused s p
+  pub left-refused : (s : Reason) (p : ℕ) → length t ≤ pairLine → readRule (leftPart t) ≡ refused s p
       → Prints (titleText k ++ (ascii "refused left " ++ numberAt (number s) p ++ newline)) old r new
-  pub right-refused : (x : OurRule) (s : Reason) (p : ℕ) → length t ≤ longestLine
+  pub right-refused : (x : OurRule) (s : Reason) (p : ℕ) → length t ≤ pairLine
       → readRule (leftPart t) ≡ accepted x → readRule (rightPart t) ≡ refused s p
       → Prints (titleText k ++ (ascii "refused right " ++ numberAt (number s) p ++ newline)) old r new
-  pub line-long : longestLine < length t → Prints (titleText k ++ (ascii "line too long" ++ newline)) old r new
+  pub line-long : pairLine < length t → Prints (titleText k ++ (ascii "line too long" ++ newline)) old r new
 
 pair-said : (k : ℕ) (t : List ℕ) {old : List ℕ} {r : Written} {new : List ℕ} → Writes (pairAnswer k t) old r new
     → length (pairAnswer k t) ≤ length old → PairSaid k t old r new

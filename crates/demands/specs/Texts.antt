@@ -14,6 +14,7 @@ use lib.Dec.{leb}
 use lib.ListN.{length, take, drop}
 use lib.Seq.{take-at, drop-at}
 use borrow.Author.Tests.{le-leb, lt-leb}
+use Rattle.base_limits.specs.Limits.{mostFields, mostTerms, mostItems}
 use Rattle.base_lists.specs.Seqs.{All, all-map}
 use Rattle.math_types.specs.Types.{Kind}
 use Rattle.text_grammar.specs.Told.{Told}
@@ -93,7 +94,7 @@ RuleReading t r =
 -- of a slip text: `Refuses`, over the grammar of one side, which "has no `=>`", and `FirstBadToken`
 abbrev pub SlipReading : List ℕ → SlipRead → Type 0
 SlipReading t r =
-    Reading (Refuses slip t) (slip .order) (linear ∷ unknown ∷ []) (λ o p. FirstBadToken 64 o t p) blankSlip (HoldsSlip t)
+    Reading (Refuses slip t) (slip .order) (linear ∷ unknown ∷ []) (λ o p. FirstBadToken mostItems o t p) blankSlip (HoldsSlip t)
     (r .verdict) (r .slip)
 
 -- "the rule with no fields", "The slip with no fields"
@@ -190,26 +191,26 @@ slip-reading t r reads = subst (SlipReading t) (sym reads) (go (readSlip t) of-t
     never-ten : (p : ℕ) → readSlip t ≢ refused unknown p
     never-ten p e = applies unknown (λ i. omega arith) p e .2 .1 .3
 
-    place : (o : Reason) → 3 ≤ number o → (p : ℕ) → readSlip t ≡ refused o p → FirstBadToken 64 o t p
+    place : (o : Reason) → 3 ≤ number o → (p : ℕ) → readSlip t ≡ refused o p → FirstBadToken mostItems o t p
     place long h p e = absurd (omega (arith, h))
     place grammar h p e = absurd (omega (arith, h))
-    place fields h p e = first-bad 64 fields t p .0 (applies fields (λ i. omega arith) p e)
-    place terms h p e = first-bad 64 terms t p .0 (applies terms (λ i. omega arith) p e)
-    place limits h p e = first-bad 64 limits t p .0 (applies limits (λ i. omega arith) p e)
+    place fields h p e = first-bad mostItems fields t p .0 (applies fields (λ i. omega arith) p e)
+    place terms h p e = first-bad mostItems terms t p .0 (applies terms (λ i. omega arith) p e)
+    place limits h p e = first-bad mostItems limits t p .0 (applies limits (λ i. omega arith) p e)
     place linear h p e = absurd (slip-never t p e)
-    place variable h p e = first-bad 64 variable t p .0 (applies variable (λ i. omega arith) p e)
+    place variable h p e = first-bad mostItems variable t p .0 (applies variable (λ i. omega arith) p e)
     place unknown h p e = absurd (never-ten p e)
 
     Read : Outcome → Type 0
     Read a =
-        Reading (Refuses slip t) (slip .order) (linear ∷ unknown ∷ []) (λ o p. FirstBadToken 64 o t p) blankSlip (HoldsSlip t)
+        Reading (Refuses slip t) (slip .order) (linear ∷ unknown ∷ []) (λ o p. FirstBadToken mostItems o t p) blankSlip (HoldsSlip t)
         (verdictOf a)
-        (valueOf (Refuses slip t) (slip .order) (linear ∷ unknown ∷ []) (λ o p. FirstBadToken 64 o t p) (Says t) fieldsOf
+        (valueOf (Refuses slip t) (slip .order) (linear ∷ unknown ∷ []) (λ o p. FirstBadToken mostItems o t p) (Says t) fieldsOf
         blankSlip encodeSlip a)
 
     of-text : Read (readSlip t)
     of-text =
-        reading-of (Refuses slip t) (slip .order) (linear ∷ unknown ∷ []) (λ o p. FirstBadToken 64 o t p) (Says t) fieldsOf
+        reading-of (Refuses slip t) (slip .order) (linear ∷ unknown ∷ []) (λ o p. FirstBadToken mostItems o t p) (Says t) fieldsOf
         blankSlip encodeSlip (readSlip t) (λ o n p. slip-refused o (n .0) t p) (slip-never t, (never-ten, tt)) (slip-accepted t) place
 
     go : (a : Outcome) → Read a → SlipReading t (slipRead a)
@@ -239,11 +240,12 @@ module _ (t : List ℕ) (r : RuleRead) (reads : ReadsRule t r) where
 
 module _ (t : List ℕ) (r : RuleRead) (reads : ReadsRule t r) (p : ℕ) where
   -- 3: "a fifth field, at its first byte"; of either side
-  pub rule-three : told (r .verdict) ≡ refusal fields p → (b : FirstBadTerm fields t p) × (b .token .inField ≡ 5) × (b .token .index ≡ 1)
+  pub rule-three : told (r .verdict) ≡ refusal fields p
+      → (b : FirstBadTerm fields t p) × (b .token .inField ≡ suc mostFields) × (b .token .index ≡ 1)
   rule-three e = let b = rule-reading t r reads .places fields (omega arith) p e in (b, b .stated .0, b .stated .1)
 
   -- 4: "a seventeenth term in a field"; of either side
-  pub rule-four : told (r .verdict) ≡ refusal terms p → (b : FirstBadTerm terms t p) × (b .token .index ≡ 17)
+  pub rule-four : told (r .verdict) ≡ refusal terms p → (b : FirstBadTerm terms t p) × (b .token .index ≡ suc mostTerms)
   rule-four e = let b = rule-reading t r reads .places terms (omega arith) p e in (b, b .stated)
 
   -- 5: "a value, digit count, variable number or string length over its limit"
@@ -263,18 +265,19 @@ module _ (t : List ℕ) (r : RuleRead) (reads : ReadsRule t r) (p : ℕ) where
       (b, b .stated .0, b .stated .1, b .stated .2, b .stated .3)
 
 module _ (t : List ℕ) (r : SlipRead) (reads : ReadsSlip t r) (p : ℕ) where
-  pub slip-three : told (r .verdict) ≡ refusal fields p → (b : FirstBadToken 64 fields t p) × (b .token .inField ≡ 5) × (b .token .index ≡ 1)
+  pub slip-three : told (r .verdict) ≡ refusal fields p
+      → (b : FirstBadToken mostItems fields t p) × (b .token .inField ≡ suc mostFields) × (b .token .index ≡ 1)
   slip-three e = let b = slip-reading t r reads .places fields (omega arith) p e in (b, b .stated .0, b .stated .1)
 
   -- 4: "a sixty-fifth term"
-  pub slip-four : told (r .verdict) ≡ refusal terms p → (b : FirstBadToken 64 terms t p) × (b .token .index ≡ 65)
+  pub slip-four : told (r .verdict) ≡ refusal terms p → (b : FirstBadToken mostItems terms t p) × (b .token .index ≡ suc mostItems)
   slip-four e = let b = slip-reading t r reads .places terms (omega arith) p e in (b, b .stated)
 
-  pub slip-five : told (r .verdict) ≡ refusal limits p → (b : FirstBadToken 64 limits t p) × Over (b .token .raw)
+  pub slip-five : told (r .verdict) ≡ refusal limits p → (b : FirstBadToken mostItems limits t p) × Over (b .token .raw)
   slip-five e = let b = slip-reading t r reads .places limits (omega arith) p e in (b, b .stated)
 
   -- 7: "a variable"
-  pub slip-seven : told (r .verdict) ≡ refusal variable p → (b : FirstBadToken 64 variable t p) × IsVar (b .token .raw)
+  pub slip-seven : told (r .verdict) ≡ refusal variable p → (b : FirstBadToken mostItems variable t p) × IsVar (b .token .raw)
   slip-seven e = let b = slip-reading t r reads .places variable (omega arith) p e in (b, b .stated)
 
 -- ---- plain text

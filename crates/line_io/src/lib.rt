@@ -1,13 +1,14 @@
 // Lines: from standard input, and to standard output, in constant memory. No contract can say what is read or written;
 // what is done with the bytes once they are read, and before they are written, is an equation.
 ghost use mathlib.Core.Path.{_≡_};
-ghost use Prim.Native.Nat.{_≤_, min};
+ghost use Prim.Native.Nat.{_≤_};
 ghost use lib.Dec.{ltb};
 ghost use lib.ListN.{length};
 ghost use Rattle.line_io.specs.Taking.{noLine, addedLine, addedBytes, untaken, inChunk, taken};
 ghost use Rattle.line_io.specs.Going.{nothingYet, isOpen};
 ghost use Rattle.line_io.specs.Putting.{Written, Puts};
 ghost use Rattle.line_io.specs.Lines.{firstLine, Refills, Holds, Steps, Finds};
+use base_numbers::at_most;
 use libc::STDERR_FILENO;
 use libc::STDIN_FILENO;
 use libc::STDOUT_FILENO;
@@ -50,12 +51,6 @@ pub struct State {
 struct Taken {
     input: Input,
     line: Line,
-}
-
-fn at_most(n: usize, most: usize) -> usize
-    ensures { λ r. ⌜ r ≡ min n most ⌝ }
-{
-    if n < most { n } else { most }
 }
 
 // ---- writing
@@ -198,7 +193,7 @@ fn take_part(input: Input, chunk: &[u8], line: &mut [u8], l: Line) -> Taken
 {
     let at = input.at;
     let end = input.end;
-    let e = bytes::scan::find(chunk, at, end, 10);
+    let e = bytes::scan::find(chunk, at, end, b'\n');
     let more = add_part(&chunk[at..e], line, l);
     if e < end {
         return Taken {

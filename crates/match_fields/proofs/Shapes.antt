@@ -8,7 +8,7 @@ use borrow.Author.Tests.{ne-eqb}
 use lib.Dec.{eqb, leb}
 use lib.ListN.{length}
 use Rattle.math_types.specs.Order.{basic, list}
-use Rattle.math_types.specs.Types.{integer, string, atom}
+use Rattle.math_types.specs.Values.{kindOf-from}
 use Rattle.math_terms.specs.Terms.{con, var}
 use Rattle.math_terms.specs.Matcher.{atoms, hasRoom, room}
 use Rattle.math_terms.specs.Linear.{lists}
@@ -23,12 +23,9 @@ shape-from (con (int n) ∷ f) x =
     shape-from f (record { atoms = x .atoms + 1; lists = x .lists }) ∙ ap (λ (a : ℕ). record { atoms = a; lists = x .lists + length (lists f) }) (omega arith)
 shape-from (con (str s) ∷ f) x =
     shape-from f (record { atoms = x .atoms + 1; lists = x .lists }) ∙ ap (λ (a : ℕ). record { atoms = a; lists = x .lists + length (lists f) }) (omega arith)
-shape-from (var (basic integer) n ∷ f) x =
-    shape-from f (record { atoms = x .atoms + 1; lists = x .lists }) ∙ ap (λ (a : ℕ). record { atoms = a; lists = x .lists + length (lists f) }) (omega arith)
-shape-from (var (basic string) n ∷ f) x =
-    shape-from f (record { atoms = x .atoms + 1; lists = x .lists }) ∙ ap (λ (a : ℕ). record { atoms = a; lists = x .lists + length (lists f) }) (omega arith)
-shape-from (var (basic atom) n ∷ f) x =
-    shape-from f (record { atoms = x .atoms + 1; lists = x .lists }) ∙ ap (λ (a : ℕ). record { atoms = a; lists = x .lists + length (lists f) }) (omega arith)
+shape-from (var (basic k) n ∷ f) x =
+    rw (kindOf-from (basic k), foldl)
+    (shape-from f (record { atoms = x .atoms + 1; lists = x .lists }) ∙ ap (λ (a : ℕ). record { atoms = a; lists = x .lists + length (lists f) }) (omega arith))
 shape-from (var list n ∷ f) x =
     shape-from f (record { atoms = x .atoms; lists = x .lists + 1 }) ∙ ap (λ (a : ℕ). record { atoms = x .atoms + atoms f; lists = a }) (omega arith)
 

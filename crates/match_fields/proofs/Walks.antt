@@ -9,8 +9,9 @@ use borrow.Author.Tests.{not-true, not-false, eqb-true, leb-true}
 use lib.Dec.{eqb, leb}
 use lib.ListN.{length, getD, take, drop, length-take, drop-of-length-le, List·getD-eq-default}
 use lib.Seq.{drop-cons, getD-take}
+use Rattle.base_limits.specs.Limits.{mostItems}
 use Rattle.math_types.specs.Order.{basic, list}
-use Rattle.math_types.specs.Types.{Kind}
+use Rattle.math_types.specs.Types.{Kind, isList}
 use Rattle.math_types.specs.Values.{kindOf}
 use Rattle.text_values.specs.declared.Form.{Form}
 use Rattle.text_values.specs.declared.Form.the-variants.{Int, Str, Var}
@@ -19,7 +20,7 @@ use Rattle.text_values.specs.Values.{blankTerm}
 use Rattle.match_fields.specs.declared.bindings.Values.{Values}
 use Rattle.match_fields.proofs.bindings.Entries.{entry-any}
 use Rattle.match_fields.specs.declared.items.Tested.{Tested}
-use Rattle.match_fields.specs.items.Tests.{isList, testVar, testBy, tested}
+use Rattle.match_fields.specs.items.Tests.{testVar, testBy, tested}
 use Rattle.match_fields.specs.declared.Shape.{Shape}
 use Rattle.match_fields.specs.declared.Progress.{Progress}
 use Rattle.match_fields.specs.Fields.{isListForm, isListTerm, widthOf, pick, goOn, walked, atomsIn}
@@ -90,7 +91,7 @@ list-passes t item v e = go (t .form) e
 module _ (gap : ℕ) (items : List Term) (n : ℕ) (s : List Term) (w : ℕ) (v₀ : Values) where
   -- what is left of the walk, with c items compared so far, is the whole walk
   abbrev pub Reached : ℕ → ℕ → ℕ → Values → Type 0
-  Reached i p c v = (length s ≡ w) × (p ≤ 64 * i) × (c ≤ i)
+  Reached i p c v = (length s ≡ w) × (p ≤ mostItems * i) × (c ≤ i)
       × (walked gap items (take n s) 0 v₀ ≡ walked gap items (drop i (take n s)) p v)
       × (walkCompared gap items (take n s) 0 v₀ ≡ c + walkCompared gap items (drop i (take n s)) p v)
 
@@ -115,7 +116,7 @@ module _ (gap : ℕ) (items : List Term) (n : ℕ) (s : List Term) (w : ℕ) (v�
       r .4 ∙ ap (λ (f : List Term). c + walkCompared gap items f p v) step,
     )
 
-    pub reached-list : (b : Bool) → b ≡ isListTerm t → b ≡ true → gap ≤ 64 → Reached (i + 1) (p + gap) c v
+    pub reached-list : (b : Bool) → b ≡ isListTerm t → b ≡ true → gap ≤ mostItems → Reached (i + 1) (p + gap) c v
     reached-list b is e g =
         let l : isListTerm t ≡ true = sym is ∙ e in
         let o = subst (λ (x : Tested). On x (atomsIn t) (widthOf gap t)) (list-passes t (getD items p blankTerm) v l) on in

@@ -4,6 +4,7 @@ use mathlib.Core.List.{List, [], _∷_, foldl}
 use Prim.Native.Nat.{ℕ, _+_, _-_}
 use lib.Dec.{eqb, leb}
 use lib.ListN.{length, getD, take}
+use Rattle.math_types.specs.Types.{isList}
 use Rattle.math_types.specs.Values.{kindOf}
 use Rattle.text_values.specs.declared.Form.{Form}
 use Rattle.text_values.specs.declared.Form.the-variants.{Int, Str, Var}
@@ -13,7 +14,7 @@ use Rattle.text_values.specs.declared.SlipField.{SlipField}
 use Rattle.text_values.specs.Values.{blankTerm}
 use Rattle.match_fields.specs.declared.bindings.Values.{Values}
 use Rattle.match_fields.specs.declared.items.Tested.{Tested}
-use Rattle.match_fields.specs.items.Tests.{isList, tested}
+use Rattle.match_fields.specs.items.Tests.{tested}
 use Rattle.match_fields.specs.declared.Shape.{Shape}
 use Rattle.match_fields.specs.declared.Progress.{Progress}
 

@@ -5,10 +5,10 @@ ghost use Rattle.match_fields.specs.bindings.Values.{slot, atomOf, runOf
 use math_types::Kind;
 use text_values::Term;
 
-// The values of the atom variables: 16 places each for integer, string and atom variables, blank where a variable has no value.
+// The values of the atom variables: as many places for each type below list as there are numbers, blank where a variable has no value.
 pub struct Values {
-    pub known: [bool; 48],
-    pub terms: [Term; 48],
+    pub known: [bool; base_limits::ATOM_PLACES],
+    pub terms: [Term; base_limits::ATOM_PLACES],
 }
 
 // A list variable's value: a run of the terms of one of the slip's fields.
@@ -20,14 +20,14 @@ pub struct Run {
 
 pub struct Filling {
     pub values: Values,
-    pub runs: [Run; 16],
+    pub runs: [Run; base_limits::NUMBERS_OF_SIDE],
 }
 
 // The place of an atom variable's value.
 pub fn slot(k: Kind, n: u8) -> usize
     ensures { λ r. ⌜ r ≡ slot (kindOf k) n ⌝ }
 {
-    16 * math_types::rank(k) + n as usize
+    base_limits::NUMBERS_OF_SIDE * math_types::rank(k) + n as usize
 }
 
 // An atom variable's value, blank where it has none.
@@ -35,7 +35,7 @@ pub fn value_of(v: Values, k: Kind, n: u8) -> Term
     ensures { λ t. ⌜ t ≡ atomOf v (kindOf k) n ⌝ }
 {
     let i = slot(k, n);
-    if 48 <= i {
+    if base_limits::ATOM_PLACES <= i {
         return text_values::blank_term();
     }
     v.terms[i]
@@ -46,7 +46,7 @@ pub fn run_of(x: Filling, n: u8) -> Run
     ensures { λ r. ⌜ r ≡ runOf x n ⌝ }
 {
     let place = n as usize;
-    if 16 <= place {
+    if base_limits::NUMBERS_OF_SIDE <= place {
         return Run {
             field: 0,
             start: 0,

@@ -16,11 +16,11 @@ pub struct Tested {
     pub values: Values,
 }
 
-fn same_bytes(a: [u8; 15], b: [u8; 15]) -> bool
+fn same_bytes(a: [u8; base_limits::LONGEST_STRING], b: [u8; base_limits::LONGEST_STRING]) -> bool
     ensures { λ r. ⌜ r ≡ sameBytes a b ⌝ }
 {
     let mut i: usize = 0;
-    while i < 15 {
+    while i < base_limits::LONGEST_STRING {
         if a[i] != b[i] {
             return false;
         }
@@ -72,7 +72,7 @@ fn item_kind(t: Term) -> Kind
 fn is_known(v: Values, i: usize) -> bool
     ensures { λ r. ⌜ r ≡ getD (v .known) i false ⌝ }
 {
-    if 48 <= i {
+    if base_limits::ATOM_PLACES <= i {
         return false;
     }
     v.known[i]
@@ -81,7 +81,7 @@ fn is_known(v: Values, i: usize) -> bool
 fn bind(v: Values, i: usize, t: Term) -> Values
     ensures { λ r. ⌜ r ≡ bound v i t ⌝ }
 {
-    if 48 <= i {
+    if base_limits::ATOM_PLACES <= i {
         return v;
     }
     let mut w = v;
@@ -128,7 +128,7 @@ pub(crate) fn test_term(t: Term, item: Term, v: Values) -> Tested
             values: v,
         },
         Form::Var(k, n) => {
-            if math_types::same_kind(k, Kind::List) {
+            if math_types::is_list(k) {
                 return Tested {
                     ok: true,
                     values: v,

@@ -1,7 +1,8 @@
 // Matching one field of a rule with one field of a slip: first the length, then the terms from the left.
 ghost use mathlib.Core.Path.{_≡_};
-ghost use Prim.Native.Nat.{_≤_, min};
+ghost use Prim.Native.Nat.{_≤_};
 ghost use lib.ListN.{getD};
+ghost use Rattle.base_limits.specs.Limits.{mostTerms, mostItems};
 ghost use Rattle.text_values.specs.Values.{blankTerm};
 ghost use Rattle.match_fields.specs.Fields.{isListTerm, walkProgress, shapeWith, shapeOf, fitsLength, fieldProgress, termsOf};
 ghost use Rattle.match_fields.specs.Fields.{itemsOf};
@@ -11,7 +12,7 @@ pub mod items; // one term against one item
 
 use crate::bindings::Values;
 use crate::items::Tested;
-use math_types::Kind;
+use base_numbers::at_most;
 use text_values::Field;
 use text_values::Form;
 use text_values::SlipField;
@@ -37,20 +38,13 @@ pub fn is_list_term(t: Term) -> bool
     match form {
         Form::Int(_) => false,
         Form::Str(_) => false,
-        Form::Var(k, _) => math_types::same_kind(k, Kind::List),
+        Form::Var(k, _) => math_types::is_list(k),
     }
-}
-
-// A count beyond the array counts for the whole array.
-fn at_most(n: usize, places: usize) -> usize
-    ensures { λ r. ⌜ r ≡ min n places ⌝ }
-{
-    if n < places { n } else { places }
 }
 
 // The shape with one term more.
 fn with_term(s: Shape, t: Term) -> Shape
-    requires { ⌜ (s .atoms ≤ 16) × (s .lists ≤ 16) ⌝ }
+    requires { ⌜ (s .atoms ≤ mostTerms) × (s .lists ≤ mostTerms) ⌝ }
     ensures { λ r. ⌜ r ≡ shapeWith s t ⌝ }
 {
     if is_list_term(t) {
@@ -68,7 +62,7 @@ fn with_term(s: Shape, t: Term) -> Shape
 fn shape_of(f: Field) -> Shape
     ensures { λ r. ⌜ r ≡ shapeOf (termsOf f) ⌝ }
 {
-    let n = at_most(f.n, 16);
+    let n = at_most(f.n, base_limits::MOST_TERMS);
     let mut s = Shape { atoms: 0, lists: 0 };
     let mut i: usize = 0;
     while i < n {
@@ -85,7 +79,7 @@ fn item_at(w: SlipField, p: usize) -> Term
     if w.n <= p {
         return text_values::blank_term();
     }
-    if 64 <= p {
+    if base_limits::MOST_ITEMS <= p {
         return text_values::blank_term();
     }
     w.terms[p]
@@ -93,10 +87,10 @@ fn item_at(w: SlipField, p: usize) -> Term
 
 // The terms of a field from the left, up to the first that fails; a list variable takes gap items and compares none.
 fn walk_field(f: Field, w: SlipField, gap: usize, v: Values) -> Progress
-    requires { ⌜ gap ≤ 64 ⌝ }
-    ensures { λ r. ⌜ (r ≡ walkProgress gap (itemsOf w) (termsOf f) v) × (r .compared ≤ 16) ⌝ }
+    requires { ⌜ gap ≤ mostItems ⌝ }
+    ensures { λ r. ⌜ (r ≡ walkProgress gap (itemsOf w) (termsOf f) v) × (r .compared ≤ mostTerms) ⌝ }
 {
-    let n = at_most(f.n, 16);
+    let n = at_most(f.n, base_limits::MOST_TERMS);
     let mut now = v;
     let mut compared: usize = 0;
     let mut p: usize = 0;
@@ -141,11 +135,11 @@ fn fits_length(s: Shape, n: usize) -> bool
 
 // A field: first its length, then its terms from the left.
 pub fn match_field(f: Field, w: SlipField, v: Values) -> Progress
-    ensures { λ r. ⌜ (r ≡ fieldProgress (termsOf f) (itemsOf w) v) × (r .compared ≤ 16) ⌝ }
+    ensures { λ r. ⌜ (r ≡ fieldProgress (termsOf f) (itemsOf w) v) × (r .compared ≤ mostTerms) ⌝ }
 {
     let s = shape_of(f);
     let atoms = s.atoms;
-    let n = at_most(w.n, 64);
+    let n = at_most(w.n, base_limits::MOST_ITEMS);
     if !fits_length(s, n) {
         let failed = Tested {
             ok: false,

@@ -8,9 +8,9 @@ use native.Mathlib.Omega.{arith}
 use borrow.Author.Tests.{eq-eqb, ne-eqb}
 use lib.Dec.{eqb}
 use lib.ListN.{length, take, length-map}
+use Rattle.base_limits.specs.Limits.{mostFields}
 use Rattle.base_lists.specs.Seqs.{All, IsCons, all-map}
 use Rattle.math_terms.specs.Linear.{OneList}
-use Rattle.text_grammar.specs.Sizes.{mostFields}
 use Rattle.text_grammar.specs.Terms.{Con, OurTerm}
 use Rattle.text_grammar.specs.Limits.{TermIn, IsCon}
 use Rattle.text_grammar.specs.constants.Matching.{constants, matcher, compared}

@@ -11,9 +11,10 @@ use borrow.Author.Tests.{eq-eqb, ne-eqb, eqb-true}
 use lib.Dec.{eqb}
 use lib.ListN.{length, getD, set, take, drop, replicate, length-set, length-map, getD-replicate}
 use lib.Seq.{getD-set-same, getD-set-other, take-at}
+use Rattle.base_limits.specs.Limits.{mostTerms, longestString, largestNumber, mostItems, atomPlaces}
 use Rattle.base_lists.specs.Seqs.{All, both?}
 use Rattle.math_types.specs.Order.{basic, list, full-eq}
-use Rattle.math_types.specs.Types.{Basic, integer, string, atom, basic-eq, Kind, rank, rank-once, le, basics}
+use Rattle.math_types.specs.Types.{Basic, basic-eq, Kind, rank, rank-basic, rank-once, le, basics}
 use Rattle.math_types.specs.Values.{kindOf, kindFrom, kindOf-from}
 use Rattle.math_terms.specs.Terms.{con, var}
 use Rattle.math_terms.specs.Fillings.{Filling}
@@ -21,7 +22,6 @@ use Rattle.math_terms.specs.Matcher.{andThen, atoms, width, blank, bind, same, 
 use Rattle.math_terms.specs.Linear.{OneList}
 use Rattle.math_terms.proofs.Slices.{span, room-span}
 use Rattle.math_terms.proofs.Seqs.{item-at}
-use Rattle.text_grammar.specs.Sizes.{longestString}
 use Rattle.text_grammar.specs.Terms.{Con, int, str, OurTerm}
 use Rattle.text_grammar.specs.Limits.{TermIn}
 use Rattle.text_grammar.specs.constants.Constants.{con-eq, kind-of, consts}
@@ -87,28 +87,26 @@ Held [] b t = (b ≡ false) × (t ≡ blankTerm)
 Held (c ∷ l) b t = (b ≡ true) × (t ≡ enc c)
 
 pub record Holds (v : Values) (φ : Filling Con Kind ℕ) : Type 0 where
-  pub known-long : length (v .known) ≡ 48
-  pub terms-long : length (v .terms) ≡ 48
-  pub held : (k : Basic) (n : ℕ) → n ≤ 15 → Held (φ (basic k) n) (getD (v .known) (slot (basic k) n) false) (getD (v .terms) (slot (basic k) n) blankTerm)
+  pub known-long : length (v .known) ≡ atomPlaces
+  pub terms-long : length (v .terms) ≡ atomPlaces
+  pub held : (k : Basic) (n : ℕ) → n ≤ largestNumber
+      → Held (φ (basic k) n) (getD (v .known) (slot (basic k) n) false) (getD (v .terms) (slot (basic k) n) blankTerm)
 
 abbrev pub Agrees : Tested → Option (Filling Con Kind ℕ) → Type 0
 Agrees r none = r .ok ≡ false
 Agrees r (some ψ) = (r .ok ≡ true) × Holds (r .values) ψ
 
-rank-atom : (k : Basic) → rank (basic k) ≤ 2
-rank-atom integer = omega arith
-rank-atom string = omega arith
-rank-atom atom = omega arith
-
-slot-small : (k : Basic) (n : ℕ) → n ≤ 15 → slot (basic k) n < 48
-slot-small k n h = let r = rank-atom k in omega arith
+slot-small : (k : Basic) (n : ℕ) → n ≤ largestNumber → slot (basic k) n < atomPlaces
+slot-small k n h = omega (arith, rank-basic k)
 
 pub holds-none : Holds noValues blank
 holds-none = record {
   known-long = refl;
   terms-long = refl;
-  held = λ k n h.
-      (getD-replicate 48 (slot (basic k) n) false false (slot-small k n h), getD-replicate 48 (slot (basic k) n) blankTerm blankTerm (slot-small k n h));
+  held = λ k n h. (
+    getD-replicate atomPlaces (slot (basic k) n) false false (slot-small k n h),
+    getD-replicate atomPlaces (slot (basic k) n) blankTerm blankTerm (slot-small k n h),
+  );
 }
 
 kind-eq : Discrete Kind
@@ -117,7 +115,7 @@ kind-eq = full-eq basic-eq
 holds-list : (v : Values) (φ : Filling Con Kind ℕ) (a : ℕ) (w : List Con) → Holds v φ → Holds v (bind (full-eq basic-eq) ℕ-discrete list a w φ)
 holds-list v φ a w h = record { known-long = h .known-long; terms-long = h .terms-long; held = λ k n l. h .held k n l }
 
-module _ (v : Values) (φ : Filling Con Kind ℕ) (k : Basic) (n : ℕ) (c : Con) (h : Holds v φ) (l : n ≤ 15) where
+module _ (v : Values) (φ : Filling Con Kind ℕ) (k : Basic) (n : ℕ) (c : Con) (h : Holds v φ) (l : n ≤ largestNumber) where
   abbrev i : ℕ
   i = slot (basic k) n
 
@@ -128,7 +126,7 @@ module _ (v : Values) (φ : Filling Con Kind ℕ) (k : Basic) (n : ℕ) (c : Con
     held = λ j m q. here j m q (full-eq basic-eq (basic j) (basic k)) (ℕ-discrete m n);
   }
     where
-      other : (j : Basic) (m : ℕ) → m ≤ 15 → slot (basic j) m ≢ i
+      other : (j : Basic) (m : ℕ) → m ≤ largestNumber → slot (basic j) m ≢ i
           → Held (φ (basic j) m) (getD (set (v .known) i true) (slot (basic j) m) false) (getD (set (v .terms) i (enc c)) (slot (basic j) m) blankTerm)
       other j m q ne =
           subst (λ (t : TermValue). Held (φ (basic j) m) (getD (set (v .known) i true) (slot (basic j) m) false) t)
@@ -136,10 +134,10 @@ module _ (v : Values) (φ : Filling Con Kind ℕ) (k : Basic) (n : ℕ) (c : Con
           (subst (λ (b : Bool). Held (φ (basic j) m) b (getD (v .terms) (slot (basic j) m) blankTerm))
           (sym (getD-set-other (v .known) i (slot (basic j) m) true false ne)) (h .held j m q))
 
-      apart : (j : Basic) (m : ℕ) → m ≤ 15 → slot (basic j) m ≡ i → (rank (basic j) ≡ rank (basic k)) × (m ≡ n)
+      apart : (j : Basic) (m : ℕ) → m ≤ largestNumber → slot (basic j) m ≡ i → (rank (basic j) ≡ rank (basic k)) × (m ≡ n)
       apart j m q e = (omega arith, omega arith)
 
-      here : (j : Basic) (m : ℕ) → m ≤ 15 → (d : Dec (basic j ≡ basic k)) (e : Dec (m ≡ n))
+      here : (j : Basic) (m : ℕ) → m ≤ largestNumber → (d : Dec (basic j ≡ basic k)) (e : Dec (m ≡ n))
           → Held (ite (both? d e) (c ∷ []) (φ (basic j) m)) (getD (set (v .known) i true) (slot (basic j) m) false)
           (getD (set (v .terms) i (enc c)) (slot (basic j) m) blankTerm)
       here j m q (yes x) (yes y) =
@@ -166,7 +164,7 @@ item-kind : (c : Con) → itemKind ((enc c) .form) ≡ basic (kind-of c)
 item-kind (int n) = refl
 item-kind (str s) = refl
 
-meets-agrees : (v : Values) (φ : Filling Con Kind ℕ) (k : Basic) (n : ℕ) (c : Con) → Holds v φ → n ≤ 15
+meets-agrees : (v : Values) (φ : Filling Con Kind ℕ) (k : Basic) (n : ℕ) (c : Con) → Holds v φ → n ≤ largestNumber
     → Agrees (met (getD (v .known) (slot (basic k) n) false) (basic k) (slot (basic k) n) (enc c) v) (meets basics consts ℕ-discrete k n (φ (basic k) n) c φ)
 meets-agrees v φ k n c h l = go (φ (basic k) n) (h .held k n l)
   where
@@ -204,9 +202,7 @@ item-enc (c ∷ w) (suc p) d h = item-enc w p d (omega arith)
 pub width-enc : (gap : ℕ) (u : OurTerm) → widthOf gap (encodeTerm u) ≡ width gap u
 width-enc gap (con (int n)) = refl
 width-enc gap (con (str s)) = refl
-width-enc gap (var (basic integer) n) = refl
-width-enc gap (var (basic string) n) = refl
-width-enc gap (var (basic atom) n) = refl
+width-enc gap (var (basic k) n) = rw (kindOf-from (basic k))
 width-enc gap (var list n) = refl
 
 zero-con : Con
@@ -276,14 +272,14 @@ pub unpadded : {A B : Type 0} (w : ℕ) (d : B) (g : A → B) (s : List A) → t
 unpadded w d g s = take-at (map g s) (replicate (w - length (map g s)) d) (length s) (length-map s g)
 
 pub terms-of : (u : List OurTerm) → termsOf (encodeField u) ≡ map encodeTerm u
-terms-of u = unpadded 16 blankTerm encodeTerm u
+terms-of u = unpadded mostTerms blankTerm encodeTerm u
 
 -- the value of a field of constants
 abbrev pub encodeItems : List Con → SlipField
 encodeItems w = encodeSlipField (map con w)
 
 pub items-of : (w : List Con) → itemsOf (encodeItems w) ≡ map enc w
-items-of w = unpadded 64 blankTerm encodeTerm (map con w) ∙ map-map encodeTerm con w
+items-of w = unpadded mostItems blankTerm encodeTerm (map con w) ∙ map-map encodeTerm con w
 
 pub fields-agree : (fs : List (List OurTerm)) (ws : List (List Con)) (v : Values) (φ : Filling Con Kind ℕ) → All (All TermIn) fs → All OneList fs → Holds v φ
     → Agrees (fieldsTested (map encodeField fs) (map encodeItems ws) v) (matchFields basics consts ℕ-discrete fs ws φ)

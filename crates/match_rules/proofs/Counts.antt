@@ -9,7 +9,8 @@ use native.Mathlib.Decide.{ℕ-discrete}
 use lib.ListN.{length, getD, length-map}
 use Rattle.base_lists.specs.Seqs.{All}
 use Rattle.math_types.specs.Order.{basic, list}
-use Rattle.math_types.specs.Types.{integer, string, atom, Kind, basics}
+use Rattle.math_types.specs.Types.{Kind, basics}
+use Rattle.math_types.specs.Values.{kindOf-from}
 use Rattle.math_terms.specs.Terms.{con, var}
 use Rattle.math_terms.specs.Fillings.{Filling}
 use Rattle.math_terms.specs.Linear.{OneList}
@@ -37,9 +38,7 @@ count-on r (some ψ) k g a f = ap (λ (b : Bool). cond b (k (r .values)) 0) (a .
 atoms-enc : (u : OurTerm) → atomsIn (encodeTerm u) ≡ atoms (u ∷ [])
 atoms-enc (con (int n)) = refl
 atoms-enc (con (str s)) = refl
-atoms-enc (var (basic integer) n) = refl
-atoms-enc (var (basic string) n) = refl
-atoms-enc (var (basic atom) n) = refl
+atoms-enc (var (basic k) n) = rw (kindOf-from (basic k))
 atoms-enc (var list n) = refl
 
 walk-counts : (gap : ℕ) (w : List Con) (f : List OurTerm) (p : ℕ) (v : Values) (φ : Filling Con Kind ℕ) → All TermIn f → Holds v φ → p + span gap f ≤ length w

@@ -1,18 +1,20 @@
 -- What the tests and the runs give on values is the answer: the matcher's filling, as a value.
-use mathlib.Core.Path.{_≡_, refl, sym, _∙_, ap, ap₂}
+use mathlib.Core.Path.{_≡_, refl, sym, _∙_, ap, ap₂, subst}
 use mathlib.Core.Logic.{_≢_}
 use mathlib.Core.Bool.{Bool, true, false, cond, false≢true}
 use borrow.Author.Tests.{eq-eqb, ne-eqb, eqb-true, eqb-false}
 use mathlib.Core.Option.{Option, none, some}
 use mathlib.Core.List.{List, [], _∷_, map, cons≢nil}
-use Prim.Native.Nat.{ℕ, zero, suc, _+_, _-_, _*_, _/_, _%_, _<_, _≤_}
+use Prim.Native.Nat.{ℕ, _+_, _-_, _*_, _/_, _%_, _<_, _≤_}
 use native.Mathlib.Omega.{arith}
 use native.Mathlib.Decide.{ℕ-discrete}
 use lib.Dec.{eqb}
 use lib.ListN.{length, getD, set, length-map}
+use Rattle.base_limits.specs.Limits.{largestNumber, numbersOfSide, atomPlaces}
 use Rattle.base_lists.specs.Seqs.{All, tabulated}
 use Rattle.math_types.specs.Order.{basic, list}
-use Rattle.math_types.specs.Types.{integer, string, atom, Kind, basics}
+use Rattle.math_types.specs.Types.{Kind, basics, kindAt, basic-at}
+use Rattle.math_types.specs.Values.{kindOf-from}
 use Rattle.math_terms.specs.Terms.{con, var}
 use Rattle.math_terms.specs.Fillings.{Filling}
 use Rattle.math_terms.specs.Matcher.{atoms, blank, matchFields}
@@ -33,7 +35,7 @@ use Rattle.match_fields.specs.declared.items.Tested.{Tested}
 use Rattle.match_rules.specs.declared.Match.{Match}
 use Rattle.match_rules.specs.declared.Comparison.{Comparison}
 use Rattle.match_rules.specs.Tests.{noValues, fieldsTested, runsOver, runsIn, runsAll}
-use Rattle.match_rules.specs.Answers.{kindAt, isKnown, valueTerm, encodeValues, runsField, runsFrom, runsOf}
+use Rattle.match_rules.specs.Answers.{isKnown, valueTerm, encodeValues, runsField, runsFrom, runsOf}
 use Rattle.match_rules.specs.Answers.{noMatch, found, fillingOf, noComparison, foundBy, comparisonBy, comparisonOn}
 use Rattle.match_rules.proofs.Counts.{fields-counts}
 use Rattle.match_rules.proofs.Agree.{Held, Holds, holds-none, Agrees, enc, terms-of, encodeItems, items-of, fields-agree}
@@ -49,32 +51,36 @@ held-term [] b t h = h .1
 held-term (c ∷ l) b t h = h .1
 
 module _ (v : Values) (φ : Filling Con Kind ℕ) (h : Holds v φ) where
-  held-at : (q r : ℕ) → q ≤ 2 → r ≤ 15 → Held (φ (kindAt q) r) (getD (v .known) (16 * q + r) false) (getD (v .terms) (16 * q + r) blankTerm)
-  held-at zero r p l = h .held integer r l
-  held-at (suc zero) r p l = h .held string r l
-  held-at (suc (suc zero)) r p l = h .held atom r l
-  held-at (suc (suc (suc q))) r p l = absurd (omega arith)
+  held-at : (q r : ℕ) → q ≤ 2 → r ≤ largestNumber
+      → Held (φ (kindAt q) r) (getD (v .known) (numbersOfSide * q + r) false) (getD (v .terms) (numbersOfSide * q + r) blankTerm)
+  held-at q r p l =
+      let b = basic-at q (omega arith) in
+      subst (λ (k : Kind). Held (φ k r) (getD (v .known) (numbersOfSide * q + r) false) (getD (v .terms) (numbersOfSide * q + r) blankTerm)) (sym (b .1))
+      (subst (λ (x : ℕ). Held (φ (basic (b .0)) r) (getD (v .known) (numbersOfSide * x + r) false) (getD (v .terms) (numbersOfSide * x + r) blankTerm)) (b .2)
+      (h .held (b .0) r l))
 
-  split : (i : ℕ) → i ≡ 16 * (i / 16) + i % 16
+  split : (i : ℕ) → i ≡ numbersOfSide * (i / numbersOfSide) + i % numbersOfSide
   split i = omega arith
 
-  known-at : (i : ℕ) → i < 48 → getD (v .known) i false ≡ isKnown (φ (kindAt (i / 16)) (i % 16))
+  known-at : (i : ℕ) → i < atomPlaces → getD (v .known) i false ≡ isKnown (φ (kindAt (i / numbersOfSide)) (i % numbersOfSide))
   known-at i p =
       ap (λ (j : ℕ). getD (v .known) j false) (split i)
-      ∙ held-known (φ (kindAt (i / 16)) (i % 16)) (getD (v .known) (16 * (i / 16) + i % 16) false) (getD (v .terms) (16 * (i / 16) + i % 16) blankTerm)
-      (held-at (i / 16) (i % 16) (omega arith) (omega arith))
+      ∙ held-known (φ (kindAt (i / numbersOfSide)) (i % numbersOfSide)) (getD (v .known) (numbersOfSide * (i / numbersOfSide) + i % numbersOfSide) false)
+      (getD (v .terms) (numbersOfSide * (i / numbersOfSide) + i % numbersOfSide) blankTerm)
+      (held-at (i / numbersOfSide) (i % numbersOfSide) (omega arith) (omega arith))
 
-  term-at : (i : ℕ) → i < 48 → getD (v .terms) i blankTerm ≡ valueTerm (φ (kindAt (i / 16)) (i % 16))
+  term-at : (i : ℕ) → i < atomPlaces → getD (v .terms) i blankTerm ≡ valueTerm (φ (kindAt (i / numbersOfSide)) (i % numbersOfSide))
   term-at i p =
       ap (λ (j : ℕ). getD (v .terms) j blankTerm) (split i)
-      ∙ held-term (φ (kindAt (i / 16)) (i % 16)) (getD (v .known) (16 * (i / 16) + i % 16) false) (getD (v .terms) (16 * (i / 16) + i % 16) blankTerm)
-      (held-at (i / 16) (i % 16) (omega arith) (omega arith))
+      ∙ held-term (φ (kindAt (i / numbersOfSide)) (i % numbersOfSide)) (getD (v .known) (numbersOfSide * (i / numbersOfSide) + i % numbersOfSide) false)
+      (getD (v .terms) (numbersOfSide * (i / numbersOfSide) + i % numbersOfSide) blankTerm)
+      (held-at (i / numbersOfSide) (i % numbersOfSide) (omega arith) (omega arith))
 
   pub values-are : v ≡ encodeValues φ
   values-are =
       ap₂ (λ (k : List Bool) (t : List TermValue). record { known = k; terms = t })
-      (tabulated 48 (v .known) (λ i. isKnown (φ (kindAt (i / 16)) (i % 16))) false (h .known-long) known-at)
-      (tabulated 48 (v .terms) (λ i. valueTerm (φ (kindAt (i / 16)) (i % 16))) blankTerm (h .terms-long) term-at)
+      (tabulated atomPlaces (v .known) (λ i. isKnown (φ (kindAt (i / numbersOfSide)) (i % numbersOfSide))) false (h .known-long) known-at)
+      (tabulated atomPlaces (v .terms) (λ i. valueTerm (φ (kindAt (i / numbersOfSide)) (i % numbersOfSide))) blankTerm (h .terms-long) term-at)
 
 -- ---- the runs of the list variables
 
@@ -90,9 +96,7 @@ runs-over : (j gap i : ℕ) (f : List OurTerm) (x : FillingValue)
 runs-over j gap i [] x = refl
 runs-over j gap i (con (int n) ∷ f) x = runs-over j gap (i + 1) f x
 runs-over j gap i (con (str s) ∷ f) x = runs-over j gap (i + 1) f x
-runs-over j gap i (var (basic integer) n ∷ f) x = runs-over j gap (i + 1) f x
-runs-over j gap i (var (basic string) n ∷ f) x = runs-over j gap (i + 1) f x
-runs-over j gap i (var (basic atom) n ∷ f) x = runs-over j gap (i + 1) f x
+runs-over j gap i (var (basic k) n ∷ f) x = rw (kindOf-from (basic k), runsOver) (runs-over j gap (i + 1) f x)
 runs-over j gap i (var list n ∷ f) x =
     runs-over j gap (i + 1) f (record { values = x .values; runs = set (x .runs) n (record { field = j; start = i; count = gap }) })
 

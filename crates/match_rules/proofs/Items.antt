@@ -3,6 +3,7 @@ use mathlib.Core.Path.{_≡_, refl, sym, ap, _∙_}
 use mathlib.Core.List.{List, [], _∷_, _++_, map, map-map, append-nil}
 use Prim.Native.Nat.{ℕ, zero, suc, _-_}
 use lib.ListN.{length, getD, take, drop, replicate}
+use Rattle.base_limits.specs.Limits.{mostItems}
 use Rattle.base_lists.specs.Seqs.{All}
 use Rattle.math_terms.specs.Terms.{con}
 use Rattle.text_grammar.specs.Terms.{OurTerm}
@@ -58,7 +59,7 @@ module _ (y : List (List OurTerm)) (all-con : All (All IsCon) y) where
   padded-items : (n j : ℕ) → itemsOf (getD (map encodeSlipField y ++ replicate n blankSlipField) j blankSlipField) ≡ map enc (getD (map constants y) j [])
   padded-items n j =
       ap itemsOf (padded-at encodeSlipField [] n y j)
-      ∙ unpadded 64 blankTerm encodeTerm (getD y j [])
+      ∙ unpadded mostItems blankTerm encodeTerm (getD y j [])
       ∙ ap (map encodeTerm) (sym (constants-are (getD y j []) (all-at (All IsCon) [] y j tt all-con)))
       ∙ map-map encodeTerm con (constants (getD y j []))
       ∙ ap (map enc) (sym (constants-at y j))

@@ -10,9 +10,10 @@ use native.Mathlib.Decide.{ℕ-discrete}
 use lib.ListN.{length, getD, set, take, drop, replicate, length-set, length-append, length-drop}
 use borrow.Author.Tests.{leb-true, eqb-true}
 use lib.Seq.{getD-set-same, getD-set-other, getD-drop, drop-drop}
+use Rattle.base_limits.specs.Limits.{largestNumber, numbersOfSide, atomPlaces}
 use Rattle.base_lists.specs.Seqs.{All, Any, all-left, all-right, tabulate, tabulate-at}
 use Rattle.math_types.specs.Order.{basic, list}
-use Rattle.math_types.specs.Types.{Basic, integer, string, atom, Kind, basics}
+use Rattle.math_types.specs.Types.{Basic, Kind, basics, rank, rank-basic, kindAt, kind-at-rank}
 use Rattle.math_terms.specs.Terms.{con, var}
 use Rattle.math_terms.specs.Fillings.{Filling, Typed, fill, Occurs}
 use Rattle.math_terms.specs.Matcher.{atoms, complete, room, hasRoom}
@@ -27,7 +28,7 @@ use Rattle.text_grammar.proofs.constants.Matching.{match-yes, match-is}
 use Rattle.text_values.specs.Values.{blankTerm}
 use Rattle.match_fields.specs.declared.bindings.Run.{Run}
 use Rattle.match_fields.specs.bindings.Values.{slot, blankRun}
-use Rattle.match_rules.specs.Answers.{kindAt, isKnown, valueTerm, encodeValues, runsField, runsFrom, runsOf, itemsAt, LiesIn}
+use Rattle.match_rules.specs.Answers.{isKnown, valueTerm, encodeValues, runsField, runsFrom, runsOf, itemsAt, LiesIn}
 use Rattle.match_rules.proofs.Found.{none-set}
 
 -- ---- runs of a field
@@ -150,7 +151,7 @@ all-blank (suc m) zero = refl
 all-blank (suc m) (suc n) = all-blank m n
 
 pub run-blank : (rule : List (List OurTerm)) (slip : List (List Con)) (n : ℕ) → (Any (Occurs list n) rule → ⊥) → getD (runsOf rule slip) n blankRun ≡ blankRun
-run-blank rule slip n o = fields-kept 0 n rule slip (replicate 16 blankRun) o ∙ all-blank 16 n
+run-blank rule slip n o = fields-kept 0 n rule slip (replicate numbersOfSide blankRun) o ∙ all-blank numbersOfSide n
 
 -- ---- values are parts of the slip's fields
 
@@ -182,29 +183,26 @@ module _ (ψ : Filling Con Kind ℕ) (k : Kind) (a : ℕ) where
 
 -- ---- the places of atom variables
 
-module _ {A : Type 0} (of : List Con → A) (d : A) (φ : Filling Con Kind ℕ) (n : ℕ) (h : n ≤ 15) where
+module _ {A : Type 0} (of : List Con → A) (d : A) (φ : Filling Con Kind ℕ) (n : ℕ) (h : n ≤ largestNumber) where
   at : ℕ → A
-  at i = of (φ (kindAt (i / 16)) (i % 16))
+  at i = of (φ (kindAt (i / numbersOfSide)) (i % numbersOfSide))
 
-  at-slot : (k : Basic) → getD (tabulate 48 at) (slot (basic k) n) d ≡ of (φ (basic k) n)
+  at-slot : (k : Basic) → getD (tabulate atomPlaces at) (slot (basic k) n) d ≡ of (φ (basic k) n)
   unfolding at
-  at-slot k = go k
-    where
-      by : (q i : ℕ) → q ≤ 2 → i ≡ 16 * q + n → getD (tabulate 48 at) i d ≡ of (φ (kindAt q) n)
-      by q i l e =
-          tabulate-at 48 at i d (omega arith)
-          ∙ ap₂ (λ (a b : ℕ). of (φ (kindAt a) b)) (let z : i / 16 ≡ q = omega arith in z) (let z : i % 16 ≡ n = omega arith in z)
+  at-slot k =
+      let q = rank (basic k) in
+      tabulate-at atomPlaces at (numbersOfSide * q + n) d (omega (arith, rank-basic k))
+      ∙ ap₂ (λ (a b : ℕ). of (φ (kindAt a) b)) (let z : (numbersOfSide * q + n) / numbersOfSide ≡ q = omega arith in z)
+      (let z : (numbersOfSide * q + n) % numbersOfSide ≡ n = omega arith in z)
+      ∙ ap (λ (j : Kind). of (φ j n)) (kind-at-rank (basic k))
 
-      go : (k : Basic) → getD (tabulate 48 at) (slot (basic k) n) d ≡ of (φ (basic k) n)
-      go integer = by 0 (slot (basic integer) n) (omega arith) refl
-      go string = by 1 (slot (basic string) n) (omega arith) refl
-      go atom = by 2 (slot (basic atom) n) (omega arith) refl
-
-pub atom-at : (φ : Filling Con Kind ℕ) (k : Basic) (n : ℕ) → n ≤ 15 → getD ((encodeValues φ) .terms) (slot (basic k) n) blankTerm ≡ valueTerm (φ (basic k) n)
+pub atom-at : (φ : Filling Con Kind ℕ) (k : Basic) (n : ℕ) → n ≤ largestNumber
+    → getD ((encodeValues φ) .terms) (slot (basic k) n) blankTerm ≡ valueTerm (φ (basic k) n)
 unfolding at
 atom-at φ k n h = at-slot valueTerm blankTerm φ n h k
 
-pub known-at : (φ : Filling Con Kind ℕ) (k : Basic) (n : ℕ) → n ≤ 15 → getD ((encodeValues φ) .known) (slot (basic k) n) false ≡ isKnown (φ (basic k) n)
+pub known-at : (φ : Filling Con Kind ℕ) (k : Basic) (n : ℕ) → n ≤ largestNumber
+    → getD ((encodeValues φ) .known) (slot (basic k) n) false ≡ isKnown (φ (basic k) n)
 unfolding at
 known-at φ k n h = at-slot isKnown false φ n h k
 
@@ -223,19 +221,19 @@ module _ (rule : List (List OurTerm)) (linear : Linear rule) (slip : List (List 
   completed : (k : Kind) (a : ℕ) → Any (Occurs k a) rule → ψ k a ≡ φ k a
   completed = match-is rule linear slip φ yes-φ ψ typed .0 filled
 
-  good : (n : ℕ) → n ≤ 15 → Any (Occurs list n) rule → GoodRun slip ψ n (getD (runsOf rule slip) n blankRun)
+  good : (n : ℕ) → n ≤ largestNumber → Any (Occurs list n) rule → GoodRun slip ψ n (getD (runsOf rule slip) n blankRun)
   good n h o =
-      fields-good slip ψ n (λ k a. ap length (typed (basic k) a .1)) 0 rule slip (replicate 16 blankRun) filled refl
+      fields-good slip ψ n (λ k a. ap length (typed (basic k) a .1)) 0 rule slip (replicate numbersOfSide blankRun) filled refl
       (omega arith)
       (left-linear rule linear .1)
       (inr o)
 
   -- THE RUN of a list variable has exactly the items of its value
-  pub run-items : (n : ℕ) → n ≤ 15 → Any (Occurs list n) rule → itemsAt slip (getD (runsOf rule slip) n blankRun) ≡ φ list n
+  pub run-items : (n : ℕ) → n ≤ largestNumber → Any (Occurs list n) rule → itemsAt slip (getD (runsOf rule slip) n blankRun) ≡ φ list n
   run-items n h o = good n h o .0
 
   -- and lies within a field of the slip
-  pub run-lies : (n : ℕ) → n ≤ 15 → Any (Occurs list n) rule → LiesIn slip (getD (runsOf rule slip) n blankRun)
+  pub run-lies : (n : ℕ) → n ≤ largestNumber → Any (Occurs list n) rule → LiesIn slip (getD (runsOf rule slip) n blankRun)
   run-lies n h o = good n h o .1
 
   -- an atom variable's value is one constant

@@ -6,6 +6,7 @@ use Prim.Native.Nat.{ℕ, _+_, _*_, _<_, _≤_, min}
 use native.Mathlib.Omega.{arith}
 use borrow.Author.Tests.{not-true, not-false}
 use lib.ListN.{length, getD, set, take, drop, length-take, drop-of-length-le}
+use Rattle.base_limits.specs.Limits.{mostTerms, numbersOfSide}
 use Rattle.text_values.specs.declared.Form.{Form}
 use Rattle.text_values.specs.declared.Form.the-variants.{Int, Str, Var}
 use Rattle.text_values.specs.declared.Term.{Term}
@@ -27,7 +28,7 @@ use Rattle.match_rules.specs.Tests.{fieldsTested, fieldsCompared, fields
 module _ (fs : List Field) (ws : List SlipField) (n : ℕ) (v₀ : Values) where
   -- what is left of the fields, with c items compared so far, is all of them
   abbrev pub Passed : ℕ → ℕ → Values → Type 0
-  Passed i c v = (n ≤ length fs) × (n ≤ length ws) × (c ≤ 16 * i)
+  Passed i c v = (n ≤ length fs) × (n ≤ length ws) × (c ≤ numbersOfSide * i)
       × (fieldsTested (take n fs) (take n ws) v₀ ≡ fieldsTested (drop i (take n fs)) (drop i (take n ws)) v)
       × (fieldsCompared (take n fs) (take n ws) v₀ ≡ c + fieldsCompared (drop i (take n fs)) (drop i (take n ws)) v)
 
@@ -64,7 +65,7 @@ module _ (fs : List Field) (ws : List SlipField) (n : ℕ) (v₀ : Values) where
       count ∙ ap (λ (b : Bool). c + (x .compared + cond b (fieldsCompared fields items (x .tested .values)) 0)) q,
     )
 
-    pub passed-one : x .compared ≤ 16 → not (x .tested .ok) ≡ false → Passed (i + 1) (c + x .compared) (x .tested .values)
+    pub passed-one : x .compared ≤ mostTerms → not (x .tested .ok) ≡ false → Passed (i + 1) (c + x .compared) (x .tested .values)
     passed-one b q =
         let a = after true (not-false (x .tested .ok) q) in
         (p .0, p .1, omega (arith, p .2), a .0, a .1 ∙ omega arith)

@@ -3,12 +3,13 @@
 use mathlib.Core.Bool.{Bool, true, false, cond}
 use mathlib.Core.Option.{Option, none, some}
 use mathlib.Core.List.{List, [], _∷_, map}
-use Prim.Native.Nat.{ℕ, zero, suc, _+_, _-_, _/_, _%_, _<_, _≤_}
+use Prim.Native.Nat.{ℕ, _+_, _-_, _/_, _%_, _<_, _≤_}
 use lib.Dec.{eqb}
 use lib.ListN.{length, getD, set, take, drop, replicate}
+use Rattle.base_limits.specs.Limits.{numbersOfSide, atomPlaces}
 use Rattle.base_lists.specs.Seqs.{tabulate}
 use Rattle.math_types.specs.Order.{basic, list}
-use Rattle.math_types.specs.Types.{integer, string, atom, Kind}
+use Rattle.math_types.specs.Types.{Kind, kindAt}
 use Rattle.math_terms.specs.Terms.{con, var}
 use Rattle.math_terms.specs.Fillings.{Filling}
 use Rattle.math_terms.specs.Matcher.{atoms}
@@ -29,12 +30,6 @@ use Rattle.match_rules.specs.Tests.{noValues, fieldsTested, fieldsCompar
 
 -- ---- the atom variables
 
--- whose value stands at place i: 16 for each of i, s, a
-abbrev pub kindAt : ℕ → Kind
-kindAt zero = basic integer
-kindAt (suc zero) = basic string
-kindAt (suc (suc n)) = basic atom
-
 abbrev pub isKnown : List Con → Bool
 isKnown [] = false
 isKnown (c ∷ w) = true
@@ -43,10 +38,11 @@ abbrev pub valueTerm : List Con → Term
 valueTerm [] = blankTerm
 valueTerm (c ∷ w) = encodeTerm (con c)
 
+-- 16 places for each type below list, in their order
 abbrev pub encodeValues : Filling Con Kind ℕ → Values
 encodeValues φ = record {
-  known = tabulate 48 (λ i. isKnown (φ (kindAt (i / 16)) (i % 16)));
-  terms = tabulate 48 (λ i. valueTerm (φ (kindAt (i / 16)) (i % 16)));
+  known = tabulate atomPlaces (λ i. isKnown (φ (kindAt (i / numbersOfSide)) (i % numbersOfSide)));
+  terms = tabulate atomPlaces (λ i. valueTerm (φ (kindAt (i / numbersOfSide)) (i % numbersOfSide)));
 }
 
 -- ---- the list variables: the slip's field, the first item there, how many items
@@ -63,7 +59,7 @@ runsFrom j (f ∷ fs) [] rs = rs
 runsFrom j (f ∷ fs) (w ∷ ws) rs = runsFrom (j + 1) fs ws (runsField j (length w - atoms f) 0 f rs)
 
 abbrev pub runsOf : List (List OurTerm) → List (List Con) → List Run
-runsOf rule slip = runsFrom 0 rule slip (replicate 16 blankRun)
+runsOf rule slip = runsFrom 0 rule slip (replicate numbersOfSide blankRun)
 
 -- the items that a run names
 abbrev pub itemsAt : List (List Con) → Run → List Con
@@ -77,7 +73,7 @@ pub record LiesIn (slip : List (List Con)) (r : Run) : Type 0 where
 -- ---- the answer
 
 abbrev pub noMatch : Match
-noMatch = record { yes = false; filling = record { values = noValues; runs = replicate 16 blankRun } }
+noMatch = record { yes = false; filling = record { values = noValues; runs = replicate numbersOfSide blankRun } }
 
 abbrev pub found : List (List OurTerm) → List (List Con) → Option (Filling Con Kind ℕ) → Match
 found rule slip none = noMatch
@@ -90,7 +86,7 @@ matchOf (f ∷ fs) [] = noMatch
 matchOf (f ∷ fs) (w ∷ ws) = found (f ∷ fs) (map constants (w ∷ ws)) (matcher (f ∷ fs) (map constants (w ∷ ws)))
 
 abbrev pub fillingOf : Values → FillingValue
-fillingOf v = record { values = v; runs = replicate 16 blankRun }
+fillingOf v = record { values = v; runs = replicate numbersOfSide blankRun }
 
 -- ---- the answer with the count
 

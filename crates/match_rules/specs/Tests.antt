@@ -3,6 +3,8 @@ use mathlib.Core.Bool.{true, false, cond}
 use mathlib.Core.List.{List, [], _∷_}
 use Prim.Native.Nat.{ℕ, _+_, _-_}
 use lib.ListN.{length, set, replicate}
+use Rattle.math_types.specs.Types.{isList}
+use Rattle.base_limits.specs.Limits.{atomPlaces}
 use Rattle.math_types.specs.Values.{kindOf}
 use Rattle.text_values.specs.declared.Form.{Form}
 use Rattle.text_values.specs.declared.Form.the-variants.{Int, Str, Var}
@@ -14,14 +16,13 @@ use Rattle.match_fields.specs.declared.bindings.Values.{Values}
 use Rattle.match_fields.specs.declared.bindings.Run.{Run}
 use Rattle.match_fields.specs.declared.bindings.Filling.{Filling}
 use Rattle.match_fields.specs.declared.items.Tested.{Tested}
-use Rattle.match_fields.specs.items.Tests.{isList}
 use Rattle.match_fields.specs.declared.Progress.{Progress}
 use Rattle.match_fields.specs.Fields.{goOn, countOn, fieldTested, fieldCompared, termsOf, itemsOf}
 
 -- ---- a rule's fields against a slip's
 
 abbrev pub noValues : Values
-noValues = record { known = replicate 48 false; terms = replicate 48 blankTerm }
+noValues = record { known = replicate atomPlaces false; terms = replicate atomPlaces blankTerm }
 
 abbrev pub fieldsTested : List Field → List SlipField → Values → Tested
 fieldsTested [] [] v = record { ok = true; values = v }

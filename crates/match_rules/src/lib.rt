@@ -1,6 +1,7 @@
 // Matching a rule against a slip: yes with the one filling of the rule's variables, or no.
 ghost use mathlib.Core.Path.{_≡_};
-ghost use Prim.Native.Nat.{_-_, _≤_, min};
+ghost use Prim.Native.Nat.{_-_, _≤_};
+ghost use Rattle.base_limits.specs.Limits.{mostFields};
 ghost use Rattle.match_rules.specs.Tests.{fieldsProgress, noValues, withRun, runsIn, runsAll};
 ghost use Rattle.match_rules.specs.Answers.{fillingOf, matchOf, noMatch, comparison, noComparison, foundBy};
 ghost use Rattle.text_accepted.specs.Accepted.{countedLeft};
@@ -10,12 +11,13 @@ ghost use lib.ListN.{take};
 
 pub mod texts; // texts that were just read
 
+use base_numbers::at_most;
+use base_numbers::left_over;
 use match_fields::Progress;
 use match_fields::bindings::Filling;
 use match_fields::bindings::Run;
 use match_fields::bindings::Values;
 use match_fields::items::Tested;
-use math_types::Kind;
 use text_values::Field;
 use text_values::Form;
 use text_values::Rule;
@@ -40,14 +42,14 @@ pub(crate) fn no_values() -> Values
 {
     let t = text_values::blank_term();
     Values {
-        known: [false; 48],
-        terms: [t; 48],
+        known: [false; base_limits::ATOM_PLACES],
+        terms: [t; base_limits::ATOM_PLACES],
     }
 }
 
 // As many fields of the slip as of the rule, one after the other, up to the first test that fails.
 fn match_fields(r: RuleSide, s: Slip) -> Progress
-    requires { ⌜ (r .n ≤ 4) × (s .n ≡ r .n) ⌝ }
+    requires { ⌜ (r .n ≤ mostFields) × (s .n ≡ r .n) ⌝ }
     ensures { λ t. ⌜ t ≡ fieldsProgress (take (r .n) (r .fields)) (take (s .n) (s .fields)) noValues ⌝ }
 {
     let n = r.n;
@@ -86,11 +88,11 @@ fn with_run(x: Filling, t: Term, r: Run) -> Filling
         Form::Int(_) => x,
         Form::Str(_) => x,
         Form::Var(k, n) => {
-            if !math_types::same_kind(k, Kind::List) {
+            if !math_types::is_list(k) {
                 return x;
             }
             let i = n as usize;
-            if 16 <= i {
+            if base_limits::NUMBERS_OF_SIDE <= i {
                 return x;
             }
             let mut y = x;
@@ -100,29 +102,12 @@ fn with_run(x: Filling, t: Term, r: Run) -> Filling
     }
 }
 
-// A count beyond the array counts for the whole array.
-fn at_most(n: usize, places: usize) -> usize
-    ensures { λ r. ⌜ r ≡ min n places ⌝ }
-{
-    if n < places { n } else { places }
-}
-
-// What n items leave where a are taken.
-fn left_over(n: usize, a: usize) -> usize
-    ensures { λ r. ⌜ r ≡ n - a ⌝ }
-{
-    if n < a {
-        return 0;
-    }
-    n - a
-}
-
 // The run of one field's list variable. There is at most one: it takes the items that the other terms leave.
 pub(crate) fn run_field(j: usize, f: Field, w: SlipField, x: Filling) -> Filling
     ensures { λ y. ⌜ y ≡ runsIn j f w x ⌝ }
 {
-    let n = at_most(f.n, 16);
-    let gap = left_over(at_most(w.n, 64) + 1, n);
+    let n = at_most(f.n, base_limits::MOST_TERMS);
+    let gap = left_over(at_most(w.n, base_limits::MOST_ITEMS) + 1, n);
     let mut y = x;
     let mut i: usize = 0;
     while i < n {
@@ -141,7 +126,7 @@ pub(crate) fn run_field(j: usize, f: Field, w: SlipField, x: Filling) -> Filling
 }
 
 fn run_fields(r: RuleSide, s: Slip, x: Filling) -> Filling
-    requires { ⌜ (r .n ≤ 4) × (s .n ≡ r .n) ⌝ }
+    requires { ⌜ (r .n ≤ mostFields) × (s .n ≡ r .n) ⌝ }
     ensures { λ y. ⌜ y ≡ runsAll 0 (take (r .n) (r .fields)) (take (s .n) (s .fields)) x ⌝ }
 {
     let n = r.n;
@@ -165,7 +150,7 @@ pub(crate) fn filling_of(v: Values) -> Filling
     };
     Filling {
         values: v,
-        runs: [r; 16],
+        runs: [r; base_limits::NUMBERS_OF_SIDE],
     }
 }
 
@@ -192,7 +177,7 @@ pub(crate) fn no_comparison() -> Comparison
 
 // What the tests come to: no, or yes with the runs of the list variables too.
 fn found_by(rule: RuleSide, slip: Slip, t: Tested) -> Match
-    requires { ⌜ (rule .n ≤ 4) × (slip .n ≡ rule .n) ⌝ }
+    requires { ⌜ (rule .n ≤ mostFields) × (slip .n ≡ rule .n) ⌝ }
     ensures { λ m. ⌜ m ≡ foundBy (take (rule .n) (rule .fields)) (take (slip .n) (slip .fields)) t ⌝ }
 {
     if !t.ok {

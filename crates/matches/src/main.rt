@@ -46,10 +46,13 @@ fn answer_all(chunk: &mut [u8], line: &mut [u8], text: &mut [u8], buffer: &mut [
     line_io::finish(s, buffer);
 }
 
-// Of a line no more than 12,290 bytes are kept: with more it is too long whatever they are (`cut-same` of print_matches' proofs/Lengths).
+// Of a line one byte more is kept than it may have: with more it is too long whatever they are (`cut-same` of print_matches'
+// proofs/Lengths).
+const LINE: usize = base_limits::SLIP_LINE + 1;
+
 fn main() {
     let mut chunk = io::large_buffer();
-    let mut line = [0u8; 12290];
+    let mut line = [0u8; LINE];
     let mut text = [0u8; print_matches::LONGEST_ANSWER];
     let mut buffer = io::large_buffer();
     answer_all(&mut chunk, &mut line, &mut text, &mut buffer);

@@ -5,7 +5,7 @@ use mathlib.Core.Bool.{false}
 use mathlib.Core.List.{List, [], _∷_}
 use native.Mathlib.Decide.{ℕ-discrete, decLt}
 use Rattle.math_types.specs.Order.{basic, list}
-use Rattle.math_types.specs.Types.{integer, atom, entry}
+use Rattle.math_types.specs.Types.{leaf, integer, atom, entry}
 use Rattle.math_terms.specs.Terms.{con, var}
 use Rattle.text_grammar.specs.Ascii.{ascii}
 use Rattle.text_grammar.specs.Terms.{OurTerm, int}
@@ -26,7 +26,7 @@ abbrev l : ℕ → OurTerm
 l n = var list n
 
 abbrev i : ℕ → OurTerm
-i n = var (basic integer) n
+i n = var (basic (leaf integer)) n
 
 abbrev listed : List (List OurTerm) → List (List OurTerm) → List (List ℕ)
 listed r₁ r₂ = indexedList (ourTable r₁ r₂) (ourTexts r₁ r₂) r₁ r₂ (ourIndex r₁ r₂ left r₁) ourTops (ourIndex r₁ r₂ right r₂) ourTops

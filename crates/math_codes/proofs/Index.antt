@@ -4,10 +4,12 @@ use mathlib.Core.Bool.{Bool, true, false, cond}
 use mathlib.Core.List.{List, [], _∷_, _++_, map, List·Memᴰ, List·Memᴰ·head, List·Memᴰ·tail}
 use Prim.Native.Nat.{ℕ, zero, suc, _+_, _-_, _/_, _%_, _≤_, _<_}
 use native.Mathlib.Omega.{arith}
+use borrow.Author.Tests.{lt-ltb}
 use lib.ListN.{getD}
+use Rattle.base_limits.specs.Limits.{largestNumber, numbersOfSide, fieldPlaces, rulePlaces, pairPlaces, pairItems}
 use Rattle.base_lists.specs.Seqs.{All}
 use Rattle.math_types.specs.Order.{basic, list}
-use Rattle.math_types.specs.Types.{integer, string, atom, Kind, basics, entry, rank, rank-below}
+use Rattle.math_types.specs.Types.{Kind, kinds, basics, entry, rank, rank-basic, rank-kinds, kindAt, atomKinds, kind-at-rank}
 use Rattle.math_terms.specs.Seqs.{concat-map}
 use Rattle.math_terms.proofs.Seqs.{concat-map-append}
 use Rattle.text_grammar.specs.Limits.{TermIn, IsLeft}
@@ -17,17 +19,17 @@ use Rattle.math_overlaps.specs.Shapes.{free, Side, left, right, of}
 use Rattle.math_overlaps.specs.Candidates.{range}
 use Rattle.overlap_spec.specs.Lines.{lineText, leftTag, rightTag}
 use Rattle.overlap_spec.specs.Overlaps.{linesOf}
-use Rattle.overlap_spec.specs.Variables.{Variable, kinds, numbersFrom, numbers, ofKind, occurs, keep, every, variables}
+use Rattle.overlap_spec.specs.Variables.{Variable, numbersFrom, numbers, ofKind, occurs, keep, every, variables}
 use Rattle.overlap_spec.proofs.Variables.{every-mem, occurs-is, in-variables}
 use Rattle.overlap_spec.proofs.Rising.{keep-mem}
 use Rattle.math_codes.specs.Tables.{codeOf, Table, same}
 use Rattle.math_codes.specs.Names.{noNames, nameFields}
-use Rattle.math_codes.specs.Lines.{fieldsText, valueText, valuesText, pairItems, ourVars, ourRow, OurTables, ourTable, ourTexts}
+use Rattle.math_codes.specs.Lines.{fieldsText, valueText, valuesText, ourVars, ourRow, OurTables, ourTable, ourTexts}
 use Rattle.math_codes.specs.Spots.{Spot}
 use Rattle.math_codes.specs.Walks.{walkOn}
 use Rattle.math_codes.specs.Whole.{spotsOf, itemsFrom, runOn, valueOn, lineItems, lineSpots}
 use Rattle.math_codes.specs.Index.{slot, Right, Indexes, Tops, isThere, has, indexedValue, everyValue, hasAt, valueAt, boundText}
-use Rattle.math_codes.specs.Index.{indexedValues, listedValues, indexedItems, indexedLine, indexedList, kindOfRank, codeIn, indexAt, ourIndex, ourTops}
+use Rattle.math_codes.specs.Index.{indexedValues, listedValues, indexedItems, indexedLine, indexedList, codeIn, indexAt, ourIndex, ourTops}
 use Rattle.math_codes.proofs.Walks.{concat-mapped}
 use Rattle.math_codes.proofs.Lists.{our-tables}
 use Rattle.math_codes.proofs.Whole.{concat-same, concat-single, walk-same, spots-agree}
@@ -82,12 +84,12 @@ module _ (r₁ r₂ : List (List OurTerm)) (d : Side) (r : List (List OurTerm)) 
     abbrev shownBy : Variable → List B
     shownBy v = cond (has x v) (show v (indexedValue x atoms runs (v .0) (v .1))) []
 
-    by-shown : (v : Variable) → v .1 ≤ 15 → occurs (v .0) (v .1) r ≡ true → show v (valueOn r₁ r₂ d atoms runs (v .0) (v .1)) ≡ shownBy v
+    by-shown : (v : Variable) → v .1 ≤ largestNumber → occurs (v .0) (v .1) r ≡ true → show v (valueOn r₁ r₂ d atoms runs (v .0) (v .1)) ≡ shownBy v
     by-shown v l o =
         let e = ix .present (v .0) (v .1) l o in
         rw (right-there (v .0) (v .1) (x (slot (v .0) (v .1))) e) (ap (show v) (value-there (v .0) (v .1) e))
 
-    by-hidden : (v : Variable) → v .1 ≤ 15 → occurs (v .0) (v .1) r ≡ false → [] ≡ shownBy v
+    by-hidden : (v : Variable) → v .1 ≤ largestNumber → occurs (v .0) (v .1) r ≡ false → [] ≡ shownBy v
     by-hidden v l o = rw (ix .absent (v .0) (v .1) l o)
 
     by-index : concat-map (λ v. show v (valueOn r₁ r₂ d atoms runs (v .0) (v .1))) (variables r) ≡ concat-map shownBy every
@@ -102,9 +104,7 @@ module _ (r₁ r₂ : List (List OurTerm)) (d : Side) (r : List (List OurTerm)) 
       shownAt k n = cond (hasAt x k n) (showAt k n (valueAt x atoms runs k n)) []
 
       value-rank : (k : Kind) (n : ℕ) → indexedValue x atoms runs k n ≡ valueAt x atoms runs (rank k) n
-      value-rank (basic integer) n = refl
-      value-rank (basic string) n = refl
-      value-rank (basic atom) n = refl
+      value-rank (basic k) n = rw (lt-ltb (rank (basic k)) atomKinds (rank-basic k))
       value-rank list n = refl
 
       -- the same for a variable
@@ -114,7 +114,7 @@ module _ (r₁ r₂ : List (List OurTerm)) (d : Side) (r : List (List OurTerm)) 
           (same k n (indexedValue x atoms runs k n) ∙ ap (showAt (rank k) n) (value-rank k n))
 
       -- nothing from the top on
-      past-top : (k : Kind) (n : ℕ) → n ≤ 15 → tops (rank k) ≤ n → shownAt (rank k) n ≡ []
+      past-top : (k : Kind) (n : ℕ) → n ≤ largestNumber → tops (rank k) ≤ n → shownAt (rank k) n ≡ []
       past-top k n l h = go (occurs k n r) refl
         where
           go : (b : Bool) → occurs k n r ≡ b → shownAt (rank k) n ≡ []
@@ -125,7 +125,8 @@ module _ (r₁ r₂ : List (List OurTerm)) (d : Side) (r : List (List OurTerm)) 
       kind-loop k =
           concat-mapped shownBy (λ (n : ℕ). (k, n)) numbers
           ∙ concat-same (λ n. shownBy (k, n)) (shownAt (rank k)) numbers (λ n i. at-rank k n)
-          ∙ below-top (shownAt (rank k)) 16 (tops (rank k)) 0 (tp .within (rank k) (rank-below k)) (λ n l m. past-top k n (omega arith) (omega arith))
+          ∙ below-top (shownAt (rank k)) numbersOfSide (tops (rank k)) 0 (tp .within (rank k) (rank-kinds k))
+          (λ n l m. past-top k n (omega arith) (omega arith))
 
       by-rank : concat-map shownBy every ≡ concat-map (λ k. concat-map (shownAt k) (range 0 (tops k))) (range 0 4)
       by-rank =
@@ -139,10 +140,7 @@ module _ (r₁ r₂ : List (List OurTerm)) (d : Side) (r : List (List OurTerm)) 
     values-indexed = by-index (valueText T texts ns tag)
 
     name-ranked : (k : Kind) (n : ℕ) (cs : List ℕ) → valueText T texts ns tag (k, n) cs ≡ boundText T texts ns tag (rank k) n cs
-    name-ranked (basic integer) n cs = refl
-    name-ranked (basic string) n cs = refl
-    name-ranked (basic atom) n cs = refl
-    name-ranked list n cs = refl
+    name-ranked k n cs = refl
 
     -- THE LOOPS write the same
     pub values-ranked : (tops : ℕ → ℕ) → Tops r tops → everyValue T texts ns tag x atoms runs ≡ indexedValues T texts ns tag x tops atoms runs
@@ -169,31 +167,25 @@ module _ (r₁ r₂ : List (List OurTerm)) (T : Table) (texts : ℕ → List ℕ
       ∙ values-ranked r₁ r₂ right r₂ x₂ ix₂ last (runOn Qs is) T texts ns rightTag t₂ tp₂))
 
   -- THE LIST as the code makes it
-  pub lines-agree : walkOn entry T (spotsOf 16 0 r₁) (spotsOf 16 64 r₂) (T .first)
-      (λ cs last. indexedLine T texts x₁ t₁ x₂ t₂ (spotsOf 16 0 r₁) (spotsOf 16 64 r₂) cs last ∷ [])
+  pub lines-agree : walkOn entry T (spotsOf fieldPlaces 0 r₁) (spotsOf fieldPlaces rulePlaces r₂) (T .first)
+      (λ cs last. indexedLine T texts x₁ t₁ x₂ t₂ (spotsOf fieldPlaces 0 r₁) (spotsOf fieldPlaces rulePlaces r₂) cs last ∷ [])
       ≡ map lineText (linesOf r₁ r₂)
   lines-agree =
-      let Ps = spotsOf 16 0 r₁ in
-      let Qs = spotsOf 16 64 r₂ in
+      let Ps = spotsOf fieldPlaces 0 r₁ in
+      let Qs = spotsOf fieldPlaces rulePlaces r₂ in
       walk-same entry T Ps Qs (T .first) (λ cs last. indexedLine T texts x₁ t₁ x₂ t₂ Ps Qs cs last ∷ [])
       (λ cs last. lineSpots r₁ r₂ T texts Ps Qs cs last ∷ [])
-      (λ cs last h. ap (λ (l : List ℕ). l ∷ []) (line-indexed Ps Qs (itemsFrom last 128 0 Ps Qs cs) last))
+      (λ cs last h. ap (λ (l : List ℕ). l ∷ []) (line-indexed Ps Qs (itemsFrom last pairPlaces 0 Ps Qs cs) last))
       ∙ spots-agree r₁ r₂ T texts ot ok₁ ok₂
 
 -- ---- there are such indexes and tops
 
-kind-of-rank : (k : Kind) → kindOfRank (rank k) ≡ k
-kind-of-rank (basic integer) = refl
-kind-of-rank (basic string) = refl
-kind-of-rank (basic atom) = refl
-kind-of-rank list = refl
-
 module _ (r₁ r₂ : List (List OurTerm)) (d : Side) (r : List (List OurTerm)) where
-  at-slot : (k : Kind) (n : ℕ) → n ≤ 15 → ourIndex r₁ r₂ d r (slot k n) ≡ indexAt r₁ r₂ d r k n
+  at-slot : (k : Kind) (n : ℕ) → n ≤ largestNumber → ourIndex r₁ r₂ d r (slot k n) ≡ indexAt r₁ r₂ d r k n
   at-slot k n l =
-      let e : slot k n / 16 ≡ rank k = omega arith in
-      let m : slot k n % 16 ≡ n = omega arith in
-      ap₂ (λ (q : ℕ) (i : ℕ). indexAt r₁ r₂ d r (kindOfRank q) i) e m ∙ ap (λ (q : Kind). indexAt r₁ r₂ d r q n) (kind-of-rank k)
+      let e : slot k n / numbersOfSide ≡ rank k = omega arith in
+      let m : slot k n % numbersOfSide ≡ n = omega arith in
+      ap₂ (λ (q : ℕ) (i : ℕ). indexAt r₁ r₂ d r (kindAt q) i) e m ∙ ap (λ (q : Kind). indexAt r₁ r₂ d r q n) (kind-at-rank k)
 
   index-right : (k : Kind) (n : ℕ) → Right r₁ r₂ d k n (suc (codeIn r₁ r₂ d k n))
   index-right (basic k) n = refl

@@ -7,13 +7,14 @@ use Prim.Native.Nat.{ℕ, _-_, _≤_}
 use native.Mathlib.Omega.{arith}
 use native.Mathlib.Decide.{ℕ-discrete}
 use lib.ListN.{length}
+use Rattle.base_limits.specs.Limits.{fieldPlaces, rulePlaces, listItems}
 use Rattle.base_lists.specs.Seqs.{All, Any, IsCons}
 use Rattle.math_types.specs.Order.{basic, list, full-eq}
-use Rattle.math_types.specs.Types.{integer, string, atom, Kind, basic-eq, basics, rank, rank-below, rank-once}
+use Rattle.math_types.specs.Types.{Kind, basic-eq, basics, rank, rank-kinds, rank-once}
 use Rattle.math_terms.specs.Terms.{Term, con, var}
 use Rattle.math_terms.specs.Fillings.{Occurs}
 use Rattle.math_terms.specs.Seqs.{concat-map, Distinct}
-use Rattle.text_grammar.specs.Bytes.{letter}
+use Rattle.text_grammar.specs.Letters.{letter}
 use Rattle.text_grammar.specs.Grammar.{colons, bars}
 use Rattle.text_grammar.specs.Numbers.{digitsOf}
 use Rattle.text_grammar.specs.Limits.{IsLeft}
@@ -35,8 +36,8 @@ use Rattle.overlap_spec.proofs.Variables.{in-variables}
 use Rattle.math_codes.specs.Tables.{IsCode, Table}
 use Rattle.math_codes.specs.Names.{noNames, nameFields}
 use Rattle.math_codes.specs.Items.{entryItems, valueItems}
-use Rattle.math_codes.specs.Lines.{letterAt, itemText, colonTexts, itemsText, barTexts, fieldsText, valuesText, ourVars, OurOriginTerm}
-use Rattle.math_codes.specs.Lines.{listItems, ourRow, ourTerms, OurTables, valuesOn, lineOn}
+use Rattle.math_codes.specs.Lines.{itemText, colonTexts, itemsText, barTexts, fieldsText, valuesText, ourVars, OurOriginTerm, ourRow, ourTerms, OurTables}
+use Rattle.math_codes.specs.Lines.{valuesOn, lineOn}
 use Rattle.math_codes.proofs.Seqs.{Each, Perhaps, OnShape}
 use Rattle.math_codes.proofs.Joins.{Represents}
 use Rattle.math_codes.proofs.Entries.{At-place}
@@ -61,12 +62,6 @@ module _ {C K B : Type 0} where
   met-fields fs [] h = tt
   met-fields fs (f ∷ gs) h = (met-terms fs f (λ k b o. h k b (inl o)), met-fields fs gs (λ k b o. h k b (inr o)))
 
-letter-is : (k : Kind) → letterAt (rank k) ≡ letter k
-letter-is (basic integer) = refl
-letter-is (basic string) = refl
-letter-is (basic atom) = refl
-letter-is list = refl
-
 -- ---- texts
 
 abbrev pub origin-term-eq : Discrete OurOriginTerm
@@ -88,8 +83,8 @@ module _ (r₁ r₂ : List (List OurTerm)) (T : Table) (texts : ℕ → List ℕ
     item-text c (con d) i m = rw (ot .terms .variables c (con d) (i .0)) (ot .plain c d (i .0))
     item-text c (var k b) i m =
         rw (ot .terms .variables c (var k b) (i .0), ot .terms .kinds c k b (i .0))
-        (ap₂ (λ (l n : ℕ). l ∷ digitsOf n) (letter-is k)
-        (ap (λ (n : ℕ). n - 1) (number-agrees (full-eq basic-eq) (origin-eq side-eq ℕ-discrete ℕ-discrete) origin-term-eq rank 4 rank-below rank-once
+        (ap (λ (n : ℕ). letter k ∷ digitsOf n)
+        (ap (λ (n : ℕ). n - 1) (number-agrees (full-eq basic-eq) (origin-eq side-eq ℕ-discrete ℕ-discrete) origin-term-eq rank 4 rank-kinds rank-once
         (ourTerms r₁ r₂) T (ot .terms) is fs h c k b i m)
         ∙ omega arith))
 
@@ -135,7 +130,7 @@ module _ (r₁ r₂ : List (List OurTerm)) (T : Table) (texts : ℕ → List ℕ
 -- ---- lines
 
 module _ (r₁ r₂ : List (List OurTerm)) (T : Table) (texts : ℕ → List ℕ) (ot : OurTables r₁ r₂ T texts)
-    (st₁ : StandAll (ourRow r₁ r₂) left 16 0 r₁) (st₂ : StandAll (ourRow r₁ r₂) right 16 64 r₂) (ok₁ : IsLeft r₁) (ok₂ : IsLeft r₂)
+    (st₁ : StandAll (ourRow r₁ r₂) left fieldPlaces 0 r₁) (st₂ : StandAll (ourRow r₁ r₂) right fieldPlaces rulePlaces r₂) (ok₁ : IsLeft r₁) (ok₂ : IsLeft r₂)
     (Ps Qs : List (Shape ℕ ℕ)) (Ss Ts : List (PairShape basics consts ℕ-discrete))
     (i : Each (OnShape (At-place basics consts ourVars (ourRow r₁ r₂))) Ps Ss) (j : Each (OnShape (At-place basics consts ourVars (ourRow r₁ r₂))) Qs Ts)
     (is₁ : shapesOf left r₁ ≡ some Ss) (is₂ : shapesOf right r₂ ≡ some Ts) (lin₁ : Distinct (gaps Ss)) (lin₂ : Distinct (gaps Ts)) where
@@ -154,14 +149,14 @@ module _ (r₁ r₂ : List (List OurTerm)) (T : Table) (texts : ℕ → List ℕ
     here = entry-items basics consts ℕ-discrete origin-term-eq (ourRow r₁ r₂) listItems Ps Ss Qs Ts i j few cs array s rep
 
     -- a value of a variable of the rule on a side
-    module _ (d : Side) (r : List (List OurTerm)) (b : ℕ) (st : StandAll (ourRow r₁ r₂) d 16 b r)
+    module _ (d : Side) (r : List (List OurTerm)) (b : ℕ) (st : StandAll (ourRow r₁ r₂) d fieldPlaces b r)
         (Ws : List (Shape ℕ ℕ)) (Us : List (PairShape basics consts ℕ-discrete)) (k : Each (OnShape (At-place basics consts ourVars (ourRow r₁ r₂))) Ws Us)
         (solves : map (substitute (originValue basics consts ℕ-discrete d Us s fs)) r ≡ fs) where
       value-items : (q : Kind) (n : ℕ) → Any (Occurs q n) r
           → Each (Items basics consts ℕ-discrete origin-term-eq (ourRow r₁ r₂) listItems) (valueItems basics consts ℕ-discrete (ourRow r₁ r₂) d Ws array js q n)
           (originValue basics consts ℕ-discrete d Us s fs q n)
       value-items (basic q) n o =
-          let p = there (ourRow r₁ r₂) d q n 16 b r st o in
+          let p = there (ourRow r₁ r₂) d q n fieldPlaces b r st o in
           atom-value basics consts ℕ-discrete origin-term-eq (ourRow r₁ r₂) listItems Ps Ss Qs Ts i j few cs array s rep d Ws Us k q n (p .0) (p .1)
       value-items list n o = list-value basics consts ℕ-discrete origin-term-eq (ourRow r₁ r₂) listItems Ps Ss Qs Ts i j few cs array s rep d Ws Us k n
 
@@ -186,7 +181,7 @@ module _ (r₁ r₂ : List (List OurTerm)) (T : Table) (texts : ℕ → List ℕ
         (ap₂ (λ (a b : List ℕ). a ++ b)
         (side-text left r₁ 0 st₁ Ps Ss i (original-left basics consts ℕ-discrete Ss Ts r₁ r₂ is₁ is₂ lin₁ lin₂ (cs, s) m) leftTag ok₁)
         (ap (λ (a : List ℕ). a ++ 10 ∷ [])
-        (side-text right r₂ 64 st₂ Qs Ts j (original-right basics consts ℕ-discrete Ss Ts r₁ r₂ is₁ is₂ lin₁ lin₂ (cs, s) m) rightTag ok₂)))
+        (side-text right r₂ rulePlaces st₂ Qs Ts j (original-right basics consts ℕ-discrete Ss Ts r₁ r₂ is₁ is₂ lin₁ lin₂ (cs, s) m) rightTag ok₂)))
 
 -- ---- the list
 

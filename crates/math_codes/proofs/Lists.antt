@@ -6,6 +6,7 @@ use Prim.Native.Nat.{ℕ, _+_, _*_, _≤_}
 use native.Mathlib.Omega.{arith}
 use native.Mathlib.Decide.{ℕ-discrete}
 use lib.ListN.{length, length-append, length-map}
+use Rattle.base_limits.specs.Limits.{mostFields, fieldPlaces, rulePlaces, pairPlaces, listItems, pairItems}
 use Rattle.math_types.specs.Order.{list}
 use Rattle.math_types.specs.Types.{basics, entry, rank}
 use Rattle.math_terms.specs.Terms.{var}
@@ -27,7 +28,7 @@ use Rattle.math_codes.specs.Tables.{Table, kindA, isFree}
 use Rattle.math_codes.specs.Entries.{placeShapes, entriesOn}
 use Rattle.math_codes.specs.Items.{shownAt}
 use Rattle.math_codes.specs.Lines.{ourVars, OurAtom, ourRanks, ourRow, ourTerms, OurTables, rankTerm, varTerm, textTerm, ourTable, ourTexts}
-use Rattle.math_codes.specs.Lines.{pairPlaces, listItems, pairItems, lineOn, listedOn, listOn}
+use Rattle.math_codes.specs.Lines.{lineOn, listedOn, listOn}
 use Rattle.math_codes.proofs.Tables.{made}
 use Rattle.math_codes.proofs.Seqs.{Each, OnShape}
 use Rattle.math_codes.proofs.Entries.{OnEntry, At-place, entries-are}
@@ -43,14 +44,14 @@ each-some-same R (x ∷ xs) [] h = absurd h
 each-some-same R (x ∷ xs) (y ∷ ys) h = refl
 
 module _ (r₁ r₂ : List (List OurTerm)) (T : Table) (texts : ℕ → List ℕ) (ot : OurTables r₁ r₂ T texts) (ok₁ : IsLeft r₁) (ok₂ : IsLeft r₂) where
-  few₁ : length r₁ * 16 ≤ 4 * 16
+  few₁ : length r₁ * fieldPlaces ≤ rulePlaces
   few₁ = omega (arith, ok₁ .0 .1)
 
-  few₂ : length r₂ * 16 ≤ 4 * 16
+  few₂ : length r₂ * fieldPlaces ≤ rulePlaces
   few₂ = omega (arith, ok₂ .0 .1)
 
-  pub row-long : length (ourRow r₁ r₂) ≡ 128
-  row-long = pair-long 16 4 r₁ r₂ (ok₁ .0 .2) (ok₂ .0 .2) few₁ few₂
+  pub row-long : length (ourRow r₁ r₂) ≡ pairPlaces
+  row-long = pair-long fieldPlaces mostFields r₁ r₂ (ok₁ .0 .2) (ok₂ .0 .2) few₁ few₂
 
   pub terms-long : length (ourTerms r₁ r₂) ≡ pairItems
   terms-long =
@@ -72,7 +73,7 @@ module _ (r₁ r₂ : List (List OurTerm)) (T : Table) (texts : ℕ → List ℕ
         ap₂ (λ (n k : ℕ). lineOn r₁ r₂ T texts n k Ps Qs e) (sym row-long) (sym terms-long)
         ∙ ap (λ (cs : List Cand). lineOn r₁ r₂ T texts (length (ourRow r₁ r₂)) (length (ourTerms r₁ r₂)) Ps Qs (cs, e .1)) (r .0)
         ∙ line-agrees r₁ r₂ T texts ot
-        (left-stand 16 4 r₁ r₂ (ok₁ .0 .2) (ok₂ .0 .2) few₁) (right-stand 16 4 r₁ r₂ (ok₁ .0 .2) (ok₂ .0 .2) few₁) ok₁ ok₂
+        (left-stand fieldPlaces mostFields r₁ r₂ (ok₁ .0 .2) (ok₂ .0 .2) few₁) (right-stand fieldPlaces mostFields r₁ r₂ (ok₁ .0 .2) (ok₂ .0 .2) few₁) ok₁ ok₂
         Ps Qs Ss Ts i j is₁ is₂ lin₁ lin₂ (f .0) (e .1) (f .1) (r .1) m)
 
     all-agree : listedOn r₁ r₂ T texts (some Ps) (some Qs) ≡ map lineText (linesOf r₁ r₂)
@@ -85,24 +86,29 @@ module _ (r₁ r₂ : List (List OurTerm)) (T : Table) (texts : ℕ → List ℕ
         ∙ sym (ap (λ es. map lineText (map (lineOf r₁ r₂) es)) (entries-cons r₁ r₂ (ok₁ .0 .0) ∙ ap₂ (listed basics consts ℕ-discrete) is₁ is₂))
 
   -- the rules have shapes over places
-  pub has-places : ((Ps : List (Shape ℕ ℕ)) × (placeShapes 16 0 r₁ ≡ some Ps)) × ((Qs : List (Shape ℕ ℕ)) × (placeShapes 16 64 r₂ ≡ some Qs))
+  pub has-places : ((Ps : List (Shape ℕ ℕ)) × (placeShapes fieldPlaces 0 r₁ ≡ some Ps))
+      × ((Qs : List (Shape ℕ ℕ)) × (placeShapes fieldPlaces rulePlaces r₂ ≡ some Qs))
   has-places =
       let S = linear-shapes left r₁ (left-linear r₁ (ok₁ .1)) in
       let U = linear-shapes right r₂ (left-linear r₂ (ok₂ .1)) in
       let R = Each (OnShape (At-place basics consts ourVars (ourRow r₁ r₂))) in
-      let P = some-there R (placeShapes 16 0 r₁) (shapesOf left r₁) (S .0) (left-places 16 4 r₁ r₂ (ok₁ .0 .2) (ok₂ .0 .2) few₁) (S .1) in
-      let Q = some-there R (placeShapes 16 64 r₂) (shapesOf right r₂) (U .0) (right-places 16 4 r₁ r₂ (ok₁ .0 .2) (ok₂ .0 .2) few₁) (U .1) in
+      let P = some-there R (placeShapes fieldPlaces 0 r₁) (shapesOf left r₁) (S .0) (left-places fieldPlaces mostFields r₁ r₂ (ok₁ .0 .2) (ok₂ .0 .2) few₁)
+      (S .1) in
+      let Q = some-there R (placeShapes fieldPlaces rulePlaces r₂) (shapesOf right r₂) (U .0)
+      (right-places fieldPlaces mostFields r₁ r₂ (ok₁ .0 .2) (ok₂ .0 .2) few₁) (U .1) in
       ((P .0, P .1), (Q .0, Q .1))
 
   -- an entry on codes where there is one
-  pub same-some : (Ps Qs : List (Shape ℕ ℕ)) → placeShapes 16 0 r₁ ≡ some Ps → placeShapes 16 64 r₂ ≡ some Qs
+  pub same-some : (Ps Qs : List (Shape ℕ ℕ)) → placeShapes fieldPlaces 0 r₁ ≡ some Ps → placeShapes fieldPlaces rulePlaces r₂ ≡ some Qs
       → hasSome (entriesOn entry T ℕ ℕ Ps Qs (T .first)) ≡ hasSome (entriesOf r₁ r₂)
   same-some Ps Qs e₁ e₂ =
       let S = linear-shapes left r₁ (left-linear r₁ (ok₁ .1)) in
       let U = linear-shapes right r₂ (left-linear r₂ (ok₂ .1)) in
       let R = Each (OnShape (At-place basics consts ourVars (ourRow r₁ r₂))) in
-      let P = some-there R (placeShapes 16 0 r₁) (shapesOf left r₁) (S .0) (left-places 16 4 r₁ r₂ (ok₁ .0 .2) (ok₂ .0 .2) few₁) (S .1) in
-      let Q = some-there R (placeShapes 16 64 r₂) (shapesOf right r₂) (U .0) (right-places 16 4 r₁ r₂ (ok₁ .0 .2) (ok₂ .0 .2) few₁) (U .1) in
+      let P = some-there R (placeShapes fieldPlaces 0 r₁) (shapesOf left r₁) (S .0) (left-places fieldPlaces mostFields r₁ r₂ (ok₁ .0 .2) (ok₂ .0 .2) few₁)
+      (S .1) in
+      let Q = some-there R (placeShapes fieldPlaces rulePlaces r₂) (shapesOf right r₂) (U .0)
+      (right-places fieldPlaces mostFields r₁ r₂ (ok₁ .0 .2) (ok₂ .0 .2) few₁) (U .1) in
       ap₂ (λ (x y : List (Shape ℕ ℕ)). hasSome (entriesOn entry T ℕ ℕ x y (T .first)))
       (Option·some-injective Ps (P .0) (sym e₁ ∙ P .1)) (Option·some-injective Qs (Q .0) (sym e₂ ∙ Q .1))
       ∙ each-some-same (OnEntry basics consts ourVars (ourRow r₁ r₂)) (entriesOn entry T ℕ ℕ (P .0) (Q .0) (T .first))
@@ -116,10 +122,10 @@ module _ (r₁ r₂ : List (List OurTerm)) (T : Table) (texts : ℕ → List ℕ
   list-agrees =
       let S = linear-shapes left r₁ (left-linear r₁ (ok₁ .1)) in
       let U = linear-shapes right r₂ (left-linear r₂ (ok₂ .1)) in
-      let P = some-there (Each (OnShape (At-place basics consts ourVars (ourRow r₁ r₂)))) (placeShapes 16 0 r₁) (shapesOf left r₁) (S .0)
-      (left-places 16 4 r₁ r₂ (ok₁ .0 .2) (ok₂ .0 .2) few₁) (S .1) in
-      let Q = some-there (Each (OnShape (At-place basics consts ourVars (ourRow r₁ r₂)))) (placeShapes 16 64 r₂) (shapesOf right r₂) (U .0)
-      (right-places 16 4 r₁ r₂ (ok₁ .0 .2) (ok₂ .0 .2) few₁) (U .1) in
+      let P = some-there (Each (OnShape (At-place basics consts ourVars (ourRow r₁ r₂)))) (placeShapes fieldPlaces 0 r₁) (shapesOf left r₁) (S .0)
+      (left-places fieldPlaces mostFields r₁ r₂ (ok₁ .0 .2) (ok₂ .0 .2) few₁) (S .1) in
+      let Q = some-there (Each (OnShape (At-place basics consts ourVars (ourRow r₁ r₂)))) (placeShapes fieldPlaces rulePlaces r₂) (shapesOf right r₂) (U .0)
+      (right-places fieldPlaces mostFields r₁ r₂ (ok₁ .0 .2) (ok₂ .0 .2) few₁) (U .1) in
       ap₂ (listedOn r₁ r₂ T texts) (P .1) (Q .1)
       ∙ all-agree (P .0) (Q .0) (S .0) (U .0) (P .2) (Q .2) (S .1) (U .1) (S .2) (U .2)
 

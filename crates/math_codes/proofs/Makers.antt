@@ -13,6 +13,7 @@ use Rattle.base_lists.specs.Seqs.{All}
 use Rattle.math_types.specs.Order.{Order}
 use Rattle.math_terms.specs.Constants.{Consts}
 use Rattle.math_terms.specs.Seqs.{concat-map}
+use Rattle.text_grammar.specs.Letters.{letterAt}
 use Rattle.text_grammar.specs.Numbers.{dec, decC, digitsOf}
 use Rattle.math_overlaps.specs.Shapes.{Vars}
 use Rattle.math_overlaps.specs.Candidates.{Cand, range, cands}
@@ -23,7 +24,7 @@ use Rattle.math_codes.specs.Tables.{Holds, Table}
 use Rattle.math_codes.specs.States.{replaced, joinedBy, takes, joinPlaces, joinsPlaces}
 use Rattle.math_codes.specs.Entries.{entriesOn}
 use Rattle.math_codes.specs.Names.{Names, counted, nameCode, nameCodes, nameFields}
-use Rattle.math_codes.specs.Lines.{letterAt, itemText, colonTexts, itemsText, barTexts, fieldsText, colonsSize, itemsSize}
+use Rattle.math_codes.specs.Lines.{itemText, colonTexts, itemsText, barTexts, fieldsText, colonsSize, itemsSize}
 use Rattle.math_codes.specs.Lines.{barsSize, fieldsSize}
 use Rattle.math_codes.specs.Spots.{Spot, spotShape}
 use Rattle.math_codes.specs.Walks.{joinsOn}

@@ -11,9 +11,12 @@ use native.Mathlib.Decide.{ℕ-discrete}
 use lib.Dec.{ltb}
 use borrow.Author.Tests.{lt-ltb}
 use lib.ListN.{length, getD, take, drop, replicate, length-append, length-take, length-drop}
+use Rattle.base_limits.specs.Limits.{mostFields, mostTerms, kindCount, atomKindCount, entryTerms, numbersOfSide, atomPlaces, fieldPlaces, rulePlaces}
+use Rattle.base_limits.specs.Limits.{pairPlaces, pairItems, longestTerm, entryPlaces, runBound, entryLine}
 use Rattle.base_lists.specs.Seqs.{All, tabulate, tabulate-long}
 use Rattle.math_types.specs.Order.{Full, basic, list}
 use Rattle.math_terms.specs.Terms.{Term, con, var}
+use Rattle.text_grammar.specs.Letters.{letterAt}
 use Rattle.text_grammar.specs.Numbers.{digitsOf}
 use Rattle.text_grammar.specs.Limits.{IsLeft}
 use Rattle.text_grammar.specs.Terms.{OurTerm}
@@ -22,11 +25,11 @@ use Rattle.math_overlaps.specs.Entries.{span}
 use Rattle.math_overlaps.proofs.Pairs.{room-of, reach-of, no-long₁, no-long₂}
 use Rattle.math_codes.specs.Tables.{Table}
 use Rattle.math_codes.specs.Names.{noNames, nameFields}
-use Rattle.math_codes.specs.Lines.{pairItems, letterAt, itemText, colonsSize, itemsSize, barsSize, fieldsSize}
+use Rattle.math_codes.specs.Lines.{itemText, colonsSize, itemsSize, barsSize, fieldsSize}
 use Rattle.math_codes.specs.Spots.{Spot, shapeFrom, spotShape, scanAt, scanTerm}
 use Rattle.math_codes.specs.Walks.{spanOn, itemAt, fieldItems}
 use Rattle.math_codes.specs.Whole.{spotsOf, itemsFrom, runIn, runOn}
-use Rattle.math_codes.specs.Makers.{itemSize, sumOf, boundSize, rankedSize, rankSizes, valuesSize, sizeItems, sizeLine}
+use Rattle.math_codes.specs.Makers.{itemSize, sumOf, boundSize, rankedSize, rankSizes, valuesSize, sizeItems, sizeLine, largestByte}
 use Rattle.math_codes.specs.Index.{slotAt, hasAt, valueAt, indexedValues, indexedItems, indexedLine}
 use Rattle.math_codes.proofs.Spots.{range-long, spot-cands}
 use Rattle.math_codes.proofs.Makers.{AtMost, at-most, itemCount, names-few, digits-size, item-size, values-size, line-size}
@@ -53,7 +56,7 @@ module _ {C K A : Type 0} where
   scans-terms [] s = omega arith
   scans-terms (u ∷ f) s = scans-terms f (scanTerm s u) ∙ (let e = scan-terms (s .base) (s .head) (s .tail) (s .name) u in omega (arith, e))
 
-  pub spots-few : (w b : ℕ) (r : List (List (Term C (Full K) A))) → All (λ f. length f ≤ 16) r → All (λ s. spotTerms s ≤ 16) (spotsOf w b r)
+  pub spots-few : (w b : ℕ) (r : List (List (Term C (Full K) A))) → All (λ f. length f ≤ mostTerms) r → All (λ s. spotTerms s ≤ mostTerms) (spotsOf w b r)
   spots-few w b [] h = tt
   spots-few w b (f ∷ r) h = (
     let e = scans-terms f (record { base = b; head = 0; tail = 0; name = none }) in omega (arith, e, h .0),
@@ -67,7 +70,7 @@ module _ {C K A : Type 0} where
 
 module _ {L M : Type 0} where
   -- a candidate of two fields of at most 16 terms
-  few-from : (b h t : ℕ) (o : Option L) (b′ h′ t′ : ℕ) (o′ : Option M) → termsFrom h t o ≤ 16 → termsFrom h′ t′ o′ ≤ 16
+  few-from : (b h t : ℕ) (o : Option L) (b′ h′ t′ : ℕ) (o′ : Option M) → termsFrom h t o ≤ mostTerms → termsFrom h′ t′ o′ ≤ mostTerms
       → (c : Cand) → List·Memᴰ c (cands (shapeFrom b h t o) (shapeFrom b′ h′ t′ o′)) → span (shapeFrom b h t o) (shapeFrom b′ h′ t′ o′) c ≤ 30
   few-from b h t none b′ h′ t′ o′ k k′ c i =
       let r = room-of {L = L} {M = M} (shapeFrom b h t none) (shapeFrom b′ h′ t′ o′) c i .0 in omega (arith, r, range-long b h)
@@ -77,15 +80,15 @@ module _ {L M : Type 0} where
       let r = reach-of (shapeFrom b h t (some l)) (shapeFrom b′ h′ t′ (some m)) c i in
       omega (arith, r, range-long b h, range-long b′ h′, range-long (suc (b + h)) t, range-long (suc (b′ + h′)) t′)
 
-  long-from : (b h t : ℕ) (o : Option L) (b′ h′ t′ : ℕ) (o′ : Option M) → termsFrom h t o ≤ 16 → termsFrom h′ t′ o′ ≤ 16
+  long-from : (b h t : ℕ) (o : Option L) (b′ h′ t′ : ℕ) (o′ : Option M) → termsFrom h t o ≤ mostTerms → termsFrom h′ t′ o′ ≤ mostTerms
       → List·Memᴰ long (cands (shapeFrom b h t o) (shapeFrom b′ h′ t′ o′)) → max h h′ + max t t′ ≤ 30
   long-from b h t none b′ h′ t′ o′ k k′ i = absurd (no-long₁ ℕ L M (range b h) (shapeFrom b′ h′ t′ o′) i)
   long-from b h t (some l) b′ h′ t′ none k k′ i = absurd (no-long₂ ℕ L M (range b h) l (range (suc (b + h)) t) (range b′ h′) i)
   long-from b h t (some l) b′ h′ t′ (some m) k k′ i = omega arith
 
-  field-few : (atoms : List ℕ) (P : Spot L) (Q : Spot M) (n g : ℕ) → spotTerms P ≤ 16 → spotTerms Q ≤ 16 → (c : Cand)
+  field-few : (atoms : List ℕ) (P : Spot L) (Q : Spot M) (n g : ℕ) → spotTerms P ≤ mostTerms → spotTerms Q ≤ mostTerms → (c : Cand)
       → List·Memᴰ c (cands (spotShape P) (spotShape Q))
-      → length (fieldItems atoms P Q n g c) ≤ 31
+      → length (fieldItems atoms P Q n g c) ≤ entryTerms
   field-few atoms P Q n g k k′ (exact m) i =
       let r = few-from (P .base) (P .head) (P .tail) (P .name) (Q .base) (Q .head) (Q .tail) (Q .name) k k′ (exact m) i in
       omega (arith, r, tabulate-long m (itemAt atoms P Q m))
@@ -102,27 +105,30 @@ module _ {L M : Type 0} where
       )
 
   -- at most 31 items a field
-  pub items-few : (atoms : List ℕ) (n g : ℕ) (Ps : List (Spot L)) (Qs : List (Spot M)) (cs : List Cand) → Chosen Ps Qs cs → All (λ s. spotTerms s ≤ 16) Ps
-      → All (λ s. spotTerms s ≤ 16) Qs
-      → itemCount (itemsFrom atoms n g Ps Qs cs) ≤ length Ps * 31
+  pub items-few : (atoms : List ℕ) (n g : ℕ) (Ps : List (Spot L)) (Qs : List (Spot M)) (cs : List Cand) → Chosen Ps Qs cs
+      → All (λ s. spotTerms s ≤ mostTerms) Ps
+      → All (λ s. spotTerms s ≤ mostTerms) Qs
+      → itemCount (itemsFrom atoms n g Ps Qs cs) ≤ length Ps * entryTerms
   items-few atoms n g [] Qs cs h k k′ = omega arith
   items-few atoms n g (P ∷ Ps) [] cs h k k′ = omega arith
   items-few atoms n g (P ∷ Ps) (Q ∷ Qs) [] h k k′ = omega arith
   items-few atoms n g (P ∷ Ps) (Q ∷ Qs) (c ∷ cs) h k k′ =
       let a = field-few atoms P Q n g (k .0) (k′ .0) c (subst (λ (l : List Cand). List·Memᴰ c l) (sym (spot-cands P Q)) (h .0)) in
       let b = items-few atoms n (suc g) Ps Qs cs (h .1) (k .1) (k′ .1) in
-      omega (arith, suc-mul (length Ps) 31)
+      omega (arith, suc-mul (length Ps) entryTerms)
 
 zeros : (m n : ℕ) → AtMost m (replicate n 0)
 zeros m zero = tt
 zeros m (suc n) = (omega arith, zeros m n)
 
 -- at most 124 items an entry
-pub rules-few : (r₁ r₂ : List (List OurTerm)) → IsLeft r₁ → IsLeft r₂ → (cs : List Cand) (atoms : List ℕ) → Chosen (spotsOf 16 0 r₁) (spotsOf 16 64 r₂) cs
-    → itemCount (itemsFrom atoms 128 0 (spotsOf 16 0 r₁) (spotsOf 16 64 r₂) cs) ≤ 124
+pub rules-few : (r₁ r₂ : List (List OurTerm)) → IsLeft r₁ → IsLeft r₂ → (cs : List Cand) (atoms : List ℕ)
+    → Chosen (spotsOf fieldPlaces 0 r₁) (spotsOf fieldPlaces rulePlaces r₂) cs
+    → itemCount (itemsFrom atoms pairPlaces 0 (spotsOf fieldPlaces 0 r₁) (spotsOf fieldPlaces rulePlaces r₂) cs) ≤ entryPlaces
 rules-few r₁ r₂ ok₁ ok₂ cs atoms h =
-    let z = items-few atoms 128 0 (spotsOf 16 0 r₁) (spotsOf 16 64 r₂) cs h (spots-few 16 0 r₁ (ok₁ .0 .2)) (spots-few 16 64 r₂ (ok₂ .0 .2)) in
-    omega (arith, spots-long 16 0 r₁, ok₁ .0 .1)
+    let z = items-few atoms pairPlaces 0 (spotsOf fieldPlaces 0 r₁) (spotsOf fieldPlaces rulePlaces r₂) cs h (spots-few fieldPlaces 0 r₁ (ok₁ .0 .2))
+    (spots-few fieldPlaces rulePlaces r₂ (ok₂ .0 .2)) in
+    omega (arith, spots-long fieldPlaces 0 r₁, ok₁ .0 .1)
 
 -- ---- a line's size
 
@@ -138,17 +144,17 @@ module _ (T : Table) (texts : ℕ → List ℕ) (sizes : ℕ → ℕ) (sz : (c :
       x₁ t₁ x₂ t₂ Ps Qs atoms is
 
   -- THE SIZE OF A LINE, where the entry has at most 1000 items
-  pub line-long : (Ps Qs : List (Spot ℕ)) (cs : List Cand) (atoms : List ℕ) → itemCount (itemsFrom atoms 128 0 Ps Qs cs) ≤ 1000
+  pub line-long : (Ps Qs : List (Spot ℕ)) (cs : List Cand) (atoms : List ℕ) → itemCount (itemsFrom atoms pairPlaces 0 Ps Qs cs) ≤ 1000
       → length (indexedLine T texts x₁ t₁ x₂ t₂ Ps Qs cs atoms) ≡ sizeLine T sizes x₁ t₁ x₂ t₂ Ps Qs cs atoms
-  line-long Ps Qs cs atoms k = items-line Ps Qs atoms (itemsFrom atoms 128 0 Ps Qs cs) k
+  line-long Ps Qs cs atoms k = items-line Ps Qs atoms (itemsFrom atoms pairPlaces 0 Ps Qs cs) k
 
   -- and it has at most 124, in a choice of two rules
   pub choice-long : (r₁ r₂ : List (List OurTerm)) → IsLeft r₁ → IsLeft r₂ → (cs : List Cand) (atoms : List ℕ)
-      → Chosen (spotsOf 16 0 r₁) (spotsOf 16 64 r₂) cs
-      → length (indexedLine T texts x₁ t₁ x₂ t₂ (spotsOf 16 0 r₁) (spotsOf 16 64 r₂) cs atoms)
-      ≡ sizeLine T sizes x₁ t₁ x₂ t₂ (spotsOf 16 0 r₁) (spotsOf 16 64 r₂) cs atoms
+      → Chosen (spotsOf fieldPlaces 0 r₁) (spotsOf fieldPlaces rulePlaces r₂) cs
+      → length (indexedLine T texts x₁ t₁ x₂ t₂ (spotsOf fieldPlaces 0 r₁) (spotsOf fieldPlaces rulePlaces r₂) cs atoms)
+      ≡ sizeLine T sizes x₁ t₁ x₂ t₂ (spotsOf fieldPlaces 0 r₁) (spotsOf fieldPlaces rulePlaces r₂) cs atoms
   choice-long r₁ r₂ ok₁ ok₂ cs atoms h =
-      line-long (spotsOf 16 0 r₁) (spotsOf 16 64 r₂) cs atoms
+      line-long (spotsOf fieldPlaces 0 r₁) (spotsOf fieldPlaces rulePlaces r₂) cs atoms
       (let z = rules-few r₁ r₂ ok₁ ok₂ cs atoms h in omega arith)
 
 -- ---- a bound on any line, of any tables
@@ -168,7 +174,7 @@ run-short (P ∷ Ps) [] l = omega arith
 run-short (P ∷ Ps) (f ∷ is) l = run-in-short (P .name) (P .head) (P .tail) f l (runOn Ps is l) (itemCount is) (run-short Ps is l)
 
 -- a number has at most three digits here
-digits-short : (n : ℕ) → n ≤ 255 → length (digitsOf n) ≤ 3
+digits-short : (n : ℕ) → n ≤ largestByte → length (digitsOf n) ≤ 3
 digits-short n h = go (ltb n 10) (ltb n 100) (digits-size n (omega arith))
   where
     go : (b c : Bool) → length (digitsOf n) ≡ cond b 1 (cond c 2 3) → length (digitsOf n) ≤ 3
@@ -197,7 +203,7 @@ module _ (size : ℕ → ℕ) (w : ℕ) (few : (c : ℕ) → size c ≤ w + 4) w
   fields-short [] = omega arith
   fields-short (f ∷ is) = omega (arith, items-short f, bars-short is)
 
-  module _ (m : ℕ) (one : 1 ≤ m) (x tops : ℕ → ℕ) (low : (k : ℕ) → k < 4 → tops k ≤ 255) (atoms : List ℕ)
+  module _ (m : ℕ) (one : 1 ≤ m) (x tops : ℕ → ℕ) (low : (k : ℕ) → k < kindCount → tops k ≤ largestByte) (atoms : List ℕ)
       (runs : ℕ → List ℕ) (most : (n : ℕ) → length (runs n) ≤ m) where
     value-short : (k n : ℕ) → length (valueAt x atoms runs k n) ≤ m
     value-short k n = go (ltb k 3)
@@ -206,7 +212,7 @@ module _ (size : ℕ → ℕ) (w : ℕ) (few : (c : ℕ) → size c ≤ w + 4) w
         go true = one
         go false = most n
 
-    ranked-short : (k n : ℕ) → n ≤ 255 → rankedSize size x atoms runs k n ≤ m * (w + 5) + 12
+    ranked-short : (k n : ℕ) → n ≤ largestByte → rankedSize size x atoms runs k n ≤ m * (w + 5) + 12
     ranked-short k n h = go (hasAt x k n)
       where
         go : (b : Bool) → cond b (boundSize size n (valueAt x atoms runs k n)) 0 ≤ m * (w + 5) + 12
@@ -215,16 +221,16 @@ module _ (size : ℕ → ℕ) (w : ℕ) (few : (c : ℕ) → size c ≤ w + 4) w
             omega (arith, digits-short n h, items-short cs, mul-le-mul-right (w + 5) (value-short k n))
         go false = omega arith
 
-    rank-short : (k : ℕ) → k < 4 → rankSizes size x tops atoms runs k ≤ 255 * (m * (w + 5) + 12)
+    rank-short : (k : ℕ) → k < kindCount → rankSizes size x tops atoms runs k ≤ largestByte * (m * (w + 5) + 12)
     rank-short k l =
         let s = sum-short (rankedSize size x atoms runs k) (m * (w + 5) + 12) 0 (tops k) (λ n h. ranked-short k n (omega (arith, low k l))) in
         omega (arith, s, mul-le-mul-right (m * (w + 5) + 12) (low k l))
 
-    values-short : valuesSize size x tops atoms runs ≤ 1020 * (m * (w + 5) + 12)
+    values-short : valuesSize size x tops atoms runs ≤ kindCount * largestByte * (m * (w + 5) + 12)
     values-short = omega (arith, rank-short 0 (omega arith), rank-short 1 (omega arith), rank-short 2 (omega arith), rank-short 3 (omega arith))
 
 -- a text of at most w bytes, or a letter and three digits
-item-short : (T : Table) (texts : ℕ → List ℕ) (w : ℕ) → ((c : ℕ) → length (texts c) ≤ w) → (numbers : List ℕ) → ((c : ℕ) → getD numbers c 0 ≤ 255)
+item-short : (T : Table) (texts : ℕ → List ℕ) (w : ℕ) → ((c : ℕ) → length (texts c) ≤ w) → (numbers : List ℕ) → ((c : ℕ) → getD numbers c 0 ≤ largestByte)
     → (c : ℕ) → length (itemText T texts numbers c) ≤ w + 4
 item-short T texts w short numbers low c = go (T .variable c)
   where
@@ -234,9 +240,10 @@ item-short T texts w short numbers low c = go (T .variable c)
 
 -- THE VALUES of a rule, of at most m items each
 pub values-bounded : (T : Table) (texts : ℕ → List ℕ) (w : ℕ) → ((c : ℕ) → length (texts c) ≤ w) → (numbers : List ℕ)
-    → ((c : ℕ) → getD numbers c 0 ≤ 255) → (tag : ℕ) (x t : ℕ → ℕ) → ((k : ℕ) → k < 4 → t k ≤ 255) → (atoms : List ℕ) (runs : ℕ → List ℕ) (m : ℕ)
+    → ((c : ℕ) → getD numbers c 0 ≤ largestByte) → (tag : ℕ) (x t : ℕ → ℕ) → ((k : ℕ) → k < kindCount → t k ≤ largestByte)
+    → (atoms : List ℕ) (runs : ℕ → List ℕ) (m : ℕ)
     → 1 ≤ m → ((n : ℕ) → length (runs n) ≤ m)
-    → length (indexedValues T texts numbers tag x t atoms runs) ≤ 1020 * (m * (w + 5) + 12)
+    → length (indexedValues T texts numbers tag x t atoms runs) ≤ kindCount * largestByte * (m * (w + 5) + 12)
 values-bounded T texts w short numbers low tag x t few atoms runs m one most =
     let size : ℕ → ℕ = λ c. length (itemText T texts numbers c) in
     omega (
@@ -247,7 +254,8 @@ values-bounded T texts w short numbers low tag x t few atoms runs m one most =
 
 -- A LINE of at most m items in at most m fields; the fields are counted too, for one without items is written `empty`
 pub line-bounded : (T : Table) (texts : ℕ → List ℕ) (w : ℕ) → ((c : ℕ) → length (texts c) ≤ w) → (numbers : List ℕ)
-    → ((c : ℕ) → getD numbers c 0 ≤ 255) → (x₁ t₁ x₂ t₂ : ℕ → ℕ) → ((k : ℕ) → k < 4 → t₁ k ≤ 255) → ((k : ℕ) → k < 4 → t₂ k ≤ 255)
+    → ((c : ℕ) → getD numbers c 0 ≤ largestByte) → (x₁ t₁ x₂ t₂ : ℕ → ℕ) → ((k : ℕ) → k < kindCount → t₁ k ≤ largestByte)
+    → ((k : ℕ) → k < kindCount → t₂ k ≤ largestByte)
     → (Ps Qs : List (Spot ℕ)) (atoms : List ℕ) (is : List (List ℕ)) (m : ℕ) → 1 ≤ m → itemCount is ≤ m → length is ≤ m
     → length (indexedItems T texts x₁ t₁ x₂ t₂ Ps Qs atoms is numbers) ≤ 4000 * ((w + 5) * (m + 1) + 10)
 line-bounded T texts w short numbers low x₁ t₁ x₂ t₂ low₁ low₂ Ps Qs atoms is m one most wide =
@@ -287,23 +295,23 @@ run-field m (P ∷ Ps) [] l a = omega arith
 run-field m (P ∷ Ps) (f ∷ is) l a = run-in-field (P .name) (P .head) (P .tail) f l (runOn Ps is l) m (a .0) (run-field m Ps is l (a .1))
 
 -- items of at most 17 bytes, fields of at most 31 items
-module _ (size : ℕ → ℕ) (few : (c : ℕ) → size c ≤ 17) where
-  field-size : (cs : List ℕ) → length cs ≤ 31 → itemsSize size cs ≤ 557
+module _ (size : ℕ → ℕ) (few : (c : ℕ) → size c ≤ longestTerm) where
+  field-size : (cs : List ℕ) → length cs ≤ entryTerms → itemsSize size cs ≤ runBound - 1
   field-size [] h = omega arith
   field-size (c ∷ cs) h = omega (arith, few c, colons-short size 13 few cs)
 
-  all-bars : (is : List (List ℕ)) → All (λ f. length f ≤ 31) is → barsSize size is ≤ length is * 558
+  all-bars : (is : List (List ℕ)) → All (λ f. length f ≤ entryTerms) is → barsSize size is ≤ length is * runBound
   all-bars [] a = omega arith
   all-bars (f ∷ is) a = omega (arith, field-size f (a .0), all-bars is (a .1))
 
-  all-fields : (is : List (List ℕ)) → All (λ f. length f ≤ 31) is → fieldsSize size is ≤ length is * 558
+  all-fields : (is : List (List ℕ)) → All (λ f. length f ≤ entryTerms) is → fieldsSize size is ≤ length is * runBound
   all-fields [] a = omega arith
   all-fields (f ∷ is) a = omega (arith, field-size f (a .0), all-bars is (a .1))
 
-  module _ (x tops : ℕ → ℕ) (low : (k : ℕ) → k < 4 → tops k ≤ 16) (atoms : List ℕ) (runs : ℕ → List ℕ)
-      (most : (n : ℕ) → length (runs n) ≤ 31) where
+  module _ (x tops : ℕ → ℕ) (low : (k : ℕ) → k < kindCount → tops k ≤ numbersOfSide) (atoms : List ℕ) (runs : ℕ → List ℕ)
+      (most : (n : ℕ) → length (runs n) ≤ entryTerms) where
     -- a variable's part: a blank, a tag, a letter, two digits and `=`, and a value
-    ranked-within : (k n b : ℕ) → n < 16 → itemsSize size (valueAt x atoms runs k n) ≤ b → rankedSize size x atoms runs k n ≤ 6 + b
+    ranked-within : (k n b : ℕ) → n < numbersOfSide → itemsSize size (valueAt x atoms runs k n) ≤ b → rankedSize size x atoms runs k n ≤ 6 + b
     ranked-within k n b l h = go (hasAt x k n)
       where
         go : (c : Bool) → cond c (boundSize size n (valueAt x atoms runs k n)) 0 ≤ 6 + b
@@ -311,49 +319,51 @@ module _ (size : ℕ → ℕ) (few : (c : ℕ) → size c ≤ 17) where
         go false = omega arith
 
     -- an atom variable's value is one item
-    atom-value : (k n : ℕ) → k < 3 → itemsSize size (valueAt x atoms runs k n) ≤ 17
+    atom-value : (k n : ℕ) → k < atomKindCount → itemsSize size (valueAt x atoms runs k n) ≤ longestTerm
     atom-value k n l =
         rw (lt-ltb k 3 l) (let f = few (getD atoms (x (slotAt k n) - 1) 0) in omega arith)
 
     -- a list variable's has at most 31
-    list-value : (n : ℕ) → itemsSize size (valueAt x atoms runs 3 n) ≤ 557
+    list-value : (n : ℕ) → itemsSize size (valueAt x atoms runs 3 n) ≤ runBound - 1
     list-value n = field-size (runs n) (most n)
 
-    rank-within : (k b : ℕ) → k < 4 → ((n : ℕ) → itemsSize size (valueAt x atoms runs k n) ≤ b) → rankSizes size x tops atoms runs k ≤ 16 * (6 + b)
+    rank-within : (k b : ℕ) → k < kindCount → ((n : ℕ) → itemsSize size (valueAt x atoms runs k n) ≤ b)
+        → rankSizes size x tops atoms runs k ≤ numbersOfSide * (6 + b)
     rank-within k b l h =
         let s = sum-short (rankedSize size x atoms runs k) (6 + b) 0 (tops k) (λ n p. ranked-within k n b (omega (arith, low k l)) (h n)) in
         omega (arith, s, mul-le-mul-right (6 + b) (low k l))
 
-    values-within : valuesSize size x tops atoms runs ≤ 10112
+    values-within : valuesSize size x tops atoms runs ≤ atomPlaces * (6 + longestTerm) + numbersOfSide * (5 + runBound)
     values-within =
         omega (
           arith,
-          rank-within 0 17 (omega arith) (λ n. atom-value 0 n (omega arith)),
-          rank-within 1 17 (omega arith) (λ n. atom-value 1 n (omega arith)),
-          rank-within 2 17 (omega arith) (λ n. atom-value 2 n (omega arith)),
-          rank-within 3 557 (omega arith) list-value,
+          rank-within 0 longestTerm (omega arith) (λ n. atom-value 0 n (omega arith)),
+          rank-within 1 longestTerm (omega arith) (λ n. atom-value 1 n (omega arith)),
+          rank-within 2 longestTerm (omega arith) (λ n. atom-value 2 n (omega arith)),
+          rank-within 3 (runBound - 1) (omega arith) list-value,
         )
 
 -- A LINE of four fields of at most 31 items each, constants of at most 17 bytes, and 16 variables of each type
-pub line-short : (T : Table) (texts : ℕ → List ℕ) → ((c : ℕ) → length (texts c) ≤ 17) → (numbers : List ℕ) → ((c : ℕ) → getD numbers c 0 ≤ 124)
-    → (x₁ t₁ x₂ t₂ : ℕ → ℕ) → ((k : ℕ) → k < 4 → t₁ k ≤ 16) → ((k : ℕ) → k < 4 → t₂ k ≤ 16) → (Ps Qs : List (Spot ℕ)) (atoms : List ℕ) (is : List (List ℕ))
-    → length is ≤ 4 → All (λ f. length f ≤ 31) is
-    → length (indexedItems T texts x₁ t₁ x₂ t₂ Ps Qs atoms is numbers) ≤ 24285
+pub line-short : (T : Table) (texts : ℕ → List ℕ) → ((c : ℕ) → length (texts c) ≤ longestTerm) → (numbers : List ℕ) → ((c : ℕ) → getD numbers c 0 ≤ entryPlaces)
+    → (x₁ t₁ x₂ t₂ : ℕ → ℕ) → ((k : ℕ) → k < kindCount → t₁ k ≤ numbersOfSide) → ((k : ℕ) → k < kindCount → t₂ k ≤ numbersOfSide)
+    → (Ps Qs : List (Spot ℕ)) (atoms : List ℕ) (is : List (List ℕ))
+    → length is ≤ mostFields → All (λ f. length f ≤ entryTerms) is
+    → length (indexedItems T texts x₁ t₁ x₂ t₂ Ps Qs atoms is numbers) ≤ entryLine
 line-short T texts short numbers low x₁ t₁ x₂ t₂ low₁ low₂ Ps Qs atoms is four a =
     omega (
       arith,
       line-size T texts numbers size (λ c. refl) x₁ t₁ x₂ t₂ Ps Qs atoms is,
       all-fields size few is a,
-      values-within size few x₁ t₁ low₁ atoms (runOn Ps is) (λ n. run-field 31 Ps is n a),
-      values-within size few x₂ t₂ low₂ atoms (runOn Qs is) (λ n. run-field 31 Qs is n a),
+      values-within size few x₁ t₁ low₁ atoms (runOn Ps is) (λ n. run-field entryTerms Ps is n a),
+      values-within size few x₂ t₂ low₂ atoms (runOn Qs is) (λ n. run-field entryTerms Qs is n a),
     )
   where
     size : ℕ → ℕ
     size c = length (itemText T texts numbers c)
 
-    few : (c : ℕ) → size c ≤ 17
+    few : (c : ℕ) → size c ≤ longestTerm
     few c = go (T .variable c)
       where
-        go : (b : Bool) → length (cond b (letterAt (T .kind c) ∷ digitsOf (getD numbers c 0 - 1)) (texts c)) ≤ 17
+        go : (b : Bool) → length (cond b (letterAt (T .kind c) ∷ digitsOf (getD numbers c 0 - 1)) (texts c)) ≤ longestTerm
         go true = let l = low c in omega (arith, digits-short (getD numbers c 0 - 1) (omega arith))
         go false = short c

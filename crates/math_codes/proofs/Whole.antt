@@ -7,6 +7,7 @@ use mathlib.Core.List.{List, [], _∷_, _++_, map, List·Memᴰ, List·Memᴰ·h
 use Prim.Native.Nat.{ℕ, suc, _+_, _-_}
 use native.Mathlib.Decide.{ℕ-discrete}
 use lib.ListN.{length, getD, take, drop}
+use Rattle.base_limits.specs.Limits.{fieldPlaces, rulePlaces, pairPlaces, pairItems}
 use Rattle.math_types.specs.Order.{Full, basic, list}
 use Rattle.math_types.specs.Types.{Kind, basics, entry}
 use Rattle.math_terms.specs.Terms.{Term}
@@ -25,7 +26,7 @@ use Rattle.math_codes.specs.Tables.{Table}
 use Rattle.math_codes.specs.Entries.{placeShape, placeShapes, entriesOn}
 use Rattle.math_codes.specs.Names.{noNames, nameFields}
 use Rattle.math_codes.specs.Items.{itemsOf, entryItems, valueItems}
-use Rattle.math_codes.specs.Lines.{fieldsText, valueText, valuesText, pairPlaces, pairItems, ourRow, OurTables, lineOn, listedOn, ourTable, ourTexts}
+use Rattle.math_codes.specs.Lines.{fieldsText, valueText, valuesText, ourRow, OurTables, lineOn, listedOn, ourTable, ourTexts}
 use Rattle.math_codes.specs.Spots.{Spot, shapeFrom, spotShape, spotCands}
 use Rattle.math_codes.specs.Walks.{orNothing, joinsOn, walkOn}
 use Rattle.math_codes.specs.Whole.{spotsOf, itemsFrom, runIn, runOn, valueOn, lineBy, lineItems, lineSpots, listSpots}
@@ -127,8 +128,8 @@ module _ (r₁ r₂ : List (List OurTerm)) (T : Table) (texts : ℕ → List ℕ
   line-spots : (Ps Qs : List (Spot ℕ)) (cs : List Cand) (atoms : List ℕ) → Chosen Ps Qs cs
       → lineSpots r₁ r₂ T texts Ps Qs cs atoms ≡ lineOn r₁ r₂ T texts pairPlaces pairItems (map spotShape Ps) (map spotShape Qs) (cs, atoms)
   line-spots Ps Qs cs atoms h =
-      ap (lineItems r₁ r₂ T texts Ps Qs atoms) (sym (items-from atoms 128 0 Ps Qs cs h))
-      ∙ same (entryItems 128 (map spotShape Ps) (map spotShape Qs) (cs, atoms))
+      ap (lineItems r₁ r₂ T texts Ps Qs atoms) (sym (items-from atoms pairPlaces 0 Ps Qs cs h))
+      ∙ same (entryItems pairPlaces (map spotShape Ps) (map spotShape Qs) (cs, atoms))
     where
       same : (is : List (List ℕ)) → lineItems r₁ r₂ T texts Ps Qs atoms is
           ≡ lineBy r₁ r₂ T texts (nameFields T (noNames pairItems 4) is .numbers) is
@@ -148,8 +149,8 @@ module _ (r₁ r₂ : List (List OurTerm)) (T : Table) (texts : ℕ → List ℕ
     -- THE LIST by numbers alone
     pub spots-agree : listSpots r₁ r₂ T texts ≡ map lineText (linesOf r₁ r₂)
     spots-agree =
-        let Ps = spotsOf 16 0 r₁ in
-        let Qs = spotsOf 16 64 r₂ in
+        let Ps = spotsOf fieldPlaces 0 r₁ in
+        let Qs = spotsOf fieldPlaces rulePlaces r₂ in
         let P = has-places r₁ r₂ T texts ot ok₁ ok₂ .0 in
         let Q = has-places r₁ r₂ T texts ot ok₁ ok₂ .1 in
         let line : List Cand × List ℕ → List ℕ = lineOn r₁ r₂ T texts pairPlaces pairItems (map spotShape Ps) (map spotShape Qs) in
@@ -157,18 +158,19 @@ module _ (r₁ r₂ : List (List OurTerm)) (T : Table) (texts : ℕ → List ℕ
         (λ cs last h. ap (λ (l : List ℕ). l ∷ []) (line-spots Ps Qs cs last h))
         ∙ sym (walk-agrees entry T Ps Qs (T .first) (λ cs last. line (cs, last) ∷ []))
         ∙ concat-single line (entriesOn entry T ℕ ℕ (map spotShape Ps) (map spotShape Qs) (T .first))
-        ∙ ap₂ (λ (x y : List (Shape ℕ ℕ)). listedOn r₁ r₂ T texts (some x) (some y)) (scans-agree 16 0 r₁ (P .0) (P .1)) (scans-agree 16 64 r₂ (Q .0) (Q .1))
+        ∙ ap₂ (λ (x y : List (Shape ℕ ℕ)). listedOn r₁ r₂ T texts (some x) (some y)) (scans-agree fieldPlaces 0 r₁ (P .0) (P .1))
+        (scans-agree fieldPlaces rulePlaces r₂ (Q .0) (Q .1))
         ∙ sym (ap₂ (listedOn r₁ r₂ T texts) (P .1) (Q .1))
         ∙ list-agrees r₁ r₂ T texts ot ok₁ ok₂
 
     -- and whether there is an entry
-    pub some-entry : someOn entry T (spotsOf 16 0 r₁) (spotsOf 16 64 r₂) (T .first) ≡ hasSome (entriesOf r₁ r₂)
+    pub some-entry : someOn entry T (spotsOf fieldPlaces 0 r₁) (spotsOf fieldPlaces rulePlaces r₂) (T .first) ≡ hasSome (entriesOf r₁ r₂)
     some-entry =
         let P = has-places r₁ r₂ T texts ot ok₁ ok₂ .0 in
         let Q = has-places r₁ r₂ T texts ot ok₁ ok₂ .1 in
-        sym (some-agrees entry T (spotsOf 16 0 r₁) (spotsOf 16 64 r₂) (T .first))
-        ∙ ap₂ (λ (x y : List (Shape ℕ ℕ)). hasSome (entriesOn entry T ℕ ℕ x y (T .first))) (scans-agree 16 0 r₁ (P .0) (P .1))
-        (scans-agree 16 64 r₂ (Q .0) (Q .1))
+        sym (some-agrees entry T (spotsOf fieldPlaces 0 r₁) (spotsOf fieldPlaces rulePlaces r₂) (T .first))
+        ∙ ap₂ (λ (x y : List (Shape ℕ ℕ)). hasSome (entriesOn entry T ℕ ℕ x y (T .first))) (scans-agree fieldPlaces 0 r₁ (P .0) (P .1))
+        (scans-agree fieldPlaces rulePlaces r₂ (Q .0) (Q .1))
         ∙ same-some r₁ r₂ T texts ot ok₁ ok₂ (P .0) (Q .0) (P .1) (Q .1)
 
 -- there are tables for every two rules

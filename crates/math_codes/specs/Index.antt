@@ -5,30 +5,30 @@ use mathlib.Core.List.{List, [], _∷_, _++_}
 use Prim.Native.Nat.{ℕ, zero, suc, _+_, _-_, _*_, _/_, _%_, _≤_, _<_}
 use lib.Dec.{ltb}
 use lib.ListN.{getD, drop}
+use Rattle.base_limits.specs.Limits.{largestNumber, kindCount, atomKindCount, numbersOfSide, fieldPlaces, rulePlaces, pairPlaces, pairItems}
 use Rattle.math_types.specs.Order.{basic, list}
-use Rattle.math_types.specs.Types.{Kind, basics, rank, entry}
+use Rattle.math_types.specs.Types.{Kind, basics, rank, kindAt, atomKinds, entry}
 use Rattle.math_terms.specs.Seqs.{concat-map}
+use Rattle.text_grammar.specs.Letters.{letterAt}
 use Rattle.text_grammar.specs.Numbers.{digitsOf}
-use Rattle.text_grammar.specs.Sizes.{largestNumber}
 use Rattle.text_grammar.specs.Terms.{OurTerm}
 use Rattle.text_grammar.specs.constants.Constants.{consts}
 use Rattle.math_overlaps.specs.Shapes.{free, Side, of}
 use Rattle.math_overlaps.specs.Candidates.{Cand, range}
 use Rattle.overlap_spec.specs.Lines.{leftTag, rightTag}
-use Rattle.overlap_spec.specs.Variables.{Variable, kinds, occurs, every}
+use Rattle.overlap_spec.specs.Variables.{Variable, occurs, every}
 use Rattle.math_codes.specs.Tables.{Table, codeOf, same}
 use Rattle.math_codes.specs.Names.{noNames, nameFields}
-use Rattle.math_codes.specs.Lines.{letterAt, itemsText, fieldsText, valueText}
-use Rattle.math_codes.specs.Lines.{ourVars, fieldPlaces, rulePlaces, pairPlaces, pairItems, ourRow}
+use Rattle.math_codes.specs.Lines.{itemsText, fieldsText, valueText, ourVars, ourRow}
 use Rattle.math_codes.specs.Spots.{Spot}
 use Rattle.math_codes.specs.Walks.{walkOn}
 use Rattle.math_codes.specs.Whole.{spotsOf, itemsFrom, runOn}
 
 -- ---- the index of a rule: by slot the code and one, 0 for a variable that the rule lacks
 
--- 16 numbers a type; the type by its rank
+-- the numbers of a type one behind the other; the type by its rank
 abbrev pub slotAt : ℕ → ℕ → ℕ
-slotAt k n = 16 * k + n
+slotAt k n = numbersOfSide * k + n
 
 -- of a type
 abbrev pub slot : Kind → ℕ → ℕ
@@ -47,14 +47,10 @@ module _ (r₁ r₂ : List (List OurTerm)) (d : Side) where
 
 -- by rank a bound on the numbers of a rule's variables
 pub record Tops (r : List (List OurTerm)) (tops : ℕ → ℕ) : Type 0 where
-  pub within : (k : ℕ) → k < 4 → tops k ≤ suc largestNumber
+  pub within : (k : ℕ) → k < kindCount → tops k ≤ numbersOfSide
   pub above : (k : Kind) (n : ℕ) → occurs k n r ≡ true → n < tops (rank k)
 
 -- ---- there are such indexes and bounds for every two rules: `our-index` and `our-tops` of proofs/
-
--- the type of a rank
-abbrev pub kindOfRank : ℕ → Kind
-kindOfRank k = getD kinds k list
 
 module _ (r₁ r₂ : List (List OurTerm)) (d : Side) where
   -- an atom variable's code
@@ -68,11 +64,11 @@ module _ (r₁ r₂ : List (List OurTerm)) (d : Side) where
 
   -- the index
   abbrev pub ourIndex : List (List OurTerm) → ℕ → ℕ
-  ourIndex r s = indexAt r (kindOfRank (s / 16)) (s % 16)
+  ourIndex r s = indexAt r (kindAt (s / numbersOfSide)) (s % numbersOfSide)
 
 -- the bounds: all numbers
 abbrev pub ourTops : ℕ → ℕ
-ourTops k = suc largestNumber
+ourTops k = numbersOfSide
 
 -- ---- values over all variables
 
@@ -109,9 +105,9 @@ nameAt k n = letterAt k ∷ digitsOf n
 abbrev pub hasAt : (ℕ → ℕ) → ℕ → ℕ → Bool
 hasAt x k n = isThere (x (slotAt k n))
 
--- list variables have the rank 3
+-- the types below list have the ranks below list's
 abbrev pub valueAt : (ℕ → ℕ) → List ℕ → (ℕ → List ℕ) → ℕ → ℕ → List ℕ
-valueAt x atoms runs k n = cond (ltb k 3) (getD atoms (x (slotAt k n) - 1) 0 ∷ []) (runs n)
+valueAt x atoms runs k n = cond (ltb k atomKinds) (getD atoms (x (slotAt k n) - 1) 0 ∷ []) (runs n)
 
 module _ (T : Table) (texts : ℕ → List ℕ) where
   -- a name and a value
@@ -128,7 +124,7 @@ module _ (T : Table) (texts : ℕ → List ℕ) where
 
   -- those of a rule: a loop over the ranks
   abbrev pub indexedValues : List ℕ → ℕ → (ℕ → ℕ) → (ℕ → ℕ) → List ℕ → (ℕ → List ℕ) → List ℕ
-  indexedValues numbers tag x tops atoms runs = concat-map (rankValues numbers tag x tops atoms runs) (range 0 4)
+  indexedValues numbers tag x tops atoms runs = concat-map (rankValues numbers tag x tops atoms runs) (range 0 kindCount)
 
   -- the line of an entry's items, by the indexes and tops of the two rules
   module _ (x₁ t₁ x₂ t₂ : ℕ → ℕ) (Ps Qs : List (Spot ℕ)) where
@@ -142,7 +138,7 @@ module _ (T : Table) (texts : ℕ → List ℕ) where
     abbrev pub indexedLine : List Cand → List ℕ → List ℕ
     indexedLine cs atoms =
         indexedItems atoms (itemsFrom atoms pairPlaces 0 Ps Qs cs)
-        (nameFields T (noNames pairItems 4) (itemsFrom atoms pairPlaces 0 Ps Qs cs) .numbers)
+        (nameFields T (noNames pairItems kindCount) (itemsFrom atoms pairPlaces 0 Ps Qs cs) .numbers)
 
   -- THE LIST as the code makes it, line by line
   abbrev pub indexedList : List (List OurTerm) → List (List OurTerm) → (ℕ → ℕ) → (ℕ → ℕ) → (ℕ → ℕ) → (ℕ → ℕ) → List (List ℕ)
@@ -155,14 +151,14 @@ module _ (T : Table) (texts : ℕ → List ℕ) where
 -- the values of a rule's variables in the line's order, by rank and number those that the index has
 abbrev pub listedValues : (ℕ → ℕ) → (ℕ → ℕ) → List ℕ → (ℕ → List ℕ) → List (List ℕ)
 listedValues x tops atoms runs =
-    concat-map (λ k. concat-map (λ n. cond (hasAt x k n) (valueAt x atoms runs k n ∷ []) []) (range 0 (tops k))) (range 0 4)
+    concat-map (λ k. concat-map (λ n. cond (hasAt x k n) (valueAt x atoms runs k n ∷ []) []) (range 0 (tops k))) (range 0 kindCount)
 
 module _ (T : Table) (texts : ℕ → List ℕ) where
   -- the bindings part of an overlap line, without the blank in front; the variables are numbered by the values
   abbrev pub indexedAnswer : (ℕ → ℕ) → (ℕ → ℕ) → (ℕ → List ℕ) → (ℕ → ℕ) → (ℕ → ℕ) → (ℕ → List ℕ) → List ℕ → List ℕ
   indexedAnswer x₁ t₁ runs₁ x₂ t₂ runs₂ atoms =
       let vs = listedValues x₁ t₁ atoms runs₁ ++ listedValues x₂ t₂ atoms runs₂ in
-      let numbers = nameFields T (noNames pairItems 4) vs .numbers in
+      let numbers = nameFields T (noNames pairItems kindCount) vs .numbers in
       drop 1
       (indexedValues T texts numbers leftTag x₁ t₁ atoms runs₁ ++ indexedValues T texts numbers rightTag x₂ t₂ atoms runs₂)
       ++ 10 ∷ []

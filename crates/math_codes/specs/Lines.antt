@@ -1,18 +1,18 @@
 -- The text of an entry's line, from items: an item's text is copied from the table, or a letter and a number.
-use mathlib.Core.Path.{_≡_, refl}
+use mathlib.Core.Path.{_≡_}
 use mathlib.Core.Bool.{Bool, false, cond}
 use mathlib.Core.Option.{Option, none, some}
 use mathlib.Core.List.{List, [], _∷_, _++_, map}
-use Prim.Native.Nat.{ℕ, _+_, _-_, _*_}
+use Prim.Native.Nat.{ℕ, _+_, _-_}
 use native.Mathlib.Decide.{ℕ-discrete}
 use lib.ListN.{getD}
+use Rattle.base_limits.specs.Limits.{mostFields, kindCount, fieldPlaces, rulePlaces, pairPlaces, listItems, pairItems}
 use Rattle.math_types.specs.Order.{basic}
-use Rattle.math_types.specs.Types.{Kind, basics, entry, rank}
+use Rattle.math_types.specs.Types.{Kind, basics, entry, entry-is, rank}
 use Rattle.math_terms.specs.Terms.{Term, con, var}
 use Rattle.math_terms.specs.Seqs.{concat-map}
+use Rattle.text_grammar.specs.Letters.{letterAt}
 use Rattle.text_grammar.specs.Numbers.{digitsOf}
-use Rattle.text_grammar.specs.Sizes.{mostFields}
-use Rattle.text_grammar.specs.Read.{rule}
 use Rattle.text_grammar.specs.Plain.{termText}
 use Rattle.text_grammar.specs.Terms.{Con, OurTerm}
 use Rattle.text_grammar.specs.constants.Constants.{consts}
@@ -28,10 +28,6 @@ use Rattle.math_codes.specs.Names.{noNames, nameFields, isVar, MadeTerms
 use Rattle.math_codes.specs.Items.{termsRow, entryItems, valueItems}
 
 -- ---- texts and sizes of items
-
--- the letter of a type's rank
-abbrev pub letterAt : ℕ → ℕ
-letterAt r = getD (105 ∷ 115 ∷ 97 ∷ 108 ∷ []) r 0
 
 -- `numbers` has by code the number and one, 0 for none
 module _ (T : Table) (texts : ℕ → List ℕ) (numbers : List ℕ) where
@@ -105,27 +101,7 @@ OurOriginTerm = Term Con Kind (Origin ℕ)
 
 -- the ranks of types, and their table
 abbrev pub ourRanks : Ranks basics
-ourRanks = record { rank = λ k. rank (basic k); below = entry; below-is = λ j k. refl }
-
--- 16 places a field, four fields a rule, two rules
-abbrev pub fieldPlaces : ℕ
-fieldPlaces = rule .width
-
--- a rule's
-abbrev pub rulePlaces : ℕ
-rulePlaces = mostFields * fieldPlaces
-
--- a pair's
-abbrev pub pairPlaces : ℕ
-pairPlaces = rulePlaces + rulePlaces
-
--- list variables behind the places: those of an entry by field, those of a search by number, a right-side one 16 above
-abbrev pub listItems : ℕ
-listItems = 32
-
--- a pair's items
-abbrev pub pairItems : ℕ
-pairItems = pairPlaces + listItems
+ourRanks = record { rank = λ k. rank (basic k); below = entry; below-is = λ j k. entry-is (basic j) (basic k) }
 
 -- the pair's atoms by place
 abbrev pub ourRow : List (List OurTerm) → List (List OurTerm) → List (Option OurAtom)
@@ -188,7 +164,7 @@ module _ (r₁ r₂ : List (List OurTerm)) (T : Table) (texts : ℕ → List ℕ
 
   -- the line of a choice and its last array; n places, m items
   abbrev pub lineOn : ℕ → ℕ → List (Shape ℕ ℕ) → List (Shape ℕ ℕ) → List Cand × List ℕ → List ℕ
-  lineOn n m Ps Qs e = lineFrom Ps Qs (e .1) (entryItems n Ps Qs e) (nameFields T (noNames m 4) (entryItems n Ps Qs e) .numbers)
+  lineOn n m Ps Qs e = lineFrom Ps Qs (e .1) (entryItems n Ps Qs e) (nameFields T (noNames m kindCount) (entryItems n Ps Qs e) .numbers)
 
   -- the lines of the entries in their order; rules without shapes have none
   abbrev pub listedOn : Option (List (Shape ℕ ℕ)) → Option (List (Shape ℕ ℕ)) → List (List ℕ)

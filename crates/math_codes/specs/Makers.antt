@@ -5,13 +5,14 @@ use mathlib.Core.List.{List, [], _∷_}
 use Prim.Native.Nat.{ℕ, _+_, _-_}
 use lib.Dec.{ltb}
 use lib.ListN.{length, getD}
+use Rattle.base_limits.specs.Limits.{kindCount, pairPlaces, pairItems}
 use Rattle.text_grammar.specs.Numbers.{digitsOf}
 use Rattle.math_overlaps.specs.Candidates.{Cand, range}
 use Rattle.math_codes.specs.Tables.{Table}
 use Rattle.math_codes.specs.Names.{noNames, nameFields}
 use Rattle.math_codes.specs.Spots.{Spot, spotCands}
 use Rattle.math_codes.specs.Walks.{joinsOn}
-use Rattle.math_codes.specs.Lines.{itemsSize, fieldsSize, pairPlaces, pairItems}
+use Rattle.math_codes.specs.Lines.{itemsSize, fieldsSize}
 use Rattle.math_codes.specs.Whole.{itemsFrom, runOn}
 use Rattle.math_codes.specs.Index.{hasAt, valueAt}
 
@@ -36,6 +37,10 @@ module _ (below : ℕ → ℕ → Bool) (T : Table) {L M : Type 0} where
   someOn (P ∷ Ps) (Q ∷ Qs) atoms = anyOf (λ c. orClash (joinsOn below T P Q c atoms) (λ next. someOn Ps Qs next)) (spotCands P Q)
 
 -- ---- sizes
+
+-- the largest byte
+abbrev pub largestByte : ℕ
+largestByte = 255
 
 -- digits of a number below 1000
 abbrev pub digitsSize : ℕ → ℕ
@@ -66,7 +71,7 @@ module _ (size : ℕ → ℕ) where
 
   -- those of a rule: a loop over the ranks
   abbrev pub valuesSize : (ℕ → ℕ) → (ℕ → ℕ) → List ℕ → (ℕ → List ℕ) → ℕ
-  valuesSize x tops atoms runs = sumOf (rankSizes x tops atoms runs) (range 0 4)
+  valuesSize x tops atoms runs = sumOf (rankSizes x tops atoms runs) (range 0 kindCount)
 
   -- the line of an entry's items, by the indexes and tops of the two rules
   abbrev pub sizeItems : (ℕ → ℕ) → (ℕ → ℕ) → (ℕ → ℕ) → (ℕ → ℕ) → List (Spot ℕ) → List (Spot ℕ) → List ℕ → List (List ℕ) → ℕ
@@ -77,5 +82,6 @@ module _ (size : ℕ → ℕ) where
 module _ (T : Table) (sizes : ℕ → ℕ) (x₁ t₁ x₂ t₂ : ℕ → ℕ) (Ps Qs : List (Spot ℕ)) where
   abbrev pub sizeLine : List Cand → List ℕ → ℕ
   sizeLine cs atoms =
-      sizeItems (itemSize T sizes (nameFields T (noNames pairItems 4) (itemsFrom atoms pairPlaces 0 Ps Qs cs) .numbers)) x₁ t₁ x₂ t₂ Ps Qs
+      sizeItems (itemSize T sizes (nameFields T (noNames pairItems kindCount) (itemsFrom atoms pairPlaces 0 Ps Qs cs) .numbers)) x₁ t₁ x₂ t₂
+      Ps Qs
       atoms (itemsFrom atoms pairPlaces 0 Ps Qs cs)

@@ -5,6 +5,7 @@ use mathlib.Core.List.{List, [], _∷_, _++_}
 use Prim.Native.Nat.{ℕ, suc, _+_, _-_}
 use native.Mathlib.Decide.{ℕ-discrete}
 use lib.ListN.{length, getD, take, drop}
+use Rattle.base_limits.specs.Limits.{kindCount, fieldPlaces, rulePlaces, pairPlaces, pairItems}
 use Rattle.math_types.specs.Order.{Full, basic, list}
 use Rattle.math_types.specs.Types.{Kind, basics, entry}
 use Rattle.math_terms.specs.Terms.{Term}
@@ -16,7 +17,7 @@ use Rattle.overlap_spec.specs.Lines.{leftTag, rightTag}
 use Rattle.overlap_spec.specs.Variables.{Variable, variables}
 use Rattle.math_codes.specs.Tables.{Table, codeOf, same}
 use Rattle.math_codes.specs.Names.{noNames, nameFields}
-use Rattle.math_codes.specs.Lines.{fieldsText, valuesText, ourVars, fieldPlaces, rulePlaces, pairPlaces, pairItems, ourRow}
+use Rattle.math_codes.specs.Lines.{fieldsText, valuesText, ourVars, ourRow}
 use Rattle.math_codes.specs.Spots.{Spot, spotOf}
 use Rattle.math_codes.specs.Walks.{walkOn, fieldItems}
 
@@ -59,7 +60,7 @@ module _ (r₁ r₂ : List (List OurTerm)) where
     -- the line of an entry's items
     abbrev pub lineItems : List (Spot ℕ) → List (Spot ℕ) → List ℕ → List (List ℕ) → List ℕ
     lineItems Ps Qs atoms is =
-        lineBy (nameFields T (noNames pairItems 4) is .numbers) is (λ v. valueOn left atoms (runOn Ps is) (v .0) (v .1))
+        lineBy (nameFields T (noNames pairItems kindCount) is .numbers) is (λ v. valueOn left atoms (runOn Ps is) (v .0) (v .1))
         (λ v. valueOn right atoms (runOn Qs is) (v .0) (v .1))
 
     -- what is written of a choice and its last array

@@ -9,6 +9,7 @@ use native.Mathlib.Omega.{arith}
 use native.Mathlib.Decide.{decLt, ℕ-discrete}
 use borrow.Author.Tests.{leb-true, le-leb, eqb-true, eq-eqb}
 use lib.ListN.{length, length-append, length-map}
+use Rattle.base_limits.specs.Limits.{mostTerms}
 use Rattle.math_terms.specs.Seqs.{Distinct}
 use Rattle.math_overlaps.specs.Shapes.{Shape, closed, gapped}
 use Rattle.math_overlaps.specs.Candidates.{Cand, exact, long, range, canHave, wide, cands}
@@ -172,12 +173,12 @@ module _ {A L : Type 0} where
   terms (closed xs) = length xs
   terms (gapped f l t) = suc (length f + length t)
 
-one-few : (b : Bool) (c : Cand) → length (cond b (c ∷ []) []) ≤ 16
+one-few : (b : Bool) (c : Cand) → length (cond b (c ∷ []) []) ≤ mostTerms
 one-few true c = omega arith
 one-few false c = omega arith
 
 module _ {A L R : Type 0} where
-  pub cands-few : (S₁ : Shape A L) (S₂ : Shape A R) → terms S₁ ≤ 16 → terms S₂ ≤ 16 → length (cands S₁ S₂) ≤ 16
+  pub cands-few : (S₁ : Shape A L) (S₂ : Shape A R) → terms S₁ ≤ mostTerms → terms S₂ ≤ mostTerms → length (cands S₁ S₂) ≤ mostTerms
   cands-few (closed xs) T p q = one-few (canHave T (length xs)) (exact (length xs))
   cands-few (gapped f l t) (closed ys) p q = one-few (canHave (gapped f l t) (length ys)) (exact (length ys))
   cands-few (gapped f l t) (gapped f′ l′ t′) p q = simp (length-append, length-map, range-length) (omega arith)

@@ -5,7 +5,7 @@ use mathlib.Core.List.{List, [], _∷_, map}
 use Prim.Native.Nat.{ℕ}
 use native.Mathlib.Decide.{ℕ-discrete}
 use Rattle.math_types.specs.Order.{Full, basic, list}
-use Rattle.math_types.specs.Types.{Basic, integer, string, atom, le, basics}
+use Rattle.math_types.specs.Types.{leaf, Basic, integer, string, atom, le, basics}
 use Rattle.math_terms.specs.Terms.{Term, con, var}
 use Rattle.math_terms.specs.Constants.{Consts}
 use Rattle.math_overlaps.specs.Substitutions.{image}
@@ -18,17 +18,17 @@ pub data Constant : Type 0 where
   deriving Discrete as constant-eq
 
 abbrev pub kindOf : Constant → Basic
-kindOf (num n) = integer
-kindOf (txt n) = string
+kindOf (num n) = leaf integer
+kindOf (txt n) = leaf string
 
 abbrev pub someOf : Basic → Constant
-someOf integer = num 0
-someOf string = txt 0
+someOf (leaf integer) = num 0
+someOf (leaf string) = txt 0
 someOf atom = num 0
 
 pub some-of-le : (k : Basic) → le (basic (kindOf (someOf k))) (basic k) ≡ true
-some-of-le integer = refl
-some-of-le string = refl
+some-of-le (leaf integer) = refl
+some-of-le (leaf string) = refl
 some-of-le atom = refl
 
 abbrev pub constants : Consts basics
@@ -59,16 +59,16 @@ abbrev #_ : ℕ → T
 #_ n = con (num n)
 
 abbrev i0 : T
-i0 = var (basic integer) 0
+i0 = var (basic (leaf integer)) 0
 
 abbrev i1 : T
-i1 = var (basic integer) 1
+i1 = var (basic (leaf integer)) 1
 
 abbrev i3 : T
-i3 = var (basic integer) 3
+i3 = var (basic (leaf integer)) 3
 
 abbrev s0 : T
-s0 = var (basic string) 0
+s0 = var (basic (leaf string)) 0
 
 abbrev a0 : T
 a0 = var (basic atom) 0

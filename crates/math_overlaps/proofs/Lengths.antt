@@ -6,6 +6,7 @@ use mathlib.Core.List.{List·Memᴰ}
 use Prim.Native.Nat.{ℕ, suc, _≤_}
 use native.Mathlib.Omega.{arith}
 use lib.ListN.{length, length-append, length-map, length-take, length-drop}
+use Rattle.base_limits.specs.Limits.{mostTerms, entryTerms}
 use Rattle.base_lists.specs.Seqs.{All}
 use Rattle.math_types.specs.Order.{Order, Full, basic, list}
 use Rattle.math_terms.specs.Terms.{Term, con, var}
@@ -53,7 +54,7 @@ module _ {C K A : Type 0} where
 
   -- document 01: "So a field has at most 16 candidates"
   pub few-candidates : (f g : List (Term C (Full K) A)) (S T : Shape (Atom C (Variable K A)) A)
-      → shapeOf left f ≡ some S → shapeOf right g ≡ some T → length f ≤ 16 → length g ≤ 16 → length (cands S T) ≤ 16
+      → shapeOf left f ≡ some S → shapeOf right g ≡ some T → length f ≤ mostTerms → length g ≤ mostTerms → length (cands S T) ≤ mostTerms
   few-candidates f g S T e e′ p q = cands-few S T (omega (arith, shape-terms left f S e)) (omega (arith, shape-terms right g T e′))
 
   abbrev pub AtMost : ℕ → List (Term C (Full K) A) → Type 0
@@ -61,9 +62,9 @@ module _ {C K A : Type 0} where
 
   abbrev ShortSome : Option (List (Shape (Atom C (Variable K A)) A)) → Type 0
   ShortSome none = Unit {0}
-  ShortSome (some Ss) = All (λ S. terms S ≤ 16) Ss
+  ShortSome (some Ss) = All (λ S. terms S ≤ mostTerms) Ss
 
-  short-shapes : (d : Side) (r : List (List (Term C (Full K) A))) → All (AtMost 16) r → ShortSome (shapesOf d r)
+  short-shapes : (d : Side) (r : List (List (Term C (Full K) A))) → All (AtMost mostTerms) r → ShortSome (shapesOf d r)
   short-shapes d [] h = tt
   short-shapes d (f ∷ r) h = go (shapeOf d f) (long-shape d f) (shapesOf d r) (short-shapes d r (h .1))
     where
@@ -74,34 +75,35 @@ module _ {C K A : Type 0} where
       go (some S) k (some Ss) k′ = (omega (arith, h .0), k′)
 
   pub short-rule : (d : Side) (r : List (List (Term C (Full K) A))) (Ss : List (Shape (Atom C (Variable K A)) A))
-      → shapesOf d r ≡ some Ss → All (AtMost 16) r → All (λ S. terms S ≤ 16) Ss
+      → shapesOf d r ≡ some Ss → All (AtMost mostTerms) r → All (λ S. terms S ≤ mostTerms) Ss
   short-rule d r Ss e h = along ShortSome e (short-shapes d r h)
 
 -- ---- the fields of a choice
 
 module _ {A L M : Type 0} where
-  exact-few : (S : Shape A L) (T : Shape A M) (n : ℕ) → List·Memᴰ (exact n) (cands S T) → terms S ≤ 16 → terms T ≤ 16 → n ≤ 31
+  exact-few : (S : Shape A L) (T : Shape A M) (n : ℕ) → List·Memᴰ (exact n) (cands S T) → terms S ≤ mostTerms → terms T ≤ mostTerms → n ≤ entryTerms
   exact-few (closed xs) T n i p q = omega (arith, room-of {L = L} (closed xs) T (exact n) i .0)
   exact-few (gapped f l t) (closed ys) n i p q = omega (arith, room-of {M = M} (gapped f l t) (closed ys) (exact n) i .1)
   exact-few (gapped f l t) (gapped f′ m t′) n i p q = omega (arith, reach-of (gapped f l t) (gapped f′ m t′) (exact n) i)
 
-  wide-few : (S : Shape A L) (T : Shape A M) → List·Memᴰ long (cands S T) → terms S ≤ 16 → terms T ≤ 16 → wide S T ≤ 30
+  wide-few : (S : Shape A L) (T : Shape A M) → List·Memᴰ long (cands S T) → terms S ≤ mostTerms → terms T ≤ mostTerms → wide S T ≤ 30
   wide-few (closed xs) T i p q = absurd (no-long₁ A L M xs T i)
   wide-few (gapped f l t) (closed ys) i p q = absurd (no-long₂ A L M f l t ys i)
   wide-few (gapped f l t) (gapped f′ m t′) i p q = omega arith
 
-  field-few : (g : ℕ) (S : Shape A L) (T : Shape A M) (c : Cand) → List·Memᴰ c (cands S T) → terms S ≤ 16 → terms T ≤ 16 → terms (fieldFor g S T c) ≤ 31
+  field-few : (g : ℕ) (S : Shape A L) (T : Shape A M) (c : Cand) → List·Memᴰ c (cands S T) → terms S ≤ mostTerms → terms T ≤ mostTerms
+      → terms (fieldFor g S T c) ≤ entryTerms
   field-few g S T (exact n) i p q = omega (arith, cells-length S T (exact n) i, exact-few S T n i p q)
   field-few g S T long i p q = simp (length-take, length-drop) (omega (arith, cells-length S T long i, wide-few S T i p q))
 
 module _ (O : Order) (C : Consts O) (N : Vars O) (L M : Type 0) where
   fields-few : (g : ℕ) (Ss : List (Shape (At O C N) L)) (Ts : List (Shape (At O C N) M)) (s : State O C N) (e : List Cand × State O C N)
       → List·Memᴰ e (entries O C N L M Ss Ts s)
-      → All (λ S. terms S ≤ 16) Ss → All (λ T. terms T ≤ 16) Ts → All (λ S. terms S ≤ 31) (fieldsFor g Ss Ts (e .0))
+      → All (λ S. terms S ≤ mostTerms) Ss → All (λ T. terms T ≤ mostTerms) Ts → All (λ S. terms S ≤ entryTerms) (fieldsFor g Ss Ts (e .0))
   fields-few g [] Ts s e i p q = tt
   fields-few g (S ∷ Ss) [] s e i p q = tt
   fields-few g (S ∷ Ss) (T ∷ Ts) s e i p q =
-      along (λ (x : List Cand × State O C N). All (λ S. terms S ≤ 31) (fieldsFor g (S ∷ Ss) (T ∷ Ts) (x .0))) (sym (f .is))
+      along (λ (x : List Cand × State O C N). All (λ S. terms S ≤ entryTerms) (fieldsFor g (S ∷ Ss) (T ∷ Ts) (x .0))) (sym (f .is))
       (field-few g S T (f .cand) (f .cand-in) (p .0) (q .0), fields-few (suc g) Ss Ts (f .next) (f .rest) (f .rest-in) (p .1) (q .1))
     where
       f : From (cands S T) (λ c. joins O C N (equations S T c) s) (λ s′. entries O C N L M Ss Ts s′) e
@@ -114,14 +116,15 @@ module _ {C K A B : Type 0} (h : Atom C (Variable K A) → Atom C (Variable K A)
   field-length (closed xs) = simp (length-map, length-map, length-map)
   field-length (gapped f g t) = simp (length-map, length-append, length-map, length-map, length-map) (omega arith)
 
-  lengths-few : (Ss : List (Shape (Atom C (Variable K A)) ℕ)) → All (λ S. terms S ≤ 31) Ss
-      → All (AtMost 31) (map (map (rename ν)) (map fieldOf (map (mapShape h) Ss)))
+  lengths-few : (Ss : List (Shape (Atom C (Variable K A)) ℕ)) → All (λ S. terms S ≤ entryTerms) Ss
+      → All (AtMost entryTerms) (map (map (rename ν)) (map fieldOf (map (mapShape h) Ss)))
   lengths-few [] p = tt
   lengths-few (S ∷ Ss) p = (omega (arith, field-length S, p .0), lengths-few Ss (p .1))
 
 module _ (O : Order) (C : Consts O) {A : Type 0} (name-eq : Discrete A) (Ss Ts : List (PairShape O C name-eq)) where
-  pub shown-few : (e : List Cand × PairState O C name-eq) → List·Memᴰ e (raw O C name-eq Ss Ts) → All (λ S. terms S ≤ 16) Ss → All (λ T. terms T ≤ 16) Ts
-      → All (AtMost 31) (shown O C name-eq Ss Ts e .fields)
+  pub shown-few : (e : List Cand × PairState O C name-eq) → List·Memᴰ e (raw O C name-eq Ss Ts) → All (λ S. terms S ≤ mostTerms) Ss
+      → All (λ T. terms T ≤ mostTerms) Ts
+      → All (AtMost entryTerms) (shown O C name-eq Ss Ts e .fields)
   shown-few e i p q = let N = pairVars O name-eq in
       lengths-few (resolve O C N (e .1)) (numbersOf O C name-eq (originFields O C name-eq Ss Ts e)) (fieldsFor 0 Ss Ts (e .0))
       (fields-few O C N A A 0 Ss Ts (start O C N) e i p q)

@@ -18,6 +18,7 @@ use mathlib.Core.List.{List, map, List·Memᴰ, Memᴰ·map, Memᴰ·of-map}
 use Prim.Native.Nat.{ℕ, _+_, _≤_, _<_}
 use native.Mathlib.Decide.{ℕ-discrete}
 use lib.ListN.{length, getElem?}
+use Rattle.base_limits.specs.Limits.{mostTerms, entryTerms}
 use Rattle.base_lists.specs.Seqs.{All, Any}
 use Rattle.math_types.specs.Order.{Order, Full, basic, list, full-le, full-eq}
 use Rattle.math_terms.specs.Terms.{con, var}
@@ -273,20 +274,20 @@ module _ (O : Order) (C : Consts O) {A : Type 0} (name-eq : Discrete A)
     λ o p. along (Any (Occurs j n)) (solves-right e i) (part-occurs j n (e .right k a) p (map (substitute (e .right)) r₂) (part-of-rule (e .right) k a r₂ o)),
   )
 
-  module _ (short₁ : All (AtMost 16) r₁) (short₂ : All (AtMost 16) r₂) where
-    pub fields-short : (e : Entry O C A) → List·Memᴰ e (overlaps O C name-eq r₁ r₂) → All (AtMost 31) (e .fields)
+  module _ (short₁ : All (AtMost mostTerms) r₁) (short₂ : All (AtMost mostTerms) r₂) where
+    pub fields-short : (e : Entry O C A) → List·Memᴰ e (overlaps O C name-eq r₁ r₂) → All (AtMost entryTerms) (e .fields)
     fields-short e i =
         let x = chosen e i in
-        along (λ (y : Entry O C A). All (AtMost 31) (y .fields)) (x .2)
+        along (λ (y : Entry O C A). All (AtMost entryTerms) (y .fields)) (x .2)
         (shown-few O C name-eq Ss Ts (x .0) (x .1) (short-rule left r₁ Ss (linear₁ .1) short₁) (short-rule right r₂ Ts (linear₂ .1) short₂))
 
     pub values-short : (e : Entry O C A) → List·Memᴰ e (overlaps O C name-eq r₁ r₂) → (k : Full (O .Kind)) (a : A)
-        → (Any (Occurs k a) r₁ → length (e .left k a) ≤ 31) × (Any (Occurs k a) r₂ → length (e .right k a) ≤ 31)
+        → (Any (Occurs k a) r₁ → length (e .left k a) ≤ entryTerms) × (Any (Occurs k a) r₂ → length (e .right k a) ≤ entryTerms)
     values-short e i k a = (
-      λ o. part-short 31 (e .left k a) (map (substitute (e .left)) r₁)
-          (along (All (AtMost 31)) (sym (solves-left e i)) (fields-short e i)) (part-of-rule (e .left) k a r₁ o),
-      λ o. part-short 31 (e .right k a) (map (substitute (e .right)) r₂)
-          (along (All (AtMost 31)) (sym (solves-right e i)) (fields-short e i)) (part-of-rule (e .right) k a r₂ o),
+      λ o. part-short entryTerms (e .left k a) (map (substitute (e .left)) r₁)
+          (along (All (AtMost entryTerms)) (sym (solves-left e i)) (fields-short e i)) (part-of-rule (e .left) k a r₁ o),
+      λ o. part-short entryTerms (e .right k a) (map (substitute (e .right)) r₂)
+          (along (All (AtMost entryTerms)) (sym (solves-right e i)) (fields-short e i)) (part-of-rule (e .right) k a r₂ o),
     )
 
   -- ---- numbers

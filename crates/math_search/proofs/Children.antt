@@ -13,6 +13,7 @@ use Rattle.math_terms.specs.Seqs.{concat-map}
 use Rattle.math_overlaps.specs.Shapes.{Vars}
 use Rattle.math_search.specs.Problems.{Names, Setting, atomic, listvar, Tm, Field, Bindings, Rest, equation, Problem, problem, rest, used}
 use Rattle.math_search.specs.Rules.{Rule, Remove, Decomp1, Decomp1′, Decomp2, Decomp2′, Decomp3, Decomp4, Subst1, Subst2, Subst3, Orient1, Orient2}
+use Rattle.math_search.specs.Rules.{ruleCount}
 use Rattle.math_search.specs.Rules.{Orient3}
 use Rattle.math_search.specs.Rules.{Orient4, ruleOrder, Move, keep, bind, fails, rule, add, collect, moves, apply, childrenOf, children}
 use Rattle.math_search.specs.Queue.{termsIn}
@@ -101,10 +102,10 @@ module _ (E : Setting) where
       go true = tt
       go false = collect-is L M f ruleOrder
 
-  pub moves-length : (L M : Field E) (f : Name) → length (moves E L M f) ≤ 14
+  pub moves-length : (L M : Field E) (f : Name) → length (moves E L M f) ≤ ruleCount
   moves-length L M f = go (fails E L M)
     where
-      go : (b : Bool) → length (cond b [] (collect E L M f ruleOrder)) ≤ 14
+      go : (b : Bool) → length (cond b [] (collect E L M f ruleOrder)) ≤ ruleCount
       go true = omega arith
       go false = collect-length L M f ruleOrder
 

@@ -3,7 +3,7 @@ use mathlib.Core.Path.{_≡_, refl}
 use mathlib.Core.List.{List, [], _∷_, map}
 use Prim.Native.Nat.{ℕ, _-_}
 use native.Mathlib.Decide.{ℕ-discrete}
-use Rattle.math_types.specs.Types.{integer, string, atom, basics}
+use Rattle.math_types.specs.Types.{leaf, integer, string, atom, basics}
 use Rattle.math_overlaps.specs.Shapes.{fixed, free, left, right, of}
 use Rattle.math_overlaps.proofs.Examples.{num, txt, constants}
 use Rattle.math_search.specs.Problems.{Setting, atomic, listvar, Tm, Field, root}
@@ -59,7 +59,7 @@ abbrev #_ : ℕ → T
 
 -- variables of the left rule; "a right-side variable counting 16 above its number"
 abbrev i0 : T
-i0 = atomic (free (of left integer 0))
+i0 = atomic (free (of left (leaf integer) 0))
 
 abbrev one : T
 one = atomic (fixed (txt 49))
@@ -79,10 +79,10 @@ l2 = listvar 2
 
 -- variables of the right rule
 abbrev i0′ : T
-i0′ = atomic (free (of right integer 0))
+i0′ = atomic (free (of right (leaf integer) 0))
 
 abbrev s0′ : T
-s0′ = atomic (free (of right string 0))
+s0′ = atomic (free (of right (leaf string) 0))
 
 abbrev a0′ : T
 a0′ = atomic (free (of right atom 0))

@@ -7,7 +7,7 @@ use native.Mathlib.Nat.{pow-succ', pow-le-pow-right, suc-mul, mul-le-mul-right}
 use lib.ListN.{length, length-map}
 use Rattle.base_lists.specs.Seqs.{All, all-map}
 use Rattle.math_search.specs.Problems.{Names, Setting, Field, Bindings, equation, Problem, problem, rest}
-use Rattle.math_search.specs.Rules.{Rule, moves, apply, children}
+use Rattle.math_search.specs.Rules.{Rule, moves, apply, children, ruleCount}
 use Rattle.math_search.specs.Termination.{headPart, typePart}
 use Rattle.math_search.specs.Queue.{termsIn, longPart, rank, weight, total, offspring}
 use Rattle.math_search.proofs.Effects.{Falls}
@@ -21,13 +21,18 @@ module _ (E : Setting) where
   total-append [] r = omega arith
   total-append (p ∷ q) r = omega (arith, total-append q r)
 
-  pub weight-pos : (k : ℕ) → 1 ≤ 15 ^ k
-  weight-pos k = pow-le-pow-right {n = 15} (omega arith) {i = 0} {j = k} (omega arith)
+  pub weight-pos : (k : ℕ) → 1 ≤ suc ruleCount ^ k
+  weight-pos k = pow-le-pow-right {n = suc ruleCount} (omega arith) {i = 0} {j = k} (omega arith)
 
-  total-le : (cs : List (Rule × Problem E)) (k : ℕ) → All (λ c. rank E (rest E (c .1)) ≤ k) cs → total E (map (λ c. c .1) cs) ≤ length cs * 15 ^ k
+  total-le : (cs : List (Rule × Problem E)) (k : ℕ) → All (λ c. rank E (rest E (c .1)) ≤ k) cs → total E (map (λ c. c .1) cs) ≤ length cs * suc ruleCount ^ k
   total-le [] k h = omega arith
   total-le (c ∷ cs) k h =
-      omega (arith, total-le cs k (h .1), pow-le-pow-right {n = 15} (omega arith) {i = rank E (rest E (c .1))} {j = k} (h .0), suc-mul (length cs) (15 ^ k))
+      omega (
+        arith,
+        total-le cs k (h .1),
+        pow-le-pow-right {n = suc ruleCount} (omega arith) {i = rank E (rest E (c .1))} {j = k} (h .0),
+        suc-mul (length cs) (suc ruleCount ^ k),
+      )
 
   pub queue-falls : (L M : Field E) (σ : Bindings E) (u : List Name) (q : List (Problem E))
       → total E (q ++ offspring E (problem (equation L M) σ u)) < total E (problem (equation L M) σ u ∷ q)
@@ -44,13 +49,13 @@ module _ (E : Setting) where
           all-map (λ (c : Rule × Problem E). Falls E (rest E (c .1)) L M) (λ (c : Rule × Problem E). rank E (rest E (c .1)) ≤ k) (λ c h. omega (arith, h .0))
           (children E (problem (equation L M) σ u)) (children-fall E L M σ u)
 
-      few : length (children E (problem (equation L M) σ u)) * 15 ^ k ≤ 14 * 15 ^ k
+      few : length (children E (problem (equation L M) σ u)) * suc ruleCount ^ k ≤ ruleCount * suc ruleCount ^ k
       few =
-          mul-le-mul-right (15 ^ k)
+          mul-le-mul-right (suc ruleCount ^ k)
           (omega (arith, moves-length E L M (pick u), length-map {B = Rule × Problem E} (moves E L M (pick u)) (λ q. (q .0, apply E σ u (q .1)))))
 
-      power : weight E (problem (equation L M) σ u) ≡ 15 * 15 ^ k
-      power = ap (λ (j : ℕ). 15 ^ j) one-more ∙ pow-succ' 15 k
+      power : weight E (problem (equation L M) σ u) ≡ suc ruleCount * suc ruleCount ^ k
+      power = ap (λ (j : ℕ). suc ruleCount ^ j) one-more ∙ pow-succ' (suc ruleCount) k
         where
           one-more : 1 + k ≡ suc k
           one-more = omega arith

@@ -9,6 +9,7 @@ use Prim.Native.Nat.{ℕ, zero, suc, _+_, _*_, _^_, _≤_}
 use native.Mathlib.Omega.{arith}
 use native.Mathlib.Nat.{pow-succ', pow-le-pow-right}
 use lib.ListN.{length}
+use Rattle.base_limits.specs.Limits.{mostTerms}
 use Rattle.base_lists.specs.Seqs.{All, all-append}
 use Rattle.math_types.specs.Order.{Order, basic, full-le}
 use Rattle.math_overlaps.specs.Shapes.{fixed, free, Vars}
@@ -566,7 +567,7 @@ module _ (E : Setting) where
 
   -- with 16 terms a field: 2 ^ 34
   pub answers-34 : (room : ℕ) (L M : Field E) (xs : List (Bindings E)) → Linear E L M
-      → length L ≤ 16 → length M ≤ 16 → searching E room L M ≡ answers xs → length xs ≤ 2 ^ 34
+      → length L ≤ mostTerms → length M ≤ mostTerms → searching E room L M ≡ answers xs → length xs ≤ 2 ^ 34
   answers-34 room L M xs l a b e =
       omega (
         arith,

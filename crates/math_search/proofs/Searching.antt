@@ -18,6 +18,7 @@ use mathlib.Core.List.{List, [], _∷_, append-nil, List·Memᴰ, List·Memᴰ·
 use Prim.Native.Nat.{ℕ, _+_, _≤_, _<_}
 use native.Mathlib.Omega.{arith}
 use lib.ListN.{length}
+use Rattle.base_limits.specs.Limits.{mostTerms}
 use Rattle.base_lists.specs.Seqs.{All, all-map}
 use Rattle.math_types.specs.Order.{Order}
 use Rattle.math_terms.specs.Constants.{Consts}
@@ -143,12 +144,12 @@ module _ (E : Setting) where
       (λ σ h t i. fine-values E L M (problem solved σ (h .0)) (h .1) t i) xs (answers-fine room L M xs l e)
 
   -- the same of every problem that is met: with 16 terms a field, 32
-  pub values-short : (A B : Field E) → Linear E A B → length A ≤ 16 → length B ≤ 16
-      → (p : Problem E) → Met E A B p → (t : Tm E) → StandsIn E A B t → length (bindings E p t) ≤ 32
+  pub values-short : (A B : Field E) → Linear E A B → length A ≤ mostTerms → length B ≤ mostTerms
+      → (p : Problem E) → Met E A B p → (t : Tm E) → StandsIn E A B t → length (bindings E p t) ≤ mostTerms + mostTerms
   values-short A B l a b p m t i = omega (arith, fine-values E A B p (met-fine E A B l p m) t i)
 
   -- and 34 list variables
-  pub names-few : (A B : Field E) → Linear E A B → length A ≤ 16 → length B ≤ 16 → (p : Problem E) → Met E A B p → length (used E p) ≤ 34
+  pub names-few : (A B : Field E) → Linear E A B → length A ≤ mostTerms → length B ≤ mostTerms → (p : Problem E) → Met E A B p → length (used E p) ≤ 34
   names-few A B l a b p m = omega (arith, fine-names E A B p (met-fine E A B l p m))
 
   -- ---- failure
@@ -167,6 +168,6 @@ module _ (O : Order) (C : Consts O) (N : Vars O) where
   abbrev Numbered : Setting
   Numbered = record { order = O; constants = C; variables = N; names = numbers }
 
-  pub fresh-small : (A B : Field Numbered) → Linear Numbered A B → length A ≤ 16 → length B ≤ 16
+  pub fresh-small : (A B : Field Numbered) → Linear Numbered A B → length A ≤ mostTerms → length B ≤ mostTerms
       → (p : Problem Numbered) → Met Numbered A B p → lowest (used Numbered p) < 64
   fresh-small A B l a b p m = omega (arith, lowest-small (used Numbered p), names-few Numbered A B l a b p m)

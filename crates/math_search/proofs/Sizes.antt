@@ -11,6 +11,7 @@ use mathlib.Core.List.{List, [], _∷_, _++_, List·Memᴰ, List·Memᴰ·not-ni
 use Prim.Native.Nat.{ℕ, suc, _+_, _≤_, _<_}
 use native.Mathlib.Omega.{arith}
 use lib.ListN.{length, length-append}
+use Rattle.base_limits.specs.Limits.{mostTerms, numbersOfPair}
 use Rattle.base_lists.specs.Seqs.{All, all-map, all-append}
 use Rattle.math_types.specs.Order.{Order, basic, full-le}
 use Rattle.math_terms.specs.Constants.{Consts}
@@ -312,36 +313,38 @@ module _ (O : Order) (C : Consts O) (N : Vars O) where
   Numbered = record { order = O; constants = C; variables = N; names = numbers }
 
   -- a rule that brings in a list variable finds one below 32
-  pub fresh-below : (A B : Field Numbered) → Linear Numbered A B → length A ≤ 16 → length B ≤ 16
+  pub fresh-below : (A B : Field Numbered) → Linear Numbered A B → length A ≤ mostTerms → length B ≤ mostTerms
       → (L M : Field Numbered) (σ : Bindings Numbered) (u : List ℕ) → Met Numbered A B (problem (equation L M) σ u)
       → (r : Rule) (x : Tm Numbered) (s : Field Numbered) (v : List ℕ) (n : Rest Numbered)
-      → rule Numbered r L M (lowest u) ≡ some (bind x s v n) → (v ≡ []) ⊎ (lowest u < 32)
+      → rule Numbered r L M (lowest u) ≡ some (bind x s v n) → (v ≡ []) ⊎ (lowest u < numbersOfPair)
   fresh-below A B l a b L M σ u m r x s v n e = go (brings-three Numbered L M (lowest u) r x s v n e)
     where
-      go : (v ≡ []) ⊎ (3 ≤ termsIn Numbered L M) → (v ≡ []) ⊎ (lowest u < 32)
+      go : (v ≡ []) ⊎ (3 ≤ termsIn Numbered L M) → (v ≡ []) ⊎ (lowest u < numbersOfPair)
       go (inl z) = inl z
       go (inr h) = inr (omega (arith, lowest-small u, met-fine Numbered A B l (problem (equation L M) σ u) m .names-few))
 
   -- and so all list variables used are below 32, where those of the equation are
-  pub names-below : (A B : Field Numbered) → Linear Numbered A B → length A ≤ 16 → length B ≤ 16
-      → All (λ n. n < 32) (namesIn Numbered A) → All (λ n. n < 32) (namesIn Numbered B)
-      → (p : Problem Numbered) → Met Numbered A B p → All (λ n. n < 32) (used Numbered p)
-  names-below A B l a b na nb p start = all-append (λ n. n < 32) (namesIn Numbered A) (namesIn Numbered B) na nb
+  pub names-below : (A B : Field Numbered) → Linear Numbered A B → length A ≤ mostTerms → length B ≤ mostTerms
+      → All (λ n. n < numbersOfPair) (namesIn Numbered A) → All (λ n. n < numbersOfPair) (namesIn Numbered B)
+      → (p : Problem Numbered) → Met Numbered A B p → All (λ n. n < numbersOfPair) (used Numbered p)
+  names-below A B l a b na nb p start = all-append (λ n. n < numbersOfPair) (namesIn Numbered A) (namesIn Numbered B) na nb
   names-below A B l a b na nb p (step {p = q} m c i) = child-of q m (names-below A B l a b na nb q m) c i
     where
-      child-of : (q : Problem Numbered) → Met Numbered A B q → All (λ n. n < 32) (used Numbered q)
-          → (c : Rule × Problem Numbered) → List·Memᴰ c (children Numbered q) → All (λ n. n < 32) (used Numbered (c .1))
+      child-of : (q : Problem Numbered) → Met Numbered A B q → All (λ n. n < numbersOfPair) (used Numbered q)
+          → (c : Rule × Problem Numbered) → List·Memᴰ c (children Numbered q) → All (λ n. n < numbersOfPair) (used Numbered (c .1))
       child-of (problem solved σ u) m h c i = absurd (List·Memᴰ·not-nil i)
-      child-of (problem (equation L M) σ u) m h c i = all-mem (λ c. All (λ n. n < 32) (used Numbered (c .1))) (children Numbered (problem (equation L M) σ u))
-          (all-mapped (λ c. All (λ n. n < 32) (used Numbered (c .1))) (λ q. (q .0, apply Numbered σ u (q .1))) (moves Numbered L M (lowest u))
-          (all-map (Is Numbered L M (lowest u)) (λ q. All (λ n. n < 32) (used Numbered (apply Numbered σ u (q .1)))) (λ q e. by (q .0) (q .1) e)
+      child-of (problem (equation L M) σ u) m h c i =
+          all-mem (λ c. All (λ n. n < numbersOfPair) (used Numbered (c .1))) (children Numbered (problem (equation L M) σ u))
+          (all-mapped (λ c. All (λ n. n < numbersOfPair) (used Numbered (c .1))) (λ q. (q .0, apply Numbered σ u (q .1))) (moves Numbered L M (lowest u))
+          (all-map (Is Numbered L M (lowest u)) (λ q. All (λ n. n < numbersOfPair) (used Numbered (apply Numbered σ u (q .1)))) (λ q e. by (q .0) (q .1) e)
           (moves Numbered L M (lowest u)) (moves-is Numbered L M (lowest u)))) c i
         where
-          new : (v : List ℕ) → All (λ k. k ≡ lowest u) v → (v ≡ []) ⊎ (lowest u < 32) → All (λ n. n < 32) v
-          new v w (inl z) = subst (λ (v : List ℕ). All (λ n. n < 32) v) (sym z) tt
-          new v w (inr g) = all-map (λ k. k ≡ lowest u) (λ n. n < 32) (λ k e. omega arith) v w
+          new : (v : List ℕ) → All (λ k. k ≡ lowest u) v → (v ≡ []) ⊎ (lowest u < numbersOfPair) → All (λ n. n < numbersOfPair) v
+          new v w (inl z) = subst (λ (v : List ℕ). All (λ n. n < numbersOfPair) v) (sym z) tt
+          new v w (inr g) = all-map (λ k. k ≡ lowest u) (λ n. n < numbersOfPair) (λ k e. omega arith) v w
 
-          by : (r : Rule) (k : Move Numbered) → rule Numbered r L M (lowest u) ≡ some k → All (λ n. n < 32) (used Numbered (apply Numbered σ u k))
+          by : (r : Rule) (k : Move Numbered) → rule Numbered r L M (lowest u) ≡ some k → All (λ n. n < numbersOfPair) (used Numbered (apply Numbered σ u k))
           by r (keep n) e = h
           by r (bind x s v n) e =
-              all-append (λ n. n < 32) v u (new v (move-does Numbered L M (lowest u) (r, bind x s v n) e .new) (fresh-below A B l a b L M σ u m r x s v n e)) h
+              all-append (λ n. n < numbersOfPair) v u
+              (new v (move-does Numbered L M (lowest u) (r, bind x s v n) e .new) (fresh-below A B l a b L M σ u m r x s v n e)) h

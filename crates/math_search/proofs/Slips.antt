@@ -8,6 +8,7 @@ use Prim.Native.Nat.{ℕ, suc, _+_, _≤_, _<_}
 use native.Mathlib.Omega.{arith}
 use native.Mathlib.Decide.{ℕ-discrete}
 use lib.ListN.{length}
+use Rattle.base_limits.specs.Limits.{numbersOfSide}
 use Rattle.base_lists.specs.Seqs.{All}
 use Rattle.math_types.specs.Order.{Order, basic, list}
 use Rattle.math_terms.specs.Terms.{con, var}
@@ -224,5 +225,6 @@ module _ (O : Order) (C : Consts O) {A : Type 0} (name-eq : Discrete A) (S : Nam
     )
 
 -- document 01's numbers for list variables, "a right-side variable counting 16 above its number"
-pub sixteen-apart : (O : Order) (C : Consts O) (f g : List (TermOver O C ℕ)) → All (λ n. n < 16) (lists f) → Apart O C ℕ-discrete numbers sixteenAbove f g
-sixteen-apart O C f g h a b i j e = omega (arith, all-mem (λ n. n < 16) (lists f) h a i, e)
+pub sixteen-apart : (O : Order) (C : Consts O) (f g : List (TermOver O C ℕ)) → All (λ n. n < numbersOfSide) (lists f)
+    → Apart O C ℕ-discrete numbers sixteenAbove f g
+sixteen-apart O C f g h a b i j e = omega (arith, all-mem (λ n. n < numbersOfSide) (lists f) h a i, e)

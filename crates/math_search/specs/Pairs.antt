@@ -1,6 +1,7 @@
 -- The equation of two rules: "one field of the left rule and one of the right; variables are distinct by side even if spelled alike".
 use mathlib.Core.List.{List, map}
 use Prim.Native.Nat.{ℕ, _+_}
+use Rattle.base_limits.specs.Limits.{numbersOfSide}
 use Rattle.math_types.specs.Order.{Order, basic, list}
 use Rattle.math_terms.specs.Terms.{con, var}
 use Rattle.math_terms.specs.Constants.{Consts, TermOver}
@@ -25,4 +26,4 @@ module _ (O : Order) (C : Consts O) {A : Type 0} (name-eq : Discrete A) (S : Nam
 -- "a right-side variable counting 16 above its number"
 abbrev pub sixteenAbove : Side → ℕ → ℕ
 sixteenAbove left n = n
-sixteenAbove right n = 16 + n
+sixteenAbove right n = numbersOfSide + n

@@ -6,7 +6,7 @@ use Prim.Native.Nat.{ℕ, zero, suc, _+_, _*_, _^_}
 use lib.Dec.{leb}
 use lib.ListN.{length}
 use Rattle.math_search.specs.Problems.{Setting, Field, Bindings, Rest, solved, equation, Problem, problem, rest, root}
-use Rattle.math_search.specs.Rules.{children}
+use Rattle.math_search.specs.Rules.{ruleCount, children}
 use Rattle.math_search.specs.Termination.{headPart, typePart}
 
 module _ (E : Setting) where
@@ -25,9 +25,9 @@ module _ (E : Setting) where
   rank solved = 0
   rank (equation L M) = 1 + (8 * termsIn L M + (4 * headPart E L + (2 * typePart E L M + longPart L)))
 
-  -- a problem has at most 14 children, each of lower rank
+  -- a problem has at most a child a rule, each of lower rank
   abbrev pub weight : Problem E → ℕ
-  weight p = 15 ^ rank (rest E p)
+  weight p = suc ruleCount ^ rank (rest E p)
 
   abbrev pub total : List (Problem E) → ℕ
   total [] = 0

@@ -2,10 +2,13 @@
 -- Each rule is a partial function of the two sides, with the paper's name and, above it, the paper's rule. There
 --     x, y variables; a, b atoms; s, t terms; L, M fields; f the fresh list variable
 -- and "type(x) = list", "type(x) ≤ atom" are told by the term's form: a list variable, or a variable among the atoms.
+use mathlib.Core.Path.{_≡_, refl}
 use mathlib.Core.Logic.{ite}
 use mathlib.Core.Bool.{Bool, true, false, cond, _&&_, _||_, not}
 use mathlib.Core.Option.{Option, none, some}
 use mathlib.Core.List.{List, [], _∷_, _++_, map, List·Memᴰ}
+use Prim.Native.Nat.{ℕ}
+use lib.ListN.{length}
 use Rattle.math_types.specs.Order.{Order, Full, basic, list, full-le}
 use Rattle.math_terms.specs.Constants.{Consts}
 use Rattle.math_overlaps.specs.Shapes.{Vars, fixed, free}
@@ -22,6 +25,13 @@ abbrev pub ruleOrder : List Rule
 ruleOrder =
     Remove ∷ Decomp1 ∷ Decomp1′ ∷ Decomp2 ∷ Decomp2′ ∷ Decomp3 ∷ Decomp4
     ∷ Subst1 ∷ Subst2 ∷ Subst3 ∷ Orient1 ∷ Orient2 ∷ Orient3 ∷ Orient4 ∷ []
+
+-- how many there are
+abbrev pub ruleCount : ℕ
+ruleCount = 14
+
+pub rule-count : length ruleOrder ≡ ruleCount
+rule-count = refl
 
 module _ (E : Setting) where
   open Setting E using (order, constants, variables, names)

@@ -11,7 +11,7 @@ use lib.ListN.{List·getD-eq-default}
 use borrow.Author.Tests.{eq-eqb, ne-eqb}
 use Rattle.math_types.specs.Order.{meet, IsMeet, meet-is}
 use Rattle.math_types.specs.Lawful.{entry-anti}
-use Rattle.math_types.specs.Types.{Kind, rank, rank-once, comparisons, entry, table-lawful, le, types}
+use Rattle.math_types.specs.Types.{Kind, rank, rank-once, comparisons, entry, entry-is, table-lawful, le, types}
 use Rattle.math_types.specs.Values.{meetRank, meetOf}
 use Rattle.math_types.specs.declared.Met.{Met}
 use Rattle.math_types.specs.declared.Met.the-variants.{Is, Nothing}
@@ -19,7 +19,7 @@ use Rattle.math_types.specs.declared.Met.the-variants.{Is, Nothing}
 module _ (j k : Kind) where
   -- THE LAW: `meet` is the greatest kind below both (`meet-is`)
   pub meet-rank-is : meetRank (rank j) (rank k) ≡ meetOf (meet types j k)
-  meet-rank-is = go (le j k) (le k j)
+  meet-rank-is = rw (entry-is j k, entry-is k j) (go (le j k) (le k j))
     where
       go : (b c : Bool) → cond b (Is (rank j)) (cond c (Is (rank k)) Nothing) ≡ meetOf (cond b (some j) (cond c (some k) none))
       go true c = refl

@@ -13,6 +13,10 @@ abbrev pub implies : Bool → Bool → Bool
 implies true b = b
 implies false b = true
 
+pub implied : (a b : Bool) → T (implies a b) → T a → T b
+implied true b t h = t
+implied false b t h = absurd h
+
 abbrev pub either : Bool → Bool → Bool
 either true b = true
 either false b = b

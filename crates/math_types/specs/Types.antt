@@ -1,56 +1,162 @@
 -- Document 01's types: integer, string, atom, list, and their order as a table of four by four.
--- The laws of the table come from one computed test; that it is the document's order is `le-is`.
+-- Integer and string are leaves: what is said of any leaves (Flat, Kinds) is said of them here, under one name each.
 --     _⊑_            the order as the document says it
---     comparisons    the table, which `le` reads
+--     kinds, rank    the types in the document's order i, s, a, l, and each one's place
+--     comparisons    the table, which the code reads; that it is the order is one computed test
 --     same           whether two kinds are equal, by their ranks
 --     types, basics  the instances of `Order`, with `list` and without
-use mathlib.Core.Path.{_≡_, refl, sym, ap, _∙_}
-use mathlib.Core.Logic.{_⊎_, _↔_}
-use mathlib.Core.Bool.{Bool, true, false, false≢true}
+use mathlib.Core.Path.{_≡_, refl, ap}
+use mathlib.Core.Logic.{_↔_}
+use mathlib.Core.Option.{some}
+use mathlib.Core.Bool.{Bool, true, false}
 use mathlib.Core.List.{List, [], _∷_}
-use Prim.Native.Nat.{ℕ, zero, suc, _+_, _*_, _<_}
-use lib.Dec.{T, eqb, lit<}
-use lib.ListN.{getD}
-use borrow.Author.Tests.{eqb-true, eq-eqb}
-use Rattle.math_types.specs.Order.{Order, Full, basic, list, full-eq, full-le}
-use Rattle.math_types.specs.Lawful.{lawful, entry-refl, entry-anti, entry-trans, entry-meet}
+use Prim.Native.Nat.{ℕ, _≤_, _<_}
+use native.Mathlib.Omega.{arith}
+use lib.Dec.{T}
+use lib.ListN.{length, getElem?}
+use Rattle.base_lists.specs.Seqs.{All}
+use Rattle.base_lists.specs.Truths.{decided}
+use Rattle.math_types.specs.Order.{Order, basic, list}
+use Rattle.math_types.specs.Lawful.{lawful}
+pub use Rattle.math_types.specs.Flat.{leaf, atom, _⊑_, leaf-atom, atom-list, itself, through}
+use Rattle.math_types.specs.Flat as F
+use Rattle.math_types.specs.Kinds.{Leaves}
+use Rattle.math_types.specs.Kinds as K
+
+-- the types below atom
+pub data Leaf : Type 0 where
+  integer string : Leaf
+  deriving Discrete as leaf-eq
+
+-- in the document's order
+abbrev pub leaves : List Leaf
+leaves = integer ∷ string ∷ []
+
+abbrev pub place : Leaf → ℕ
+place integer = 0
+place string = 1
+
+pub leaf-at : (l : Leaf) → getElem? leaves (place l) ≡ some l
+leaf-at integer = refl
+leaf-at string = refl
+
+abbrev pub four : Leaves
+four = record { Leaf = Leaf; leaf-eq = leaf-eq; leaves = leaves; place = place; leaf-at = leaf-at; places = refl }
 
 -- the types below list
-pub data Basic : Type 0 where
-  integer string atom : Basic
-  deriving Discrete as basic-eq
+abbrev pub Basic : Type 0
+Basic = K.Basic four
+
+abbrev pub basic-eq : Discrete Basic
+basic-eq = F.flat-eq leaf-eq
 
 abbrev pub Kind : Type 0
-Kind = Full Basic
+Kind = K.Kind four
 
-infix 50 _⊑_
--- Document 01: "Integer and string are below atom, atom is below list"; the least order that says so.
-pub data _⊑_ : Kind → Kind → Type 0 where
-  -- integer is below atom
-  integer-atom : basic integer ⊑ basic atom
-  -- string is below atom
-  string-atom : basic string ⊑ basic atom
-  -- atom is below list
-  atom-list : basic atom ⊑ list
-  -- reflexivity: "below" is at or below
-  itself : {k : Kind} → k ⊑ k
-  -- transitivity: so integer and string are below list too
-  through : {j k m : Kind} → j ⊑ k → k ⊑ m → j ⊑ m
+-- ---- the types in their order
+
+abbrev pub kinds : List Kind
+kinds = K.kinds four
+
+-- a kind's row and column in the table
+abbrev pub rank : Kind → ℕ
+rank = K.rank four
+
+abbrev pub kindAt : ℕ → Kind
+kindAt = K.kindAt four
+
+-- how many types are below list
+abbrev pub atomKinds : ℕ
+atomKinds = K.atomKinds four
+
+pub kinds-are : kinds ≡ basic (leaf integer) ∷ basic (leaf string) ∷ basic atom ∷ list ∷ []
+kinds-are = refl
+
+pub rank-basic : (k : Basic) → rank (basic k) < atomKinds
+rank-basic = K.rank-basic four
+
+pub rank-kinds : (k : Kind) → rank k < length kinds
+rank-kinds = K.rank-kinds four
+
+pub kind-at-rank : (k : Kind) → kindAt (rank k) ≡ k
+kind-at-rank = K.kind-at-rank four
+
+pub rank-at : (i : ℕ) → i < length kinds → rank (kindAt i) ≡ i
+rank-at = K.rank-at four
+
+-- behind the types below list there is list
+pub kind-past : (i : ℕ) → atomKinds ≤ i → kindAt i ≡ list
+kind-past = K.kind-past four
+
+-- no two kinds share a rank
+pub rank-once : (j k : Kind) → rank j ≡ rank k → j ≡ k
+rank-once = K.rank-once four
+
+-- a rank below list's is that of a type below list
+pub basic-at : (i : ℕ) → i < atomKinds → (k : Basic) × (kindAt i ≡ basic k) × (rank (basic k) ≡ i)
+basic-at = K.basic-at four
+
+-- what holds at each member of the list holds of every kind
+pub every-kind : (P : Kind → Type 0) → All P kinds → (k : Kind) → P k
+every-kind = K.every-kind four
+
+-- ---- equality, by the ranks
+
+abbrev pub same : Kind → Kind → Bool
+same = K.same four
+
+abbrev pub isList : Kind → Bool
+isList = K.isList four
+
+pub same-is : (j k : Kind) → (same j k ≡ true) ↔ (j ≡ k)
+same-is = K.same-is four
+
+pub same-basic : (j k : Basic) → same (basic j) (basic k) ≡ decided (basic-eq j k)
+same-basic = K.same-basic four
+
+-- list is no type below list
+pub not-list : (k : Basic) → same (basic k) list ≡ false
+not-list = K.not-list four
+
+pub list-not : (k : Basic) → same list (basic k) ≡ false
+list-not = K.list-not four
+
+pub is-list : (k : Kind) → same k list ≡ isList k
+is-list = K.is-list four
+
+-- ---- the order
+
+-- without `list`
+abbrev pub basics : Order
+basics = K.basics four
+
+abbrev pub types : Order
+types = K.types four
+
+abbrev pub le : Kind → Kind → Bool
+le = F.le leaf-eq
+
+pub le-refl : (k : Kind) → le k k ≡ true
+le-refl = F.le-refl leaf-eq
+
+pub le-anti : (j k : Kind) → le j k ≡ true → le k j ≡ true → j ≡ k
+le-anti = F.le-anti leaf-eq
+
+pub le-trans : (j k m : Kind) → le j k ≡ true → le k m ≡ true → le j m ≡ true
+le-trans = F.le-trans leaf-eq
+
+-- it is the order that document 01 says
+pub le-is : (j k : Kind) → (le j k ≡ true) ↔ (j ⊑ k)
+le-is = F.le-is leaf-eq
+
+-- Document 01: "integer and string are incomparable"
+pub incomparable : (basic (leaf integer) ⊑ basic (leaf string) → ⊥) × (basic (leaf string) ⊑ basic (leaf integer) → ⊥)
+incomparable = (
+  F.incomparable leaf-eq integer string (λ e. omega (arith, ap place e)),
+  F.incomparable leaf-eq string integer (λ e. omega (arith, ap place e)),
+)
 
 -- ---- the table
-
--- a kind's row and column, in the document's order i, s, a, l
-abbrev pub rank : Kind → ℕ
-rank (basic integer) = 0
-rank (basic string) = 1
-rank (basic atom) = 2
-rank list = 3
-
-pub rank-below : (k : Kind) → rank k < 4
-rank-below (basic integer) = lit< tt
-rank-below (basic string) = lit< tt
-rank-below (basic atom) = lit< tt
-rank-below list = lit< tt
 
 -- Document 01: "We keep the type order as a table of four by four". A row for each lower kind, a column for each upper one.
 abbrev pub comparisons : List Bool
@@ -61,120 +167,15 @@ comparisons =
     false ∷ false ∷ false ∷ true ∷ []
 
 abbrev pub entry : ℕ → ℕ → Bool
-entry x y = getD comparisons (4 * x + y) false
+entry = K.entry four comparisons
 
-abbrev pub le : Kind → Kind → Bool
-le j k = entry (rank j) (rank k)
-
--- ---- equality, by the ranks
-
-abbrev pub same : Kind → Kind → Bool
-same j k = eqb (rank j) (rank k)
-
--- the kind of a rank
-abbrev kind-at : ℕ → Kind
-kind-at zero = basic integer
-kind-at (suc zero) = basic string
-kind-at (suc (suc zero)) = basic atom
-kind-at (suc (suc (suc n))) = list
-
-kind-at-rank : (k : Kind) → kind-at (rank k) ≡ k
-kind-at-rank (basic integer) = refl
-kind-at-rank (basic string) = refl
-kind-at-rank (basic atom) = refl
-kind-at-rank list = refl
-
--- no two kinds share a rank
-pub rank-once : (j k : Kind) → rank j ≡ rank k → j ≡ k
-rank-once j k e = sym (kind-at-rank j) ∙ ap kind-at e ∙ kind-at-rank k
-
-pub same-is : (j k : Kind) → (same j k ≡ true) ↔ (j ≡ k)
-same-is j k = (λ p. rank-once j k (eqb-true (rank j) (rank k) p), λ e. eq-eqb (rank j) (rank k) (ap rank e))
-
--- ---- the laws of the table
-
--- the one test, over the 64 triples of ranks
+-- the laws of the table by themselves: one test, over the 64 triples of ranks
 pub table-lawful : T (lawful entry 4)
 table-lawful = tt
 
-pub le-refl : (k : Kind) → le k k ≡ true
-le-refl k = entry-refl entry 4 table-lawful (rank k) (rank-below k)
+-- the table is the order: one test, over the 16 pairs of ranks
+pub table-order : T (K.isOrder four comparisons)
+table-order = tt
 
-pub le-anti : (j k : Kind) → le j k ≡ true → le k j ≡ true → j ≡ k
-le-anti j k p q = rank-once j k (entry-anti entry 4 table-lawful (rank j) (rank k) (rank-below j) (rank-below k) p q)
-
-pub le-trans : (j k m : Kind) → le j k ≡ true → le k m ≡ true → le j m ≡ true
-le-trans j k m p q = entry-trans entry 4 table-lawful (rank j) (rank k) (rank m) (rank-below j) (rank-below k) (rank-below m) p q
-
-pub le-meet : (j k m : Kind) → le j k ≡ true → le j m ≡ true → (le k m ≡ true) ⊎ (le m k ≡ true)
-le-meet j k m p q = entry-meet entry 4 table-lawful (rank j) (rank k) (rank m) (rank-below j) (rank-below k) (rank-below m) p q
-
--- ---- the table is the document's order
-
-le-sound : (j k : Kind) → le j k ≡ true → j ⊑ k
-le-sound (basic integer) (basic integer) p = itself
-le-sound (basic integer) (basic string) p = absurd (false≢true p)
-le-sound (basic integer) (basic atom) p = integer-atom
-le-sound (basic integer) list p = through integer-atom atom-list
-le-sound (basic string) (basic integer) p = absurd (false≢true p)
-le-sound (basic string) (basic string) p = itself
-le-sound (basic string) (basic atom) p = string-atom
-le-sound (basic string) list p = through string-atom atom-list
-le-sound (basic atom) (basic integer) p = absurd (false≢true p)
-le-sound (basic atom) (basic string) p = absurd (false≢true p)
-le-sound (basic atom) (basic atom) p = itself
-le-sound (basic atom) list p = atom-list
-le-sound list (basic integer) p = absurd (false≢true p)
-le-sound list (basic string) p = absurd (false≢true p)
-le-sound list (basic atom) p = absurd (false≢true p)
-le-sound list list p = itself
-
-le-complete : {j k : Kind} → j ⊑ k → le j k ≡ true
-le-complete integer-atom = refl
-le-complete string-atom = refl
-le-complete atom-list = refl
-le-complete (itself {k}) = le-refl k
-le-complete (through {j} {k} {m} p q) = le-trans j k m (le-complete p) (le-complete q)
-
-pub le-is : (j k : Kind) → (le j k ≡ true) ↔ (j ⊑ k)
-le-is j k = (le-sound j k, le-complete)
-
--- Document 01: "integer and string are incomparable"
-pub incomparable : (basic integer ⊑ basic string → ⊥) × (basic string ⊑ basic integer → ⊥)
-incomparable = (λ h. false≢true (le-complete h), λ h. false≢true (le-complete h))
-
--- ---- the instances
-
-abbrev pub types : Order
-types =
-    record {
-      Kind = Kind;
-      kind-eq = full-eq basic-eq;
-      le = le;
-      le-refl = le-refl;
-      le-trans = le-trans;
-      le-meet = le-meet;
-    }
-
--- without `list`
-abbrev pub basics : Order
-basics =
-    record {
-      Kind = Basic;
-      kind-eq = basic-eq;
-      le = λ j k. le (basic j) (basic k);
-      le-refl = λ k. le-refl (basic k);
-      le-trans = λ j k m. le-trans (basic j) (basic k) (basic m);
-      le-meet = λ j k m. le-meet (basic j) (basic k) (basic m);
-    }
-
--- `list` stands in the table where `full` puts it: on top
-pub full-is : (j k : Kind) → full-le basics j k ≡ le j k
-full-is (basic j) (basic k) = refl
-full-is (basic integer) list = refl
-full-is (basic string) list = refl
-full-is (basic atom) list = refl
-full-is list (basic integer) = refl
-full-is list (basic string) = refl
-full-is list (basic atom) = refl
-full-is list list = refl
+pub entry-is : (j k : Kind) → entry (rank j) (rank k) ≡ le j k
+entry-is = K.entry-is four comparisons table-order

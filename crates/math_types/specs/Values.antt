@@ -5,7 +5,7 @@ use mathlib.Core.Option.{Option, none, some}
 use mathlib.Core.Bool.{true, cond}
 use Prim.Native.Nat.{ℕ}
 use Rattle.math_types.specs.Order.{basic, list}
-use Rattle.math_types.specs.Types.{integer, string, atom}
+use Rattle.math_types.specs.Types.{leaf, integer, string, atom}
 use Rattle.math_types.specs.Types as types
 use Rattle.math_types.specs.declared.Kind.{Kind}
 use Rattle.math_types.specs.declared.Kind.the-variants.{Integer, String, Atom, List}
@@ -13,20 +13,20 @@ use Rattle.math_types.specs.declared.Met.{Met}
 use Rattle.math_types.specs.declared.Met.the-variants.{Is, Nothing}
 
 abbrev pub kindOf : Kind → types.Kind
-kindOf Integer = basic integer
-kindOf String = basic string
+kindOf Integer = basic (leaf integer)
+kindOf String = basic (leaf string)
 kindOf Atom = basic atom
 kindOf List = list
 
 abbrev pub kindFrom : types.Kind → Kind
-kindFrom (basic integer) = Integer
-kindFrom (basic string) = String
+kindFrom (basic (leaf integer)) = Integer
+kindFrom (basic (leaf string)) = String
 kindFrom (basic atom) = Atom
 kindFrom list = List
 
 pub kindOf-from : (k : types.Kind) → kindOf (kindFrom k) ≡ k
-kindOf-from (basic integer) = refl
-kindOf-from (basic string) = refl
+kindOf-from (basic (leaf integer)) = refl
+kindOf-from (basic (leaf string)) = refl
 kindOf-from (basic atom) = refl
 kindOf-from list = refl
 

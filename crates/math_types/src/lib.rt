@@ -1,7 +1,7 @@
 // The type order: which kind of term is below which, and the meet of two.
 // Every answer is read from one table, whose laws and whose agreement with document 01 stand in specs/Types.antt.
 ghost use mathlib.Core.Path.{_≡_};
-ghost use Rattle.math_types.specs.Types.{rank, le, same, entry};
+ghost use Rattle.math_types.specs.Types.{rank, kindAt, le, same, isList, entry};
 ghost use Rattle.math_types.specs.Values.{kindOf, meetRank};
 
 pub enum Kind {
@@ -49,6 +49,18 @@ pub fn rank(k: Kind) -> usize
     }
 }
 
+// The kind of a rank; what is no rank counts for list's.
+pub fn kind_at(i: usize) -> Kind
+    ensures { λ r. ⌜ kindOf r ≡ kindAt i ⌝ }
+{
+    match i {
+        0 => Kind::Integer,
+        1 => Kind::String,
+        2 => Kind::Atom,
+        _ => Kind::List,
+    }
+}
+
 // Whether j is at or below k.
 pub fn below(j: Kind, k: Kind) -> bool
     ensures { λ r. ⌜ r ≡ le (kindOf j) (kindOf k) ⌝ }
@@ -86,4 +98,11 @@ pub fn same_kind(j: Kind, k: Kind) -> bool
     ensures { λ r. ⌜ r ≡ same (kindOf j) (kindOf k) ⌝ }
 {
     rank(j) == rank(k)
+}
+
+// Whether k is the kind of list variables.
+pub fn is_list(k: Kind) -> bool
+    ensures { λ r. ⌜ r ≡ isList (kindOf k) ⌝ }
+{
+    same_kind(k, Kind::List)
 }

@@ -7,6 +7,7 @@ use Prim.Native.Nat.{ℕ, zero, suc, _+_, _-_, _<_, _≤_, max}
 use native.Mathlib.Omega.{arith}
 use lib.Dec.{eqb, leb, ltb}
 use borrow.Author.Tests.{eqb-true, eq-eqb, ne-eqb, lt-ltb, le-ltb}
+use Rattle.base_limits.specs.Limits.{mostTerms}
 use Rattle.base_lists.specs.Seqs.{tabulate, tabulate-same}
 use Rattle.math_overlaps.specs.Candidates.{Cand, exact, long, range}
 use Rattle.math_codes.specs.Spots.{Spot, candsFrom, spotCands}
@@ -78,17 +79,19 @@ span-is s s′ i h = go (s .name) (s′ .name) h
         by false e = refl
 
 -- fields of at most 16 terms give few candidates, and these few items
-pub span-few : (s s′ : Spot ℕ) → s .head + s .tail ≤ 16 → s′ .head + s′ .tail ≤ 16
-    → (spanOf s s′ .least + spanOf s s′ .count ≤ 33) × (spanOf s s′ .count ≤ 17)
+pub span-few : (s s′ : Spot ℕ) → s .head + s .tail ≤ mostTerms → s′ .head + s′ .tail ≤ mostTerms
+    → (spanOf s s′ .least + spanOf s s′ .count ≤ suc (mostTerms + mostTerms)) × (spanOf s s′ .count ≤ suc mostTerms)
 span-few s s′ p q = go (s .name) (s′ .name)
   where
-    fewest : (n : ℕ) (fits : Bool) → n ≤ 16 → (only n fits .least + only n fits .count ≤ 33) × (only n fits .count ≤ 17)
+    fewest : (n : ℕ) (fits : Bool) → n ≤ mostTerms
+        → (only n fits .least + only n fits .count ≤ suc (mostTerms + mostTerms)) × (only n fits .count ≤ suc mostTerms)
     fewest n true h = (omega arith, omega arith)
     fewest n false h = (omega arith, omega arith)
 
     go : (x y : Option ℕ)
-        → (spanFrom (s .head) (s .tail) x (s′ .head) (s′ .tail) y .least + spanFrom (s .head) (s .tail) x (s′ .head) (s′ .tail) y .count ≤ 33)
-        × (spanFrom (s .head) (s .tail) x (s′ .head) (s′ .tail) y .count ≤ 17)
+        → (spanFrom (s .head) (s .tail) x (s′ .head) (s′ .tail) y .least + spanFrom (s .head) (s .tail) x (s′ .head) (s′ .tail) y .count ≤ suc
+        (mostTerms + mostTerms))
+        × (spanFrom (s .head) (s .tail) x (s′ .head) (s′ .tail) y .count ≤ suc mostTerms)
     go none none = fewest (s .head) (eqb (s′ .head) (s .head)) (omega arith)
     go none (some m) = fewest (s .head) (leb (s′ .head + s′ .tail) (s .head)) (omega arith)
     go (some l) none = fewest (s′ .head) (leb (s .head + s .tail) (s′ .head)) (omega arith)

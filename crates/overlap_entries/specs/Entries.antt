@@ -5,6 +5,7 @@ use mathlib.Core.List.{List}
 use Prim.Native.Nat.{ℕ, suc, _+_, _-_, max}
 use lib.Dec.{eqb, leb, ltb}
 use lib.ListN.{getD, set, replicate}
+use Rattle.base_limits.specs.Limits.{mostFields}
 use Rattle.math_overlaps.specs.Candidates.{Cand, exact, long}
 use Rattle.math_codes.specs.Spots.{Spot, cellAt, pickCell}
 use Rattle.overlap_entries.specs.declared.Span.{Span}
@@ -40,7 +41,7 @@ candAt sp i = candOf (sp .least + i) (sp .long && eqb (suc i) (sp .count))
 -- ---- choices
 
 abbrev pub noChoice : Choice
-noChoice = record { sizes = replicate 4 0; longs = replicate 4 false }
+noChoice = record { sizes = replicate mostFields 0; longs = replicate mostFields false }
 
 abbrev pub chosenAt : Choice → ℕ → ℕ → Bool → Choice
 chosenAt c j n l = record { sizes = set (c .sizes) j n; longs = set (c .longs) j l }

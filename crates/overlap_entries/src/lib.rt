@@ -20,8 +20,8 @@ pub struct Span {
 
 // A candidate for each field: how many atoms it has, and whether a list variable stands among them.
 pub struct Choice {
-    pub sizes: [u16; 4],
-    pub longs: [bool; 4],
+    pub sizes: [u16; base_limits::MOST_FIELDS],
+    pub longs: [bool; base_limits::MOST_FIELDS],
 }
 
 // The place of the atom at a position of a field, if there is one.
@@ -35,8 +35,8 @@ pub fn no_choice() -> Choice
     ensures { λ r. ⌜ r ≡ noChoice ⌝ }
 {
     Choice {
-        sizes: [0; 4],
-        longs: [false; 4],
+        sizes: [0; base_limits::MOST_FIELDS],
+        longs: [false; base_limits::MOST_FIELDS],
     }
 }
 
@@ -45,7 +45,7 @@ pub fn choose_at(c: Choice, j: u8, n: u16, long: bool) -> Choice
     ensures { λ r. ⌜ r ≡ chosenAt c j n long ⌝ }
 {
     let k = j as usize;
-    if 4 <= k {
+    if base_limits::MOST_FIELDS <= k {
         return c;
     }
     let mut d = c;

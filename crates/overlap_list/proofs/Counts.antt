@@ -9,6 +9,7 @@ use native.Mathlib.Omega.{arith}
 use lib.ListN.{length, drop, length-append}
 use lib.Seq.{sets, sets-eq}
 use borrow.Author.Tests.{le-leb, lt-leb}
+use Rattle.base_limits.specs.Limits.{mostTerms, fieldPlaces}
 use Rattle.base_lists.specs.Seqs.{All, tabulate}
 use Rattle.text_grammar.specs.Terms.{OurTerm}
 use Rattle.text_grammar.specs.Limits.{IsLeft}
@@ -35,7 +36,7 @@ use Rattle.overlap_list.specs.Listing.{noTally, tallied, Stores, mostEnt
 
 most : ℕ → ℕ
 most zero = 1
-most (suc m) = 17 * most m
+most (suc m) = suc mostTerms * most m
 
 module _ (next : Choice → State → List (List ℕ)) (row : List ℕ) (j b : ℕ) (few : (ch : Choice) (st : State) → length (next ch st) ≤ b) where
   join-few : (c : Candidate) (ch : Choice) (st : State) → length (candidateLines next row j c ch st) ≤ b
@@ -56,10 +57,10 @@ module _ (next : Choice → State → List (List ℕ)) (row : List ℕ) (j b : �
 
 -- the first n fields of a rule have at most 16 atoms each
 abbrev pub Short : List ℕ → Bool → ℕ → Type 0
-Short row right n = (j : ℕ) → j < n → spotIn row right j .head + spotIn row right j .tail ≤ 16
+Short row right n = (j : ℕ) → j < n → spotIn row right j .head + spotIn row right j .tail ≤ mostTerms
 
 module _ (row texts : List ℕ) (n : ℕ) (short-left : Short row false n) (short-right : Short row true n) where
-  pub few-left : (j : ℕ) → j < n → spanAt row j .count ≤ 17
+  pub few-left : (j : ℕ) → j < n → spanAt row j .count ≤ suc mostTerms
   few-left j h = span-few (spotIn row false j) (spotIn row true j) (short-left j h) (short-right j h) .1
 
   lines-few : (m j : ℕ) (ch : Choice) (st : State) → j + m ≤ n → length (linesFrom m row texts n j ch st) ≤ most m
@@ -69,7 +70,7 @@ module _ (row texts : List ℕ) (n : ℕ) (short-left : Short row false n) (shor
       let f = choice-few (linesFrom m row texts n (j + 1)) row j (most m) (λ c s. lines-few m (j + 1) c s (omega arith)) (spanAt row j .count) ch st in
       times-few (spanAt row j .count) (most m) (length (linesFrom (suc m) row texts n j ch st)) (few-left j (omega arith)) f
     where
-      times-few : (k b l : ℕ) → k ≤ 17 → l ≤ k * b → l ≤ 17 * b
+      times-few : (k b l : ℕ) → k ≤ suc mostTerms → l ≤ k * b → l ≤ suc mostTerms * b
       times-few k b l h p = omega (arith, mul-le-mul-right b h)
 
   most-few : (m : ℕ) → m ≤ 4 → most m ≤ mostEntries
@@ -90,18 +91,19 @@ module _ (row texts : List ℕ) (n : ℕ) (short-left : Short row false n) (shor
 
 -- so have those of a rule that reading returns
 module _ (row : List ℕ) (right : Bool) (n : ℕ) where
-  short-at : (m : ℕ) (f : ℕ → Spot ℕ) → All (λ s. spotTerms s ≤ 16) (tabulate m f) → (j : ℕ) → j < m → f j .head + f j .tail ≤ 16
+  short-at : (m : ℕ) (f : ℕ → Spot ℕ) → All (λ s. spotTerms s ≤ mostTerms) (tabulate m f) → (j : ℕ) → j < m → f j .head + f j .tail ≤ mostTerms
   short-at zero f a j h = absurd (omega arith)
   short-at (suc m) f a zero h = go (f 0 .name) (a .0)
     where
-      go : (o : Option ℕ) → spotTerms (record { base = f 0 .base; head = f 0 .head; tail = f 0 .tail; name = o }) ≤ 16 → f 0 .head + f 0 .tail ≤ 16
+      go : (o : Option ℕ) → spotTerms (record { base = f 0 .base; head = f 0 .head; tail = f 0 .tail; name = o }) ≤ mostTerms
+          → f 0 .head + f 0 .tail ≤ mostTerms
       go none p = p
       go (some l) p = omega arith
   short-at (suc m) f a (suc j) h = short-at m (λ i. f (suc i)) (a .1) j (omega arith)
 
-  pub rule-short : (b : ℕ) (r : List (List OurTerm)) → IsLeft r → spotsIn row right n ≡ spotsOf 16 b r → Short row right n
+  pub rule-short : (b : ℕ) (r : List (List OurTerm)) → IsLeft r → spotsIn row right n ≡ spotsOf fieldPlaces b r → Short row right n
   rule-short b r ok e =
-      short-at n (spotIn row right) (subst (All (λ s. spotTerms s ≤ 16)) (sym e) (spots-few 16 b r (ok .0 .2)))
+      short-at n (spotIn row right) (subst (All (λ s. spotTerms s ≤ mostTerms)) (sym e) (spots-few fieldPlaces b r (ok .0 .2)))
 
 -- ---- every choice from the first field on
 

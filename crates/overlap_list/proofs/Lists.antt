@@ -8,6 +8,7 @@ use Prim.Native.Nat.{ℕ, suc}
 use native.Mathlib.Omega.{arith}
 use native.Mathlib.Decide.{ℕ-discrete}
 use lib.ListN.{length}
+use Rattle.base_limits.specs.Limits.{fieldPlaces, rulePlaces}
 use Rattle.math_types.specs.Types.{basics, entry}
 use Rattle.text_grammar.specs.Terms.{OurTerm}
 use Rattle.text_grammar.specs.Limits.{IsLeft}
@@ -48,7 +49,8 @@ module _ (row texts : List ℕ) (n : ℕ) where
       → lineIn row texts n (chosenBy noChoice 0 (spotsIn row false n) (spotsIn row true n) cs) last
       ≡ indexedBy (spotsIn row false n) (spotsIn row true n) cs last
 
-  pub all-lines : (r₁ r₂ : List (List OurTerm)) → IsLeft r₁ → IsLeft r₂ → spotsIn row false n ≡ spotsOf 16 0 r₁ → spotsIn row true n ≡ spotsOf 16 64 r₂
+  pub all-lines : (r₁ r₂ : List (List OurTerm)) → IsLeft r₁ → IsLeft r₂ → spotsIn row false n ≡ spotsOf fieldPlaces 0 r₁
+      → spotsIn row true n ≡ spotsOf fieldPlaces rulePlaces r₂
       → OurTables r₁ r₂ (tableIn row) (textIn row texts) → Indexes r₁ r₂ left r₁ (indexIn row false) → Indexes r₁ r₂ right r₂ (indexIn row true)
       → Tops r₁ (topIn row false) → Tops r₂ (topIn row true) → LineIs
       → allLines row texts n ≡ map lineText (linesOf r₁ r₂)

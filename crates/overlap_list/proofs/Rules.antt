@@ -8,6 +8,7 @@ use native.Mathlib.Omega.{arith}
 use native.Mathlib.Decide.{decLt}
 use lib.ListN.{length, length-map}
 use borrow.Author.Tests.{le-leb}
+use Rattle.base_limits.specs.Limits.{mostTerms, fieldPlaces, rulePlaces, entryLine}
 use Rattle.base_lists.specs.Seqs.{All}
 use Rattle.text_grammar.specs.Told.{byRoom}
 use Rattle.text_grammar.specs.Terms.{OurTerm}
@@ -34,7 +35,7 @@ use Rattle.pair_lines.specs.Lines.{spotsIn}
 use Rattle.pair_lines.proofs.Lines.{line-is, numbers-few}
 use Rattle.overlap_list.specs.declared.Listed.{Listed}
 use Rattle.overlap_list.specs.declared.Listed.the-variants.{Lines}
-use Rattle.overlap_list.specs.Listing.{allLines, choices, longestLine, noTally, Countable}
+use Rattle.overlap_list.specs.Listing.{allLines, choices, noTally, Countable}
 use Rattle.overlap_list.specs.Answers.{told, Lists, Accepts, SidesList, ListsLines}
 use Rattle.overlap_list.proofs.Lists.{LineIs, all-lines, lines-none}
 use Rattle.overlap_list.proofs.Counts.{rule-short, countable-all}
@@ -77,24 +78,24 @@ module _ (r₁ r₂ : List (List OurTerm)) (ok₁ : IsLeft r₁) (ok₂ : IsLeft
   at-most-four : n ≤ 4
   at-most-four = omega (arith, is-left, ok₁ .0 .1)
 
-  left-spots : spotsIn row false n ≡ spotsOf 16 0 r₁
+  left-spots : spotsIn row false n ≡ spotsOf fieldPlaces 0 r₁
   left-spots = ap (spotsIn row false) is-left ∙ pair .left-shapes
 
-  right-spots : spotsIn row true n ≡ spotsOf 16 64 r₂
+  right-spots : spotsIn row true n ≡ spotsOf fieldPlaces rulePlaces r₂
   right-spots = ap (spotsIn row true) is-right ∙ pair .right-shapes
 
   pub pair-countable : Countable noTally (allLines row texts n)
-  pair-countable = countable-all row texts n (rule-short row false n 0 r₁ ok₁ left-spots) (rule-short row true n 64 r₂ ok₂ right-spots) at-most-four
+  pair-countable = countable-all row texts n (rule-short row false n 0 r₁ ok₁ left-spots) (rule-short row true n rulePlaces r₂ ok₂ right-spots) at-most-four
 
   -- no line is longer than the longest
-  pub pair-few : length (bytesOf (allLines row texts n)) ≤ choices row 0 n * longestLine
+  pub pair-few : length (bytesOf (allLines row texts n)) ≤ choices row 0 n * entryLine
   pair-few = pair-short row texts n (pair .bytes-few) (pair .left-tops .within) (pair .right-tops .within)
 
   lines-are : LineIs row texts n
   lines-are cs last h =
       line-is row texts n at-most-four cs h
-      (subst (All (λ s. spotTerms s ≤ 16)) (sym left-spots) (spots-few 16 0 r₁ (ok₁ .0 .2)))
-      (subst (All (λ s. spotTerms s ≤ 16)) (sym right-spots) (spots-few 16 64 r₂ (ok₂ .0 .2)))
+      (subst (All (λ s. spotTerms s ≤ mostTerms)) (sym left-spots) (spots-few fieldPlaces 0 r₁ (ok₁ .0 .2)))
+      (subst (All (λ s. spotTerms s ≤ mostTerms)) (sym right-spots) (spots-few fieldPlaces rulePlaces r₂ (ok₂ .0 .2)))
       (numbers-few row (pair .left-tops .within) (pair .right-tops .within)) last
 
   pub pair-lines : allLines row texts n ≡ map lineText (linesOf r₁ r₂)
@@ -165,7 +166,7 @@ module _ (t u : List ℕ) (h : Accepts t u) where
       read-countable =
           pair-countable x y (rule-read t x (h .reads-left)) (rule-read u y (h .reads-right)) row₂ texts₂ tables-noted n left-count (same ∙ right-count)
 
-      pub read-few : length (bytesOf (allLines row₂ texts₂ n)) ≤ choices row₂ 0 n * longestLine
+      pub read-few : length (bytesOf (allLines row₂ texts₂ n)) ≤ choices row₂ 0 n * entryLine
       read-few =
           pair-few x y (rule-read t x (h .reads-left)) (rule-read u y (h .reads-right)) row₂ texts₂ tables-noted n left-count (same ∙ right-count)
 

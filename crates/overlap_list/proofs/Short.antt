@@ -6,6 +6,7 @@ use Prim.Native.Nat.{ℕ, zero, suc, _+_, _-_, _*_, _/_, _≤_, _<_}
 use native.Mathlib.Nat.{mul-le-mul, mul-le-mul-right, div-mul-le-self}
 use native.Mathlib.Omega.{arith}
 use lib.ListN.{length, getD, length-append}
+use Rattle.base_limits.specs.Limits.{longestString, kindCount, numbersOfSide, entryLine}
 use Rattle.base_lists.specs.Seqs.{All, all-append}
 use Rattle.pair_row.specs.Row.{tableIn, cellBytes, topIn}
 use Rattle.pair_state.specs.declared.State.{State}
@@ -17,7 +18,7 @@ use Rattle.pair_lines.proofs.Short.{any-line}
 use Rattle.text_write.specs.pieces.Stored.{bytesOf}
 use Rattle.overlap_list.specs.declared.Candidate.{Candidate}
 use Rattle.overlap_list.specs.Listing.{spanAt, candidateOf, joinsAt, afterJoin, candidateLines, choiceLines, linesFrom, allLines}
-use Rattle.overlap_list.specs.Listing.{choices, longestLine}
+use Rattle.overlap_list.specs.Listing.{choices}
 use Rattle.overlap_list.proofs.Counts.{choice-few}
 
 -- ---- how many lines
@@ -68,19 +69,19 @@ bytes-few b [] a = omega arith
 bytes-few b (l ∷ ls) a = omega (arith, a .0, bytes-few b ls (a .1), length-append l (bytesOf ls))
 
 module _ (row texts : List ℕ) (n : ℕ) where
-  pub list-short : All (λ l. length l ≤ longestLine) (allLines row texts n) → length (bytesOf (allLines row texts n)) ≤ choices row 0 n * longestLine
-  list-short a = omega (arith, bytes-few longestLine (allLines row texts n) a, mul-le-mul-right longestLine (few-lines row texts n))
+  pub list-short : All (λ l. length l ≤ entryLine) (allLines row texts n) → length (bytesOf (allLines row texts n)) ≤ choices row 0 n * entryLine
+  list-short a = omega (arith, bytes-few entryLine (allLines row texts n) a, mul-le-mul-right entryLine (few-lines row texts n))
 
   -- THE LIST of a pair whose constants have at most 15 bytes, and its variables numbers below 16
-  pub pair-short : ((c : ℕ) → getD texts (cellBytes * c) 0 ≤ 15)
-      → ((k : ℕ) → k < 4 → topIn row false k ≤ 16) → ((k : ℕ) → k < 4 → topIn row true k ≤ 16)
-      → length (bytesOf (allLines row texts n)) ≤ choices row 0 n * longestLine
+  pub pair-short : ((c : ℕ) → getD texts (cellBytes * c) 0 ≤ longestString)
+      → ((k : ℕ) → k < kindCount → topIn row false k ≤ numbersOfSide) → ((k : ℕ) → k < kindCount → topIn row true k ≤ numbersOfSide)
+      → length (bytesOf (allLines row texts n)) ≤ choices row 0 n * entryLine
   pair-short short low₁ low₂ =
-      list-short (every-line (λ l. length l ≤ longestLine) row texts n (λ ch atoms. any-line row texts n ch atoms short low₁ low₂))
+      list-short (every-line (λ l. length l ≤ entryLine) row texts n (λ ch atoms. any-line row texts n ch atoms short low₁ low₂))
 
 -- a list with room for the longest line of every choice fits
-pub surely-fits : (c b n : ℕ) → c ≤ n / longestLine → b ≤ c * longestLine → b ≤ n
-surely-fits c b n h p = omega (arith, p, mul-le-mul-right longestLine h, div-mul-le-self n longestLine)
+pub surely-fits : (c b n : ℕ) → c ≤ n / entryLine → b ≤ c * entryLine → b ≤ n
+surely-fits c b n h p = omega (arith, p, mul-le-mul-right entryLine h, div-mul-le-self n entryLine)
 
 -- ---- how many choices, field by field from the last one on
 

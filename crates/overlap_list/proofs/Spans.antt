@@ -8,6 +8,7 @@ use Prim.Native.Nat.{ℕ, _+_, _-_, _≤_, _<_}
 use native.Mathlib.Omega.{arith}
 use lib.Dec.{eqb, leb}
 use borrow.Author.Tests.{eq-eqb, ne-eqb}
+use Rattle.math_codes.specs.Makers.{largestByte}
 use Rattle.math_types.specs.Types.{entry}
 use Rattle.math_codes.specs.Spots.{Spot, cellAt, joinFrom}
 use Rattle.pair_row.specs.declared.Shape.{Shape}
@@ -17,15 +18,16 @@ use Rattle.pair_state.specs.declared.Joined.{Joined}
 use Rattle.pair_state.specs.States.{joinedOf}
 use Rattle.overlap_entries.specs.declared.Span.{Span}
 use Rattle.overlap_entries.specs.Entries.{only, spanFrom, spanOf}
-use Rattle.overlap_list.specs.Listing.{spanAt, candidateOf, joinsAt}
+use Rattle.overlap_list.specs.Listing.{spanAt, candidateOf, joinsAt, spanBound}
 
 -- ---- the candidate that comes next where k are left
 
 -- heads and tails are bytes, so a candidate's number of atoms fits in two
-span-low : (s s′ : Spot ℕ) → s .head ≤ 255 → s .tail ≤ 255 → s′ .head ≤ 255 → s′ .tail ≤ 255 → spanOf s s′ .least + spanOf s s′ .count ≤ 511
+span-low : (s s′ : Spot ℕ) → s .head ≤ largestByte → s .tail ≤ largestByte → s′ .head ≤ largestByte → s′ .tail ≤ largestByte
+    → spanOf s s′ .least + spanOf s s′ .count ≤ 511
 span-low s s′ a b c d = go (s .name) (s′ .name)
   where
-    fewest : (n : ℕ) (fits : Bool) → n ≤ 255 → only n fits .least + only n fits .count ≤ 511
+    fewest : (n : ℕ) (fits : Bool) → n ≤ largestByte → only n fits .least + only n fits .count ≤ 511
     fewest n true h = omega arith
     fewest n false h = omega arith
 
@@ -38,7 +40,7 @@ span-low s s′ a b c d = go (s .name) (s′ .name)
 
 -- of two fields' shapes as they are read
 pub few-candidates : (f g : Shape) (s : Span) (k : ℕ) → s ≡ spanOf (spotOf f) (spotOf g) → f .head < 256 → f .tail < 256 → g .head < 256 → g .tail < 256
-    → 0 < k → k ≤ s .count → (1 ≤ k) × (k ≤ s .count) × (s .least + s .count ≤ 1024)
+    → 0 < k → k ≤ s .count → (1 ≤ k) × (k ≤ s .count) × (s .least + s .count ≤ spanBound)
 few-candidates f g s k e a b c d p h =
     let q = span-low (spotOf f) (spotOf g) (omega arith) (omega arith) (omega arith) (omega arith) in
     (omega arith, h, omega (arith, q, ap (λ (x : Span). x .count) e, ap (λ (x : Span). x .least) e))

@@ -3,10 +3,11 @@
 use mathlib.Core.Path.{_≡_}
 use mathlib.Core.Bool.{true, false, cond, _&&_}
 use mathlib.Core.List.{List, [], _∷_, _++_}
-use Prim.Native.Nat.{ℕ, zero, suc, _+_, _-_, _*_, _≤_}
+use Prim.Native.Nat.{ℕ, zero, suc, _+_, _-_, _*_, _^_, _≤_}
 use lib.Dec.{eqb}
 use lib.ListN.{length}
 use lib.Seq.{sets}
+use Rattle.base_limits.specs.Limits.{mostFields, mostTerms}
 use Rattle.math_types.specs.Types.{entry}
 use Rattle.math_codes.specs.Spots.{cellAt, joinFrom}
 use Rattle.text_write.specs.pieces.Stored.{bytesOf}
@@ -72,10 +73,6 @@ abbrev pub choices : List ℕ → ℕ → ℕ → ℕ
 choices row j zero = 1
 choices row j (suc n) = spanAt row j .count * choices row (j + 1) n
 
--- the most bytes that the line of an entry of two rules has: none has more (`pair-short` of proofs/)
-abbrev pub longestLine : ℕ
-longestLine = 24285
-
 -- ---- counts
 
 abbrev pub noTally : Tally
@@ -88,9 +85,14 @@ tallied t ls = record { entries = t .entries + length ls; bytes = t .bytes + len
 abbrev pub Stores : List (List ℕ) → Tally → List ℕ → Tally → List ℕ → Type 0
 Stores ls t old u new = (u ≡ tallied t ls) × (new ≡ sets old (t .bytes) (bytesOf ls))
 
--- the counts can be held: no field pair of two rules has more than 17 candidates, and no line more bytes than `lineBound`
+-- how many items the candidates of a field pair have stays small, whatever the row holds
+abbrev pub spanBound : ℕ
+spanBound = 1024
+
+-- the counts can be held: no field pair of two rules has more candidates than a term more than a field has, and no line more bytes than
+-- `lineBound`
 abbrev pub mostEntries : ℕ
-mostEntries = 83521
+mostEntries = suc mostTerms ^ mostFields
 
 abbrev pub Moderate : Tally → Type 0
 Moderate t = t .bytes ≤ lineBound * t .entries

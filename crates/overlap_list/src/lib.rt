@@ -4,24 +4,23 @@
 // measured first where it might not fit, and then written.
 ghost use mathlib.Core.Path.{_≡_};
 ghost use mathlib.Core.List.{[], _∷_};
-ghost use Prim.Native.Nat.{_+_, _-_, _*_, _≤_, _<_, min};
+ghost use Prim.Native.Nat.{_+_, _-_, _*_, _≤_, _<_};
 ghost use lib.ListN.{length};
+ghost use Rattle.base_limits.specs.Limits.{mostFields, entryLine};
 ghost use Rattle.text_accepted.specs.Accepted.{countedLeft};
 ghost use Rattle.text_accepted.specs.rules.Rules.{countedRule};
 ghost use Rattle.text_write.specs.pieces.Stored.{bytesOf};
 ghost use Rattle.pair_lines.specs.Lines.{lineIn};
-ghost use Rattle.overlap_list.specs.Listing.{candidateOf, noTally, Stores, linesIn, choicesIn, allLines, choices, longestLine};
-ghost use Rattle.overlap_list.specs.Listing.{Moderate, Countable};
+ghost use Rattle.overlap_list.specs.Listing.{candidateOf, noTally, Stores, linesIn, choicesIn, allLines, choices};
+ghost use Rattle.overlap_list.specs.Listing.{spanBound, Moderate, Countable};
 ghost use Rattle.overlap_list.specs.Answers.{Lists, ListsLines, Accepts, SidesList, TextsList};
+use base_numbers::at_most;
 use overlap_entries::Choice;
 use overlap_entries::Span;
 use pair_state::State;
 use text_refusals::verdicts::Verdict;
 use text_values::Rule;
 use text_values::RuleSide;
-
-// The most bytes that the line of an entry has.
-const LONGEST_LINE: usize = 24285;
 
 // How many lines so far, and how many bytes they have.
 pub struct Tally {
@@ -50,12 +49,6 @@ struct Candidate {
     long: bool,
 }
 
-fn at_most(n: usize, most: usize) -> usize
-    ensures { λ r. ⌜ r ≡ min n most ⌝ }
-{
-    if n < most { n } else { most }
-}
-
 // An entry's line goes into the part of the buffer behind the line before it, as far as there is room.
 fn put_entry(
     row: &[u8],
@@ -81,7 +74,7 @@ fn put_entry(
 
 // The candidate that comes next where k are left.
 fn candidate_of(s: Span, k: u16) -> Candidate
-    requires { ⌜ (1 ≤ k) × (k ≤ s .count) × (s .least + s .count ≤ 1024) ⌝ }
+    requires { ⌜ (1 ≤ k) × (k ≤ s .count) × (s .least + s .count ≤ spanBound) ⌝ }
     ensures { λ r. ⌜ r ≡ candidateOf s k ⌝ }
 {
     let items = s.least + (s.count - k);
@@ -177,7 +170,7 @@ fn all_lines(row: &[u8], texts: &[u8], fields: u8, out: &mut [u8]) -> Tally
 
 // How many choices of one candidate a field there are, with those that something kills.
 fn choices(row: &[u8], fields: u8) -> usize
-    requires { ⌜ fields ≤ 4 ⌝ }
+    requires { ⌜ fields ≤ mostFields ⌝ }
     ensures { λ r. ⌜ r ≡ choices (now (row .entry)) 0 fields ⌝ }
 {
     let mut n = 1usize;
@@ -193,13 +186,13 @@ fn choices(row: &[u8], fields: u8) -> usize
 
 // Measured with no room unless it surely fits, so that a buffer that is too small keeps its old bytes; then written.
 fn list_pair(row: &[u8], texts: &[u8], fields: u8, out: &mut [u8]) -> Listed
-    requires { ⌜ fields ≤ 4 ⌝ }
+    requires { ⌜ fields ≤ mostFields ⌝ }
     requires { ⌜ Countable noTally (allLines (now row) (now texts) fields) ⌝ }
-    requires { ⌜ length (bytesOf (allLines (now row) (now texts) fields)) ≤ choices (now row) 0 fields * longestLine ⌝ }
+    requires { ⌜ length (bytesOf (allLines (now row) (now texts) fields)) ≤ choices (now row) 0 fields * entryLine ⌝ }
     ensures { λ r. ⌜ ListsLines (allLines (now (row .entry)) (now (texts .entry)) fields) (now (out .entry)) r (now (out .exit)) ⌝ }
 {
     // No list has more bytes than its choices have lines of the longest: one that then fits need not be measured.
-    if choices(row, fields) <= out.len() / LONGEST_LINE {
+    if choices(row, fields) <= out.len() / base_limits::ENTRY_LINE {
         let u = all_lines(row, texts, fields, out);
         return Listed::Lines(u.entries, u.bytes);
     }
@@ -216,8 +209,8 @@ fn list_read(left: &[u8], right: &[u8], out: &mut [u8]) -> Listed
     requires { ⌜ Accepts (now left) (now right) ⌝ }
     ensures { λ r. ⌜ SidesList (now (left .entry)) (now (right .entry)) (now (out .entry)) r (now (out .exit)) ⌝ }
 {
-    let mut row = [0u8; 681];
-    let mut texts = [0u8; 2048];
+    let mut row = [0u8; pair_row::ROW_BYTES];
+    let mut texts = [0u8; pair_row::TEXTS_BYTES];
     let n = text_passes::note_side(left, false, &mut row, &mut texts);
     let m = text_passes::note_side(right, true, &mut row, &mut texts);
     if n != m {
@@ -250,13 +243,13 @@ pub fn list_texts(left: &[u8], right: &[u8], out: &mut [u8]) -> TextsListed
     }
 }
 
-// The list of two left sides: that of their plain texts, which have at most 1,151 bytes. What no reading returns has no text,
+// The list of two left sides: that of their plain texts. What no reading returns has no text,
 // and so no overlaps.
 fn list_sides(left: RuleSide, right: RuleSide, out: &mut [u8]) -> Listed
     ensures { λ r. ⌜ Lists (countedLeft left) (countedLeft right) (now (out .entry)) r (now (out .exit)) ⌝ }
 {
-    let mut a = [0u8; 1151];
-    let mut b = [0u8; 1151];
+    let mut a = [0u8; base_limits::LONGEST_SIDE];
+    let mut b = [0u8; base_limits::LONGEST_SIDE];
     let n = text_write::pieces::size_of(text_plain::write_side(left, &mut a));
     let m = text_write::pieces::size_of(text_plain::write_side(right, &mut b));
     let said = list_texts(&a[..n], &b[..m], out);

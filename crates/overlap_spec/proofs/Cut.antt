@@ -8,9 +8,8 @@ use Prim.Native.Nat.{ℕ, _≤_}
 use native.Mathlib.Omega.{arith}
 use native.Mathlib.Decide.{ℕ-discrete}
 use Rattle.base_lists.specs.Seqs.{All}
-use Rattle.math_types.specs.Order.{basic, list}
-use Rattle.math_types.specs.Types.{integer, string, atom, Kind}
-use Rattle.text_grammar.specs.Bytes.{letter, Begins, b-digit, b-quote, b-letter, b-e, b-none, begins, Follows, f-digit, f-colon, f-bar, f-none, follows, First}
+use Rattle.text_grammar.specs.Letters.{letter-lower}
+use Rattle.text_grammar.specs.Bytes.{Begins, b-digit, b-quote, b-letter, b-e, b-none, begins, Follows, f-digit, f-colon, f-bar, f-none, follows, First}
 use Rattle.text_grammar.specs.Bytes.{n-zero}
 use Rattle.text_grammar.specs.Bytes.{n-more, n-none, first, Holds, h-quote, h-in, h-none, holds}
 use Rattle.text_grammar.specs.Grammar.{Grammar}
@@ -83,12 +82,6 @@ plain-byte b l u = ((omega arith, u), λ t. cut-out b t (λ e. omega arith) (λ 
 -- `a` to `z`
 abbrev pub Lower : ℕ → Type 0
 Lower c = (97 ≤ c) × (c ≤ 122)
-
-pub letter-lower : (k : Kind) → Lower (letter k)
-letter-lower (basic integer) = (omega arith, omega arith)
-letter-lower (basic string) = (omega arith, omega arith)
-letter-lower (basic atom) = (omega arith, omega arith)
-letter-lower list = (omega arith, omega arith)
 
 -- ---- the machine of the grammar keeps to the cut
 

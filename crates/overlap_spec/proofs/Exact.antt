@@ -8,7 +8,7 @@ use native.Mathlib.Omega.{arith}
 use native.Mathlib.Decide.{ℕ-discrete}
 use lib.ListN.{length, getElem?, length-map}
 use Rattle.base_lists.specs.Seqs.{All, IsCons, all-map}
-use Rattle.math_types.specs.Types.{Basic, integer, string, atom, Kind, basics}
+use Rattle.math_types.specs.Types.{leaf, Basic, integer, string, atom, Kind, basics}
 use Rattle.math_terms.specs.Terms.{con, var}
 use Rattle.math_terms.specs.Fillings.{Filling, Typed, fill}
 use Rattle.math_terms.specs.Linear.{LeftLinear}
@@ -56,8 +56,8 @@ module _ {A B : Type 0} (f : A → B) where
 -- ---- document 01's constants
 
 some-ours : (k : Basic) → OurCon (some-of k)
-some-ours integer = omega arith
-some-ours string = (tt, omega arith)
+some-ours (leaf integer) = omega arith
+some-ours (leaf string) = (tt, omega arith)
 some-ours atom = omega arith
 
 constant-in : (t : OurTerm) → TermIn t → ConstantIn OurCon t

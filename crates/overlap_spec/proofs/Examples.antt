@@ -5,7 +5,7 @@ use mathlib.Core.Path.{_≡_, refl}
 use mathlib.Core.List.{List, [], _∷_, _++_, map}
 use native.Mathlib.Decide.{decLt}
 use Rattle.math_types.specs.Order.{basic, list}
-use Rattle.math_types.specs.Types.{integer, string, atom, Kind}
+use Rattle.math_types.specs.Types.{leaf, integer, string, atom, Kind}
 use Rattle.math_terms.specs.Terms.{con, var}
 use Rattle.text_grammar.specs.Ascii.{ascii, newline}
 use Rattle.text_grammar.specs.Terms.{OurTerm, int, str}
@@ -16,10 +16,10 @@ abbrev num : ℕ → OurTerm
 num n = con (int n)
 
 abbrev i : ℕ → OurTerm
-i n = var (basic integer) n
+i n = var (basic (leaf integer)) n
 
 abbrev s : ℕ → OurTerm
-s n = var (basic string) n
+s n = var (basic (leaf string)) n
 
 abbrev a : ℕ → OurTerm
 a n = var (basic atom) n
@@ -49,11 +49,11 @@ pub lines :
     map lineText (
     line ((l 0 ∷ []) ∷ []) (bind list 0 (l 0 ∷ []) ∷ []) (bind list 0 (l 0 ∷ []) ∷ [])
     ∷ line ([] ∷ []) [] []
-    ∷ line ((num 2 ∷ []) ∷ []) (bind (basic integer) 0 (num 2 ∷ []) ∷ []) (bind list 0 [] ∷ [])
+    ∷ line ((num 2 ∷ []) ∷ []) (bind (basic (leaf integer)) 0 (num 2 ∷ []) ∷ []) (bind list 0 [] ∷ [])
     ∷ line ((num 1 ∷ num 2 ∷ num 3 ∷ []) ∷ []) (bind list 0 (num 3 ∷ []) ∷ []) (bind list 0 (num 1 ∷ []) ∷ [])
-    ∷ line ((num 3 ∷ []) ∷ (num 3 ∷ []) ∷ []) (bind (basic integer) 0 (num 3 ∷ []) ∷ bind list 0 [] ∷ []) (bind (basic atom) 0 (num 3 ∷ []) ∷ [])
-    ∷ line ((i 0 ∷ i 0 ∷ []) ∷ []) (bind (basic atom) 0 (i 0 ∷ []) ∷ []) (bind (basic integer) 0 (i 0 ∷ []) ∷ bind list 0 (i 0 ∷ []) ∷ [])
-    ∷ line ((con (str (ascii "a <b")) ∷ []) ∷ []) [] (bind (basic string) 15 (con (str (ascii "a <b")) ∷ []) ∷ [])
+    ∷ line ((num 3 ∷ []) ∷ (num 3 ∷ []) ∷ []) (bind (basic (leaf integer)) 0 (num 3 ∷ []) ∷ bind list 0 [] ∷ []) (bind (basic atom) 0 (num 3 ∷ []) ∷ [])
+    ∷ line ((i 0 ∷ i 0 ∷ []) ∷ []) (bind (basic atom) 0 (i 0 ∷ []) ∷ []) (bind (basic (leaf integer)) 0 (i 0 ∷ []) ∷ bind list 0 (i 0 ∷ []) ∷ [])
+    ∷ line ((con (str (ascii "a <b")) ∷ []) ∷ []) [] (bind (basic (leaf string)) 15 (con (str (ascii "a <b")) ∷ []) ∷ [])
     ∷ []
     )
     ≡ map (λ (t : String). ascii t ++ newline) (
@@ -79,6 +79,7 @@ pub variable-lists :
     )
     ≡ ((basic atom, 0) ∷ (list, 0) ∷ [])
     ∷ []
-    ∷ ((basic integer, 0) ∷ (basic integer, 3) ∷ (basic integer, 15) ∷ (basic string, 0) ∷ (basic atom, 9) ∷ (basic atom, 10) ∷ (list, 2) ∷ [])
+    ∷ ((basic (leaf integer), 0) ∷ (basic (leaf integer), 3) ∷ (basic (leaf integer), 15) ∷ (basic (leaf string), 0)
+    ∷ (basic atom, 9) ∷ (basic atom, 10) ∷ (list, 2) ∷ [])
     ∷ []
 variable-lists = refl

@@ -7,6 +7,7 @@ use native.Mathlib.Omega.{arith}
 use Rattle.base_lists.specs.Seqs.{All, all-append, all-map}
 use Rattle.math_types.specs.Types.{Kind}
 use Rattle.math_terms.specs.Terms.{var}
+use Rattle.text_grammar.specs.Letters.{letter-lower}
 use Rattle.text_grammar.specs.Bytes.{Digit}
 use Rattle.text_grammar.specs.Grammar.{Grammar}
 use Rattle.text_grammar.specs.Numbers.{digitsOf}
@@ -16,7 +17,7 @@ use Rattle.text_grammar.proofs.Numbers.{digits-number, number-digits}
 use Rattle.text_grammar.proofs.Plain.{plain-says, plain-one}
 use Rattle.overlap_spec.specs.Lines.{Binding, Line, nameText, bindingText, leftTag, rightTag, bindingsText, lineText, listText, WritableBinding}
 use Rattle.overlap_spec.specs.Lines.{WritableLine}
-use Rattle.overlap_spec.proofs.Cut.{Printable, letter-lower, Closed, grammar-closed, grammar-printable, closed-byte, Starts, closed-one}
+use Rattle.overlap_spec.proofs.Cut.{Printable, Closed, grammar-closed, grammar-printable, closed-byte, Starts, closed-one}
 
 -- ---- the fields
 

@@ -10,16 +10,16 @@ use native.Mathlib.Decide.{ℕ-discrete}
 use lib.Dec.{eqb}
 use lib.ListN.{length}
 use borrow.Author.Tests.{eqb-true, eq-eqb}
+use Rattle.base_limits.specs.Limits.{largestNumber}
 use Rattle.base_lists.specs.Seqs.{All, Any, all-append, all-map}
 use Rattle.base_lists.specs.Truths.{both-is}
-use Rattle.math_types.specs.Types.{Kind, rank, rank-below, rank-once, same, same-is}
+use Rattle.math_types.specs.Types.{Kind, kinds, rank, rank-kinds, rank-once, same, same-is}
 use Rattle.math_terms.specs.Terms.{con, var}
 use Rattle.math_terms.specs.Seqs.{concat-map, Distinct}
 use Rattle.math_terms.specs.Fillings.{Occurs}
-use Rattle.text_grammar.specs.Sizes.{largestNumber}
 use Rattle.text_grammar.specs.Terms.{OurTerm}
 use Rattle.text_grammar.specs.Limits.{TermIn}
-use Rattle.overlap_spec.specs.Variables.{Variable, kinds, numbersFrom, numbers, ofKind, every, isVariable, inField, occurs, variables, Before, Rising}
+use Rattle.overlap_spec.specs.Variables.{Variable, numbersFrom, numbers, ofKind, every, isVariable, inField, occurs, variables, Before, Rising}
 use Rattle.overlap_spec.proofs.Rising.{rising-append, rising-distinct, keep-rising, keep-mem, rising-under, rising-back}
 
 -- ---- the numbers
@@ -59,7 +59,7 @@ kinds-rising = rising-back _<_ rank kinds (subst (Rising _<_) (sym kinds-ranked)
 -- every type is there, since its rank is
 pub kinds-all : (k : Kind) → List·Memᴰ k kinds
 kinds-all k =
-    let b = rank-below k in
+    let b = rank-kinds k in
     let m : List·Memᴰ (rank k) (numbersFrom (length kinds) 0) = numbers-mem (length kinds) 0 (rank k) .1 (omega arith, omega arith) in
     let j = Memᴰ·of-map rank kinds (subst (List·Memᴰ (rank k)) (sym kinds-ranked) m) in
     Memᴰ·cast (rank-once k (j .0) (sym (j .2))) (j .1)

@@ -5,12 +5,11 @@ use mathlib.Core.Bool.{Bool, false, _&&_, _||_, cond}
 use mathlib.Core.List.{List, [], _∷_, map}
 use Prim.Native.Nat.{ℕ, zero, suc, _<_}
 use lib.Dec.{eqb}
+use Rattle.base_limits.specs.Limits.{largestNumber}
 use Rattle.base_lists.specs.Seqs.{All}
-use Rattle.math_types.specs.Order.{basic, list}
-use Rattle.math_types.specs.Types.{integer, string, atom, Kind, rank, same}
+use Rattle.math_types.specs.Types.{Kind, kinds, rank, same}
 use Rattle.math_terms.specs.Terms.{con, var}
 use Rattle.math_terms.specs.Seqs.{concat-map}
-use Rattle.text_grammar.specs.Sizes.{largestNumber}
 use Rattle.text_grammar.specs.Terms.{OurTerm}
 
 -- a variable is its type and its number
@@ -18,10 +17,6 @@ abbrev pub Variable : Type 0
 Variable = Kind × ℕ
 
 -- ---- every variable, in order
-
--- document 01: "the order i, s, a, l"; `kinds-all` and `kinds-rising` of proofs/ say that every type is here, by its rank
-abbrev pub kinds : List Kind
-kinds = basic integer ∷ basic string ∷ basic atom ∷ list ∷ []
 
 -- as many numbers as the first argument says, from the second on
 abbrev pub numbersFrom : ℕ → ℕ → List ℕ
@@ -37,6 +32,7 @@ abbrev pub ofKind : Kind → List Variable
 ofKind k = map (λ (n : ℕ). (k, n)) numbers
 
 -- document 01: "Variables go in the order i, s, a, l, then by number"
+-- `kinds-all` and `kinds-rising` of proofs/ say that every type is there, by its rank
 abbrev pub every : List Variable
 every = concat-map ofKind kinds
 

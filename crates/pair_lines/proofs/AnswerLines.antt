@@ -8,15 +8,16 @@ use lib.Dec.{eqb, leb}
 use lib.ListN.{length, getD, drop, length-append, length-drop, length-replicate}
 use lib.Seq.{slice, take-all}
 use borrow.Author.Tests.{leb-true, eq-eqb, ne-eqb}
+use Rattle.base_limits.specs.Limits.{entryTerms, numbersOfSide, pairItems}
 use Rattle.base_lists.specs.Truths.{both-is}
 use Rattle.base_lists.specs.Seqs.{tabulate-at}
+use Rattle.math_codes.specs.Makers.{largestByte}
 use Rattle.math_codes.specs.Tables.{Table}
 use Rattle.math_codes.specs.Names.{Names, noNames, nameCodes, nameFields}
-use Rattle.math_codes.specs.Lines.{pairItems}
 use Rattle.math_codes.proofs.Makers.{at-most}
 use Rattle.math_codes.proofs.Measures.{values-bounded}
 use Rattle.pair_row.specs.Row.{tableIn, textIn, indexIn, topIn}
-use Rattle.pair_lines.specs.Lines.{Few, sideFew, numbersFew, runBy, tagOf, unled, valuesIn, lineBound}
+use Rattle.pair_lines.specs.Lines.{Few, sideFew, numbersFew, runBy, tagOf, unled, valuesIn, lineBound, mostCount, runPlaces}
 use Rattle.pair_lines.specs.Answers.{areItems, valueFits, wholeRuns, listedIn, answerIn}
 use Rattle.pair_lines.proofs.Bounds.{tops-few}
 use Rattle.pair_lines.proofs.Loops.{all-named}
@@ -26,18 +27,18 @@ use Rattle.pair_lines.proofs.AnswerNumbers.{Bound, side-numbers, no-num
 
 -- ---- runs that are all items
 
-whole-run : (items : List ℕ) (l : ℕ) → l < 16 → runBy (wholeRuns (length items)) items l ≡ items
+whole-run : (items : List ℕ) (l : ℕ) → l < numbersOfSide → runBy (wholeRuns (length items)) items l ≡ items
 whole-run items l h =
     let n = length items in
     let f : ℕ → ℕ = λ i. cond (eqb (i % 2) 0) 0 n in
     let from : getD (wholeRuns n) (2 * l) 0 ≡ 0 =
-    tabulate-at 32 f (2 * l) 0 (omega arith) ∙ ap (λ (b : Bool). cond b 0 n) (eq-eqb (2 * l % 2) 0 (omega arith)) in
+    tabulate-at runPlaces f (2 * l) 0 (omega arith) ∙ ap (λ (b : Bool). cond b 0 n) (eq-eqb (2 * l % 2) 0 (omega arith)) in
     let to : getD (wholeRuns n) (2 * l + 1) 0 ≡ n =
-    tabulate-at 32 f (2 * l + 1) 0 (omega arith) ∙ ap (λ (b : Bool). cond b 0 n) (ne-eqb ((2 * l + 1) % 2) 0 (λ e. omega arith)) in
+    tabulate-at runPlaces f (2 * l + 1) 0 (omega arith) ∙ ap (λ (b : Bool). cond b 0 n) (ne-eqb ((2 * l + 1) % 2) 0 (λ e. omega arith)) in
     ap₂ (λ (a b : ℕ). slice a b items) from to ∙ take-all n items (omega arith)
 
-pub fits-short : (items : List ℕ) → valueFits items ≡ true → length items ≤ 31
-fits-short items e = leb-true (length items) 31 (both-is (leb (length items) 31) (areItems items) .0 e .0)
+pub fits-short : (items : List ℕ) → valueFits items ≡ true → length items ≤ entryTerms
+fits-short items e = leb-true (length items) entryTerms (both-is (leb (length items) entryTerms) (areItems items) .0 e .0)
 
 -- ---- the line
 
@@ -91,11 +92,11 @@ module _ (row texts atoms left right : List ℕ) where
         (all-named T (listedIn row false atoms left) (noNames pairItems 4) .1 ∙ length-replicate {A = ℕ} pairItems 0) bound₁
 
     -- there is room for all numbers
-    pub left-few : Few 254 (first .counts)
+    pub left-few : Few mostCount (first .counts)
     left-few i = omega (arith, at-most 79 (first .counts) (bound₁ .0) i)
 
     pub right-few : (counts numbers : List ℕ) → Gives first counts numbers
-        → Few 254 (nameFields T (inHand counts numbers) (listedIn row true atoms right) .counts)
+        → Few mostCount (nameFields T (inHand counts numbers) (listedIn row true atoms right) .counts)
     right-few counts numbers g i =
         let y = nameFields T first (listedIn row true atoms right) in
         let e = ap (λ (x : Names). getD (nameFields T x (listedIn row true atoms right) .counts) i 0) (in-hand first counts numbers g) in
@@ -130,17 +131,17 @@ module _ (row texts atoms left right : List ℕ) where
 
       -- its parts are small together
       module _ (short : (c : ℕ) → length (textIn row texts c) ≤ 257) where
-        low : (i : ℕ) → getD numbers i 0 ≤ 255
+        low : (i : ℕ) → getD numbers i 0 ≤ largestByte
         low i =
             let y = nameFields T first (listedIn row true atoms right) in
             let e = ap (λ (ns : List ℕ). getD ns i 0) (is-numbers ∙ ap (λ (x : Names). x .numbers) both-is-second) in
             omega (arith, e, at-most 158 (y .numbers) (bound₂ .1) i)
 
-        side-short : (side : Bool) → sideFew row side ≡ true → (items : List ℕ) → length items ≤ 31
+        side-short : (side : Bool) → sideFew row side ≡ true → (items : List ℕ) → length items ≤ entryTerms
             → length (valuesIn row texts numbers side atoms (λ l. items)) ≤ 8296680
         side-short side f items h =
             values-bounded T (textIn row texts) 257 short numbers low (tagOf side) (indexIn row side) (topIn row side)
-            (λ k l. let t = tops-few row side f k l in omega arith) atoms (λ l. items) 31 (omega arith) (λ l. h)
+            (λ k l. let t = tops-few row side f k l in omega arith) atoms (λ l. items) entryTerms (omega arith) (λ l. h)
 
         pub answer-short : length leftValues + (length rightValues + 1) ≤ lineBound
         answer-short =

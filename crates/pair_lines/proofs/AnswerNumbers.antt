@@ -10,13 +10,13 @@ use lib.Dec.{eqb, leb, ltb}
 use lib.ListN.{length, getD, set}
 use lib.Seq.{getD-set-same, getD-set-other, set-out}
 use borrow.Author.Tests.{lt-ltb, ltb-true, leb-true, eq-eqb, ne-eqb}
+use Rattle.base_limits.specs.Limits.{atomKindCount, entryTerms, numbersOfSide, pairItems}
 use Rattle.base_lists.specs.Truths.{both-is}
 use Rattle.base_lists.specs.Seqs.{All, all-map, all-append}
 use Rattle.math_terms.specs.Seqs.{concat-map}
 use Rattle.math_overlaps.specs.Candidates.{range}
 use Rattle.math_codes.specs.Tables.{Table}
 use Rattle.math_codes.specs.Names.{Names, noNames, counted, nameCode, nameCodes, nameFields}
-use Rattle.math_codes.specs.Lines.{pairItems}
 use Rattle.math_codes.specs.Index.{hasAt}
 use Rattle.math_codes.proofs.Makers.{AtMost, itemCount, names-few}
 use Rattle.pair_row.specs.Row.{tableIn, indexIn, topIn}
@@ -96,23 +96,23 @@ module _ (T : Table) where
 
   -- ---- one list of items, named again and again
 
-  module _ (items : List ℕ) (short : length items ≤ 31) (m : ℕ) where
+  module _ (items : List ℕ) (short : length items ≤ entryTerms) (m : ℕ) where
     abbrev Spare : Names → Type 0
-    Spare x = Bound m x ⊎ (Bound (m + 31) x × All (Done x) items)
+    Spare x = Bound m x ⊎ (Bound (m + entryTerms) x × All (Done x) items)
 
     same-few : (vs : List (List ℕ)) → All (λ v. v ≡ items) vs → (x : Names) → All (λ c. c < length (x .numbers)) items → Spare x
-        → Bound (m + 31) (nameFields T x vs)
-    same-few [] h x r (inl b) = bound-more m (m + 31) x (omega arith) b
+        → Bound (m + entryTerms) (nameFields T x vs)
+    same-few [] h x r (inl b) = bound-more m (m + entryTerms) x (omega arith) b
     same-few [] h x r (inr b) = b .0
     same-few (v ∷ vs) h x r (inl b) =
         let next = nameCodes T x items in
         let e = names-long T items x .1 in
-        subst (λ (w : List ℕ). Bound (m + 31) (nameFields T (nameCodes T x w) vs)) (sym (h .0))
+        subst (λ (w : List ℕ). Bound (m + entryTerms) (nameFields T (nameCodes T x w) vs)) (sym (h .0))
         (same-few vs (h .1) next
         (all-map (λ c. c < length (x .numbers)) (λ c. c < length (next .numbers)) (λ c p. omega (arith, e)) items r)
-        (inr (bound-more (m + (length items + 0)) (m + 31) next (omega arith) (names-few T (items ∷ []) m x b), settled items x r)))
+        (inr (bound-more (m + (length items + 0)) (m + entryTerms) next (omega arith) (names-few T (items ∷ []) m x b), settled items x r)))
     same-few (v ∷ vs) h x r (inr b) =
-        subst (λ (w : List ℕ). Bound (m + 31) (nameFields T (nameCodes T x w) vs)) (sym (h .0))
+        subst (λ (w : List ℕ). Bound (m + entryTerms) (nameFields T (nameCodes T x w) vs)) (sym (h .0))
         (rw (settled-same items x (b .1)) (same-few vs (h .1) x r (inr b)))
 
 -- ---- the values of a rule
@@ -130,7 +130,7 @@ are-items [] e = tt
 are-items (c ∷ cs) e = let h = both-is (ltb c pairItems) (areItems cs) .0 e in (ltb-true c pairItems (h .0), are-items cs (h .1))
 
 module _ (row : List ℕ) (right : Bool) (atoms items : List ℕ) where
-  one-item : (k n : ℕ) → k < 3 → itemCount (listedAt row right atoms items k n) ≤ 1
+  one-item : (k n : ℕ) → k < atomKindCount → itemCount (listedAt row right atoms items k n) ≤ 1
   one-item k n h = go (hasAt (indexIn row right) k n)
     where
       one : length (valueWith row right atoms items k n) ≡ 1
@@ -157,15 +157,17 @@ module _ (row : List ℕ) (right : Bool) (atoms items : List ℕ) where
     abbrev rank : ℕ → List (List ℕ)
     rank k = listedRank row right atoms items k
 
-    rank-few : (m k : ℕ) (x : Names) → k < 3 → Bound m x → Bound (m + 16) (nameFields T x (rank k))
+    rank-few : (m k : ℕ) (x : Names) → k < atomKindCount → Bound m x → Bound (m + numbersOfSide) (nameFields T x (rank k))
     rank-few m k x h b =
         let o = ones-few (listedAt row right atoms items k) (λ n. one-item k n h) 0 (topIn row right k) in
         let t = tops-few row right few k (omega arith) in
-        bound-more (m + itemCount (rank k)) (m + 16) (nameFields T x (rank k)) (omega arith) (names-few T (rank k) m x b)
+        bound-more (m + itemCount (rank k)) (m + numbersOfSide) (nameFields T x (rank k)) (omega arith) (names-few T (rank k) m x b)
 
     -- THE NUMBERS of a rule's values
     pub side-numbers : (m : ℕ) (x : Names) → length (x .numbers) ≡ pairItems → Bound m x → Bound (m + 79) (nameFields T x (listedIn row right atoms items))
-    side-numbers m x long b = subst (Bound (m + 79)) (sym parts) (bound-more (m + 16 + 16 + 16 + 31) (m + 79) (nameFields T x₃ (rank 3)) (omega arith) last)
+    side-numbers m x long b =
+        subst (Bound (m + 79)) (sym parts)
+        (bound-more (m + numbersOfSide + numbersOfSide + numbersOfSide + entryTerms) (m + 79) (nameFields T x₃ (rank 3)) (omega arith) last)
       where
         x₁ : Names
         x₁ = nameFields T x (rank 0)
@@ -186,16 +188,18 @@ module _ (row : List ℕ) (right : Bool) (atoms items : List ℕ) where
         long₃ : length (x₃ .numbers) ≡ pairItems
         long₃ = all-named T (rank 2) x₂ .1 ∙ all-named T (rank 1) x₁ .1 ∙ all-named T (rank 0) x .1 ∙ long
 
-        fit : (leb (length items) 31 ≡ true) × (areItems items ≡ true)
-        fit = both-is (leb (length items) 31) (areItems items) .0 fits
+        fit : (leb (length items) entryTerms ≡ true) × (areItems items ≡ true)
+        fit = both-is (leb (length items) entryTerms) (areItems items) .0 fits
 
         low : All (λ c. c < length (x₃ .numbers)) items
         low = all-map (λ c. c < pairItems) (λ c. c < length (x₃ .numbers)) (λ c p. omega (arith, long₃)) items (are-items items (fit .1))
 
-        last : Bound (m + 16 + 16 + 16 + 31) (nameFields T x₃ (rank 3))
+        last : Bound (m + numbersOfSide + numbersOfSide + numbersOfSide + entryTerms) (nameFields T x₃ (rank 3))
         last =
-            same-few T items (leb-true (length items) 31 (fit .0)) (m + 16 + 16 + 16) (rank 3) (all-items (range 0 (topIn row right 3))) x₃ low
-            (inl (rank-few (m + 16 + 16) 2 x₂ (omega arith) (rank-few (m + 16) 1 x₁ (omega arith) (rank-few m 0 x (omega arith) b))))
+            same-few T items (leb-true (length items) entryTerms (fit .0)) (m + numbersOfSide + numbersOfSide + numbersOfSide) (rank 3)
+            (all-items (range 0 (topIn row right 3))) x₃ low
+            (inl (rank-few (m + numbersOfSide + numbersOfSide) 2 x₂ (omega arith)
+            (rank-few (m + numbersOfSide) 1 x₁ (omega arith) (rank-few m 0 x (omega arith) b))))
 
 pub no-numbers : Bound 0 (noNames pairItems 4)
 no-numbers = (zeros 0 4, zeros 0 pairItems)

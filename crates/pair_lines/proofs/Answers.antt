@@ -9,11 +9,11 @@ use lib.Dec.{eqb, ltb}
 use lib.ListN.{length, getD, set, take, drop, take-append-drop, drop-of-length-le}
 use lib.Seq.{getD-set-same, getD-set-other, set-out, take-suc, drop-cons, take-all}
 use borrow.Author.Tests.{lt-ltb, le-ltb, lt-leb, le-leb}
+use Rattle.base_limits.specs.Limits.{atomKindCount, entryTerms, numbersOfSide, pairItems}
 use Rattle.math_terms.specs.Seqs.{concat-map}
 use Rattle.math_overlaps.specs.Candidates.{range}
 use Rattle.math_codes.specs.Tables.{Table}
 use Rattle.math_codes.specs.Names.{Names, counted, nameCode, nameCodes, nameFields}
-use Rattle.math_codes.specs.Lines.{pairItems}
 use Rattle.pair_row.specs.Row.{indexIn}
 use Rattle.pair_lines.specs.Lines.{Few}
 use Rattle.pair_lines.specs.Answers.{areItems, valueFits, valueWith, listedAt}
@@ -126,12 +126,12 @@ abbrev pub FitsFrom : List ℕ → ℕ → Type 0
 FitsFrom items i = (i ≤ length items) × (areItems items ≡ areItems (drop i items))
 
 module _ (items : List ℕ) where
-  pub value-long : 31 < length items → false ≡ valueFits items
-  value-long h = rw (lt-leb (length items) 31 h)
+  pub value-long : entryTerms < length items → false ≡ valueFits items
+  value-long h = rw (lt-leb (length items) entryTerms h)
 
-  module _ (short : length items ≤ 31) (i : ℕ) (v : FitsFrom items i) where
+  module _ (short : length items ≤ entryTerms) (i : ℕ) (v : FitsFrom items i) where
     value-is : valueFits items ≡ areItems (drop i items)
-    value-is = rw (le-leb (length items) 31 short) (v .1)
+    value-is = rw (le-leb (length items) entryTerms short) (v .1)
 
     pub value-all : length items ≤ i → true ≡ valueFits items
     value-all h = sym (value-is ∙ ap areItems (drop-of-length-le items {i = i} h))
@@ -151,14 +151,14 @@ module _ (items : List ℕ) where
 -- ---- what is listed of a variable
 
 module _ (row : List ℕ) (right : Bool) (atoms items : List ℕ) (k n : ℕ) where
-  pub with-atom : k < 3 → (c : ℕ) → c ≡ getD atoms (indexIn row right (16 * k + n) - 1) 0 → c ∷ [] ≡ valueWith row right atoms items k n
+  pub with-atom : k < atomKindCount → (c : ℕ) → c ≡ getD atoms (indexIn row right (numbersOfSide * k + n) - 1) 0 → c ∷ [] ≡ valueWith row right atoms items k n
   with-atom h c e = ap (λ (y : ℕ). y ∷ []) e ∙ rw (lt-ltb k 3 h)
 
   pub with-items : 3 ≤ k → items ≡ valueWith row right atoms items k n
   with-items h = rw (le-ltb k 3 h)
 
-  pub listed-there : (indexIn row right (16 * k + n) ≡ 0 → ⊥) → valueWith row right atoms items k n ∷ [] ≡ listedAt row right atoms items k n
-  listed-there h = rw (there (indexIn row right (16 * k + n)) h)
+  pub listed-there : (indexIn row right (numbersOfSide * k + n) ≡ 0 → ⊥) → valueWith row right atoms items k n ∷ [] ≡ listedAt row right atoms items k n
+  listed-there h = rw (there (indexIn row right (numbersOfSide * k + n)) h)
 
-  pub listed-not : indexIn row right (16 * k + n) ≡ 0 → [] ≡ listedAt row right atoms items k n
+  pub listed-not : indexIn row right (numbersOfSide * k + n) ≡ 0 → [] ≡ listedAt row right atoms items k n
   listed-not h = rw h

@@ -7,23 +7,25 @@ use native.Mathlib.Omega.{arith}
 use lib.Dec.{leb}
 use lib.ListN.{length, getD, drop, length-append, length-take}
 use borrow.Author.Tests.{leb-true}
+use Rattle.base_limits.specs.Limits.{kindCount, numbersOfSide, entryPlaces}
 use Rattle.base_lists.specs.Truths.{both-is}
+use Rattle.math_codes.specs.Makers.{largestByte}
 use Rattle.math_codes.specs.Lines.{fieldsText}
 use Rattle.math_codes.specs.Whole.{runOn}
 use Rattle.math_codes.proofs.Measures.{line-bounded}
 use Rattle.overlap_entries.specs.declared.Choice.{Choice}
-use Rattle.pair_row.specs.Row.{topsAt, tableIn, bytesIn, textIn, isString, indexIn, topIn}
+use Rattle.pair_row.specs.Row.{topsAt, tableIn, bytesIn, textIn, isString, indexIn, topIn, cellBytes}
 use Rattle.pair_lines.specs.Lines.{sideFew, numbersFew, fits, itemsIn, namesIn, laidIn, spotsIn, runsOver, noRuns, runBy}
 use Rattle.pair_lines.specs.Lines.{valuesIn, wholeLine, lineIn, lineBound}
 use Rattle.pair_lines.proofs.Laying.{fields-fit, run-is, items-long, items-small, names-small}
 use Rattle.pair_lines.proofs.Values.{values-agree}
 
 module _ (row : List ℕ) (right : Bool) where
-  pub tops-few : sideFew row right ≡ true → (k : ℕ) → k < 4 → topIn row right k ≤ 16
-  tops-few e k l = leb-true (topIn row right k) 16 (at k l)
+  pub tops-few : sideFew row right ≡ true → (k : ℕ) → k < kindCount → topIn row right k ≤ numbersOfSide
+  tops-few e k l = leb-true (topIn row right k) numbersOfSide (at k l)
     where
       few : ℕ → Bool
-      few k = leb (topIn row right k) 16
+      few k = leb (topIn row right k) numbersOfSide
 
       first : (few 0 ≡ true) × ((few 1 && (few 2 && few 3)) ≡ true)
       first = both-is (few 0) (few 1 && (few 2 && few 3)) .0 e
@@ -45,8 +47,8 @@ module _ (row texts : List ℕ) (small : (i : ℕ) → getD texts i 0 < 256) whe
   pub text-short : (k : ℕ) → length (textIn row texts k) ≤ 257
   text-short k = go (isString row k)
     where
-      few : length (bytesIn texts k) ≤ 255
-      few = omega (arith, small (16 * k), length-take (getD texts (16 * k) 0) (drop (16 * k + 1) texts))
+      few : length (bytesIn texts k) ≤ largestByte
+      few = omega (arith, small (cellBytes * k), length-take (getD texts (cellBytes * k) 0) (drop (cellBytes * k + 1) texts))
 
       go : (b : Bool) → length (cond b (34 ∷ (bytesIn texts k ++ 34 ∷ [])) (bytesIn texts k)) ≤ 257
       go true = omega (arith, few, length-append (bytesIn texts k) (34 ∷ []))
@@ -99,7 +101,7 @@ module _ (row texts : List ℕ) (n : ℕ) (c : Choice) (atoms : List ℕ) where
         ∙ line-whole ok few
 
   module _ (low : (i : ℕ) → getD row i 0 < 256) (small : (i : ℕ) → getD texts i 0 < 256) where
-    top-low : (right : Bool) (k : ℕ) → topIn row right k ≤ 255
+    top-low : (right : Bool) (k : ℕ) → topIn row right k ≤ largestByte
     top-low true k = omega (arith, low (topsAt + 4 + k))
     top-low false k = omega (arith, low (topsAt + k))
 
@@ -109,7 +111,7 @@ module _ (row texts : List ℕ) (n : ℕ) (c : Choice) (atoms : List ℕ) where
         let b = line-bounded (tableIn row) (textIn row texts) 257 (text-short row texts small) (namesIn row n c atoms .numbers)
         (λ i. let z = names-small row n c atoms ok i in omega arith)
         (indexIn row false) (topIn row false) (indexIn row true) (topIn row true) (λ k h. top-low false k) (λ k h. top-low true k)
-        (spotsIn row false n) (spotsIn row true n) atoms (itemsIn row n c atoms) 124 (omega arith) (items-small row n c atoms ok)
+        (spotsIn row false n) (spotsIn row true n) atoms (itemsIn row n c atoms) entryPlaces (omega arith) (items-small row n c atoms ok)
         (omega (arith, items-long row n c atoms, fields-fit n c ok)) in
         omega (arith, b)
 

@@ -12,18 +12,18 @@ use lib.ListN.{length, length-append, getD, set, length-set, take, drop, replica
 use lib.Seq.{sets, length-sets, sets-eq, slice, slice-empty, take-set-le, take-nil, drop-drop, take-take, take-at, drop-at, length-take-le}
 use lib.Seq.{getD-set-same, getD-set-other}
 use borrow.Author.Tests.{leb-true, le-ltb, lt-ltb}
+use Rattle.base_limits.specs.Limits.{entryTerms, numbersOfSide, pairPlaces, pairItems, entryPlaces}
 use Rattle.base_lists.specs.Truths.{both-is}
 use Rattle.base_lists.specs.Seqs.{tabulate, tabulate-long}
 use Rattle.math_codes.specs.Spots.{Spot}
 use Rattle.math_codes.specs.Names.{noNames}
-use Rattle.math_codes.specs.Lines.{pairItems}
 use Rattle.math_codes.specs.Whole as whole
 use Rattle.math_codes.proofs.Makers as makers
 use Rattle.pair_row.specs.Row.{tableIn, shapeIn, spotIn}
 use Rattle.overlap_entries.specs.declared.Choice.{Choice}
 use Rattle.overlap_entries.specs.Entries.{itemAt}
 use Rattle.pair_lines.specs.declared.Run.{Run}
-use Rattle.pair_lines.specs.Lines.{Few, countAt, fitsFrom, fits, fieldIn, itemsIn, namesIn, laidFrom, laidIn, spotsIn}
+use Rattle.pair_lines.specs.Lines.{Few, countAt, fitsFrom, fits, fieldIn, itemsIn, namesIn, laidFrom, laidIn, spotsIn, runPlaces}
 use Rattle.pair_lines.specs.Lines.{runAt, runsOver, noRuns, runBy}
 
 -- ---- a choice that fits
@@ -31,16 +31,16 @@ use Rattle.pair_lines.specs.Lines.{runAt, runsOver, noRuns, runBy}
 pub fields-fit : (n : ℕ) (c : Choice) → fits n c ≡ true → n ≤ 4
 fields-fit n c e = leb-true n 4 (both-is (leb n 4) (fitsFrom c 0 n) .0 e .0)
 
-from-fits : (c : Choice) (n j : ℕ) → fitsFrom c j n ≡ true → (i : ℕ) → i < n → countAt c (j + i) ≤ 31
+from-fits : (c : Choice) (n j : ℕ) → fitsFrom c j n ≡ true → (i : ℕ) → i < n → countAt c (j + i) ≤ entryTerms
 from-fits c zero j e i h = absurd (omega arith)
 from-fits c (suc n) j e zero h =
-    rw (let z : j + 0 ≡ j = omega arith in z) (leb-true (countAt c j) 31 (both-is (leb (countAt c j) 31) (fitsFrom c (suc j) n) .0 e .0))
+    rw (let z : j + 0 ≡ j = omega arith in z) (leb-true (countAt c j) entryTerms (both-is (leb (countAt c j) entryTerms) (fitsFrom c (suc j) n) .0 e .0))
 from-fits c (suc n) j e (suc i) h =
     rw (let z : j + suc i ≡ suc j + i = omega arith in z)
-    (from-fits c n (suc j) (both-is (leb (countAt c j) 31) (fitsFrom c (suc j) n) .0 e .1) i (omega arith))
+    (from-fits c n (suc j) (both-is (leb (countAt c j) entryTerms) (fitsFrom c (suc j) n) .0 e .1) i (omega arith))
 
 -- no field has more than 31 items
-pub count-fits : (n : ℕ) (c : Choice) → fits n c ≡ true → (j : ℕ) → j < n → countAt c j ≤ 31
+pub count-fits : (n : ℕ) (c : Choice) → fits n c ≡ true → (j : ℕ) → j < n → countAt c j ≤ entryTerms
 count-fits n c e j h = rw (let z : j ≡ 0 + j = omega arith in z) (from-fits c n 0 (both-is (leb n 4) (fitsFrom c 0 n) .0 e .1) j h)
 
 -- ---- parts of a row
@@ -75,60 +75,62 @@ module _ {A : Type 0} where
 
 pub laid-keeps : (fs : List (List ℕ)) (at : ℕ) (items : List ℕ) → length (laidFrom at fs items) ≡ length items
 laid-keeps [] at items = refl
-laid-keeps (f ∷ fs) at items = laid-keeps fs (at + 31) (sets items at f) ∙ length-sets items at f
+laid-keeps (f ∷ fs) at items = laid-keeps fs (at + entryTerms) (sets items at f) ∙ length-sets items at f
 
 -- the fields stand behind their first place
 laid-before : (fs : List (List ℕ)) (at n : ℕ) (items : List ℕ) → n ≤ at → take n (laidFrom at fs items) ≡ take n items
 laid-before [] at n items h = refl
-laid-before (f ∷ fs) at n items h = laid-before fs (at + 31) n (sets items at f) (omega arith) ∙ sets-before n at f items h
+laid-before (f ∷ fs) at n items h = laid-before fs (at + entryTerms) n (sets items at f) (omega arith) ∙ sets-before n at f items h
 
-laid-at : (n : ℕ) (f : ℕ → List ℕ) → ((j : ℕ) → j < n → length (f j) ≤ 31) → (at : ℕ) (items : List ℕ) → at + 31 * n ≤ length items → (j : ℕ) → j < n
-    → take (length (f j)) (drop (at + 31 * j) (laidFrom at (tabulate n f) items)) ≡ f j
+laid-at : (n : ℕ) (f : ℕ → List ℕ) → ((j : ℕ) → j < n → length (f j) ≤ entryTerms) → (at : ℕ) (items : List ℕ) → at + entryTerms * n ≤ length items → (j : ℕ)
+    → j < n
+    → take (length (f j)) (drop (at + entryTerms * j) (laidFrom at (tabulate n f) items)) ≡ f j
 laid-at zero f few at items room j h = absurd (omega arith)
 laid-at (suc n) f few at items room zero h =
     let k = length (f 0) in
     let s = sets items at (f 0) in
-    let r = laidFrom (at + 31) (tabulate n (λ i. f (suc i))) s in
+    let r = laidFrom (at + entryTerms) (tabulate n (λ i. f (suc i))) s in
     let le = few 0 h in
-    ap (λ (m : ℕ). take k (drop m r)) (let e : at + 31 * 0 ≡ at = omega arith in e)
+    ap (λ (m : ℕ). take k (drop m r)) (let e : at + entryTerms * 0 ≡ at = omega arith in e)
     ∙ part-of at k r
-    ∙ ap (drop at) (laid-before (tabulate n (λ i. f (suc i))) (at + 31) (at + k) s (omega arith))
+    ∙ ap (drop at) (laid-before (tabulate n (λ i. f (suc i))) (at + entryTerms) (at + k) s (omega arith))
     ∙ sym (part-of at k s)
     ∙ stored at (f 0) items (omega arith)
 laid-at (suc n) f few at items room (suc j) h =
     let s = sets items at (f 0) in
-    let r = laidFrom (at + 31) (tabulate n (λ i. f (suc i))) s in
-    ap (λ (m : ℕ). take (length (f (suc j))) (drop m r)) (let e : at + 31 * suc j ≡ at + 31 + 31 * j = omega arith in e)
-    ∙ laid-at n (λ i. f (suc i)) (λ i p. few (suc i) (omega arith)) (at + 31) s (let e = length-sets items at (f 0) in omega (arith, e)) j (omega arith)
+    let r = laidFrom (at + entryTerms) (tabulate n (λ i. f (suc i))) s in
+    ap (λ (m : ℕ). take (length (f (suc j))) (drop m r)) (let e : at + entryTerms * suc j ≡ at + entryTerms + entryTerms * j = omega arith in e)
+    ∙ laid-at n (λ i. f (suc i)) (λ i p. few (suc i) (omega arith)) (at + entryTerms) s (let e = length-sets items at (f 0) in omega (arith, e)) j (omega arith)
 
 pub field-long : (row : List ℕ) (c : Choice) (atoms : List ℕ) (j : ℕ) → length (fieldIn row c atoms j) ≡ countAt c j
 field-long row c atoms j =
-    tabulate-long (countAt c j) (itemAt atoms (spotIn row false j) (spotIn row true j) (getD (c .sizes) j 0) (getD (c .longs) j false) (128 + j))
+    tabulate-long (countAt c j) (itemAt atoms (spotIn row false j) (spotIn row true j) (getD (c .sizes) j 0) (getD (c .longs) j false) (pairPlaces + j))
 
 module _ (row : List ℕ) (n : ℕ) (c : Choice) (atoms : List ℕ) where
   -- there are 124 places
-  pub laid-long : length (laidIn row n c atoms) ≡ 124
-  laid-long = laid-keeps (itemsIn row n c atoms) 0 (replicate 124 0) ∙ length-replicate {A = ℕ} 124 0
+  pub laid-long : length (laidIn row n c atoms) ≡ entryPlaces
+  laid-long = laid-keeps (itemsIn row n c atoms) 0 (replicate entryPlaces 0) ∙ length-replicate {A = ℕ} entryPlaces 0
 
   module _ (ok : fits n c ≡ true) where
-    pub laid-field : (j : ℕ) → j < n → take (countAt c j) (drop (31 * j) (laidIn row n c atoms)) ≡ fieldIn row c atoms j
+    pub laid-field : (j : ℕ) → j < n → take (countAt c j) (drop (entryTerms * j) (laidIn row n c atoms)) ≡ fieldIn row c atoms j
     laid-field j h =
-        let few : (i : ℕ) → i < n → length (fieldIn row c atoms i) ≤ 31 = λ i p. omega (arith, field-long row c atoms i, count-fits n c ok i p) in
+        let few : (i : ℕ) → i < n → length (fieldIn row c atoms i) ≤ entryTerms = λ i p. omega (arith, field-long row c atoms i, count-fits n c ok i p) in
         let le = fields-fit n c ok in
-        let e = length-replicate {A = ℕ} 124 0 in
-        ap₂ (λ (k m : ℕ). take k (drop m (laidIn row n c atoms))) (sym (field-long row c atoms j)) (let z : 31 * j ≡ 0 + 31 * j = omega arith in z)
-        ∙ laid-at n (fieldIn row c atoms) few 0 (replicate 124 0) (omega (arith, e, le)) j h
+        let e = length-replicate {A = ℕ} entryPlaces 0 in
+        ap₂ (λ (k m : ℕ). take k (drop m (laidIn row n c atoms))) (sym (field-long row c atoms j))
+        (let z : entryTerms * j ≡ 0 + entryTerms * j = omega arith in z)
+        ∙ laid-at n (fieldIn row c atoms) few 0 (replicate entryPlaces 0) (omega (arith, e, le)) j h
 
-    pub laid-room : (j : ℕ) → j < n → 31 * j + countAt c j ≤ 124
+    pub laid-room : (j : ℕ) → j < n → entryTerms * j + countAt c j ≤ entryPlaces
     laid-room j h = omega (arith, count-fits n c ok j h, fields-fit n c ok)
 
 -- ---- runs
 
 -- a run is within 124 places
 abbrev pub Within : Run → Type 0
-Within r = (r .from ≤ r .to) × (r .to ≤ 124)
+Within r = (r .from ≤ r .to) × (r .to ≤ entryPlaces)
 
-pub run-within : (from count h t : ℕ) → from + count ≤ 124 → Within (runAt from count h t)
+pub run-within : (from count h t : ℕ) → from + count ≤ entryPlaces → Within (runAt from count h t)
 run-within from count h t room = go (decLt count (h + t))
   where
     go : Dec (count < h + t) → Within (runAt from count h t)
@@ -157,11 +159,11 @@ run-part from count h t l w e long = go (decLt count (h + t))
         ∙ ap (λ (s : List ℕ). take m (drop h s)) e)
 
 -- what a table has for l, with the run of m noted
-module _ (runs : List ℕ) (long : length runs ≡ 32) (l m a b : ℕ) where
+module _ (runs : List ℕ) (long : length runs ≡ runPlaces) (l m a b : ℕ) where
   abbrev noted : List ℕ
   noted = set (set runs (2 * m) a) (2 * m + 1) b
 
-  noted-same : l < 16 → l ≡ m → (getD noted (2 * l) 0 ≡ a) × (getD noted (2 * l + 1) 0 ≡ b)
+  noted-same : l < numbersOfSide → l ≡ m → (getD noted (2 * l) 0 ≡ a) × (getD noted (2 * l + 1) 0 ≡ b)
   noted-same h e = (
     ap (λ (i : ℕ). getD noted i 0) (let z : 2 * l ≡ 2 * m = omega arith in z)
         ∙ getD-set-other (set runs (2 * m) a) (2 * m + 1) (2 * m) b 0 (λ z. omega arith)
@@ -179,7 +181,7 @@ module _ (runs : List ℕ) (long : length runs ≡ 32) (l m a b : ℕ) where
   )
 
 -- a field that has the list variable l has its run; of another the rest has it
-run-one : (gapped : Bool) (m l h t from count : ℕ) (items w runs rest : List ℕ) → l < 16 → length runs ≡ 32
+run-one : (gapped : Bool) (m l h t from count : ℕ) (items w runs rest : List ℕ) → l < numbersOfSide → length runs ≡ runPlaces
     → take count (drop from items) ≡ w → length w ≡ count → runBy runs items l ≡ rest
     → runBy (cond gapped (set (set runs (2 * m) (runAt from count h t .from)) (2 * m + 1) (runAt from count h t .to)) runs) items l
     ≡ whole.runIn (cond gapped (some m) none) h t w l rest
@@ -206,21 +208,22 @@ pub runs-long : (row : List ℕ) (right : Bool) (c : Choice) (old : List ℕ) (j
 runs-long row right c old j zero = refl
 runs-long row right c old j (suc k) =
     let s = shapeIn row right j in
-    let r = runAt (31 * j) (countAt c j) (s .head) (s .tail) in
+    let r = runAt (entryTerms * j) (countAt c j) (s .head) (s .tail) in
     note-long (s .gapped) (s .list) (r .from) (r .to) (runsOver row right c old (suc j) k) ∙ runs-long row right c old (suc j) k
 
-module _ (row : List ℕ) (right : Bool) (n l : ℕ) (c : Choice) (atoms : List ℕ) (ok : fits n c ≡ true) (small : l < 16) where
+module _ (row : List ℕ) (right : Bool) (n l : ℕ) (c : Choice) (atoms : List ℕ) (ok : fits n c ≡ true) (small : l < numbersOfSide) where
   -- k fields from field j on
   run-from : (k j : ℕ) (P : ℕ → Spot ℕ) (f : ℕ → List ℕ) → j + k ≤ n → ((i : ℕ) → i < k → P i ≡ spotIn row right (j + i))
       → ((i : ℕ) → i < k → f i ≡ fieldIn row c atoms (j + i))
       → runBy (runsOver row right c noRuns j k) (laidIn row n c atoms) l ≡ whole.runOn (tabulate k P) (tabulate k f) l
   run-from zero j P f h p q =
-      ap₂ (λ (a b : ℕ). slice a b (laidIn row n c atoms)) (getD-replicate 32 (2 * l) 0 0 (omega arith)) (getD-replicate 32 (2 * l + 1) 0 0 (omega arith))
+      ap₂ (λ (a b : ℕ). slice a b (laidIn row n c atoms)) (getD-replicate runPlaces (2 * l) 0 0 (omega arith))
+      (getD-replicate runPlaces (2 * l + 1) 0 0 (omega arith))
   run-from (suc k) j P f h p q =
       let s = shapeIn row right j in
       let rest = whole.runOn (tabulate k (λ i. P (suc i))) (tabulate k (λ i. f (suc i))) l in
-      run-one (s .gapped) (s .list) l (s .head) (s .tail) (31 * j) (countAt c j) (laidIn row n c atoms) (fieldIn row c atoms j)
-      (runsOver row right c noRuns (suc j) k) rest small (runs-long row right c noRuns (suc j) k ∙ length-replicate {A = ℕ} 32 0)
+      run-one (s .gapped) (s .list) l (s .head) (s .tail) (entryTerms * j) (countAt c j) (laidIn row n c atoms) (fieldIn row c atoms j)
+      (runsOver row right c noRuns (suc j) k) rest small (runs-long row right c noRuns (suc j) k ∙ length-replicate {A = ℕ} runPlaces 0)
       (laid-field row n c atoms ok j (omega arith)) (field-long row c atoms j)
       (run-from k (suc j) (λ i. P (suc i)) (λ i. f (suc i)) (omega arith)
       (λ i z. p (suc i) (omega arith) ∙ ap (spotIn row right) (let e : j + suc i ≡ suc j + i = omega arith in e))
@@ -237,7 +240,7 @@ module _ (row : List ℕ) (right : Bool) (n l : ℕ) (c : Choice) (atoms : List 
 
 -- ---- few items, and few numbers
 
-few-items : (n : ℕ) (f : ℕ → List ℕ) → ((j : ℕ) → j < n → length (f j) ≤ 31) → makers.itemCount (tabulate n f) ≤ 31 * n
+few-items : (n : ℕ) (f : ℕ → List ℕ) → ((j : ℕ) → j < n → length (f j) ≤ entryTerms) → makers.itemCount (tabulate n f) ≤ entryTerms * n
 few-items zero f h = omega arith
 few-items (suc n) f h = omega (arith, h 0 (omega arith), few-items n (λ i. f (suc i)) (λ i p. h (suc i) (omega arith)))
 
@@ -250,12 +253,12 @@ module _ (row : List ℕ) (n : ℕ) (c : Choice) (atoms : List ℕ) where
   items-long = tabulate-long n (fieldIn row c atoms)
 
   module _ (ok : fits n c ≡ true) where
-    pub items-small : makers.itemCount (itemsIn row n c atoms) ≤ 124
+    pub items-small : makers.itemCount (itemsIn row n c atoms) ≤ entryPlaces
     items-small =
-        let few : (i : ℕ) → i < n → length (fieldIn row c atoms i) ≤ 31 = λ i p. omega (arith, field-long row c atoms i, count-fits n c ok i p) in
+        let few : (i : ℕ) → i < n → length (fieldIn row c atoms i) ≤ entryTerms = λ i p. omega (arith, field-long row c atoms i, count-fits n c ok i p) in
         omega (arith, few-items n (fieldIn row c atoms) few, fields-fit n c ok)
 
-    pub names-small : Few 124 (namesIn row n c atoms .numbers)
+    pub names-small : Few entryPlaces (namesIn row n c atoms .numbers)
     names-small i =
         let few = makers.names-few (tableIn row) (itemsIn row n c atoms) 0 (noNames pairItems 4) (zeros 0 4, zeros 0 pairItems) .1 in
         omega (arith, makers.at-most (0 + makers.itemCount (itemsIn row n c atoms)) (namesIn row n c atoms .numbers) few i, items-small)

@@ -8,13 +8,13 @@ use lib.Dec.{leb}
 use lib.ListN.{length, getD, length-set}
 use lib.Seq.{getD-set-same, getD-set-other}
 use borrow.Author.Tests.{le-leb}
+use Rattle.base_limits.specs.Limits.{mostTerms, kindCount, entryTerms, numbersOfSide, pairPlaces, pairItems}
 use Rattle.base_lists.specs.Truths.{both-is}
 use Rattle.base_lists.specs.Seqs.{All, tabulate, tabulate-long}
 use Rattle.math_overlaps.specs.Candidates.{Cand, exact, long}
 use Rattle.math_codes.specs.Spots.{Spot, spotCands}
 use Rattle.math_codes.specs.Walks.{spanOn, fieldItems}
 use Rattle.math_codes.specs.Names.{noNames, nameFields}
-use Rattle.math_codes.specs.Lines.{pairItems}
 use Rattle.math_codes.specs.Whole.{itemsFrom}
 use Rattle.math_codes.specs.Index.{indexedItems, indexedLine}
 use Rattle.math_codes.proofs.Whole.{Chosen}
@@ -70,7 +70,8 @@ field-items atoms P Q m j x =
     ap (fieldItems atoms P Q m j) (sym (cand-is P Q x))
     ∙ items-are atoms P Q m j (spanOn P Q x) (isLong x) (ap (spanOn P Q) (sym (cand-is P Q x)))
 
-field-few : (P Q : Spot ℕ) (x : Cand) → List·Memᴰ x (spotCands P Q) → spotTerms P ≤ 16 → spotTerms Q ≤ 16 → itemCount (spanOn P Q x) (isLong x) ≤ 31
+field-few : (P Q : Spot ℕ) (x : Cand) → List·Memᴰ x (spotCands P Q) → spotTerms P ≤ mostTerms → spotTerms Q ≤ mostTerms
+    → itemCount (spanOn P Q x) (isLong x) ≤ entryTerms
 field-few P Q x i p q =
     let few = items-few [] 0 0 (P ∷ []) (Q ∷ []) (x ∷ []) (i, tt) (p, tt) (q, tt) in
     let e = ap (λ (l : List ℕ). length l) (field-items [] P Q 0 0 x) in
@@ -80,34 +81,34 @@ field-few P Q x i p q =
 -- ---- all fields
 
 module _ (c : Choice) where
-  fits-from : (Ps Qs : List (Spot ℕ)) (cs : List Cand) (j : ℕ) → Has c j Ps Qs cs → Chosen Ps Qs cs → All (λ s. spotTerms s ≤ 16) Ps
-      → All (λ s. spotTerms s ≤ 16) Qs
+  fits-from : (Ps Qs : List (Spot ℕ)) (cs : List Cand) (j : ℕ) → Has c j Ps Qs cs → Chosen Ps Qs cs → All (λ s. spotTerms s ≤ mostTerms) Ps
+      → All (λ s. spotTerms s ≤ mostTerms) Qs
       → fitsFrom c j (length Ps) ≡ true
   fits-from [] Qs cs j v h p q = refl
   fits-from (P ∷ Ps) [] cs j v h p q = absurd h
   fits-from (P ∷ Ps) (Q ∷ Qs) [] j v h p q = absurd h
   fits-from (P ∷ Ps) (Q ∷ Qs) (x ∷ xs) j v h p q =
       let e : countAt c j ≡ itemCount (spanOn P Q x) (isLong x) = ap₂ itemCount (v .0) (v .1) in
-      ap₂ (λ (a b : Bool). a && b) (le-leb (countAt c j) 31 (omega (arith, e, field-few P Q x (h .0) (p .0) (q .0))))
+      ap₂ (λ (a b : Bool). a && b) (le-leb (countAt c j) entryTerms (omega (arith, e, field-few P Q x (h .0) (p .0) (q .0))))
       (fits-from Ps Qs xs (suc j) (v .2) (h .1) (p .1) (q .1))
 
   module _ (atoms : List ℕ) where
     -- the items of a field, as code has them
     abbrev itemsAt : Spot ℕ → Spot ℕ → ℕ → List ℕ
-    itemsAt P Q j = tabulate (countAt c j) (itemAt atoms P Q (getD (c .sizes) j 0) (getD (c .longs) j false) (128 + j))
+    itemsAt P Q j = tabulate (countAt c j) (itemAt atoms P Q (getD (c .sizes) j 0) (getD (c .longs) j false) (pairPlaces + j))
 
     items-chosen : (k j : ℕ) (P Q : ℕ → Spot ℕ) (F : ℕ → List ℕ) (cs : List Cand) → Has c j (tabulate k P) (tabulate k Q) cs
         → Chosen (tabulate k P) (tabulate k Q) cs
         → ((i : ℕ) → i < k → F i ≡ itemsAt (P i) (Q i) (j + i))
-        → tabulate k F ≡ itemsFrom atoms 128 j (tabulate k P) (tabulate k Q) cs
+        → tabulate k F ≡ itemsFrom atoms pairPlaces j (tabulate k P) (tabulate k Q) cs
     items-chosen zero j P Q F cs v h e = refl
     items-chosen (suc k) j P Q F [] v h e = absurd h
     items-chosen (suc k) j P Q F (x ∷ xs) v h e =
         ap₂ (λ (f : List ℕ) (fs : List (List ℕ)). f ∷ fs)
         (e 0 (omega arith)
         ∙ ap (itemsAt (P 0) (Q 0)) (let z : j + 0 ≡ j = omega arith in z)
-        ∙ ap₂ (λ (n : ℕ) (l : Bool). tabulate (itemCount n l) (itemAt atoms (P 0) (Q 0) n l (128 + j))) (v .0) (v .1)
-        ∙ sym (field-items atoms (P 0) (Q 0) 128 j x))
+        ∙ ap₂ (λ (n : ℕ) (l : Bool). tabulate (itemCount n l) (itemAt atoms (P 0) (Q 0) n l (pairPlaces + j))) (v .0) (v .1)
+        ∙ sym (field-items atoms (P 0) (Q 0) pairPlaces j x))
         (items-chosen k (suc j) (λ i. P (suc i)) (λ i. Q (suc i)) (λ i. F (suc i)) xs (v .2) (h .1)
         (λ i l. e (suc i) (omega arith) ∙ ap (itemsAt (P (suc i)) (Q (suc i))) (let z : j + suc i ≡ suc j + i = omega arith in z)))
 
@@ -127,12 +128,12 @@ module _ (row texts : List ℕ) (n : ℕ) (few : n ≤ 4) (cs : List Cand) (h : 
   made-has = chosen-has Ps Qs cs noChoice 0 refl refl (let e = tabulate-long n (spotIn row false) in omega (arith, e, few))
 
   -- the items of the fields
-  pub items-made : (atoms : List ℕ) → itemsIn row n made atoms ≡ itemsFrom atoms 128 0 Ps Qs cs
+  pub items-made : (atoms : List ℕ) → itemsIn row n made atoms ≡ itemsFrom atoms pairPlaces 0 Ps Qs cs
   items-made atoms =
       items-chosen made atoms n 0 (spotIn row false) (spotIn row true) (fieldIn row made atoms) cs made-has h
       (λ i l. ap (itemsAt made atoms (spotIn row false i) (spotIn row true i)) (let z : i ≡ 0 + i = omega arith in z))
 
-  module _ (p : All (λ s. spotTerms s ≤ 16) (spotsIn row false n)) (q : All (λ s. spotTerms s ≤ 16) (spotsIn row true n)) where
+  module _ (p : All (λ s. spotTerms s ≤ mostTerms) (spotsIn row false n)) (q : All (λ s. spotTerms s ≤ mostTerms) (spotsIn row true n)) where
     -- such a choice has room
     pub fits-made : fits n made ≡ true
     fits-made =
@@ -151,13 +152,14 @@ module _ (row texts : List ℕ) (n : ℕ) (few : n ≤ 4) (cs : List Cand) (h : 
         Ps Qs atoms is (nameFields (tableIn row) (noNames pairItems 4) is .numbers)) (items-made atoms))
 
 -- rows of rules have few numbers
-pub numbers-few : (row : List ℕ) → ((k : ℕ) → k < 4 → topIn row false k ≤ 16) → ((k : ℕ) → k < 4 → topIn row true k ≤ 16) → numbersFew row ≡ true
+pub numbers-few : (row : List ℕ) → ((k : ℕ) → k < kindCount → topIn row false k ≤ numbersOfSide) → ((k : ℕ) → k < kindCount → topIn row true k ≤ numbersOfSide)
+    → numbersFew row ≡ true
 numbers-few row h₁ h₂ = both-is (sideFew row false) (sideFew row true) .1 (side false h₁, side true h₂)
   where
-    side : (right : Bool) → ((k : ℕ) → k < 4 → topIn row right k ≤ 16) → sideFew row right ≡ true
+    side : (right : Bool) → ((k : ℕ) → k < kindCount → topIn row right k ≤ numbersOfSide) → sideFew row right ≡ true
     side right h =
-        let few : ℕ → Bool = λ k. leb (topIn row right k) 16 in
-        let at : (k : ℕ) → k < 4 → few k ≡ true = λ k l. le-leb (topIn row right k) 16 (h k l) in
+        let few : ℕ → Bool = λ k. leb (topIn row right k) numbersOfSide in
+        let at : (k : ℕ) → k < 4 → few k ≡ true = λ k l. le-leb (topIn row right k) numbersOfSide (h k l) in
         both-is (few 0) (few 1 && (few 2 && few 3)) .1 (
           at 0 (omega arith),
           both-is (few 1) (few 2 && few 3) .1 (

@@ -8,9 +8,9 @@ use lib.Dec.{leb}
 use lib.ListN.{length, getD, set, replicate, length-replicate}
 use lib.Seq.{sets, length-sets}
 use borrow.Author.Tests.{le-leb, lt-leb}
+use Rattle.base_limits.specs.Limits.{entryTerms, pairPlaces, pairItems, entryPlaces}
 use Rattle.base_lists.specs.Seqs.{tabulate, tabulate-long}
 use Rattle.math_codes.specs.Tables.{Table}
-use Rattle.math_codes.specs.Lines.{pairItems}
 use Rattle.math_codes.specs.Names.{Names, noNames, nameCode, nameCodes, nameFields}
 use Rattle.pair_row.specs.declared.Shape.{Shape}
 use Rattle.pair_row.specs.Row.{tableIn, shapeIn, spotOf}
@@ -36,20 +36,20 @@ module _ (n : ℕ) (c : Choice) (j : ℕ) (v : FitsLeft n c j) where
   fits-none h = sym (v .2 ∙ ap (fitsFrom c j) (let e : n - j ≡ 0 = omega arith in e))
 
   module _ (h : j < n) where
-    fits-opened : fits n c ≡ (leb (countAt c j) 31 && fitsFrom c (j + 1) (n - (j + 1)))
+    fits-opened : fits n c ≡ (leb (countAt c j) entryTerms && fitsFrom c (j + 1) (n - (j + 1)))
     fits-opened =
         v .2
         ∙ ap (fitsFrom c j) (let e : n - j ≡ suc (n - (j + 1)) = omega arith in e)
-        ∙ ap (λ (i : ℕ). leb (countAt c j) 31 && fitsFrom c i (n - (j + 1))) (let e : suc j ≡ j + 1 = omega arith in e)
+        ∙ ap (λ (i : ℕ). leb (countAt c j) entryTerms && fitsFrom c i (n - (j + 1))) (let e : suc j ≡ j + 1 = omega arith in e)
 
-    pub fits-many : (k : ℕ) → k ≡ countAt c j → 31 < k → false ≡ fits n c
-    fits-many k e l = sym (fits-opened ∙ ap (λ (b : Bool). b && fitsFrom c (j + 1) (n - (j + 1))) (lt-leb (countAt c j) 31 (omega (arith, e))))
+    pub fits-many : (k : ℕ) → k ≡ countAt c j → entryTerms < k → false ≡ fits n c
+    fits-many k e l = sym (fits-opened ∙ ap (λ (b : Bool). b && fitsFrom c (j + 1) (n - (j + 1))) (lt-leb (countAt c j) entryTerms (omega (arith, e))))
 
-    pub fits-one : (k : ℕ) → k ≡ countAt c j → k ≤ 31 → FitsLeft n c (j + 1)
+    pub fits-one : (k : ℕ) → k ≡ countAt c j → k ≤ entryTerms → FitsLeft n c (j + 1)
     fits-one k e l = (
       omega arith,
       v .1,
-      fits-opened ∙ ap (λ (b : Bool). b && fitsFrom c (j + 1) (n - (j + 1))) (le-leb (countAt c j) 31 (omega (arith, e))),
+      fits-opened ∙ ap (λ (b : Bool). b && fitsFrom c (j + 1) (n - (j + 1))) (le-leb (countAt c j) entryTerms (omega (arith, e))),
     )
 
 -- ---- the runs of a rule's list variables, from the last field on: those from field j on are noted
@@ -63,14 +63,14 @@ module _ (row : List ℕ) (right : Bool) (n : ℕ) (c : Choice) (old : List ℕ)
 
   -- field j - 1
   pub runs-one : (j : ℕ) (runs next : List ℕ) → RunsFrom j runs → 0 < j → (s : Shape) → s ≡ shapeIn row right (j - 1) → (k : ℕ) → k ≡ countAt c (j - 1)
-      → next ≡ noteRun s (31 * (j - 1)) k runs
+      → next ≡ noteRun s (entryTerms * (j - 1)) k runs
       → RunsFrom (j - 1) next
   runs-one j runs next v h s is-s k is-k e = (
     omega (arith, v .0),
     e
-        ∙ ap₂ (λ (z : Shape) (m : ℕ). noteRun z (31 * (j - 1)) m runs) is-s is-k
-        ∙ ap (noteRun (shapeIn row right (j - 1)) (31 * (j - 1)) (countAt c (j - 1))) (v .1)
-        ∙ ap (λ (i : ℕ). noteRun (shapeIn row right (j - 1)) (31 * (j - 1)) (countAt c (j - 1)) (runsOver row right c old i (n - j)))
+        ∙ ap₂ (λ (z : Shape) (m : ℕ). noteRun z (entryTerms * (j - 1)) m runs) is-s is-k
+        ∙ ap (noteRun (shapeIn row right (j - 1)) (entryTerms * (j - 1)) (countAt c (j - 1))) (v .1)
+        ∙ ap (λ (i : ℕ). noteRun (shapeIn row right (j - 1)) (entryTerms * (j - 1)) (countAt c (j - 1)) (runsOver row right c old i (n - j)))
         (let z : j ≡ suc (j - 1) = omega arith in z)
         ∙ ap (runsOver row right c old (j - 1)) (let z : suc (n - j) ≡ n - (j - 1) = omega (arith, v .0) in z),
   )
@@ -155,18 +155,20 @@ module _ (T : Table) (old : List ℕ) (x : Names) (from m : ℕ) (f : ℕ → �
   )
 
 pub field-is : (row : List ℕ) (c : Choice) (atoms : List ℕ) (j i : ℕ) (s t : Shape) → s ≡ shapeIn row false j → t ≡ shapeIn row true j → i ≡ countAt c j
-    → tabulate i (itemAt atoms (spotOf s) (spotOf t) (getD (c .sizes) j 0) (getD (c .longs) j false) (128 + j)) ≡ fieldIn row c atoms j
+    → tabulate i (itemAt atoms (spotOf s) (spotOf t) (getD (c .sizes) j 0) (getD (c .longs) j false) (pairPlaces + j)) ≡ fieldIn row c atoms j
 field-is row c atoms j i s t p q e =
-    ap (λ (k : ℕ). tabulate k (itemAt atoms (spotOf s) (spotOf t) (getD (c .sizes) j 0) (getD (c .longs) j false) (128 + j))) e
-    ∙ ap₂ (λ (a b : Shape). tabulate (countAt c j) (itemAt atoms (spotOf a) (spotOf b) (getD (c .sizes) j 0) (getD (c .longs) j false) (128 + j))) p q
+    ap (λ (k : ℕ). tabulate k (itemAt atoms (spotOf s) (spotOf t) (getD (c .sizes) j 0) (getD (c .longs) j false) (pairPlaces + j))) e
+    ∙ ap₂ (λ (a b : Shape). tabulate (countAt c j) (itemAt atoms (spotOf a) (spotOf b) (getD (c .sizes) j 0) (getD (c .longs) j false) (pairPlaces + j))) p q
 
 -- ---- the fields: the first j of them
 
-laid-last : (fs : List (List ℕ)) (f : List ℕ) (at : ℕ) (items : List ℕ) → laidFrom at (fs ++ f ∷ []) items ≡ sets (laidFrom at fs items) (at + 31 * length fs) f
-laid-last [] f at items = ap (λ (k : ℕ). sets items k f) (let e : at ≡ at + 31 * 0 = omega arith in e)
+laid-last : (fs : List (List ℕ)) (f : List ℕ) (at : ℕ) (items : List ℕ)
+    → laidFrom at (fs ++ f ∷ []) items ≡ sets (laidFrom at fs items) (at + entryTerms * length fs) f
+laid-last [] f at items = ap (λ (k : ℕ). sets items k f) (let e : at ≡ at + entryTerms * 0 = omega arith in e)
 laid-last (g ∷ fs) f at items =
-    laid-last fs f (at + 31) (sets items at g)
-    ∙ ap (λ (k : ℕ). sets (laidFrom (at + 31) fs (sets items at g)) k f) (let e : at + 31 + 31 * length fs ≡ at + 31 * suc (length fs) = omega arith in e)
+    laid-last fs f (at + entryTerms) (sets items at g)
+    ∙ ap (λ (k : ℕ). sets (laidFrom (at + entryTerms) fs (sets items at g)) k f)
+    (let e : at + entryTerms + entryTerms * length fs ≡ at + entryTerms * suc (length fs) = omega arith in e)
 
 pub all-named : (T : Table) (fs : List (List ℕ)) (x : Names)
     → (length (nameFields T x fs .counts) ≡ length (x .counts)) × (length (nameFields T x fs .numbers) ≡ length (x .numbers))
@@ -179,32 +181,34 @@ all-named T (f ∷ fs) x =
 module _ (row : List ℕ) (c : Choice) (atoms : List ℕ) where
   abbrev pub Lays : ℕ → List ℕ → List ℕ → List ℕ → Type 0
   Lays j items counts numbers =
-      (items ≡ laidFrom 0 (tabulate j (fieldIn row c atoms)) (replicate 124 0))
+      (items ≡ laidFrom 0 (tabulate j (fieldIn row c atoms)) (replicate entryPlaces 0))
       × (counts ≡ nameFields (tableIn row) (noNames pairItems 4) (tabulate j (fieldIn row c atoms)) .counts)
       × (numbers ≡ nameFields (tableIn row) (noNames pairItems 4) (tabulate j (fieldIn row c atoms)) .numbers)
-      × Few (31 * j) counts
+      × Few (entryTerms * j) counts
 
   no-counts : (n m i : ℕ) → getD (replicate n 0) i 0 ≤ m
   no-counts zero m i = omega arith
   no-counts (suc n) m zero = omega arith
   no-counts (suc n) m (suc i) = no-counts n m i
 
-  pub lays-first : Lays 0 (replicate 124 0) (replicate 4 0) (replicate pairItems 0)
-  lays-first = (refl, refl, refl, no-counts 4 (31 * 0))
+  pub lays-first : Lays 0 (replicate entryPlaces 0) (replicate 4 0) (replicate pairItems 0)
+  lays-first = (refl, refl, refl, no-counts 4 (entryTerms * 0))
 
-  pub lays-one : (j : ℕ) (items counts numbers : List ℕ) → Lays j items counts numbers → countAt c j ≤ 31 → (items′ counts′ numbers′ : List ℕ)
-      → items′ ≡ sets items (31 * j) (fieldIn row c atoms j)
+  pub lays-one : (j : ℕ) (items counts numbers : List ℕ) → Lays j items counts numbers → countAt c j ≤ entryTerms → (items′ counts′ numbers′ : List ℕ)
+      → items′ ≡ sets items (entryTerms * j) (fieldIn row c atoms j)
       → counts′ ≡ nameCodes (tableIn row) (record { counts = counts; numbers = numbers }) (fieldIn row c atoms j) .counts
       → numbers′ ≡ nameCodes (tableIn row) (record { counts = counts; numbers = numbers }) (fieldIn row c atoms j) .numbers
       → Lays (j + 1) items′ counts′ numbers′
   lays-one j items counts numbers v le items′ counts′ numbers′ o p q = (
     o
-        ∙ ap₂ (λ (l : List ℕ) (k : ℕ). sets l k (F j)) (v .0) (let e : 31 * j ≡ 0 + 31 * length (tabulate j F) = omega (arith, tabulate-long j F) in e)
-        ∙ sym (laid-last (tabulate j F) (F j) 0 (replicate 124 0))
-        ∙ ap (λ (fs : List (List ℕ)). laidFrom 0 fs (replicate 124 0)) (sym (tabulate-last j F)),
+        ∙ ap₂ (λ (l : List ℕ) (k : ℕ). sets l k (F j)) (v .0)
+        (let e : entryTerms * j ≡ 0 + entryTerms * length (tabulate j F) = omega (arith, tabulate-long j F) in e)
+        ∙ sym (laid-last (tabulate j F) (F j) 0 (replicate entryPlaces 0))
+        ∙ ap (λ (fs : List (List ℕ)). laidFrom 0 fs (replicate entryPlaces 0)) (sym (tabulate-last j F)),
     p ∙ ap (λ (y : Names). y .counts) next,
     q ∙ ap (λ (y : Names). y .numbers) next,
-    λ k. rw p (let z = few-names T (F j) (31 * j) (record { counts = counts; numbers = numbers }) (v .3) k in omega (arith, z, field-long row c atoms j)),
+    λ k. rw p (let z = few-names T (F j) (entryTerms * j) (record { counts = counts; numbers = numbers }) (v .3) k in
+        omega (arith, z, field-long row c atoms j)),
   )
     where
       F : ℕ → List ℕ
@@ -222,10 +226,12 @@ module _ (row : List ℕ) (c : Choice) (atoms : List ℕ) where
       → (items ≡ laidIn row n c atoms) × (numbers ≡ namesIn row n c atoms .numbers)
   lays-all j n items counts numbers v e = (v .0 ∙ ap (λ (k : ℕ). laidIn row k c atoms) e, v .2 ∙ ap (λ (k : ℕ). namesIn row k c atoms .numbers) e)
 
-  pub lays-long : (j : ℕ) (items counts numbers : List ℕ) → Lays j items counts numbers → (124 ≡ length items) × (4 ≡ length counts) × (160 ≡ length numbers)
+  pub lays-long : (j : ℕ) (items counts numbers : List ℕ) → Lays j items counts numbers
+      → (entryPlaces ≡ length items) × (4 ≡ length counts) × (pairItems ≡ length numbers)
   lays-long j items counts numbers v =
       let r = all-named (tableIn row) (tabulate j (fieldIn row c atoms)) (noNames pairItems 4) in (
-        sym (ap (λ (l : List ℕ). length l) (v .0) ∙ laid-keeps (tabulate j (fieldIn row c atoms)) 0 (replicate 124 0) ∙ length-replicate {A = ℕ} 124 0),
+        sym (ap (λ (l : List ℕ). length l) (v .0) ∙ laid-keeps (tabulate j (fieldIn row c atoms)) 0 (replicate entryPlaces 0)
+            ∙ length-replicate {A = ℕ} entryPlaces 0),
         sym (ap (λ (l : List ℕ). length l) (v .1) ∙ r .0),
         sym (ap (λ (l : List ℕ). length l) (v .2) ∙ r .1 ∙ length-replicate {A = ℕ} pairItems 0),
       )

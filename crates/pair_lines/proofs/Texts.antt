@@ -7,13 +7,15 @@ use native.Mathlib.Omega.{arith}
 use lib.Dec.{leb}
 use lib.ListN.{length, getD, take, drop, length-append, length-drop, take-append-drop}
 use lib.Seq.{take-all, take-suc}
+use Rattle.base_limits.specs.Limits.{pairPlaces}
 use Rattle.base_lists.specs.Seqs.{tabulate, tabulate-long, tabulate-at}
 use borrow.Author.Tests.{eq-eqb, ne-eqb}
 use Rattle.math_types.specs.Order.{list}
 use Rattle.math_types.specs.Types.{rank}
 use Rattle.text_grammar.specs.Numbers.{digitsOf}
 use Rattle.math_codes.specs.Tables.{Table}
-use Rattle.math_codes.specs.Lines.{pairPlaces, letterAt, itemText, colonTexts, itemsText, barTexts, fieldsText}
+use Rattle.text_grammar.specs.Letters.{letterAt}
+use Rattle.math_codes.specs.Lines.{itemText, colonTexts, itemsText, barTexts, fieldsText}
 use Rattle.pair_row.specs.Row.{kindsAt, variablesAt, isSet, tableIn, bytesIn, textIn}
 
 -- ---- an item

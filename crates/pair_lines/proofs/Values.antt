@@ -8,6 +8,7 @@ use native.Mathlib.Decide.{decLt}
 use lib.ListN.{length, getD, take, drop, length-append, length-take, drop-of-length-le}
 use lib.Seq.{slice, take-all}
 use borrow.Author.Tests.{lt-ltb, le-ltb}
+use Rattle.base_limits.specs.Limits.{atomKindCount, numbersOfSide}
 use Rattle.text_grammar.specs.Numbers.{digitsOf}
 use Rattle.math_terms.specs.Seqs.{concat-map}
 use Rattle.math_terms.proofs.Seqs.{concat-map-append}
@@ -23,7 +24,7 @@ use Rattle.pair_lines.proofs.Puts.{Led, led-append}
 
 module _ (row : List ℕ) (right : Bool) (atoms : List ℕ) (runs : ℕ → List ℕ) (k v : ℕ) where
   -- an atom
-  pub value-atom : (texts numbers : List ℕ) (x : ℕ) → k < 3 → x ≡ getD atoms (indexIn row right (16 * k + v) - 1) 0
+  pub value-atom : (texts numbers : List ℕ) (x : ℕ) → k < atomKindCount → x ≡ getD atoms (indexIn row right (numbersOfSide * k + v) - 1) 0
       → itemText (tableIn row) (textIn row texts) numbers x ≡ itemsText (tableIn row) (textIn row texts) numbers (valueIn row right atoms runs k v)
   value-atom texts numbers x h e =
       sym (append-nil (itemText (tableIn row) (textIn row texts) numbers x))
@@ -78,19 +79,19 @@ there zero h = absurd (h refl)
 there (suc x) h = refl
 
 module _ (row texts numbers : List ℕ) (right : Bool) (atoms : List ℕ) (runs : ℕ → List ℕ) (k v : ℕ) where
-  pub shown-there : (indexIn row right (16 * k + v) ≡ 0 → ⊥)
+  pub shown-there : (indexIn row right (numbersOfSide * k + v) ≡ 0 → ⊥)
       → nameIn right k v ++ itemsText (tableIn row) (textIn row texts) numbers (valueIn row right atoms runs k v)
       ≡ shownIn row texts numbers right atoms runs k v
   shown-there h =
       ap (λ (t : List ℕ). 32 ∷ (tagOf right ∷ t))
       (append-assoc (nameAt k v) (61 ∷ []) (itemsText (tableIn row) (textIn row texts) numbers (valueIn row right atoms runs k v)))
-      ∙ rw (there (indexIn row right (16 * k + v)) h)
+      ∙ rw (there (indexIn row right (numbersOfSide * k + v)) h)
 
-  pub shown-not : indexIn row right (16 * k + v) ≡ 0 → [] ≡ shownIn row texts numbers right atoms runs k v
+  pub shown-not : indexIn row right (numbersOfSide * k + v) ≡ 0 → [] ≡ shownIn row texts numbers right atoms runs k v
   shown-not h = rw h
 
   -- its name and its value fill it
-  pub shown-long : (indexIn row right (16 * k + v) ≡ 0 → ⊥)
+  pub shown-long : (indexIn row right (numbersOfSide * k + v) ≡ 0 → ⊥)
       → 4 + length (digitsOf v) + length (itemsText (tableIn row) (textIn row texts) numbers (valueIn row right atoms runs k v))
       ≡ length (shownIn row texts numbers right atoms runs k v)
   shown-long h =
@@ -126,8 +127,8 @@ texts-agree f g a zero h = refl
 texts-agree f g a (suc k) h =
     ap₂ (λ (t u : List ℕ). t ++ u) (h a (omega arith)) (texts-agree f g (suc a) k (λ n l. h n (omega arith)))
 
-module _ (row texts numbers : List ℕ) (right : Bool) (atoms : List ℕ) (few : topIn row right 3 ≤ 16) where
-  pub values-agree : (runs runs′ : ℕ → List ℕ) → ((n : ℕ) → n < 16 → runs n ≡ runs′ n)
+module _ (row texts numbers : List ℕ) (right : Bool) (atoms : List ℕ) (few : topIn row right 3 ≤ numbersOfSide) where
+  pub values-agree : (runs runs′ : ℕ → List ℕ) → ((n : ℕ) → n < numbersOfSide → runs n ≡ runs′ n)
       → valuesIn row texts numbers right atoms runs ≡ valuesIn row texts numbers right atoms runs′
   values-agree runs runs′ h =
       ap (λ (t : List ℕ). rankIn row texts numbers right atoms runs 0

@@ -4,30 +4,27 @@ use mathlib.Core.List.{List, [], _∷_}
 use Prim.Native.Nat.{ℕ, _%_}
 use lib.Dec.{eqb, leb, ltb}
 use lib.ListN.{length}
+use Rattle.base_limits.specs.Limits.{entryTerms, pairItems}
 use Rattle.base_lists.specs.Seqs.{tabulate}
 use Rattle.math_terms.specs.Seqs.{concat-map}
 use Rattle.math_overlaps.specs.Candidates.{range}
-use Rattle.math_codes.specs.Lines.{pairItems}
 use Rattle.math_codes.specs.Index.{hasAt, valueAt, listedValues, indexedAnswer}
 use Rattle.pair_row.specs.Row.{tableIn, textIn, indexIn, topIn}
-use Rattle.pair_lines.specs.Lines.{numbersFew}
+use Rattle.pair_lines.specs.Lines.{runPlaces, numbersFew}
 
 -- ---- values
 
--- at most 31 items, each a code or a list variable: these have room for a number
-abbrev pub valueItems : ℕ
-valueItems = 31
-
+-- no more items than an entry's field, each a code or a list variable: these have room for a number
 abbrev pub areItems : List ℕ → Bool
 areItems [] = true
 areItems (c ∷ cs) = ltb c pairItems && areItems cs
 
 abbrev pub valueFits : List ℕ → Bool
-valueFits items = leb (length items) valueItems && areItems items
+valueFits items = leb (length items) entryTerms && areItems items
 
--- the table of runs where the run of each of 16 list variables is the first n items
+-- the table of runs where the run of each list variable is the first n items
 abbrev pub wholeRuns : ℕ → List ℕ
-wholeRuns n = tabulate 32 (λ i. cond (eqb (i % 2) 0) 0 n)
+wholeRuns n = tabulate runPlaces (λ i. cond (eqb (i % 2) 0) 0 n)
 
 -- what is listed of a variable, of those of a rank, and of a rule
 module _ (row : List ℕ) (right : Bool) (atoms items : List ℕ) where

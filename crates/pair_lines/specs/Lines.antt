@@ -7,13 +7,14 @@ use Prim.Native.Nat.{ℕ, zero, suc, _+_, _-_, _*_, _^_, _≤_}
 use lib.Dec.{leb, ltb}
 use lib.ListN.{length, getD, set, drop, replicate}
 use lib.Seq.{sets, slice}
+use Rattle.base_limits.specs.Limits.{mostFields, kindCount, entryTerms, numbersOfSide, pairPlaces, pairItems, entryPlaces}
 use Rattle.base_lists.specs.Seqs.{tabulate}
+use Rattle.math_codes.specs.Makers.{largestByte}
 use Rattle.math_overlaps.specs.Candidates.{Cand, exact, long}
 use Rattle.overlap_spec.specs.Lines.{leftTag, rightTag}
 use Rattle.math_codes.specs.Spots.{Spot}
 use Rattle.math_codes.specs.Walks.{spanOn}
 use Rattle.math_codes.specs.Names.{Names, noNames, nameFields}
-use Rattle.math_codes.specs.Lines.{pairPlaces, pairItems}
 use Rattle.math_codes.specs.Index.{valueAt, rankValues, indexedValues, indexedItems}
 use Rattle.pair_row.specs.Row.{tableIn, textIn, shapeIn, spotIn, indexIn, topIn}
 use Rattle.pair_row.specs.declared.Shape.{Shape}
@@ -31,9 +32,13 @@ Few m l = (i : ℕ) → getD l i 0 ≤ m
 
 -- ---- the items
 
--- 31 items are the most that a field of an entry has: 15 atoms of each field, and a list variable
-abbrev pub fieldItems : ℕ
-fieldItems = 31
+-- where the last field's items begin
+abbrev pub lastField : ℕ
+lastField = entryTerms * (mostFields - 1)
+
+-- a count below the largest byte can go up by one
+abbrev pub mostCount : ℕ
+mostCount = largestByte - 1
 
 abbrev pub countAt : Choice → ℕ → ℕ
 countAt c j = itemCount (getD (c .sizes) j 0) (getD (c .longs) j false)
@@ -41,11 +46,11 @@ countAt c j = itemCount (getD (c .sizes) j 0) (getD (c .longs) j false)
 -- n fields from field j on have no more
 abbrev pub fitsFrom : Choice → ℕ → ℕ → Bool
 fitsFrom c j zero = true
-fitsFrom c j (suc n) = leb (countAt c j) fieldItems && fitsFrom c (suc j) n
+fitsFrom c j (suc n) = leb (countAt c j) entryTerms && fitsFrom c (suc j) n
 
 -- a choice of at most four fields whose items have room
 abbrev pub fits : ℕ → Choice → Bool
-fits n c = leb n 4 && fitsFrom c 0 n
+fits n c = leb n mostFields && fitsFrom c 0 n
 
 -- the items of field j
 abbrev pub fieldIn : List ℕ → Choice → List ℕ → ℕ → List ℕ
@@ -58,15 +63,15 @@ itemsIn row n c atoms = tabulate n (fieldIn row c atoms)
 
 -- the numbers that they get
 abbrev pub namesIn : List ℕ → ℕ → Choice → List ℕ → Names
-namesIn row n c atoms = nameFields (tableIn row) (noNames pairItems 4) (itemsIn row n c atoms)
+namesIn row n c atoms = nameFields (tableIn row) (noNames pairItems kindCount) (itemsIn row n c atoms)
 
--- in one row, 31 places a field
+-- in one row, as many places a field as it may have terms
 abbrev pub laidFrom : ℕ → List (List ℕ) → List ℕ → List ℕ
 laidFrom at [] items = items
-laidFrom at (f ∷ fs) items = laidFrom (at + fieldItems) fs (sets items at f)
+laidFrom at (f ∷ fs) items = laidFrom (at + entryTerms) fs (sets items at f)
 
 abbrev pub laidIn : List ℕ → ℕ → Choice → List ℕ → List ℕ
-laidIn row n c atoms = laidFrom 0 (itemsIn row n c atoms) (replicate (4 * fieldItems) 0)
+laidIn row n c atoms = laidFrom 0 (itemsIn row n c atoms) (replicate entryPlaces 0)
 
 -- ---- values
 
@@ -88,11 +93,14 @@ noteRun s from count runs =
 abbrev pub runsOver : List ℕ → Bool → Choice → List ℕ → ℕ → ℕ → List ℕ
 runsOver row right c old j zero = old
 runsOver row right c old j (suc k) =
-    noteRun (shapeIn row right j) (fieldItems * j) (countAt c j) (runsOver row right c old (suc j) k)
+    noteRun (shapeIn row right j) (entryTerms * j) (countAt c j) (runsOver row right c old (suc j) k)
 
--- 16 numbers have room
+-- every number of a rule's list variables has room
+abbrev pub runPlaces : ℕ
+runPlaces = 2 * numbersOfSide
+
 abbrev pub noRuns : List ℕ
-noRuns = replicate 32 0
+noRuns = replicate runPlaces 0
 
 -- the items of the list variable l by such a table, whatever it says
 abbrev pub runBy : List ℕ → List ℕ → ℕ → List ℕ
@@ -129,10 +137,11 @@ wholeLine row texts n c atoms =
     indexedItems (tableIn row) (textIn row texts) (indexIn row false) (topIn row false) (indexIn row true) (topIn row true)
     (spotsIn row false n) (spotsIn row true n) atoms (itemsIn row n c atoms) (namesIn row n c atoms .numbers)
 
--- no number of a rule's variables is above 15
+-- no number of a rule's variables is above its limit
 abbrev pub sideFew : List ℕ → Bool → Bool
 sideFew row right =
-    leb (topIn row right 0) 16 && (leb (topIn row right 1) 16 && (leb (topIn row right 2) 16 && leb (topIn row right 3) 16))
+    leb (topIn row right 0) numbersOfSide
+    && (leb (topIn row right 1) numbersOfSide && (leb (topIn row right 2) numbersOfSide && leb (topIn row right 3) numbersOfSide))
 
 abbrev pub numbersFew : List ℕ → Bool
 numbersFew row = sideFew row false && sideFew row true

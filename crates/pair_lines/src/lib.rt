@@ -3,27 +3,42 @@
 ghost use mathlib.Core.Path.{_≡_};
 ghost use mathlib.Core.Bool.{true, false};
 ghost use mathlib.Core.List.{List, [], _∷_, _++_};
-ghost use Prim.Native.Nat.{_+_, _-_, _*_, _^_, _≤_, _<_, min};
-ghost use lib.ListN.{length, getD, set};
+ghost use Prim.Native.Nat.{_+_, _-_, _*_, _^_, _≤_, _<_};
+ghost use lib.ListN.{length, getD};
 ghost use lib.Seq.{sets};
+ghost use Rattle.base_limits.specs.Limits.{mostFields, entryTerms};
+ghost use Rattle.math_codes.specs.Makers.{largestByte};
 ghost use Rattle.text_grammar.specs.Numbers.{digitsOf};
 ghost use Rattle.math_codes.specs.Names.{nameCode, nameCodes, nameFields};
-ghost use Rattle.math_codes.specs.Lines.{letterAt, itemText, itemsText, fieldsText};
-ghost use Rattle.math_codes.specs.Index.{nameAt};
+ghost use Rattle.math_codes.specs.Lines.{itemText, itemsText, fieldsText};
+ghost use Rattle.math_codes.specs.Index.{nameAt, slotAt};
 ghost use Rattle.overlap_entries.specs.Entries.{itemCount};
 ghost use Rattle.pair_row.specs.Row.{tableIn, bytesIn, textIn, indexIn};
 ghost use Rattle.pair_lines.specs.Lines.{Puts, Few, sideFew, numbersFew, fits, fieldIn, itemsIn, namesIn, laidIn};
 ghost use Rattle.pair_lines.specs.Lines.{runAt, noteRun, runsOver, runBy, tagOf, blank, unled, valueIn, rankIn, valuesIn};
-ghost use Rattle.pair_lines.specs.Lines.{lineIn, lineBound};
+ghost use Rattle.pair_lines.specs.Lines.{lastField, mostCount, lineIn, lineBound};
 ghost use Rattle.pair_lines.specs.Answers.{valueFits, wholeRuns, valueWith, listedRank, listedIn, answerIn};
+use base_numbers::at_most;
 use overlap_entries::Choice;
 use pair_row::Shape;
 use pair_row::byte_at;
+use pair_row::put_at;
 
-// An entry's items in one row, 31 places a field, and by item the number that it got and one; 0 for none.
+// Where the runs of a rule's list variables begin and end.
+const RUN_PLACES: usize = 2 * base_limits::NUMBERS_OF_SIDE;
+// Sizes as bytes.
+const MOST_FIELDS: u8 = base_limits::MOST_FIELDS as u8;
+
+const NUMBERS_OF_SIDE: u8 = base_limits::NUMBERS_OF_SIDE as u8;
+
+const PAIR_ITEMS: u8 = base_limits::PAIR_ITEMS as u8;
+
+const KINDS: u8 = base_limits::KINDS as u8;
+
+// The items of an entry, and by item the number that it got and one; 0 for none.
 struct Laid {
-    items: [u8; 124],
-    numbers: [u8; 160],
+    items: [u8; base_limits::ENTRY_PLACES],
+    numbers: [u8; base_limits::PAIR_ITEMS],
 }
 
 // Where a run of items begins and ends in that row.
@@ -34,17 +49,9 @@ struct Run {
 
 // ---- items and their numbers
 
-fn put_at(row: &mut [u8], i: usize, b: u8)
-    ensures { λ _. ⌜ now (row .exit) ≡ set (now (row .entry)) i b ⌝ }
-{
-    if i < row.len() {
-        row[i] = b;
-    }
-}
-
 // A variable gets the next number of its type where it is met first.
 fn name_item(row: &[u8], c: u8, counts: &mut [u8], numbers: &mut [u8])
-    requires { ⌜ Few 254 (now counts) ⌝ }
+    requires { ⌜ Few mostCount (now counts) ⌝ }
     ensures { λ _. ⌜ now (counts .exit) ≡
         (nameCode (tableIn (now (row .entry))) (record { counts = now (counts .entry); numbers = now (numbers .entry) }) c) .counts ⌝ }
     ensures { λ _. ⌜ now (numbers .exit) ≡
@@ -72,8 +79,10 @@ fn lay_field(
     counts: &mut [u8],
     numbers: &mut [u8],
 )
-    requires { ⌜ (j < 4) × (itemCount (getD (c .sizes) j 0) (getD (c .longs) j false) ≤ 31) × Few (31 * j) (now counts) ⌝ }
-    ensures { λ _. ⌜ now (items .exit) ≡ sets (now (items .entry)) (31 * j) (fieldIn (now (row .entry)) c (now (atoms .entry)) j) ⌝ }
+    requires { ⌜ (j < mostFields) × (itemCount (getD (c .sizes) j 0) (getD (c .longs) j false) ≤ entryTerms)
+        × Few (entryTerms * j) (now counts) ⌝ }
+    ensures { λ _. ⌜ now (items .exit) ≡ sets (now (items .entry)) (entryTerms * j)
+        (fieldIn (now (row .entry)) c (now (atoms .entry)) j) ⌝ }
     ensures { λ _. ⌜ now (counts .exit) ≡
         (nameCodes (tableIn (now (row .entry))) (record { counts = now (counts .entry); numbers = now (numbers .entry) })
         (fieldIn (now (row .entry)) c (now (atoms .entry)) j)) .counts ⌝ }
@@ -86,7 +95,7 @@ fn lay_field(
     let n = c.sizes[j as usize];
     let long = c.longs[j as usize];
     let count = overlap_entries::item_count(n, long);
-    let from = 31 * j as usize;
+    let from = base_limits::ENTRY_TERMS * j as usize;
     let mut i: usize = 0;
     while i < count {
         let x = overlap_entries::item_at(s, t, n, long, pair_row::LISTS + j, i as u16, atoms);
@@ -102,9 +111,9 @@ fn lay(row: &[u8], fields: u8, c: Choice, atoms: &[u8]) -> Laid
     ensures { λ r. ⌜ r .items ≡ laidIn (now (row .entry)) fields c (now (atoms .entry)) ⌝ }
     ensures { λ r. ⌜ r .numbers ≡ (namesIn (now (row .entry)) fields c (now (atoms .entry))) .numbers ⌝ }
 {
-    let mut items = [0u8; 124];
-    let mut counts = [0u8; 4];
-    let mut numbers = [0u8; 160];
+    let mut items = [0u8; base_limits::ENTRY_PLACES];
+    let mut counts = [0u8; base_limits::KINDS];
+    let mut numbers = [0u8; base_limits::PAIR_ITEMS];
     let mut j: u8 = 0;
     while j < fields {
         lay_field(row, j, c, atoms, &mut items, &mut counts, &mut numbers);
@@ -130,28 +139,15 @@ fn put_digits(n: u8, out: &mut [u8], at: usize) -> usize
     ensures { λ r. ⌜ Puts (digitsOf n) at (now (out .entry)) r (now (out .exit)) ⌝ }
 {
     if n < 10 {
-        return put_byte(48 + n, out, at);
+        return put_byte(b'0' + n, out, at);
     }
     if n < 100 {
-        let p = put_byte(48 + n / 10, out, at);
-        return put_byte(48 + n % 10, out, p);
+        let p = put_byte(b'0' + n / 10, out, at);
+        return put_byte(b'0' + n % 10, out, p);
     }
-    let p = put_byte(48 + n / 100, out, at);
-    let q = put_byte(48 + n / 10 % 10, out, p);
-    put_byte(48 + n % 10, out, q)
-}
-
-// A type's letter, by its rank.
-fn letter(rank: u8) -> u8
-    ensures { λ r. ⌜ r ≡ letterAt rank ⌝ }
-{
-    match rank {
-        0 => b'i',
-        1 => b's',
-        2 => b'a',
-        3 => b'l',
-        _ => 0,
-    }
+    let p = put_byte(b'0' + n / 100, out, at);
+    let q = put_byte(b'0' + n / 10 % 10, out, p);
+    put_byte(b'0' + n % 10, out, q)
 }
 
 // The bytes of a constant.
@@ -159,7 +155,7 @@ fn put_constant(texts: &[u8], c: u8, out: &mut [u8], at: usize) -> usize
     requires { ⌜ at + length (bytesIn (now texts) c) < 2 ^ 64 ⌝ }
     ensures { λ r. ⌜ Puts (bytesIn (now (texts .entry)) c) at (now (out .entry)) r (now (out .exit)) ⌝ }
 {
-    let from = pair_row::CELL * c as usize;
+    let from = pair_row::CELL_BYTES * c as usize;
     let n = byte_at(texts, from) as usize;
     let mut q = at;
     let mut i: usize = 0;
@@ -181,7 +177,7 @@ fn put_item(row: &[u8], texts: &[u8], c: u8, numbers: &[u8], out: &mut [u8], at:
 {
     let kind = pair_row::kind_at(row, c);
     if pair_row::is_variable(row, c) {
-        let p = put_byte(letter(kind), out, at);
+        let p = put_byte(text_grammar::letter_at(kind), out, at);
         let n = byte_at(numbers, c as usize);
         return put_digits(if n == 0 { 0 } else { n - 1 }, out, p);
     }
@@ -227,7 +223,7 @@ fn put_empty(out: &mut [u8], at: usize) -> usize
 
 // Behind `head` items and before the last `tail` of `count`, which stand from a place on.
 fn run_in(from: usize, count: usize, head: usize, tail: usize) -> Run
-    requires { ⌜ (from ≤ 93) × (count ≤ 31) × (head ≤ 255) × (tail ≤ 255) ⌝ }
+    requires { ⌜ (from ≤ lastField) × (count ≤ entryTerms) × (head ≤ largestByte) × (tail ≤ largestByte) ⌝ }
     ensures { λ r. ⌜ r ≡ runAt from count head tail ⌝ }
 {
     if count < head + tail {
@@ -241,7 +237,7 @@ fn run_in(from: usize, count: usize, head: usize, tail: usize) -> Run
 
 // A field's list variable: where its run begins and ends is noted by its number. The field's items stand from a place on.
 fn note_run(runs: &mut [u8], s: Shape, from: usize, count: usize)
-    requires { ⌜ (from ≤ 93) × (count ≤ 31) ⌝ }
+    requires { ⌜ (from ≤ lastField) × (count ≤ entryTerms) ⌝ }
     ensures { λ _. ⌜ now (runs .exit) ≡ noteRun s from count (now (runs .entry)) ⌝ }
 {
     if !s.gapped {
@@ -263,19 +259,13 @@ fn put_runs(row: &[u8], right: bool, fields: u8, c: Choice, runs: &mut [u8])
         j -= 1;
         let s = pair_row::shape_at(row, right, j);
         let count = overlap_entries::item_count(c.sizes[j as usize], c.longs[j as usize]);
-        note_run(runs, s, 31 * j as usize, count);
+        note_run(runs, s, base_limits::ENTRY_TERMS * j as usize, count);
     }
-}
-
-fn least(a: usize, b: usize) -> usize
-    ensures { λ r. ⌜ r ≡ min a b ⌝ }
-{
-    if b < a { b } else { a }
 }
 
 // What the atom of a rule's variable stands for.
 fn atom_of(row: &[u8], right: bool, rank: u8, n: u8, atoms: &[u8]) -> u8
-    ensures { λ r. ⌜ r ≡ getD (now (atoms .entry)) (indexIn (now (row .entry)) right (16 * rank + n) - 1) 0 ⌝ }
+    ensures { λ r. ⌜ r ≡ getD (now (atoms .entry)) (indexIn (now (row .entry)) right (slotAt rank n) - 1) 0 ⌝ }
 {
     let x = pair_row::index_at(row, right, rank, n);
     let place = if x == 0 { 0 } else { x as usize - 1 };
@@ -302,13 +292,13 @@ fn put_value(
         (valueIn (now (row .entry)) right (now (atoms .entry)) (runBy (now (runs .entry)) (now (items .entry))) rank n)) at
         (now (out .entry)) r (now (out .exit)) ⌝ }
 {
-    if rank < 3 {
+    if rank < pair_row::LIST_RANK {
         let x = atom_of(row, right, rank, n, atoms);
         return put_item(row, texts, x, numbers, out, at);
     }
     let k = 2 * n as usize;
-    let to = least(byte_at(runs, k + 1) as usize, items.len());
-    let from = least(byte_at(runs, k) as usize, to);
+    let to = at_most(byte_at(runs, k + 1) as usize, items.len());
+    let from = at_most(byte_at(runs, k) as usize, to);
     put_run(row, texts, &items[from..to], numbers, out, at)
 }
 
@@ -332,7 +322,7 @@ fn put_name(led: bool, right: bool, rank: u8, n: u8, out: &mut [u8], at: usize) 
 {
     let a = put_blank(led, out, at);
     let b = put_byte(if right { b'>' } else { b'<' }, out, a);
-    let c = put_byte(letter(rank), out, b);
+    let c = put_byte(text_grammar::letter_at(rank), out, b);
     let d = put_digits(n, out, c);
     put_byte(b'=', out, d)
 }
@@ -399,7 +389,7 @@ fn put_values(
 {
     let mut q = at;
     let mut k: u8 = 0;
-    while k < 4 {
+    while k < KINDS {
         q = put_rank(
             row,
             texts,
@@ -444,7 +434,7 @@ fn put_fields(
         if 0 < j {
             p = put_byte(b'|', out, q);
         }
-        let from = 31 * j as usize;
+        let from = base_limits::ENTRY_TERMS * j as usize;
         let to = from + overlap_entries::item_count(c.sizes[j as usize], c.longs[j as usize]);
         q = put_run(row, texts, &items[from..to], numbers, out, p);
         j += 1;
@@ -452,16 +442,16 @@ fn put_fields(
     q
 }
 
-// Whether a choice is one of at most four fields, of at most 31 items each.
+// Whether a choice is one of as many fields, and of as many items each, as an entry may have.
 fn fits(fields: u8, c: Choice) -> bool
     ensures { λ r. ⌜ r ≡ fits fields c ⌝ }
 {
-    if 4 < fields {
+    if MOST_FIELDS < fields {
         return false;
     }
     let mut j: usize = 0;
     while j < fields as usize {
-        if 31 < overlap_entries::item_count(c.sizes[j], c.longs[j]) {
+        if base_limits::ENTRY_TERMS < overlap_entries::item_count(c.sizes[j], c.longs[j]) {
             return false;
         }
         j += 1;
@@ -469,20 +459,20 @@ fn fits(fields: u8, c: Choice) -> bool
     true
 }
 
-// Whether no number of a rule's variables is above 15.
+// Whether no number of a rule's variables is above its limit.
 fn side_few(row: &[u8], right: bool) -> bool
     ensures { λ r. ⌜ r ≡ sideFew (now (row .entry)) right ⌝ }
 {
-    if 16 < pair_row::top_at(row, right, 0) {
+    if NUMBERS_OF_SIDE < pair_row::top_at(row, right, 0) {
         return false;
     }
-    if 16 < pair_row::top_at(row, right, 1) {
+    if NUMBERS_OF_SIDE < pair_row::top_at(row, right, 1) {
         return false;
     }
-    if 16 < pair_row::top_at(row, right, 2) {
+    if NUMBERS_OF_SIDE < pair_row::top_at(row, right, 2) {
         return false;
     }
-    pair_row::top_at(row, right, 3) <= 16
+    pair_row::top_at(row, right, pair_row::LIST_RANK) <= NUMBERS_OF_SIDE
 }
 
 fn numbers_few(row: &[u8]) -> bool
@@ -517,9 +507,9 @@ pub fn put_line(
     let x = lay(row, fields, c, atoms);
     let items = x.items;
     let numbers = x.numbers;
-    let mut left = [0u8; 32];
+    let mut left = [0u8; RUN_PLACES];
     put_runs(row, false, fields, c, &mut left);
-    let mut right = [0u8; 32];
+    let mut right = [0u8; RUN_PLACES];
     put_runs(row, true, fields, c, &mut right);
     let p = put_fields(row, texts, fields, c, atoms, &items, &numbers, out);
     let q = put_values(
@@ -551,16 +541,16 @@ pub fn put_line(
 
 // ---- the line of an answer of the search
 
-// Whether a list variable's value is one that an answer has: at most 31 items, each a code or a list variable, of which there are 160.
+// Whether a list variable's value is one that an answer has: no more items than an entry's field, each a code or a list variable.
 fn value_fits(items: &[u8]) -> bool
     ensures { λ r. ⌜ r ≡ valueFits (now (items .entry)) ⌝ }
 {
-    if 31 < items.len() {
+    if base_limits::ENTRY_TERMS < items.len() {
         return false;
     }
     let mut i: usize = 0;
     while i < items.len() {
-        if 160 <= items[i] {
+        if PAIR_ITEMS <= items[i] {
             return false;
         }
         i += 1;
@@ -570,7 +560,7 @@ fn value_fits(items: &[u8]) -> bool
 
 // The numbers of items, from the left.
 fn name_items(row: &[u8], items: &[u8], counts: &mut [u8], numbers: &mut [u8])
-    requires { ⌜ Few 254
+    requires { ⌜ Few mostCount
         ((nameCodes (tableIn (now row)) (record { counts = now counts; numbers = now numbers }) (now items)) .counts) ⌝ }
     ensures { λ _. ⌜ now (counts .exit) ≡
         (nameCodes (tableIn (now (row .entry))) (record { counts = now (counts .entry); numbers = now (numbers .entry) })
@@ -597,7 +587,7 @@ fn name_value(
     counts: &mut [u8],
     numbers: &mut [u8],
 )
-    requires { ⌜ Few 254 ((nameCodes (tableIn (now row)) (record { counts = now counts; numbers = now numbers })
+    requires { ⌜ Few mostCount ((nameCodes (tableIn (now row)) (record { counts = now counts; numbers = now numbers })
         (valueWith (now row) right (now atoms) (now items) rank n)) .counts) ⌝ }
     ensures { λ _. ⌜ now (counts .exit) ≡
         (nameCodes (tableIn (now (row .entry))) (record { counts = now (counts .entry); numbers = now (numbers .entry) })
@@ -606,7 +596,7 @@ fn name_value(
         (nameCodes (tableIn (now (row .entry))) (record { counts = now (counts .entry); numbers = now (numbers .entry) })
         (valueWith (now (row .entry)) right (now (atoms .entry)) (now (items .entry)) rank n)) .numbers ⌝ }
 {
-    if rank < 3 {
+    if rank < pair_row::LIST_RANK {
         let x = atom_of(row, right, rank, n, atoms);
         name_item(row, x, counts, numbers);
         return;
@@ -624,7 +614,7 @@ fn name_rank(
     counts: &mut [u8],
     numbers: &mut [u8],
 )
-    requires { ⌜ Few 254 ((nameFields (tableIn (now row)) (record { counts = now counts; numbers = now numbers })
+    requires { ⌜ Few mostCount ((nameFields (tableIn (now row)) (record { counts = now counts; numbers = now numbers })
         (listedRank (now row) right (now atoms) (now items) rank)) .counts) ⌝ }
     ensures { λ _. ⌜ now (counts .exit) ≡
         (nameFields (tableIn (now (row .entry))) (record { counts = now (counts .entry); numbers = now (numbers .entry) })
@@ -653,7 +643,7 @@ fn name_values(
     counts: &mut [u8],
     numbers: &mut [u8],
 )
-    requires { ⌜ Few 254 ((nameFields (tableIn (now row)) (record { counts = now counts; numbers = now numbers })
+    requires { ⌜ Few mostCount ((nameFields (tableIn (now row)) (record { counts = now counts; numbers = now numbers })
         (listedIn (now row) right (now atoms) (now items))) .counts) ⌝ }
     ensures { λ _. ⌜ now (counts .exit) ≡
         (nameFields (tableIn (now (row .entry))) (record { counts = now (counts .entry); numbers = now (numbers .entry) })
@@ -663,14 +653,14 @@ fn name_values(
         (listedIn (now (row .entry)) right (now (atoms .entry)) (now (items .entry)))) .numbers ⌝ }
 {
     let mut rank: u8 = 0;
-    while rank < 4 {
+    while rank < KINDS {
         name_rank(row, right, rank, atoms, items, counts, numbers);
         rank += 1;
     }
 }
 
-// Where the runs of 16 list variables stand that are the first n items each.
-fn whole_runs(n: u8) -> [u8; 32]
+// Where the runs of a rule's list variables stand that are the first n items each.
+fn whole_runs(n: u8) -> [u8; RUN_PLACES]
     ensures { λ r. ⌜ r ≡ wholeRuns n ⌝ }
 {
     [
@@ -710,7 +700,7 @@ fn whole_runs(n: u8) -> [u8; 32]
 }
 
 // The line of an answer: the values of the left rule's variables, then of the right one's, by what the atoms stand for and the items that
-// the list variables of each side stand for; and its size. Values that no search has, of more than 31 items, have no line, nor have tables
+// the list variables of each side stand for; and its size. Values that no search has, of too many items, have no line, nor have tables
 // with too many variables.
 pub fn put_answer(
     row: &[u8],
@@ -733,8 +723,8 @@ pub fn put_answer(
     if !value_fits(right) {
         return 0;
     }
-    let mut counts = [0u8; 4];
-    let mut numbers = [0u8; 160];
+    let mut counts = [0u8; base_limits::KINDS];
+    let mut numbers = [0u8; base_limits::PAIR_ITEMS];
     name_values(row, false, atoms, left, &mut counts, &mut numbers);
     name_values(row, true, atoms, right, &mut counts, &mut numbers);
     let runs = whole_runs(left.len() as u8);

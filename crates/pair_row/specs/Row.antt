@@ -5,46 +5,49 @@ use mathlib.Core.List.{List, [], _∷_, _++_}
 use Prim.Native.Nat.{ℕ, _+_, _*_}
 use lib.Dec.{eqb, leb}
 use lib.ListN.{getD, take, drop}
+use Rattle.base_limits.specs.Limits.{mostFields, longestString, kindCount, variablePlaces, fieldPlaces, pairPlaces, pairFields}
 use Rattle.base_lists.specs.Seqs.{tabulate}
 use Rattle.math_types.specs.Order.{basic, list}
-use Rattle.math_types.specs.Types.{string, rank}
+use Rattle.math_types.specs.Types.{leaf, string, rank}
 use Rattle.math_codes.specs.Tables.{Table}
 use Rattle.math_codes.specs.Spots.{Spot}
-use Rattle.math_codes.specs.Lines.{fieldPlaces, pairPlaces}
 use Rattle.pair_row.specs.declared.Shape.{Shape}
 
 -- ---- the parts of the row, behind the codes by place
 
 abbrev pub kindsAt : ℕ
-kindsAt = 128
+kindsAt = pairPlaces
 
 abbrev pub variablesAt : ℕ
-variablesAt = 256
+variablesAt = kindsAt + pairPlaces
 
 abbrev pub shapesAt : ℕ
-shapesAt = 384
+shapesAt = variablesAt + pairPlaces
+
+abbrev pub shapeBytes : ℕ
+shapeBytes = 4
 
 abbrev pub indexesAt : ℕ
-indexesAt = 416
+indexesAt = shapesAt + shapeBytes * pairFields
 
 abbrev pub topsAt : ℕ
-topsAt = 544
+topsAt = indexesAt + variablePlaces + variablePlaces
 
 abbrev pub countAt : ℕ
-countAt = 552
+countAt = topsAt + kindCount + kindCount
 
 abbrev pub membersAt : ℕ
-membersAt = 553
+membersAt = countAt + 1
 
 abbrev pub rowBytes : ℕ
-rowBytes = 681
+rowBytes = membersAt + pairPlaces
 
 -- a constant's bytes, with their number before them
 abbrev pub cellBytes : ℕ
-cellBytes = 16
+cellBytes = 1 + longestString
 
 abbrev pub textsBytes : ℕ
-textsBytes = 2048
+textsBytes = cellBytes * pairPlaces
 
 abbrev pub isSet : ℕ → Bool
 isSet n = not (eqb n 0)
@@ -65,21 +68,21 @@ abbrev pub bytesIn : List ℕ → ℕ → List ℕ
 bytesIn texts c = take (getD texts (cellBytes * c) 0) (drop (cellBytes * c + 1) texts)
 
 abbrev pub isString : List ℕ → ℕ → Bool
-isString row c = eqb (getD row (kindsAt + c) 0) (rank (basic string))
+isString row c = eqb (getD row (kindsAt + c) 0) (rank (basic (leaf string)))
 
 -- its plain text
 abbrev pub textIn : List ℕ → List ℕ → ℕ → List ℕ
 textIn row texts c = cond (isString row c) (34 ∷ (bytesIn texts c ++ 34 ∷ [])) (bytesIn texts c)
 
--- ---- by field: four of the left rule, then four of the right one
+-- ---- by field: those of the left rule, then those of the right one
 
 abbrev pub fieldOf : Bool → ℕ → ℕ
-fieldOf true j = 4 + j
+fieldOf true j = mostFields + j
 fieldOf false j = j
 
 abbrev pub shapeIn : List ℕ → Bool → ℕ → Shape
 shapeIn row right j =
-    let k = shapesAt + 4 * fieldOf right j in
+    let k = shapesAt + shapeBytes * fieldOf right j in
     record {
       base = fieldPlaces * fieldOf right j;
       head = getD row k 0;
@@ -95,12 +98,12 @@ spotOf s = record { base = s .base; head = s .head; tail = s .tail; name = cond 
 abbrev pub spotIn : List ℕ → Bool → ℕ → Spot ℕ
 spotIn row right j = spotOf (shapeIn row right j)
 
--- ---- by variable: 16 numbers for each type's rank, the left rule's before the right one's
+-- ---- by variable: the numbers of each type's rank, the left rule's before the right one's
 
 abbrev pub indexIn : List ℕ → Bool → ℕ → ℕ
-indexIn row true i = getD row (indexesAt + 64 + i) 0
+indexIn row true i = getD row (indexesAt + variablePlaces + i) 0
 indexIn row false i = getD row (indexesAt + i) 0
 
 abbrev pub topIn : List ℕ → Bool → ℕ → ℕ
-topIn row true r = getD row (topsAt + 4 + r) 0
+topIn row true r = getD row (topsAt + kindCount + r) 0
 topIn row false r = getD row (topsAt + r) 0

@@ -3,41 +3,38 @@
 // Reading a place that a row lacks gives 0. An item is a code, or from LISTS on a list variable.
 ghost use mathlib.Core.Path.{_≡_};
 ghost use Prim.Native.Nat.{_+_, _*_};
-ghost use lib.ListN.{getD};
+ghost use lib.ListN.{getD, set};
+ghost use Rattle.math_codes.specs.Index.{slotAt};
 ghost use Rattle.pair_row.specs.Row.{tableIn, shapeIn, fieldOf, indexIn, topIn};
 
 // ---- the row's parts
 
-// Places: 16 a field, four fields a rule, the left rule's and behind them the right rule's.
-pub const FIELD_PLACES: usize = 16;
-
-pub const PAIR_PLACES: usize = 128;
 // The first of the items that are list variables: behind the places, those of an entry by field, those of a search by number.
-pub const LISTS: u8 = 128;
-// How many of them there are, and the rank of their type.
-pub const LIST_ITEMS: usize = 32;
+pub const LISTS: u8 = base_limits::PAIR_PLACES as u8;
+// The rank of their type, which is behind those below it.
+pub const LIST_RANK: u8 = base_limits::ATOM_KINDS as u8;
+// From 0 on: codes by place, the left rule's and behind them the right rule's.
+pub const KINDS_AT: usize = base_limits::PAIR_PLACES;
 
-pub const LIST_RANK: u8 = 3;
-// From 0 on: codes by place.
-pub const KINDS: usize = 128;
+pub const VARIABLES_AT: usize = KINDS_AT + base_limits::PAIR_PLACES;
+// By field: the atoms before its list variable, those behind it, its number, and whether there is one.
+pub const SHAPES_AT: usize = VARIABLES_AT + base_limits::PAIR_PLACES;
 
-pub const VARIABLES: usize = 256;
+pub const SHAPE_BYTES: usize = 4;
+// By variable, and by type: of the left rule, and behind them of the right rule.
+pub const INDEXES_AT: usize = SHAPES_AT + SHAPE_BYTES * base_limits::PAIR_FIELDS;
 
-pub const SHAPES: usize = 384;
-
-pub const INDEXES: usize = 416;
-
-pub const TOPS: usize = 544;
+pub const TOPS_AT: usize = INDEXES_AT + base_limits::VARIABLE_PLACES + base_limits::VARIABLE_PLACES;
 // How many constants that differ were met, and their places.
-pub const COUNT: usize = 552;
+pub const COUNT_AT: usize = TOPS_AT + base_limits::KINDS + base_limits::KINDS;
 
-pub const MEMBERS: usize = 553;
+pub const MEMBERS_AT: usize = COUNT_AT + 1;
 
-pub const ROW: usize = 681;
-// A constant's bytes: how many they are, and behind that number at most 15.
-pub const CELL: usize = 16;
+pub const ROW_BYTES: usize = MEMBERS_AT + base_limits::PAIR_PLACES;
+// A constant's bytes, with their number before them.
+pub const CELL_BYTES: usize = 1 + base_limits::LONGEST_STRING;
 
-pub const TEXTS: usize = 2048;
+pub const TEXTS_BYTES: usize = CELL_BYTES * base_limits::PAIR_PLACES;
 
 // A field of a rule: its first place, how many atoms stand before and behind its list variable, that variable's number, and whether there
 // is one.
@@ -58,6 +55,15 @@ pub fn byte_at(row: &[u8], i: usize) -> u8
     row[i]
 }
 
+// A place that the row lacks stays unwritten.
+pub fn put_at(row: &mut [u8], i: usize, b: u8)
+    ensures { λ _. ⌜ now (row .exit) ≡ set (now (row .entry)) i b ⌝ }
+{
+    if i < row.len() {
+        row[i] = b;
+    }
+}
+
 // The rank of an item's type.
 pub fn kind_at(row: &[u8], c: u8) -> u8
     ensures { λ r. ⌜ r ≡ (tableIn (now (row .entry))) .kind c ⌝ }
@@ -65,7 +71,7 @@ pub fn kind_at(row: &[u8], c: u8) -> u8
     if LISTS <= c {
         return LIST_RANK;
     }
-    byte_at(row, KINDS + c as usize)
+    byte_at(row, KINDS_AT + c as usize)
 }
 
 pub fn is_variable(row: &[u8], c: u8) -> bool
@@ -74,14 +80,18 @@ pub fn is_variable(row: &[u8], c: u8) -> bool
     if LISTS <= c {
         return true;
     }
-    byte_at(row, VARIABLES + c as usize) != 0
+    byte_at(row, VARIABLES_AT + c as usize) != 0
 }
 
 // The number of field j among the pair's eight.
 fn field_of(right: bool, j: u8) -> usize
     ensures { λ r. ⌜ r ≡ fieldOf right j ⌝ }
 {
-    if right { 4 + j as usize } else { j as usize }
+    if right {
+        base_limits::MOST_FIELDS + j as usize
+    } else {
+        j as usize
+    }
 }
 
 // The shape of field j of the left rule, or of the right one.
@@ -89,13 +99,13 @@ pub fn shape_at(row: &[u8], right: bool, j: u8) -> Shape
     ensures { λ r. ⌜ r ≡ shapeIn (now (row .entry)) right j ⌝ }
 {
     let f = field_of(right, j);
-    let k = SHAPES + 4 * f;
+    let k = SHAPES_AT + SHAPE_BYTES * f;
     let head = byte_at(row, k);
     let tail = byte_at(row, k + 1);
     let list = byte_at(row, k + 2);
     let gapped = byte_at(row, k + 3) != 0;
     Shape {
-        base: (FIELD_PLACES * f) as u16,
+        base: (base_limits::FIELD_PLACES * f) as u16,
         head,
         tail,
         list,
@@ -105,13 +115,13 @@ pub fn shape_at(row: &[u8], right: bool, j: u8) -> Shape
 
 // One more than the code of a rule's variable of this type and number, or 0 where the rule lacks it.
 pub fn index_at(row: &[u8], right: bool, rank: u8, n: u8) -> u8
-    ensures { λ r. ⌜ r ≡ indexIn (now (row .entry)) right (16 * rank + n) ⌝ }
+    ensures { λ r. ⌜ r ≡ indexIn (now (row .entry)) right (slotAt rank n) ⌝ }
 {
-    let k = 16 * rank as usize + n as usize;
+    let k = base_limits::NUMBERS_OF_SIDE * rank as usize + n as usize;
     if right {
-        return byte_at(row, INDEXES + 64 + k);
+        return byte_at(row, INDEXES_AT + base_limits::VARIABLE_PLACES + k);
     }
-    byte_at(row, INDEXES + k)
+    byte_at(row, INDEXES_AT + k)
 }
 
 // More than the largest number of a rule's variables of this type.
@@ -119,7 +129,7 @@ pub fn top_at(row: &[u8], right: bool, rank: u8) -> u8
     ensures { λ r. ⌜ r ≡ topIn (now (row .entry)) right rank ⌝ }
 {
     if right {
-        return byte_at(row, TOPS + 4 + rank as usize);
+        return byte_at(row, TOPS_AT + base_limits::KINDS + rank as usize);
     }
-    byte_at(row, TOPS + rank as usize)
+    byte_at(row, TOPS_AT + rank as usize)
 }

@@ -5,6 +5,7 @@ use mathlib.Core.List.{List}
 use Prim.Native.Nat.{ℕ, _+_, _<_}
 use lib.ListN.{getD, set}
 use borrow.Author.Tests.{eq-eqb, ne-eqb}
+use Rattle.base_limits.specs.Limits.{pairPlaces}
 use Rattle.math_codes.specs.Tables.{Table}
 use Rattle.math_codes.specs.States.{swap, replaced, takes, joinPlaces}
 use Rattle.pair_state.specs.declared.State.{State}
@@ -14,16 +15,16 @@ use Rattle.pair_state.proofs.Arrays.{Passed, passed-set, passed-same}
 
 -- ---- one place of the loop
 
-module _ (x w : ℕ) (atoms : List ℕ) (i : ℕ) (st st′ : State) (v : Passed (swap x w) 128 atoms i (st .atoms)) (h : i < 128) where
-  pub written-here : getD (st .atoms) i 0 ≡ x → st′ ≡ record { atoms = set (st .atoms) i w } → Passed (swap x w) 128 atoms (i + 1) (st′ .atoms)
+module _ (x w : ℕ) (atoms : List ℕ) (i : ℕ) (st st′ : State) (v : Passed (swap x w) pairPlaces atoms i (st .atoms)) (h : i < pairPlaces) where
+  pub written-here : getD (st .atoms) i 0 ≡ x → st′ ≡ record { atoms = set (st .atoms) i w } → Passed (swap x w) pairPlaces atoms (i + 1) (st′ .atoms)
   written-here e q =
-      subst (λ (s : State). Passed (swap x w) 128 atoms (i + 1) (s .atoms)) (sym q)
-      (passed-set (swap x w) 128 atoms i (st .atoms) 0 w v h (rw (eq-eqb (getD (st .atoms) i 0) x e)))
+      subst (λ (s : State). Passed (swap x w) pairPlaces atoms (i + 1) (s .atoms)) (sym q)
+      (passed-set (swap x w) pairPlaces atoms i (st .atoms) 0 w v h (rw (eq-eqb (getD (st .atoms) i 0) x e)))
 
-  pub kept-here : (getD (st .atoms) i 0 ≡ x → ⊥) → st′ ≡ st → Passed (swap x w) 128 atoms (i + 1) (st′ .atoms)
+  pub kept-here : (getD (st .atoms) i 0 ≡ x → ⊥) → st′ ≡ st → Passed (swap x w) pairPlaces atoms (i + 1) (st′ .atoms)
   kept-here n q =
-      subst (λ (s : State). Passed (swap x w) 128 atoms (i + 1) (s .atoms)) (sym q)
-      (passed-same (swap x w) 128 atoms i (st .atoms) 0 v h (rw (ne-eqb (getD (st .atoms) i 0) x n)))
+      subst (λ (s : State). Passed (swap x w) pairPlaces atoms (i + 1) (s .atoms)) (sym q)
+      (passed-same (swap x w) pairPlaces atoms i (st .atoms) 0 v h (rw (ne-eqb (getD (st .atoms) i 0) x n)))
 
 -- ---- the ways of a join: the two codes are one, the left one takes the right one, the right one takes the left one, or none of these
 

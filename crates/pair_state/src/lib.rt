@@ -10,7 +10,7 @@ use math_types::Met;
 
 // Document 01: "Each join of two atoms turns one state of the fillings into the next".
 pub struct State {
-    pub atoms: [u8; 128],
+    pub atoms: [u8; base_limits::PAIR_PLACES],
 }
 
 // The next state, or a clash with the state as it was.
@@ -23,9 +23,11 @@ pub struct Joined {
 pub fn start(row: &[u8]) -> State
     ensures { λ r. ⌜ r .atoms ≡ (tableIn (now (row .entry))) .first ⌝ }
 {
-    let mut st = State { atoms: [0; 128] };
+    let mut st = State {
+        atoms: [0; base_limits::PAIR_PLACES],
+    };
     let mut i: usize = 0;
-    while i < 128 {
+    while i < base_limits::PAIR_PLACES {
         st.atoms[i] = pair_row::byte_at(row, i);
         i += 1;
     }
@@ -49,7 +51,7 @@ impl State {
     {
         let mut st = self;
         let mut i: usize = 0;
-        while i < 128 {
+        while i < base_limits::PAIR_PLACES {
             if st.atoms[i] == x {
                 st.atoms[i] = w;
             }

@@ -11,6 +11,7 @@ use lib.Dec.{eqb, ltb}
 use lib.ListN.{length, getD, replicate, length-append, length-map, length-replicate, getD-replicate, List·getD-append, List·getD-map, List·getD-eq-default}
 use lib.Seq.{getD-append-add}
 use borrow.Author.Tests.{lt-ltb, le-ltb, le-leb, lt-leb}
+use Rattle.base_limits.specs.Limits.{mostFields, longestString, numbersOfSide, variablePlaces, fieldPlaces, rulePlaces, pairPlaces, listItems, pairFields}
 use Rattle.base_lists.specs.Seqs.{tabulate, tabulate-long, tabulate-at}
 use Rattle.math_types.specs.Order.{basic, list}
 use Rattle.math_types.specs.Types.{Kind, basics, rank}
@@ -30,13 +31,13 @@ use Rattle.math_codes.specs.Entries.{ruleRow}
 use Rattle.math_codes.specs.Items.{shownAt}
 use Rattle.math_codes.specs.Names.{isVar, MadeTerms}
 use Rattle.math_codes.specs.Spots.{Spot}
-use Rattle.math_codes.specs.Lines.{ourVars, OurAtom, OurOriginTerm, ourRanks, ourRow, ourTerms, pairPlaces, listItems}
+use Rattle.math_codes.specs.Lines.{ourVars, OurAtom, OurOriginTerm, ourRanks, ourRow, ourTerms}
 use Rattle.math_codes.specs.Whole.{spotsOf}
 use Rattle.math_codes.specs.Index.{Right, Indexes, Tops}
 use Rattle.math_codes.proofs.Tables.{holds-below}
 use Rattle.math_codes.proofs.Items.{con-once, con≢var, kind-once, range-at}
 use Rattle.math_codes.proofs.Places.{left-stand, left-long, right-stand, pair-long}
-use Rattle.pair_row.specs.Row.{kindsAt, indexesAt, countAt, rowBytes, textsBytes, isSet}
+use Rattle.pair_row.specs.Row.{kindsAt, indexesAt, countAt, rowBytes, textsBytes, isSet, cellBytes}
 use Rattle.pair_row.specs.Row.{tableIn, textIn, bytesIn, spotIn, indexIn, topIn}
 use Rattle.pair_table.specs.Notes.{sideNoted, blankRows, rowsOf}
 use Rattle.pair_table.specs.Pairs.{PairIn}
@@ -64,14 +65,14 @@ module _ (t : List (Option OurAtom)) (G : ℕ → List OurTerm) (row texts : Lis
   blank-indexes : (s : Bool) → Indexed t s [] 0 row
   blank-indexes s =
       record {
-        absent = λ k n l e. z (indexOn s + 16 * rank k + n);
+        absent = λ k n l e. z (indexOn s + numbersOfSide * rank k + n);
         present = λ k n l e. absurd (false≢true e);
         met = λ q k n l v. absurd (omega arith);
         within = λ k l. omega (arith, z (topOn s + k));
         above = λ k n e. absurd (false≢true e);
       }
 
-  blank-spot : (f : ℕ) → spotAt row f ≡ fieldSpot (16 * f) []
+  blank-spot : (f : ℕ) → spotAt row f ≡ fieldSpot (fieldPlaces * f) []
   blank-spot f = spot-is row f 0 0 false 0 (z (shapeAt f)) (z (shapeAt f + 1)) (ap isSet (z (shapeAt f + 3))) (z (shapeAt f + 2))
 
   blank-noted : Noted t G false 0 [] [] [] 0 row texts
@@ -93,7 +94,7 @@ module _ (t : List (Option OurAtom)) (G : ℕ → List OurTerm) (row texts : Lis
               all = λ q d l k. absurd (omega arith);
             };
         cells = λ q d l k. absurd (omega arith);
-        small = λ q. omega (arith, y (16 * q));
+        small = λ q. omega (arith, y (cellBytes * q));
         here = blank-indexes false;
         beside = blank-indexes true;
         shaped =
@@ -127,73 +128,74 @@ module _ (r₁ r₂ : List (List OurTerm)) (ok₁ : IsLeft r₁) (ok₂ : IsLeft
   t = ourRow r₁ r₂
 
   abbrev rest₁ : ℕ
-  rest₁ = 64 - length r₁ * 16
+  rest₁ = rulePlaces - length r₁ * fieldPlaces
 
   abbrev rest₂ : ℕ
-  rest₂ = 64 - length r₂ * 16
+  rest₂ = rulePlaces - length r₂ * fieldPlaces
 
   abbrev part₁ : Row
-  part₁ = ruleRow 16 left r₁ ++ replicate rest₁ none
+  part₁ = ruleRow fieldPlaces left r₁ ++ replicate rest₁ none
 
   abbrev part₂ : Row
-  part₂ = ruleRow 16 right r₂ ++ replicate rest₂ none
+  part₂ = ruleRow fieldPlaces right r₂ ++ replicate rest₂ none
 
-  few₁ : length r₁ * 16 ≤ 4 * 16
+  few₁ : length r₁ * fieldPlaces ≤ rulePlaces
   few₁ = omega (arith, ok₁ .0 .1)
 
-  few₂ : length r₂ * 16 ≤ 4 * 16
+  few₂ : length r₂ * fieldPlaces ≤ rulePlaces
   few₂ = omega (arith, ok₂ .0 .1)
 
-  long₁ : length part₁ ≡ 64
-  long₁ = left-long 16 4 r₁ r₂ (ok₁ .0 .2) (ok₂ .0 .2) few₁
+  long₁ : length part₁ ≡ rulePlaces
+  long₁ = left-long fieldPlaces mostFields r₁ r₂ (ok₁ .0 .2) (ok₂ .0 .2) few₁
 
-  row-long : length t ≡ 128
-  row-long = pair-long 16 4 r₁ r₂ (ok₁ .0 .2) (ok₂ .0 .2) few₁ few₂
+  row-long : length t ≡ pairPlaces
+  row-long = pair-long fieldPlaces mostFields r₁ r₂ (ok₁ .0 .2) (ok₂ .0 .2) few₁ few₂
 
-  spread : t ≡ ruleRow 16 left r₁ ++ (replicate rest₁ none ++ part₂)
-  spread = append-assoc (ruleRow 16 left r₁) (replicate rest₁ none) part₂
+  spread : t ≡ ruleRow fieldPlaces left r₁ ++ (replicate rest₁ none ++ part₂)
+  spread = append-assoc (ruleRow fieldPlaces left r₁) (replicate rest₁ none) part₂
 
   gaps₁ : Gaps t 0 r₁
   gaps₁ = subst (λ (x : Row). Gaps x 0 r₁) (sym spread) (gaps-at left r₁ (ok₁ .0 .2) [] (replicate rest₁ none ++ part₂) 0 refl)
 
-  gap₁ : Gap t (16 * (0 + length r₁)) 64
+  gap₁ : Gap t (fieldPlaces * (0 + length r₁)) rulePlaces
   gap₁ =
-      subst (λ (x : Row). Gap x (16 * (0 + length r₁)) 64) (sym spread)
-      (gap-at (ruleRow 16 left r₁) rest₁ part₂ (16 * (0 + length r₁)) 64 (omega (arith, rule-long left r₁ (ok₁ .0 .2))) (omega (arith, ok₁ .0 .1)))
+      subst (λ (x : Row). Gap x (fieldPlaces * (0 + length r₁)) rulePlaces) (sym spread)
+      (gap-at (ruleRow fieldPlaces left r₁) rest₁ part₂ (fieldPlaces * (0 + length r₁)) rulePlaces (omega (arith, rule-long left r₁ (ok₁ .0 .2)))
+      (omega (arith, ok₁ .0 .1)))
 
-  gaps₂ : Gaps t 64 r₂
-  gaps₂ = gaps-at right r₂ (ok₂ .0 .2) part₁ (replicate rest₂ none) 64 long₁
+  gaps₂ : Gaps t rulePlaces r₂
+  gaps₂ = gaps-at right r₂ (ok₂ .0 .2) part₁ (replicate rest₂ none) rulePlaces long₁
 
-  gap₂ : Gap t (16 * (4 + length r₂)) 128
+  gap₂ : Gap t (fieldPlaces * (4 + length r₂)) pairPlaces
   gap₂ =
-      subst (λ (x : Row). Gap x (16 * (4 + length r₂)) 128)
-      (append-assoc part₁ (ruleRow 16 right r₂) (replicate rest₂ none ++ [])
-      ∙ ap (λ (x : Row). part₁ ++ (ruleRow 16 right r₂ ++ x)) (append-nil (replicate rest₂ none)))
-      (gap-at (part₁ ++ ruleRow 16 right r₂) rest₂ [] (16 * (4 + length r₂)) 128
-      (omega (arith, long₁, length-append part₁ (ruleRow 16 right r₂), rule-long right r₂ (ok₂ .0 .2))) (omega (arith, ok₂ .0 .1)))
+      subst (λ (x : Row). Gap x (fieldPlaces * (4 + length r₂)) pairPlaces)
+      (append-assoc part₁ (ruleRow fieldPlaces right r₂) (replicate rest₂ none ++ [])
+      ∙ ap (λ (x : Row). part₁ ++ (ruleRow fieldPlaces right r₂ ++ x)) (append-nil (replicate rest₂ none)))
+      (gap-at (part₁ ++ ruleRow fieldPlaces right r₂) rest₂ [] (fieldPlaces * (4 + length r₂)) pairPlaces
+      (omega (arith, long₁, length-append part₁ (ruleRow fieldPlaces right r₂), rule-long right r₂ (ok₂ .0 .2))) (omega (arith, ok₂ .0 .1)))
 
   -- ALL is noted
   both-noted : (u v : List ℕ) → readSide u ≡ accepted r₁ → readSide v ≡ accepted r₂
-      → Noted t (fieldIn r₁ r₂) true 8 [] (flat r₂) (flat r₁) 128
+      → Noted t (fieldIn r₁ r₂) true 8 [] (flat r₂) (flat r₁) pairPlaces
       (sideNoted true v (sideNoted false u blankRows) .0) (sideNoted true v (sideNoted false u blankRows) .1)
   both-noted u v a b =
       let x = sideNoted false u blankRows in
-      let n = rule-noted t (fieldIn r₁ r₂) false u [] r₁ 0 [] blankRows a refl (left-stand 16 4 r₁ r₂ (ok₁ .0 .2) (ok₂ .0 .2) few₁) gaps₁ gap₁
+      let n = rule-noted t (fieldIn r₁ r₂) false u [] r₁ 0 [] blankRows a refl (left-stand fieldPlaces mostFields r₁ r₂ (ok₁ .0 .2) (ok₂ .0 .2) few₁) gaps₁ gap₁
       (λ j l. ap (fieldIn r₁ r₂) (let e : 0 + j ≡ j = omega arith in e) ∙ field-left r₁ r₂ j l)
       (blank-noted t (fieldIn r₁ r₂) (blankRows .0) (blankRows .1) (zero-at rowBytes) (zero-at textsBytes)
       (length-replicate {A = ℕ} rowBytes 0) (length-replicate {A = ℕ} textsBytes 0)) in
-      rule-noted t (fieldIn r₁ r₂) true v (flat r₁) r₂ 4 [] x b refl (right-stand 16 4 r₁ r₂ (ok₁ .0 .2) (ok₂ .0 .2) few₁) gaps₂ gap₂
-      (λ j l. field-right r₁ r₂ j) (turn t (fieldIn r₁ r₂) (flat r₁) [] 4 64 [] (x .0) (x .1) n)
+      rule-noted t (fieldIn r₁ r₂) true v (flat r₁) r₂ 4 [] x b refl (right-stand fieldPlaces mostFields r₁ r₂ (ok₁ .0 .2) (ok₂ .0 .2) few₁) gaps₂ gap₂
+      (λ j l. field-right r₁ r₂ j) (turn t (fieldIn r₁ r₂) (flat r₁) [] mostFields rulePlaces [] (x .0) (x .1) n)
 
 -- ---- a field's numbers in their order
 
-spots-are : (r : List (List OurTerm)) (b : ℕ) (F : ℕ → Spot ℕ) → ((j : ℕ) → j < length r → F j ≡ fieldSpot (b + 16 * j) (getD r j []))
-    → tabulate (length r) F ≡ spotsOf 16 b r
+spots-are : (r : List (List OurTerm)) (b : ℕ) (F : ℕ → Spot ℕ) → ((j : ℕ) → j < length r → F j ≡ fieldSpot (b + fieldPlaces * j) (getD r j []))
+    → tabulate (length r) F ≡ spotsOf fieldPlaces b r
 spots-are [] b F h = refl
 spots-are (f ∷ r) b F h =
-    ap₂ (λ (x : Spot ℕ) (l : List (Spot ℕ)). x ∷ l) (h 0 (omega arith) ∙ ap (λ (n : ℕ). fieldSpot n f) (let e : b + 16 * 0 ≡ b = omega arith in e))
-    (spots-are r (b + 16) (λ j. F (suc j)) (λ j l. h (suc j) (omega arith)
-    ∙ ap (λ (n : ℕ). fieldSpot n (getD r j [])) (let e : b + 16 * suc j ≡ b + 16 + 16 * j = omega arith in e)))
+    ap₂ (λ (x : Spot ℕ) (l : List (Spot ℕ)). x ∷ l) (h 0 (omega arith) ∙ ap (λ (n : ℕ). fieldSpot n f) (let e : b + fieldPlaces * 0 ≡ b = omega arith in e))
+    (spots-are r (b + fieldPlaces) (λ j. F (suc j)) (λ j l. h (suc j) (omega arith)
+    ∙ ap (λ (n : ℕ). fieldSpot n (getD r j [])) (let e : b + fieldPlaces * suc j ≡ b + fieldPlaces + fieldPlaces * j = omega arith in e)))
 
 -- ---- occurrence in a rule and in its terms
 
@@ -204,14 +206,14 @@ occurs-flat k n (f ∷ r) = in-append k n f (flat r) ∙ ap (λ (b : Bool). inFi
 -- ---- THE TABLES
 
 module _ (r₁ r₂ : List (List OurTerm)) (ok₁ : IsLeft r₁) (ok₂ : IsLeft r₂) (row texts : List ℕ)
-    (c : Noted (ourRow r₁ r₂) (fieldIn r₁ r₂) true 8 [] (flat r₂) (flat r₁) 128 row texts) where
+    (c : Noted (ourRow r₁ r₂) (fieldIn r₁ r₂) true 8 [] (flat r₂) (flat r₁) pairPlaces row texts) where
   abbrev atoms : List (Option OurAtom)
   atoms = ourRow r₁ r₂
 
-  many : length atoms ≡ 128
+  many : length atoms ≡ pairPlaces
   many = row-long r₁ r₂ ok₁ ok₂
 
-  below : (p : ℕ) (a : OurAtom) → Holds atoms p a → p < 128
+  below : (p : ℕ) (a : OurAtom) → Holds atoms p a → p < pairPlaces
   below p a h = omega (arith, many, holds-below atoms p a h)
 
   kind-at : (p : ℕ) (a : OurAtom) → Holds atoms p a → tableIn row .kind p ≡ rank (basic (kindA basics consts ourVars a))
@@ -223,17 +225,17 @@ module _ (r₁ r₂ : List (List OurTerm)) (ok₁ : IsLeft r₁) (ok₂ : IsLeft
   made-atoms : Made basics consts ourVars ourRanks (tableIn row) atoms
   made-atoms =
       record {
-        long = tabulate-long 128 (λ p. getD row p 0) ∙ sym many;
+        long = tabulate-long pairPlaces (λ p. getD row p 0) ∙ sym many;
         firsts = λ p a h.
             let l = below p a h in
-            tabulate-at 128 (λ p. getD row p 0) p 0 l ∙ c .codes .firsts p a l h;
+            tabulate-at pairPlaces (λ p. getD row p 0) p 0 l ∙ c .codes .firsts p a l h;
         kinds = kind-at;
         variables = variable-at;
       }
 
   -- an item's term is that of an atom, or an entry's list variable
   abbrev Item : ℕ → OurOriginTerm → Type 0
-  Item p u = ((a : OurAtom) × Holds atoms p a × (termOf a ≡ u)) ⊎ ((g : ℕ) × (g < listItems) × (p ≡ 128 + g) × (var list (place g) ≡ u))
+  Item p u = ((a : OurAtom) × Holds atoms p a × (termOf a ≡ u)) ⊎ ((g : ℕ) × (g < listItems) × (p ≡ pairPlaces + g) × (var list (place g) ≡ u))
 
   shown : (o : Option OurAtom) (u : OurOriginTerm) → shownAt o ≡ some u → (a : OurAtom) × (o ≡ some a) × (termOf a ≡ u)
   shown none u e = absurd (Option·none-ne-some u e)
@@ -243,31 +245,31 @@ module _ (r₁ r₂ : List (List OurTerm)) (ok₁ : IsLeft r₁) (ok₂ : IsLeft
   listTerm g = some (var list (place g))
 
   item-is : (p : ℕ) (u : OurOriginTerm) → Holds (ourTerms r₁ r₂) p u → Item p u
-  item-is p u h = go (decLt p 128) (decLt (p - 128) listItems)
+  item-is p u h = go (decLt p pairPlaces) (decLt (p - pairPlaces) listItems)
     where
-      go : Dec (p < 128) → Dec (p - 128 < listItems) → Item p u
+      go : Dec (p < pairPlaces) → Dec (p - pairPlaces < listItems) → Item p u
       go (yes l) d =
           inl (shown (getD atoms p none) u
           (sym (List·getD-append (map shownAt atoms) (map listTerm (range 0 listItems)) none p (omega (arith, l, many, length-map atoms shownAt))
           ∙ List·getD-map shownAt atoms p none) ∙ h))
-      go (no n) d = behind d (let e : p ≡ length (map shownAt atoms) + (p - 128) = omega (arith, many, length-map atoms shownAt) in e)
+      go (no n) d = behind d (let e : p ≡ length (map shownAt atoms) + (p - pairPlaces) = omega (arith, many, length-map atoms shownAt) in e)
         where
-          at : p ≡ length (map shownAt atoms) + (p - 128) → getD (map listTerm (range 0 listItems)) (p - 128) none ≡ some u
+          at : p ≡ length (map shownAt atoms) + (p - pairPlaces) → getD (map listTerm (range 0 listItems)) (p - pairPlaces) none ≡ some u
           at e =
-              sym (getD-append-add (map shownAt atoms) (map listTerm (range 0 listItems)) (p - 128) none)
+              sym (getD-append-add (map shownAt atoms) (map listTerm (range 0 listItems)) (p - pairPlaces) none)
               ∙ ap (λ (j : ℕ). getD (ourTerms r₁ r₂) j none) (sym e) ∙ h
 
-          behind : Dec (p - 128 < listItems) → p ≡ length (map shownAt atoms) + (p - 128) → Item p u
+          behind : Dec (p - pairPlaces < listItems) → p ≡ length (map shownAt atoms) + (p - pairPlaces) → Item p u
           behind (yes l) e =
               inr (
-                p - 128,
+                p - pairPlaces,
                 l,
                 omega arith,
-                ap (λ (j : ℕ). var list (place j)) (let z : p - 128 ≡ 0 + (p - 128) = omega arith in z)
-                    ∙ Option·some-injective (var list (place (0 + (p - 128)))) u (sym (range-at listTerm 0 listItems (p - 128) none l) ∙ at e),
+                ap (λ (j : ℕ). var list (place j)) (let z : p - pairPlaces ≡ 0 + (p - pairPlaces) = omega arith in z)
+                    ∙ Option·some-injective (var list (place (0 + (p - pairPlaces)))) u (sym (range-at listTerm 0 listItems (p - pairPlaces) none l) ∙ at e),
               )
           behind (no m) e =
-              absurd (Option·none-ne-some u (sym (List·getD-eq-default (map listTerm (range 0 listItems)) none {n = p - 128} (omega arith)) ∙ at e))
+              absurd (Option·none-ne-some u (sym (List·getD-eq-default (map listTerm (range 0 listItems)) none {n = p - pairPlaces} (omega arith)) ∙ at e))
 
   made-terms : MadeTerms rank (tableIn row) (ourTerms r₁ r₂)
   made-terms =
@@ -290,10 +292,10 @@ module _ (r₁ r₂ : List (List OurTerm)) (ok₁ : IsLeft r₁) (ok₂ : IsLeft
   plain-by : (p : ℕ) (d : Con) → Holds atoms p (fixed d) → textIn row texts p ≡ termText (con d)
   plain-by p d h = go d (c .codes .kinds p (fixed d) l h) (cell-bytes texts p (bytesOf d) (c .wide) l (o .1) (o .0))
     where
-      l : p < 128
+      l : p < pairPlaces
       l = below p (fixed d) h
 
-      o : Cell texts p (bytesOf d) × (length (bytesOf d) ≤ 15)
+      o : Cell texts p (bytesOf d) × (length (bytesOf d) ≤ longestString)
       o = c .cells p d l h
 
       go : (b : Con) → getD row (kindsAt + p) 0 ≡ rank (basic (kind-of b)) → bytesIn texts p ≡ bytesOf b → textIn row texts p ≡ termText (con b)
@@ -311,25 +313,29 @@ module _ (r₁ r₂ : List (List OurTerm)) (ok₁ : IsLeft r₁) (ok₂ : IsLeft
 
   -- ---- shapes
 
-  spot-at : (g : ℕ) → g < 8 → spotAt row g ≡ fieldSpot (16 * g) (fieldIn r₁ r₂ g)
+  spot-at : (g : ℕ) → g < pairFields → spotAt row g ≡ fieldSpot (fieldPlaces * g) (fieldIn r₁ r₂ g)
   spot-at g l = c .shaped .before g l l
 
-  shapes₁ : tabulate (length r₁) (spotIn row false) ≡ spotsOf 16 0 r₁
+  shapes₁ : tabulate (length r₁) (spotIn row false) ≡ spotsOf fieldPlaces 0 r₁
   shapes₁ =
       spots-are r₁ 0 (spotIn row false) (λ j l.
-      spot-at j (omega (arith, l, ok₁ .0 .1)) ∙ ap₂ fieldSpot (let e : 16 * j ≡ 0 + 16 * j = omega arith in e)
+      spot-at j (omega (arith, l, ok₁ .0 .1)) ∙ ap₂ fieldSpot (let e : fieldPlaces * j ≡ 0 + fieldPlaces * j = omega arith in e)
       (field-left r₁ r₂ j (omega (arith, l, ok₁ .0 .1))))
 
-  shapes₂ : tabulate (length r₂) (spotIn row true) ≡ spotsOf 16 64 r₂
+  shapes₂ : tabulate (length r₂) (spotIn row true) ≡ spotsOf fieldPlaces rulePlaces r₂
   shapes₂ =
-      spots-are r₂ 64 (spotIn row true) (λ j l.
-      spot-at (4 + j) (omega (arith, l, ok₂ .0 .1)) ∙ ap₂ fieldSpot (let e : 16 * (4 + j) ≡ 64 + 16 * j = omega arith in e) (field-right r₁ r₂ j))
+      spots-are r₂ rulePlaces (spotIn row true) (λ j l.
+      spot-at (mostFields + j) (omega (arith, l, ok₂ .0 .1))
+      ∙ ap₂ fieldSpot (let e : fieldPlaces * (mostFields + j) ≡ rulePlaces + fieldPlaces * j = omega arith in e) (field-right r₁ r₂ j))
 
   -- ---- variables
 
-  index-read : (s : Bool) (k : Kind) (n : ℕ) → indexIn row s (16 * rank k + n) ≡ getD row (indexOn s + 16 * rank k + n) 0
-  index-read true k n = ap (λ (j : ℕ). getD row j 0) (let e : indexesAt + 64 + (16 * rank k + n) ≡ indexesAt + 64 + 16 * rank k + n = omega arith in e)
-  index-read false k n = ap (λ (j : ℕ). getD row j 0) (let e : indexesAt + (16 * rank k + n) ≡ indexesAt + 16 * rank k + n = omega arith in e)
+  index-read : (s : Bool) (k : Kind) (n : ℕ) → indexIn row s (numbersOfSide * rank k + n) ≡ getD row (indexOn s + numbersOfSide * rank k + n) 0
+  index-read true k n =
+      ap (λ (j : ℕ). getD row j 0)
+      (let e : indexesAt + variablePlaces + (numbersOfSide * rank k + n) ≡ indexesAt + variablePlaces + numbersOfSide * rank k + n = omega arith in e)
+  index-read false k n =
+      ap (λ (j : ℕ). getD row j 0) (let e : indexesAt + (numbersOfSide * rank k + n) ≡ indexesAt + numbersOfSide * rank k + n = omega arith in e)
 
   top-read : (s : Bool) (k : ℕ) → topIn row s k ≡ getD row (topOn s + k) 0
   top-read true k = refl
@@ -339,15 +345,15 @@ module _ (r₁ r₂ : List (List OurTerm)) (ok₁ : IsLeft r₁) (ok₂ : IsLeft
   right-read s (basic k) n v h = h
   right-read s list n v h = h
 
-  indexes : (s : Bool) (r : List (List OurTerm)) → Indexed atoms s (flat r) 128 row → Indexes r₁ r₂ (sideIn s) r (indexIn row s)
+  indexes : (s : Bool) (r : List (List OurTerm)) → Indexed atoms s (flat r) pairPlaces row → Indexes r₁ r₂ (sideIn s) r (indexIn row s)
   indexes s r m =
       record {
         absent = λ k n l e. index-read s k n ∙ m .absent k n l (occurs-flat k n r ∙ e);
-        present = λ k n l e. right-read s k n (indexIn row s (16 * rank k + n))
+        present = λ k n l e. right-read s k n (indexIn row s (numbersOfSide * rank k + n))
             (subst (RightIn atoms s k n) (sym (index-read s k n)) (m .present k n l (occurs-flat k n r ∙ e)));
       }
 
-  tops : (s : Bool) (r : List (List OurTerm)) → Indexed atoms s (flat r) 128 row → Tops r (topIn row s)
+  tops : (s : Bool) (r : List (List OurTerm)) → Indexed atoms s (flat r) pairPlaces row → Tops r (topIn row s)
   tops s r m =
       record {
         within = λ k l. omega (arith, top-read s k, m .within k l);

@@ -10,6 +10,7 @@ use lib.Dec.{eqb}
 use lib.ListN.{length, getD, set, take, drop, length-set, length-take, length-drop}
 use lib.Seq.{sets, length-sets, getD-set-same, getD-set-other, getD-take, getD-drop, ext-getD}
 use borrow.Author.Tests.{eq-eqb, eqb-true}
+use Rattle.base_limits.specs.Limits.{longestString, fieldPlaces, pairPlaces}
 use Rattle.base_lists.specs.Truths.{both-is}
 use Rattle.math_types.specs.Order.{basic}
 use Rattle.math_types.specs.Types.{rank}
@@ -17,7 +18,7 @@ use Rattle.text_grammar.specs.Numbers.{value, digitsOf}
 use Rattle.text_grammar.specs.Terms.{Con, int, str}
 use Rattle.text_grammar.proofs.Numbers.{digits-value}
 use Rattle.text_grammar.specs.constants.Constants.{kind-of}
-use Rattle.pair_row.specs.Row.{kindsAt, membersAt, textsBytes, bytesIn}
+use Rattle.pair_row.specs.Row.{kindsAt, membersAt, textsBytes, bytesIn, cellBytes}
 use Rattle.pair_table.specs.Notes.{celled, sameFrom, sameConstant, memberFrom}
 
 -- ---- a run of stores
@@ -40,65 +41,68 @@ sets-at (a ∷ vs) l i (suc k) h b =
 
 -- the cell of place q has the bytes b, their number before them
 abbrev pub Cell : List ℕ → ℕ → List ℕ → Type 0
-Cell texts q b = (i : ℕ) → i < suc (length b) → getD texts (16 * q + i) 0 ≡ getD (length b ∷ b) i 0
+Cell texts q b = (i : ℕ) → i < suc (length b) → getD texts (cellBytes * q + i) 0 ≡ getD (length b ∷ b) i 0
 
 module _ (p : ℕ) (bs texts : List ℕ) where
   pub celled-long : length (celled p bs texts) ≡ length texts
-  celled-long = length-sets (set texts (16 * p) (length bs)) (16 * p + 1) bs ∙ length-set texts (16 * p) (length bs)
+  celled-long = length-sets (set texts (cellBytes * p) (length bs)) (cellBytes * p + 1) bs ∙ length-set texts (cellBytes * p) (length bs)
 
-  module _ (few : length bs ≤ 15) where
-    pub celled-cell : p < 128 → length texts ≡ textsBytes → Cell (celled p bs texts) p bs
+  module _ (few : length bs ≤ longestString) where
+    pub celled-cell : p < pairPlaces → length texts ≡ textsBytes → Cell (celled p bs texts) p bs
     celled-cell h l zero b =
-        sets-other bs (set texts (16 * p) (length bs)) (16 * p + 1) (16 * p + 0) (λ x y. omega arith)
-        ∙ ap (λ (j : ℕ). getD (set texts (16 * p) (length bs)) j 0) (let e : 16 * p + 0 ≡ 16 * p = omega arith in e)
-        ∙ getD-set-same texts (16 * p) (length bs) 0 (omega (arith, l, h))
+        sets-other bs (set texts (cellBytes * p) (length bs)) (cellBytes * p + 1) (cellBytes * p + 0) (λ x y. omega arith)
+        ∙ ap (λ (j : ℕ). getD (set texts (cellBytes * p) (length bs)) j 0) (let e : cellBytes * p + 0 ≡ cellBytes * p = omega arith in e)
+        ∙ getD-set-same texts (cellBytes * p) (length bs) 0 (omega (arith, l, h))
     celled-cell h l (suc i) b =
-        ap (λ (j : ℕ). getD (celled p bs texts) j 0) (let e : 16 * p + suc i ≡ 16 * p + 1 + i = omega arith in e)
-        ∙ sets-at bs (set texts (16 * p) (length bs)) (16 * p + 1) i (omega (arith, l, h, few, length-set texts (16 * p) (length bs))) (omega arith)
+        ap (λ (j : ℕ). getD (celled p bs texts) j 0) (let e : cellBytes * p + suc i ≡ cellBytes * p + 1 + i = omega arith in e)
+        ∙ sets-at bs (set texts (cellBytes * p) (length bs)) (cellBytes * p + 1) i (omega (arith, l, h, few, length-set texts (cellBytes * p) (length bs)))
+        (omega arith)
 
-    pub celled-other : (q : ℕ) (b : List ℕ) → length b ≤ 15 → q ≢ p → Cell texts q b → Cell (celled p bs texts) q b
+    pub celled-other : (q : ℕ) (b : List ℕ) → length b ≤ longestString → q ≢ p → Cell texts q b → Cell (celled p bs texts) q b
     celled-other q b m d c i h =
-        sets-other bs (set texts (16 * p) (length bs)) (16 * p + 1) (16 * q + i) (λ x y. d (omega (arith, few, m)))
-        ∙ getD-set-other texts (16 * p) (16 * q + i) (length bs) 0 (λ e. d (omega (arith, few, m)))
+        sets-other bs (set texts (cellBytes * p) (length bs)) (cellBytes * p + 1) (cellBytes * q + i) (λ x y. d (omega (arith, few, m)))
+        ∙ getD-set-other texts (cellBytes * p) (cellBytes * q + i) (length bs) 0 (λ e. d (omega (arith, few, m)))
         ∙ c i h
 
     -- every cell says a number of bytes for which it has room
-    pub celled-few : p < 128 → length texts ≡ textsBytes → ((q : ℕ) → getD texts (16 * q) 0 ≤ 15) → (q : ℕ) → getD (celled p bs texts) (16 * q) 0 ≤ 15
+    pub celled-few : p < pairPlaces → length texts ≡ textsBytes → ((q : ℕ) → getD texts (cellBytes * q) 0 ≤ longestString) → (q : ℕ)
+        → getD (celled p bs texts) (cellBytes * q) 0 ≤ longestString
     celled-few h l c q = go (ℕ-discrete q p)
       where
-        here : getD (celled p bs texts) (16 * q) 0 ≡ getD (set texts (16 * p) (length bs)) (16 * q) 0
-        here = sets-other bs (set texts (16 * p) (length bs)) (16 * p + 1) (16 * q) (λ x y. omega (arith, few))
+        here : getD (celled p bs texts) (cellBytes * q) 0 ≡ getD (set texts (cellBytes * p) (length bs)) (cellBytes * q) 0
+        here = sets-other bs (set texts (cellBytes * p) (length bs)) (cellBytes * p + 1) (cellBytes * q) (λ x y. omega (arith, few))
 
-        go : Dec (q ≡ p) → getD (celled p bs texts) (16 * q) 0 ≤ 15
+        go : Dec (q ≡ p) → getD (celled p bs texts) (cellBytes * q) 0 ≤ longestString
         go (yes e) =
             omega (
               arith,
               few,
               here,
-              ap (λ (j : ℕ). getD (set texts (16 * p) (length bs)) (16 * j) 0) e,
-              getD-set-same texts (16 * p) (length bs) 0 (omega (arith, h, l)),
+              ap (λ (j : ℕ). getD (set texts (cellBytes * p) (length bs)) (fieldPlaces * j) 0) e,
+              getD-set-same texts (cellBytes * p) (length bs) 0 (omega (arith, h, l)),
             )
-        go (no d) = omega (arith, here, c q, getD-set-other texts (16 * p) (16 * q) (length bs) 0 (λ e. d (omega arith)))
+        go (no d) = omega (arith, here, c q, getD-set-other texts (cellBytes * p) (cellBytes * q) (length bs) 0 (λ e. d (omega arith)))
 
 -- a cell's number
-cell-size : (texts : List ℕ) (q : ℕ) (b : List ℕ) → Cell texts q b → getD texts (16 * q) 0 ≡ length b
-cell-size texts q b c = ap (λ (j : ℕ). getD texts j 0) (let e : 16 * q ≡ 16 * q + 0 = omega arith in e) ∙ c 0 (omega arith)
+cell-size : (texts : List ℕ) (q : ℕ) (b : List ℕ) → Cell texts q b → getD texts (cellBytes * q) 0 ≡ length b
+cell-size texts q b c = ap (λ (j : ℕ). getD texts j 0) (let e : cellBytes * q ≡ cellBytes * q + 0 = omega arith in e) ∙ c 0 (omega arith)
 
 -- and its bytes
-pub cell-bytes : (texts : List ℕ) (q : ℕ) (b : List ℕ) → length texts ≡ textsBytes → q < 128 → length b ≤ 15 → Cell texts q b → bytesIn texts q ≡ b
+pub cell-bytes : (texts : List ℕ) (q : ℕ) (b : List ℕ) → length texts ≡ textsBytes → q < pairPlaces → length b ≤ longestString → Cell texts q b
+    → bytesIn texts q ≡ b
 cell-bytes texts q b l h m c =
-    ap (λ (n : ℕ). take n (drop (16 * q + 1) texts)) (cell-size texts q b c) ∙ ext-getD 0 (take (length b) rest) b same-long each
+    ap (λ (n : ℕ). take n (drop (cellBytes * q + 1) texts)) (cell-size texts q b c) ∙ ext-getD 0 (take (length b) rest) b same-long each
   where
     rest : List ℕ
-    rest = drop (16 * q + 1) texts
+    rest = drop (cellBytes * q + 1) texts
 
     same-long : length (take (length b) rest) ≡ length b
-    same-long = omega (arith, length-take (length b) rest, length-drop (16 * q + 1) texts, l, h, m)
+    same-long = omega (arith, length-take (length b) rest, length-drop (cellBytes * q + 1) texts, l, h, m)
 
     each : (i : ℕ) → i < length (take (length b) rest) → getD (take (length b) rest) i 0 ≡ getD b i 0
     each i k =
-        getD-take (length b) rest i 0 (omega (arith, same-long)) ∙ getD-drop (16 * q + 1) texts i 0
-        ∙ ap (λ (j : ℕ). getD texts j 0) (let e : 16 * q + 1 + i ≡ 16 * q + suc i = omega arith in e)
+        getD-take (length b) rest i 0 (omega (arith, same-long)) ∙ getD-drop (cellBytes * q + 1) texts i 0
+        ∙ ap (λ (j : ℕ). getD texts j 0) (let e : cellBytes * q + 1 + i ≡ cellBytes * q + suc i = omega arith in e)
         ∙ c (suc i) (omega (arith, same-long))
 
 -- ---- comparing
@@ -142,10 +146,11 @@ module _ (row texts : List ℕ) (p q : ℕ) (c d : Con) (a : Cell texts p (bytes
   -- THE COMPARISON of two cells is that of the constants
   pub same-constant : sameConstant row texts p q ≡ true → c ≡ d
   same-constant e =
-      let h = both-is (eqb (getD row (kindsAt + p) 0) (getD row (kindsAt + q) 0)) (sameFrom texts (16 * p) (16 * q) (suc (getD texts (16 * p) 0))) .0 e in
+      let h = both-is (eqb (getD row (kindsAt + p) 0) (getD row (kindsAt + q) 0))
+      (sameFrom texts (cellBytes * p) (cellBytes * q) (suc (getD texts (cellBytes * p) 0))) .0 e in
       let k = eqb-true (getD row (kindsAt + p) 0) (getD row (kindsAt + q) 0) (h .0) in
       let z = cell-size texts p (bytesOf c) a in
-      let s = same-to texts (suc (getD texts (16 * p) 0)) (16 * p) (16 * q) (h .1) in
+      let s = same-to texts (suc (getD texts (cellBytes * p) 0)) (cellBytes * p) (cellBytes * q) (h .1) in
       let l : length (bytesOf c) ≡ length (bytesOf d) = sym (a 0 (omega arith)) ∙ s 0 (omega arith) ∙ b 0 (omega arith) in
       bytes-once c d (sym m ∙ k ∙ n)
       (ext-getD 0 (bytesOf c) (bytesOf d) l
@@ -154,9 +159,10 @@ module _ (row texts : List ℕ) (p q : ℕ) (c d : Con) (a : Cell texts p (bytes
   pub constant-same : c ≡ d → sameConstant row texts p q ≡ true
   constant-same e =
       let z = cell-size texts p (bytesOf c) a in
-      both-is (eqb (getD row (kindsAt + p) 0) (getD row (kindsAt + q) 0)) (sameFrom texts (16 * p) (16 * q) (suc (getD texts (16 * p) 0))) .1 (
+      both-is (eqb (getD row (kindsAt + p) 0) (getD row (kindsAt + q) 0))
+      (sameFrom texts (cellBytes * p) (cellBytes * q) (suc (getD texts (cellBytes * p) 0))) .1 (
         eq-eqb (getD row (kindsAt + p) 0) (getD row (kindsAt + q) 0) (m ∙ ap (λ (x : Con). rank (basic (kind-of x))) e ∙ sym n),
-        same-from texts (suc (getD texts (16 * p) 0)) (16 * p) (16 * q)
+        same-from texts (suc (getD texts (cellBytes * p) 0)) (cellBytes * p) (cellBytes * q)
             (λ i h. a i (omega (arith, z)) ∙ ap (λ (x : Con). getD (length (bytesOf x) ∷ bytesOf x) i 0) e
             ∙ sym (b i (omega (arith, z, ap (λ (x : Con). length (bytesOf x)) e)))),
       )

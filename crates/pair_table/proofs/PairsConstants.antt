@@ -10,6 +10,7 @@ use lib.Dec.{eqb}
 use lib.ListN.{length, getD, set, length-set}
 use lib.Seq.{getD-set-same, getD-set-other}
 use borrow.Author.Tests.{eq-eqb, ne-eqb}
+use Rattle.base_limits.specs.Limits.{longestString, pairPlaces}
 use Rattle.math_types.specs.Order.{basic}
 use Rattle.math_types.specs.Types.{basics, rank}
 use Rattle.text_grammar.specs.Terms.{Con}
@@ -26,7 +27,8 @@ use Rattle.pair_table.proofs.PairsCells.{Cell, bytesOf, celled-cell, ce
 use Rattle.pair_table.proofs.PairsNotes.{pick, Same, code, Codes, here-from, codes-keep, codes-same, codes-next}
 use Rattle.pair_table.proofs.PairsNotes.{Among, Members, members-keep, members-joined, Cells}
 
-module _ (t : List (Option OurAtom)) (p : ℕ) (d : Con) (row texts : List ℕ) (h : p < 128) (few : length (bytesOf d) ≤ 15) (long : length row ≡ rowBytes)
+module _ (t : List (Option OurAtom)) (p : ℕ) (d : Con) (row texts : List ℕ) (h : p < pairPlaces) (few : length (bytesOf d) ≤ longestString)
+    (long : length row ≡ rowBytes)
     (wide : length texts ≡ textsBytes) (k : Holds t p (fixed d)) (cs : Codes t p row) (ms : Members t p row) (cl : Cells t p texts) where
   -- the bytes, the row with the type, the code
   abbrev z : List ℕ
@@ -62,8 +64,9 @@ module _ (t : List (Option OurAtom)) (p : ℕ) (d : Con) (row texts : List ℕ) 
   -- THE CELLS
   pub cells-next : Cells t (suc p) z
   cells-next q b l v =
-      pick (λ x. Holds t x (fixed b) → Cell z x (bytesOf b) × (length (bytesOf b) ≤ 15)) q p l (λ u w. (old-cell q b u w, cl q b u w .1))
-      (λ w. subst (λ (x : Con). Cell z p (bytesOf x) × (length (bytesOf x) ≤ 15)) (fixed-once (holds-once t p (fixed d) (fixed b) k w)) (own-cell, few)) v
+      pick (λ x. Holds t x (fixed b) → Cell z x (bytesOf b) × (length (bytesOf b) ≤ longestString)) q p l (λ u w. (old-cell q b u w, cl q b u w .1))
+      (λ w. subst (λ (x : Con). Cell z p (bytesOf x) × (length (bytesOf x) ≤ longestString)) (fixed-once (holds-once t p (fixed d) (fixed b) k w))
+      (own-cell, few)) v
 
   -- ---- the code: that of a member, or the place
 

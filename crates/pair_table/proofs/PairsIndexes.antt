@@ -10,9 +10,10 @@ use native.Mathlib.Decide.{decLt}
 use lib.Dec.{eqb}
 use lib.ListN.{getD}
 use borrow.Author.Tests.{eqb-true, eq-eqb}
+use Rattle.base_limits.specs.Limits.{largestNumber, kindCount, numbersOfSide, variablePlaces}
 use Rattle.base_lists.specs.Truths.{both-is}
 use Rattle.math_types.specs.Order.{basic, list}
-use Rattle.math_types.specs.Types.{Basic, Kind, rank, rank-below, rank-once, same, same-is}
+use Rattle.math_types.specs.Types.{Basic, Kind, rank, rank-kinds, rank-once, same, same-is}
 use Rattle.math_terms.specs.Terms.{con, var}
 use Rattle.text_grammar.specs.Terms.{OurTerm, Con}
 use Rattle.math_overlaps.specs.Shapes.{free, Side, left, right, Variable, of, kindIn}
@@ -31,7 +32,7 @@ sideIn false = left
 
 -- where a side's index and its tops begin
 abbrev pub indexOn : Bool → ℕ
-indexOn s = indexesAt + 64 * sideOf s
+indexOn s = indexesAt + variablePlaces * sideOf s
 
 abbrev pub topOn : Bool → ℕ
 topOn s = topsAt + 4 * sideOf s
@@ -115,7 +116,8 @@ pub is-that : (j k : Kind) (m n : ℕ) → isVariable j m (var k n) ≡ true →
 is-that j k m n e = let h = both-is (same j k) (eqb m n) .0 e in (same-is j k .0 (h .0), eqb-true m n (h .1))
 
 -- a slot is that of one variable
-pub slot-once : (j k : Kind) (m n : ℕ) → m ≤ 15 → n ≤ 15 → isVariable j m (var k n) ≡ false → 16 * rank j + m ≢ 16 * rank k + n
+pub slot-once : (j k : Kind) (m n : ℕ) → m ≤ largestNumber → n ≤ largestNumber → isVariable j m (var k n) ≡ false
+    → numbersOfSide * rank j + m ≢ numbersOfSide * rank k + n
 slot-once j k m n a b e q =
     let x : rank j ≡ rank k = omega arith in
     let y : m ≡ n = omega arith in
@@ -130,16 +132,16 @@ module _ (t : List (Option OurAtom)) (s : Bool) where
   RightIn list n v = 0 < v
 
   pub record Indexed (d : List OurTerm) (p : ℕ) (row : List ℕ) : Type 0 where
-    pub absent : (k : Kind) (n : ℕ) → n ≤ 15 → inField k n d ≡ false → getD row (indexOn s + 16 * rank k + n) 0 ≡ 0
-    pub present : (k : Kind) (n : ℕ) → n ≤ 15 → inField k n d ≡ true → RightIn k n (getD row (indexOn s + 16 * rank k + n) 0)
+    pub absent : (k : Kind) (n : ℕ) → n ≤ largestNumber → inField k n d ≡ false → getD row (indexOn s + numbersOfSide * rank k + n) 0 ≡ 0
+    pub present : (k : Kind) (n : ℕ) → n ≤ largestNumber → inField k n d ≡ true → RightIn k n (getD row (indexOn s + numbersOfSide * rank k + n) 0)
     pub met : (q : ℕ) (k : Basic) (n : ℕ) → q < p → Holds t q (free (of (sideIn s) k n)) → inField (basic k) n d ≡ true
-    pub within : (k : ℕ) → k < 4 → getD row (topOn s + k) 0 ≤ 16
+    pub within : (k : ℕ) → k < kindCount → getD row (topOn s + k) 0 ≤ numbersOfSide
     pub above : (k : Kind) (n : ℕ) → inField k n d ≡ true → n < getD row (topOn s + rank k) 0
 
   -- the rule's part of the row is as it was
   abbrev pub Untouched : List ℕ → List ℕ → Type 0
   Untouched row row′ =
-      ((j : ℕ) → indexOn s ≤ j → j < indexOn s + 64 → Same row row′ j)
+      ((j : ℕ) → indexOn s ≤ j → j < indexOn s + variablePlaces → Same row row′ j)
       × ((j : ℕ) → topOn s ≤ j → j < topOn s + 4 → Same row row′ j)
 
   pub untouched : (row row′ : List ℕ) → ((j : ℕ) → indexesAt ≤ j → j < countAt → Same row row′ j) → Untouched row row′
@@ -151,12 +153,12 @@ module _ (t : List (Option OurAtom)) (s : Bool) where
       → Indexed d p row → Indexed d r row′
   indexed-keep d p r row row′ u new m =
       record {
-        absent = λ k n l e. u .0 (indexOn s + 16 * rank k + n) (omega arith) (omega (arith, rank-below k)) ∙ m .absent k n l e;
+        absent = λ k n l e. u .0 (indexOn s + numbersOfSide * rank k + n) (omega arith) (omega (arith, rank-kinds k)) ∙ m .absent k n l e;
         present = λ k n l e. subst (RightIn k n)
-            (sym (u .0 (indexOn s + 16 * rank k + n) (omega arith) (omega (arith, rank-below k)))) (m .present k n l e);
+            (sym (u .0 (indexOn s + numbersOfSide * rank k + n) (omega arith) (omega (arith, rank-kinds k)))) (m .present k n l e);
         met = λ q k n l v. go q k n l v (decLt q p);
         within = λ k l. omega (arith, u .1 (topOn s + k) (omega arith) (omega arith), m .within k l);
-        above = λ k n e. omega (arith, u .1 (topOn s + rank k) (omega arith) (omega (arith, rank-below k)), m .above k n e);
+        above = λ k n e. omega (arith, u .1 (topOn s + rank k) (omega arith) (omega (arith, rank-kinds k)), m .above k n e);
       }
     where
       go : (q : ℕ) (k : Basic) (n : ℕ) → q < r → Holds t q (free (of (sideIn s) k n)) → Dec (q < p) → inField (basic k) n d ≡ true

@@ -8,6 +8,7 @@ use Prim.Native.Nat.{ℕ, suc, _+_, _≤_, _<_}
 use native.Mathlib.Omega.{arith}
 use native.Mathlib.Decide.{ℕ-discrete, decLt}
 use lib.ListN.{length, getD}
+use Rattle.base_limits.specs.Limits.{longestString, pairPlaces}
 use Rattle.math_types.specs.Order.{basic}
 use Rattle.math_types.specs.Types.{basics, rank}
 use Rattle.text_grammar.specs.Terms.{Con}
@@ -70,7 +71,7 @@ module _ (t : List (Option OurAtom)) where
   abbrev pub ByPlace : ℕ → List ℕ → List ℕ → Type 0
   ByPlace p row row′ = (j : ℕ) → j < shapesAt → j ≢ p → j ≢ kindsAt + p → j ≢ variablesAt + p → Same row row′ j
 
-  pub codes-keep : (p : ℕ) (row row′ : List ℕ) → p < 128 → ByPlace p row row′ → Codes p row → Codes p row′
+  pub codes-keep : (p : ℕ) (row row′ : List ℕ) → p < pairPlaces → ByPlace p row row′ → Codes p row → Codes p row′
   codes-keep p row row′ h s c =
       record {
         firsts = λ q a l k. s q (omega arith) (λ e. omega arith) (λ e. omega arith) (λ e. omega arith) ∙ c .firsts q a l k;
@@ -79,7 +80,7 @@ module _ (t : List (Option OurAtom)) where
       }
 
   -- nothing is written by place at all
-  pub codes-same : (p : ℕ) (row row′ : List ℕ) → p ≤ 128 → ((j : ℕ) → j < shapesAt → Same row row′ j) → Codes p row → Codes p row′
+  pub codes-same : (p : ℕ) (row row′ : List ℕ) → p ≤ pairPlaces → ((j : ℕ) → j < shapesAt → Same row row′ j) → Codes p row → Codes p row′
   codes-same p row row′ h s c =
       record {
         firsts = λ q a l k. s q (omega arith) ∙ c .firsts q a l k;
@@ -151,12 +152,12 @@ module _ (t : List (Option OurAtom)) where
       go q d l k (no n) = new q d (omega arith) l k
 
   -- one member more, the constant d at p
-  module _ (p : ℕ) (row : List ℕ) (d : Con) (h : p < 128) (long : length row ≡ rowBytes)
+  module _ (p : ℕ) (row : List ℕ) (d : Con) (h : p < pairPlaces) (long : length row ≡ rowBytes)
       (k : Holds t p (fixed d)) (e : code (fixed d) ≡ p) (c : Members p row) where
     abbrev n : ℕ
     n = getD row countAt 0
 
-    room : n < 128
+    room : n < pairPlaces
     room = omega (arith, c .few, h)
 
     kept : (i : ℕ) → i < n → getD (joinedMember p row) (membersAt + i) 0 ≡ getD row (membersAt + i) 0
@@ -185,4 +186,4 @@ module _ (t : List (Option OurAtom)) where
   -- ---- cells
 
   abbrev pub Cells : ℕ → List ℕ → Type 0
-  Cells p texts = (q : ℕ) (d : Con) → q < p → Holds t q (fixed d) → Cell texts q (bytesOf d) × (length (bytesOf d) ≤ 15)
+  Cells p texts = (q : ℕ) (d : Con) → q < p → Holds t q (fixed d) → Cell texts q (bytesOf d) × (length (bytesOf d) ≤ longestString)

@@ -10,8 +10,9 @@ use lib.Dec.{eqb, leb, ltb}
 use lib.ListN.{length, getD, set, length-set}
 use lib.Seq.{getD-set-same, getD-set-other}
 use borrow.Author.Tests.{lt-ltb, eq-eqb, ne-eqb, lt-leb, leb-true, leb-false}
+use Rattle.base_limits.specs.Limits.{mostTerms, largestNumber, numbersOfSide, fieldPlaces, pairPlaces, pairFields}
 use Rattle.math_types.specs.Order.{basic, list}
-use Rattle.math_types.specs.Types.{integer, string, atom, Kind, same}
+use Rattle.math_types.specs.Types.{isList}
 use Rattle.math_terms.specs.Terms.{con, var}
 use Rattle.text_grammar.specs.Terms.{OurTerm}
 use Rattle.math_codes.specs.Spots.{Spot, scanAt, scanTerm, spotOf}
@@ -40,22 +41,22 @@ module _ (p : ℕ) (row : List ℕ) where
   count = getD row countAt 0
 
   pub joined-long : length (joinedMember p row) ≡ length row
-  joined-long = go (ltb count 128)
+  joined-long = go (ltb count pairPlaces)
     where
       go : (b : Bool) → length (cond b (set (set row (membersAt + count) p) countAt (count + 1)) row) ≡ length row
       go true = length-set (set row (membersAt + count) p) countAt (count + 1) ∙ length-set row (membersAt + count) p
       go false = refl
 
   pub joined-other : (j : ℕ) → j ≢ countAt → j ≢ membersAt + count → getD (joinedMember p row) j 0 ≡ getD row j 0
-  joined-other j a b = go (ltb count 128)
+  joined-other j a b = go (ltb count pairPlaces)
     where
       go : (c : Bool) → getD (cond c (set (set row (membersAt + count) p) countAt (count + 1)) row) j 0 ≡ getD row j 0
       go true = getD-set-other (set row (membersAt + count) p) countAt j (count + 1) 0 a ∙ getD-set-other row (membersAt + count) j p 0 b
       go false = refl
 
-  module _ (few : count < 128) (long : length row ≡ rowBytes) where
+  module _ (few : count < pairPlaces) (long : length row ≡ rowBytes) where
     joined-is : joinedMember p row ≡ set (set row (membersAt + count) p) countAt (count + 1)
-    joined-is = ap (λ (b : Bool). cond b (set (set row (membersAt + count) p) countAt (count + 1)) row) (lt-ltb count 128 few)
+    joined-is = ap (λ (b : Bool). cond b (set (set row (membersAt + count) p) countAt (count + 1)) row) (lt-ltb count pairPlaces few)
 
     pub joined-count : getD (joinedMember p row) countAt 0 ≡ suc count
     joined-count =
@@ -135,7 +136,7 @@ module _ (t n : ℕ) (row : List ℕ) where
   module _ (h : t < length row) where
     abbrev top-is : (b : Bool) → leb (getD row t 0) n ≡ b
         → (n < getD (cond b (set row t (n + 1)) row) t 0) × (getD row t 0 ≤ getD (cond b (set row t (n + 1)) row) t 0)
-        × (n ≤ 15 → getD row t 0 ≤ 16 → getD (cond b (set row t (n + 1)) row) t 0 ≤ 16)
+        × (n ≤ largestNumber → getD row t 0 ≤ numbersOfSide → getD (cond b (set row t (n + 1)) row) t 0 ≤ numbersOfSide)
     top-is true e =
         let s = getD-set-same row t (n + 1) 0 h in
         let l = leb-true (getD row t 0) n e in
@@ -144,7 +145,7 @@ module _ (t n : ℕ) (row : List ℕ) where
 
     -- the top is above n and not below the one before
     pub topped-at : (n < getD (topped t n row) t 0) × (getD row t 0 ≤ getD (topped t n row) t 0)
-        × (n ≤ 15 → getD row t 0 ≤ 16 → getD (topped t n row) t 0 ≤ 16)
+        × (n ≤ largestNumber → getD row t 0 ≤ numbersOfSide → getD (topped t n row) t 0 ≤ numbersOfSide)
     topped-at = top-is (leb (getD row t 0) n) refl
 
 -- ---- shapes
@@ -159,31 +160,24 @@ spotFrom b h t g l = record { base = b; head = h; tail = t; name = cond g (some 
 
 abbrev pub spotAt : List ℕ → ℕ → Spot ℕ
 spotAt row f =
-    spotFrom (16 * f) (getD row (shapeAt f) 0) (getD row (shapeAt f + 1) 0) (isSet (getD row (shapeAt f + 3) 0)) (getD row (shapeAt f + 2) 0)
+    spotFrom (fieldPlaces * f) (getD row (shapeAt f) 0) (getD row (shapeAt f + 1) 0) (isSet (getD row (shapeAt f + 3) 0)) (getD row (shapeAt f + 2) 0)
 
 -- how a term is noted in a shape
-abbrev pub isList : OurTerm → Bool
-isList (con c) = false
-isList (var (basic k) n) = false
-isList (var list n) = true
+abbrev pub isListTerm : OurTerm → Bool
+isListTerm (con c) = false
+isListTerm (var k n) = isList k
 
 abbrev pub numberOf : OurTerm → ℕ
 numberOf (con c) = 0
 numberOf (var k n) = n
 
-pub list-is : (k : Kind) (n : ℕ) → same k list ≡ isList (var k n)
-list-is (basic integer) n = refl
-list-is (basic string) n = refl
-list-is (basic atom) n = refl
-list-is list n = refl
-
 pub spot-is : (row : List ℕ) (f h t : ℕ) (g : Bool) (l : ℕ) → getD row (shapeAt f) 0 ≡ h → getD row (shapeAt f + 1) 0 ≡ t
-    → isSet (getD row (shapeAt f + 3) 0) ≡ g → getD row (shapeAt f + 2) 0 ≡ l → spotAt row f ≡ spotFrom (16 * f) h t g l
+    → isSet (getD row (shapeAt f + 3) 0) ≡ g → getD row (shapeAt f + 2) 0 ≡ l → spotAt row f ≡ spotFrom (fieldPlaces * f) h t g l
 spot-is row f h t g l a b c d =
-    ap (λ (x : ℕ). spotFrom (16 * f) x (getD row (shapeAt f + 1) 0) (isSet (getD row (shapeAt f + 3) 0)) (getD row (shapeAt f + 2) 0)) a
-    ∙ ap (λ (x : ℕ). spotFrom (16 * f) h x (isSet (getD row (shapeAt f + 3) 0)) (getD row (shapeAt f + 2) 0)) b
-    ∙ ap (λ (x : Bool). spotFrom (16 * f) h t x (getD row (shapeAt f + 2) 0)) c
-    ∙ ap (λ (x : ℕ). spotFrom (16 * f) h t g x) d
+    ap (λ (x : ℕ). spotFrom (fieldPlaces * f) x (getD row (shapeAt f + 1) 0) (isSet (getD row (shapeAt f + 3) 0)) (getD row (shapeAt f + 2) 0)) a
+    ∙ ap (λ (x : ℕ). spotFrom (fieldPlaces * f) h x (isSet (getD row (shapeAt f + 3) 0)) (getD row (shapeAt f + 2) 0)) b
+    ∙ ap (λ (x : Bool). spotFrom (fieldPlaces * f) h t x (getD row (shapeAt f + 2) 0)) c
+    ∙ ap (λ (x : ℕ). spotFrom (fieldPlaces * f) h t g x) d
 
 -- shapes that read the same
 pub spot-same : (row row′ : List ℕ) (f : ℕ) → ((j : ℕ) → shapeAt f ≤ j → j < shapeAt f + 4 → getD row′ j 0 ≡ getD row j 0) → spotAt row′ f ≡ spotAt row f
@@ -224,8 +218,8 @@ fold-count (u ∷ fs) s = fold-count fs (scanTerm s u) ∙ omega (arith, scan-co
 pub spot-count : (b : ℕ) (fs : List OurTerm) → spotCount (spotOf b fs) ≡ length fs
 spot-count b fs = fold-count fs (record { base = b; head = 0; tail = 0; name = none }) ∙ omega arith
 
-more-is : (n : ℕ) → n < 16 → more n ≡ suc n
-more-is n h = ap (λ (b : Bool). cond b 16 (n + 1)) (lt-leb 16 n h) ∙ (let e : n + 1 ≡ suc n = omega arith in e)
+more-is : (n : ℕ) → n < mostTerms → more n ≡ suc n
+more-is n h = ap (λ (b : Bool). cond b mostTerms (n + 1)) (lt-leb mostTerms n h) ∙ (let e : n + 1 ≡ suc n = omega arith in e)
 
 module _ (f : ℕ) (isL : Bool) (n : ℕ) (row : List ℕ) where
   abbrev h₀ : ℕ
@@ -261,17 +255,17 @@ module _ (f : ℕ) (isL : Bool) (n : ℕ) (row : List ℕ) where
       go false false = getD-set-other row (shapeAt f) j (more h₀) 0 (λ e. o (omega arith) (omega arith))
 
 -- ONE TERM MORE in a field's shape
-module _ (f : ℕ) (row : List ℕ) (long : length row ≡ rowBytes) (few : f < 8) (room : termsIn row f < 16) where
+module _ (f : ℕ) (row : List ℕ) (long : length row ≡ rowBytes) (few : f < pairFields) (room : termsIn row f < mostTerms) where
   abbrev l₀ : ℕ
   l₀ = getD row (shapeAt f + 2) 0
 
-  heads : h₀ f false 0 row < 16
+  heads : h₀ f false 0 row < mostTerms
   heads = omega (arith, room)
 
-  tails : t₀ f false 0 row < 16
+  tails : t₀ f false 0 row < mostTerms
   tails = omega (arith, room)
 
-  pub spot-step : (u : OurTerm) → spotAt (shapeNoted f (isList u) (numberOf u) row) f ≡ scanTerm (spotAt row f) u
+  pub spot-step : (u : OurTerm) → spotAt (shapeNoted f (isListTerm u) (numberOf u) row) f ≡ scanTerm (spotAt row f) u
   spot-step u = go (isSet (getD row (shapeAt f + 3) 0)) refl
     where
       h : ℕ
@@ -284,7 +278,7 @@ module _ (f : ℕ) (row : List ℕ) (long : length row ≡ rowBytes) (few : f < 
       other i j a d = getD-set-other row i j a 0 d
 
       behind : isSet (getD row (shapeAt f + 3) 0) ≡ true
-          → spotAt (set row (shapeAt f + 1) (more t)) f ≡ spotFrom (16 * f) h (suc t) true l₀
+          → spotAt (set row (shapeAt f + 1) (more t)) f ≡ spotFrom (fieldPlaces * f) h (suc t) true l₀
       behind e =
           spot-is (set row (shapeAt f + 1) (more t)) f h (suc t) true l₀ (other (shapeAt f + 1) (shapeAt f) (more t) (λ q. omega arith))
           (getD-set-same row (shapeAt f + 1) (more t) 0 (omega (arith, long, few)) ∙ more-is t tails)
@@ -292,7 +286,7 @@ module _ (f : ℕ) (row : List ℕ) (long : length row ≡ rowBytes) (few : f < 
           (other (shapeAt f + 1) (shapeAt f + 2) (more t) (λ q. omega arith))
 
       before : isSet (getD row (shapeAt f + 3) 0) ≡ false
-          → spotAt (set row (shapeAt f) (more h)) f ≡ spotFrom (16 * f) (suc h) t false l₀
+          → spotAt (set row (shapeAt f) (more h)) f ≡ spotFrom (fieldPlaces * f) (suc h) t false l₀
       before e =
           spot-is (set row (shapeAt f) (more h)) f (suc h) t false l₀
           (getD-set-same row (shapeAt f) (more h) 0 (omega (arith, long, few)) ∙ more-is h heads)
@@ -300,7 +294,7 @@ module _ (f : ℕ) (row : List ℕ) (long : length row ≡ rowBytes) (few : f < 
           (ap isSet (other (shapeAt f) (shapeAt f + 3) (more h) (λ q. omega arith)) ∙ e)
           (other (shapeAt f) (shapeAt f + 2) (more h) (λ q. omega arith))
 
-      at-list : (n : ℕ) → spotAt (set (set row (shapeAt f + 2) n) (shapeAt f + 3) 1) f ≡ spotFrom (16 * f) h t true n
+      at-list : (n : ℕ) → spotAt (set (set row (shapeAt f + 2) n) (shapeAt f + 3) 1) f ≡ spotFrom (fieldPlaces * f) h t true n
       at-list n =
           let r = set row (shapeAt f + 2) n in
           spot-is (set (set row (shapeAt f + 2) n) (shapeAt f + 3) 1) f h t true n
@@ -311,16 +305,16 @@ module _ (f : ℕ) (row : List ℕ) (long : length row ≡ rowBytes) (few : f < 
           ∙ getD-set-same row (shapeAt f + 2) n 0 (omega (arith, long, few)))
 
       new : (b : Bool) (u : OurTerm) → List ℕ
-      new b u = cond b (set row (shapeAt f + 1) (more t)) (cond (isList u) (set (set row (shapeAt f + 2) (numberOf u)) (shapeAt f + 3) 1)
+      new b u = cond b (set row (shapeAt f + 1) (more t)) (cond (isListTerm u) (set (set row (shapeAt f + 2) (numberOf u)) (shapeAt f + 3) 1)
           (set row (shapeAt f) (more h)))
 
-      first : isSet (getD row (shapeAt f + 3) 0) ≡ false → (u : OurTerm) → spotAt (new false u) f ≡ scanTerm (spotFrom (16 * f) h t false l₀) u
+      first : isSet (getD row (shapeAt f + 3) 0) ≡ false → (u : OurTerm) → spotAt (new false u) f ≡ scanTerm (spotFrom (fieldPlaces * f) h t false l₀) u
       first e (con c) = before e
       first e (var (basic k) a) = before e
       first e (var list a) = at-list a
 
-      go : (b : Bool) → isSet (getD row (shapeAt f + 3) 0) ≡ b → spotAt (shapeNoted f (isList u) (numberOf u) row) f ≡ scanTerm (spotAt row f) u
+      go : (b : Bool) → isSet (getD row (shapeAt f + 3) 0) ≡ b → spotAt (shapeNoted f (isListTerm u) (numberOf u) row) f ≡ scanTerm (spotAt row f) u
       go true e =
-          ap (λ (b : Bool). spotAt (new b u) f) e ∙ behind e ∙ sym (ap (λ (b : Bool). scanTerm (spotFrom (16 * f) h t b l₀) u) e)
+          ap (λ (b : Bool). spotAt (new b u) f) e ∙ behind e ∙ sym (ap (λ (b : Bool). scanTerm (spotFrom (fieldPlaces * f) h t b l₀) u) e)
       go false e =
-          ap (λ (b : Bool). spotAt (new b u) f) e ∙ first e u ∙ sym (ap (λ (b : Bool). scanTerm (spotFrom (16 * f) h t b l₀) u) e)
+          ap (λ (b : Bool). spotAt (new b u) f) e ∙ first e u ∙ sym (ap (λ (b : Bool). scanTerm (spotFrom (fieldPlaces * f) h t b l₀) u) e)

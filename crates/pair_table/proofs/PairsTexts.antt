@@ -10,14 +10,14 @@ use lib.Dec.{leb, ltb}
 use lib.ListN.{length, getD, drop, length-append, length-drop, List·getD-append}
 use lib.Seq.{getD-append-add, getD-drop}
 use borrow.Author.Tests.{lt-ltb, le-leb}
+use Rattle.base_limits.specs.Limits.{mostTerms, mostDigits, largestInteger, longestString, largestNumber, numbersOfSide, fieldPlaces, pairFields}
 use Rattle.base_lists.specs.Seqs.{All, all-append, tabulated}
-use Rattle.math_types.specs.Order.{basic, list}
-use Rattle.math_types.specs.Types.{Kind, rank, same}
+use Rattle.math_types.specs.Order.{basic}
+use Rattle.math_types.specs.Types.{Kind, rank, isList}
 use Rattle.math_types.specs.Values.{kindOf-from}
 use Rattle.math_terms.specs.Terms.{con}
 use Rattle.text_grammar.specs.Grammar.{Raw, raw-int, raw-str, raw-var, raw-empty, spell, Proper, colons, spellF, bars, spellT}
 use Rattle.text_grammar.specs.Numbers.{value, digitsOf}
-use Rattle.text_grammar.specs.Sizes.{mostDigits, largestInteger}
 use Rattle.text_grammar.specs.Tokens.{Token, tokensF, tokensT, tokens, Over}
 use Rattle.text_grammar.specs.Terms.{OurTerm, Con, int, str, termOf, fieldOf}
 use Rattle.text_grammar.proofs.Walk.{spell-some}
@@ -33,7 +33,6 @@ use Rattle.text_scan.specs.declared.Lexeme.{Lexeme}
 use Rattle.text_scan.specs.Lexemes.{capped, lexemeOf}
 use Rattle.pair_row.specs.Row as row
 use Rattle.pair_table.specs.Notes.{partOf, celled, constantNoted, variableNoted, shapeNoted, isField, termsIn, noteBy, noteLexeme, noteToken}
-use Rattle.pair_table.proofs.PairsRow.{list-is}
 use Rattle.pair_table.proofs.PairsCells.{bytesOf}
 use Rattle.pair_table.proofs.PairsIndexes.{sideIn}
 use Rattle.pair_table.proofs.PairsTerms.{Noted, terms-noted, constant-next, variable-next}
@@ -136,36 +135,38 @@ module _ (t : List (Option OurAtom)) (G : ℕ → List OurTerm) (s : Bool) (text
       (subst (λ (z : ℕ). NotedBy f fs′ d′ z x) c (subst (λ (z : List OurTerm). NotedBy f fs′ z p x) b (subst (λ (z : List OurTerm). NotedBy f z d p x) a n)))
 
   -- the field n of the text is the field f of the pair
-  module _ (n f : ℕ) (one : 1 ≤ n) (four : n ≤ 4) (is : row.fieldOf s (n - 1) ≡ f) (low : f < 8) where
+  module _ (n f : ℕ) (one : 1 ≤ n) (four : n ≤ 4) (is : row.fieldOf s (n - 1) ≡ f) (low : f < pairFields) where
     module _ (fs d : List OurTerm) (p : ℕ) (x : List ℕ × List ℕ) (c : NotedBy f fs d p x) (q : ℕ) where
       -- a lexeme that is noted
-      lexeme-is : (a : Lexeme) → length fs < 16 → q < length text → a .size ≤ 15
+      lexeme-is : (a : Lexeme) → length fs < mostTerms → q < length text → a .size ≤ longestString
           → noteBy s text q f p (a .what) (a .size) (a .value) (x .0) (x .1) ≡ noteLexeme s text q n a (x .0) (x .1)
-      lexeme-is a m h z = sym (ap whole is ∙ ap (λ (b : Bool). cond b (noted f (16 * f + termsIn (x .0) f)) x) tests ∙ ap (noted f) place)
+      lexeme-is a m h z = sym (ap whole is ∙ ap (λ (b : Bool). cond b (noted f (fieldPlaces * f + termsIn (x .0) f)) x) tests ∙ ap (noted f) place)
         where
           noted : ℕ → ℕ → List ℕ × List ℕ
           noted g i = noteBy s text q g i (a .what) (a .size) (a .value) (x .0) (x .1)
 
           whole : ℕ → List ℕ × List ℕ
-          whole g = cond (isField n && (ltb (termsIn (x .0) g) 16 && (ltb q (length text) && leb (a .size) 15))) (noted g (16 * g + termsIn (x .0) g)) x
+          whole g = cond (isField n && (ltb (termsIn (x .0) g) mostTerms && (ltb q (length text) && leb (a .size) longestString)))
+              (noted g (fieldPlaces * g + termsIn (x .0) g)) x
 
           count : termsIn (x .0) f ≡ length fs
           count = terms-noted t G s f fs d e p (x .0) (x .1) low c
 
-          place : 16 * f + termsIn (x .0) f ≡ p
+          place : fieldPlaces * f + termsIn (x .0) f ≡ p
           place = omega (arith, count, c .place)
 
-          tests : (isField n && (ltb (termsIn (x .0) f) 16 && (ltb q (length text) && leb (a .size) 15))) ≡ true
+          tests : (isField n && (ltb (termsIn (x .0) f) mostTerms && (ltb q (length text) && leb (a .size) longestString))) ≡ true
           tests =
               ap₂ (λ (b c : Bool). b && c) (ap₂ (λ (b c : Bool). b && c) (le-leb 1 n one) (le-leb n 4 four))
-              (ap₂ (λ (b c : Bool). b && c) (lt-ltb (termsIn (x .0) f) 16 (omega (arith, count, m)))
-              (ap₂ (λ (b c : Bool). b && c) (lt-ltb q (length text) h) (le-leb (a .size) 15 z)))
+              (ap₂ (λ (b c : Bool). b && c) (lt-ltb (termsIn (x .0) f) mostTerms (omega (arith, count, m)))
+              (ap₂ (λ (b c : Bool). b && c) (lt-ltb q (length text) h) (le-leb (a .size) longestString z)))
 
       next : p + 1 ≡ suc p
       next = omega arith
 
-      constant-read : (b : Con) (v : List ℕ) (a : Lexeme) → length fs < 16 → q < length text → a .size ≤ 15 → getD t p none ≡ atomOf (sideIn s) (con b)
-          → length (bytesOf b) ≤ 15 → v ≡ bytesOf b
+      constant-read : (b : Con) (v : List ℕ) (a : Lexeme) → length fs < mostTerms → q < length text → a .size ≤ longestString
+          → getD t p none ≡ atomOf (sideIn s) (con b)
+          → length (bytesOf b) ≤ longestString → v ≡ bytesOf b
           → (constantNoted p (rank (basic (kind-of b))) (celled p v (x .1)) (shapeNoted f false 0 (x .0)), celled p v (x .1))
           ≡ noteBy s text q f p (a .what) (a .size) (a .value) (x .0) (x .1)
           → NotedBy f (fs ++ con b ∷ []) (d ++ con b ∷ []) (p + 1) (noteLexeme s text q n a (x .0) (x .1))
@@ -176,7 +177,8 @@ module _ (t : List (Option OurAtom)) (G : ℕ → List OurTerm) (s : Bool) (text
           (constant-next t G s f fs d e p (x .0) (x .1) low m c b k few)
 
       -- A WRITTEN TERM
-      pub raw-noted : (r : Raw) → Proper r → (Over r → ⊥) → StandsAt text q (spell r) → Stands t (sideIn s) p (termOf r) → length fs + length (termOf r) ≤ 16
+      pub raw-noted : (r : Raw) → Proper r → (Over r → ⊥) → StandsAt text q (spell r) → Stands t (sideIn s) p (termOf r)
+          → length fs + length (termOf r) ≤ mostTerms
           → NotedBy f (fs ++ termOf r) (d ++ termOf r) (p + length (termOf r)) (noteLexeme s text q n (lexemeOf r) (x .0) (x .1))
       raw-noted (raw-int ds) pr o st k m =
           let few : value ds ≤ largestInteger = fits (λ h. o (inr h)) in
@@ -187,23 +189,22 @@ module _ (t : List (Option OurAtom)) (G : ℕ → List OurTerm) (s : Bool) (text
           fits : (largestInteger < value ds → ⊥) → value ds ≤ largestInteger
           fits h = omega arith
 
-          short : (mostDigits < length ds → ⊥) → length ds ≤ 15
+          short : (mostDigits < length ds → ⊥) → length ds ≤ longestString
           short h = omega arith
       raw-noted (raw-str b) pr o st k m =
           constant-read (str b) (partOf text (q + 1) (length b)) (lexemeOf (raw-str b)) (omega arith) (omega (arith, st .0, spell-some (raw-str b) pr))
           (omega arith) (k .0) (omega arith) (string-part text q b st) refl
       raw-noted (raw-var j ds) pr o st k m =
-          let few : value ds ≤ 15 = omega arith in
-          let v : capped (value ds) % 16 ≡ value ds = omega arith in
-          let size : length ds ≤ 15 = omega (arith, ap length (digits-one ds pr), digits-ten (value ds) (omega arith)) in
+          let few : value ds ≤ largestNumber = omega arith in
+          let v : capped (value ds) % numbersOfSide ≡ value ds = omega arith in
+          let size : length ds ≤ longestString = omega (arith, ap length (digits-one ds pr), digits-ten (value ds) (omega arith)) in
           noted-as f refl refl (sym next)
-          (sym (ap₂ (λ (z : Kind) (a : ℕ). (variableNoted p s (rank z) a (shapeNoted f (same z list) a (x .0)), x .1)) (kindOf-from j) v
-          ∙ ap (λ (b : Bool). (variableNoted p s (rank j) (value ds) (shapeNoted f b (value ds) (x .0)), x .1)) (list-is j (value ds)))
+          (sym (ap₂ (λ (z : Kind) (a : ℕ). (variableNoted p s (rank z) a (shapeNoted f (isList z) a (x .0)), x .1)) (kindOf-from j) v)
           ∙ lexeme-is (lexemeOf (raw-var j ds)) (omega arith) (omega (arith, st .0, spell-some (raw-var j ds) pr)) size)
           (variable-next t G s f fs d e p (x .0) (x .1) low (omega arith) c j (value ds) (k .0) few)
       raw-noted raw-empty pr o st k m =
           noted-as f (sym (append-nil fs)) (sym (append-nil d)) (let z : p ≡ p + 0 = omega arith in z)
-          (nothing (isField n && (ltb (termsIn (x .0) (row.fieldOf s (n - 1))) 16 && (ltb q (length text) && true)))) c
+          (nothing (isField n && (ltb (termsIn (x .0) (row.fieldOf s (n - 1))) mostTerms && (ltb q (length text) && true)))) c
         where
           nothing : (b : Bool) → x ≡ cond b x x
           nothing true = refl
@@ -212,7 +213,7 @@ module _ (t : List (Option OurAtom)) (G : ℕ → List OurTerm) (s : Bool) (text
     -- ---- THE TERMS of a field
 
     pub field-noted : (rs : List Raw) (q i : ℕ) (fs d : List OurTerm) (p : ℕ) (x : List ℕ × List ℕ) → All Proper rs → All (λ r. Over r → ⊥) rs
-        → All (Stood text) (tokensF q n i rs) → Stands t (sideIn s) p (fieldOf rs) → length fs + length (fieldOf rs) ≤ 16 → NotedBy f fs d p x
+        → All (Stood text) (tokensF q n i rs) → Stands t (sideIn s) p (fieldOf rs) → length fs + length (fieldOf rs) ≤ mostTerms → NotedBy f fs d p x
         → NotedBy f (fs ++ fieldOf rs) (d ++ fieldOf rs) (p + length (fieldOf rs)) (foldl (noteToken s text) x (tokensF q n i rs))
     field-noted [] q i fs d p x pr o st k m c =
         noted-as f (sym (append-nil fs)) (sym (append-nil d)) (let z : p ≡ p + 0 = omega arith in z) refl c

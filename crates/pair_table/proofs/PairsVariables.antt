@@ -8,8 +8,9 @@ use Prim.Native.Nat.{ℕ, zero, suc, _+_, _*_, _≤_, _<_}
 use native.Mathlib.Omega.{arith}
 use native.Mathlib.Decide.{ℕ-discrete}
 use lib.ListN.{length, getD}
+use Rattle.base_limits.specs.Limits.{largestNumber, numbersOfSide, pairPlaces}
 use Rattle.math_types.specs.Order.{basic, list}
-use Rattle.math_types.specs.Types.{Basic, Kind, basics, rank, rank-below}
+use Rattle.math_types.specs.Types.{Basic, Kind, basics, rank, rank-kinds}
 use Rattle.math_terms.specs.Terms.{var}
 use Rattle.text_grammar.specs.Terms.{OurTerm, Con}
 use Rattle.text_grammar.specs.constants.Constants.{consts}
@@ -28,10 +29,11 @@ use Rattle.pair_table.proofs.PairsNotes.{pick, Same, code, Codes, Here,
 use Rattle.pair_table.proofs.PairsIndexes.{sideIn, indexOn, topOn, side-few, side-apart, side-once, of-side, of-kind, of-number}
 use Rattle.pair_table.proofs.PairsIndexes.{neither, one-of, in-before, in-last, is-itself, is-that, slot-once, RightIn, Indexed, indexed-keep}
 
-module _ (t : List (Option OurAtom)) (s : Bool) (p : ℕ) (k : Kind) (n : ℕ) (row : List ℕ) (h : p < 128) (small : n ≤ 15) (long : length row ≡ rowBytes)
+module _ (t : List (Option OurAtom)) (s : Bool) (p : ℕ) (k : Kind) (n : ℕ) (row : List ℕ) (h : p < pairPlaces) (small : n ≤ largestNumber)
+    (long : length row ≡ rowBytes)
     (hp : getD t p none ≡ atomOf (sideIn s) (var k n)) where
   abbrev i : ℕ
-  i = indexOn s + 16 * rank k + n
+  i = indexOn s + numbersOfSide * rank k + n
 
   abbrev top : ℕ
   top = topOn s + rank k
@@ -46,7 +48,7 @@ module _ (t : List (Option OurAtom)) (s : Bool) (p : ℕ) (k : Kind) (n : ℕ) (
   y = topped top n x
 
   index-in : (indexesAt ≤ i) × (i < topsAt)
-  index-in = (omega arith, omega (arith, side-few s, rank-below k, small))
+  index-in = (omega arith, omega (arith, side-few s, rank-kinds k, small))
 
   long-r : length r ≡ rowBytes
   long-r = classed-long p (rank k) 1 row ∙ long
@@ -151,7 +153,7 @@ module _ (t : List (Option OurAtom)) (s : Bool) (p : ℕ) (k : Kind) (n : ℕ) (
     members-variable c =
         members-keep t p (suc p) row y (omega arith)
         (λ j l. other j (λ q. omega arith) (λ q. omega arith) (λ q. omega arith) (λ q. omega (arith, index-in .1))
-        (λ q. omega (arith, side-few s, rank-below k))) none-new c
+        (λ q. omega (arith, side-few s, rank-kinds k))) none-new c
       where
         none-new : (q : ℕ) (b : Con) → p ≤ q → q < suc p → Holds t q (fixed b) → Among t row b
         none-new q b l u v =
@@ -161,27 +163,27 @@ module _ (t : List (Option OurAtom)) (s : Bool) (p : ℕ) (k : Kind) (n : ℕ) (
 
     -- ---- the rule's variables
 
-    other-slot : (j : Kind) (a : ℕ) → a ≤ 15 → isVariable j a (var k n) ≡ false → Same row y (indexOn s + 16 * rank j + a)
+    other-slot : (j : Kind) (a : ℕ) → a ≤ largestNumber → isVariable j a (var k n) ≡ false → Same row y (indexOn s + numbersOfSide * rank j + a)
     other-slot j a l e =
-        other (indexOn s + 16 * rank j + a) (λ q. omega arith) (λ q. omega arith) (λ q. omega arith)
-        (λ q. slot-once j k a n l small e (omega arith)) (λ q. omega (arith, side-few s, rank-below j))
+        other (indexOn s + numbersOfSide * rank j + a) (λ q. omega arith) (λ q. omega arith) (λ q. omega arith)
+        (λ q. slot-once j k a n l small e (omega arith)) (λ q. omega (arith, side-few s, rank-kinds j))
 
     top-in : top < length x
-    top-in = omega (arith, long-x, side-few s, rank-below k)
+    top-in = omega (arith, long-x, side-few s, rank-kinds k)
 
     top-before : getD x top 0 ≡ getD row top 0
     top-before =
         indexed-other i p r top (λ e. omega (arith, index-in .1)) (λ e. omega arith)
         ∙ classed-other p (rank k) 1 row top (λ e. omega arith) (λ e. omega arith)
 
-    tops-up : (j : ℕ) → j < 4 → (getD row (topOn s + j) 0 ≤ getD y (topOn s + j) 0) × (getD y (topOn s + j) 0 ≤ 16)
+    tops-up : (j : ℕ) → j < 4 → (getD row (topOn s + j) 0 ≤ getD y (topOn s + j) 0) × (getD y (topOn s + j) 0 ≤ numbersOfSide)
     tops-up j l = go (ℕ-discrete j (rank k))
       where
-        go : Dec (j ≡ rank k) → (getD row (topOn s + j) 0 ≤ getD y (topOn s + j) 0) × (getD y (topOn s + j) 0 ≤ 16)
+        go : Dec (j ≡ rank k) → (getD row (topOn s + j) 0 ≤ getD y (topOn s + j) 0) × (getD y (topOn s + j) 0 ≤ numbersOfSide)
         go (yes e) =
-            subst (λ (z : ℕ). (getD row (topOn s + z) 0 ≤ getD y (topOn s + z) 0) × (getD y (topOn s + z) 0 ≤ 16)) (sym e) (
+            subst (λ (z : ℕ). (getD row (topOn s + z) 0 ≤ getD y (topOn s + z) 0) × (getD y (topOn s + z) 0 ≤ numbersOfSide)) (sym e) (
               omega (arith, topped-at top n x top-in .1, top-before),
-              topped-at top n x top-in .2 small (omega (arith, top-before, m .within (rank k) (rank-below k))),
+              topped-at top n x top-in .2 small (omega (arith, top-before, m .within (rank k) (rank-kinds k))),
             )
         go (no u) =
             let e = other (topOn s + j) (λ q. omega arith) (λ q. omega arith) (λ q. omega arith) (λ q. omega (arith, index-in .1))
@@ -199,12 +201,12 @@ module _ (t : List (Option OurAtom)) (s : Bool) (p : ℕ) (k : Kind) (n : ℕ) (
           above = λ j a e. above-by j a e (isVariable j a (var k n)) refl;
         }
       where
-        present-by : (j : Kind) (a : ℕ) → a ≤ 15 → inField j a (d ++ var k n ∷ []) ≡ true → (b : Bool) → isVariable j a (var k n) ≡ b
-            → RightIn t s j a (getD y (indexOn s + 16 * rank j + a) 0)
+        present-by : (j : Kind) (a : ℕ) → a ≤ largestNumber → inField j a (d ++ var k n ∷ []) ≡ true → (b : Bool) → isVariable j a (var k n) ≡ b
+            → RightIn t s j a (getD y (indexOn s + numbersOfSide * rank j + a) 0)
         present-by j a l e true o =
             let q = is-that j k a n o in
-            subst (λ (z : Kind). RightIn t s z a (getD y (indexOn s + 16 * rank z + a) 0)) (sym (q .0))
-            (subst (λ (z : ℕ). RightIn t s k z (getD y (indexOn s + 16 * rank k + z) 0)) (sym (q .1)) index-y)
+            subst (λ (z : Kind). RightIn t s z a (getD y (indexOn s + numbersOfSide * rank z + a) 0)) (sym (q .0))
+            (subst (λ (z : ℕ). RightIn t s k z (getD y (indexOn s + numbersOfSide * rank k + z) 0)) (sym (q .1)) index-y)
         present-by j a l e false o = subst (RightIn t s j a) (sym (other-slot j a l o)) (m .present j a l (one-of j a d (var k n) e o))
 
         met-here : (b : Basic) (a : ℕ) → Holds t p (free (of (sideIn s) b a)) → inField (basic b) a (d ++ var k n ∷ []) ≡ true
@@ -219,16 +221,16 @@ module _ (t : List (Option OurAtom)) (s : Bool) (p : ℕ) (k : Kind) (n : ℕ) (
         above-by j a e true o =
             let q = is-that j k a n o in
             subst (λ (z : Kind). a < getD y (topOn s + rank z) 0) (sym (q .0)) (omega (arith, q .1, topped-at top n x top-in .0))
-        above-by j a e false o = omega (arith, m .above j a (one-of j a d (var k n) e o), tops-up (rank j) (rank-below j) .0)
+        above-by j a e false o = omega (arith, m .above j a (one-of j a d (var k n) e o), tops-up (rank j) (rank-kinds j) .0)
 
   -- the other rule's variables stay
   pub indexed-beside : (d : List OurTerm) → Indexed t (not s) d p row → Indexed t (not s) d (suc p) y
   indexed-beside d m =
       indexed-keep t (not s) d p (suc p) row y (
-        λ j a b. other j (λ q. omega arith) (λ q. omega arith) (λ q. omega arith) (λ q. omega (arith, side-apart s, rank-below k, small))
-            (λ q. omega (arith, side-apart s, rank-below k)),
+        λ j a b. other j (λ q. omega arith) (λ q. omega arith) (λ q. omega arith) (λ q. omega (arith, side-apart s, rank-kinds k, small))
+            (λ q. omega (arith, side-apart s, rank-kinds k)),
         λ j a b. other j (λ q. omega arith) (λ q. omega arith) (λ q. omega arith) (λ q. omega (arith, index-in .1))
-            (λ q. omega (arith, side-apart s, rank-below k)),
+            (λ q. omega (arith, side-apart s, rank-kinds k)),
       ) none-new m
     where
       none-new : (q : ℕ) (b : Basic) (a : ℕ) → p ≤ q → q < suc p → Holds t q (free (of (sideIn (not s)) b a)) → inField (basic b) a d ≡ true

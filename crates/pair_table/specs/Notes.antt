@@ -6,9 +6,11 @@ use Prim.Native.Nat.{ℕ, zero, suc, _+_, _-_, _*_, _%_}
 use lib.Dec.{eqb, leb, ltb}
 use lib.ListN.{length, getD, set, replicate}
 use lib.Seq.{sets}
+use Rattle.base_limits.specs.Limits.{mostFields, mostTerms, longestString, kindCount, numbersOfSide, variablePlaces, fieldPlaces}
+use Rattle.base_limits.specs.Limits.{pairPlaces}
 use Rattle.base_lists.specs.Seqs.{tabulate}
-use Rattle.math_types.specs.Order.{list, basic}
-use Rattle.math_types.specs.Types.{rank, same, integer, string}
+use Rattle.math_types.specs.Order.{basic}
+use Rattle.math_types.specs.Types.{leaf, rank, isList, integer, string}
 use Rattle.math_types.specs.Values.{kindOf}
 use Rattle.text_grammar.specs.Tokens.{Token}
 use Rattle.text_grammar.specs.Walk.{walked}
@@ -18,6 +20,7 @@ use Rattle.text_scan.specs.declared.Spelled.{Spelled}
 use Rattle.text_scan.specs.declared.Spelled.the-variants.{Int, Str, Var, Empty}
 use Rattle.text_scan.specs.Lexemes.{lexemeOf}
 use Rattle.pair_row.specs.Row.{kindsAt, variablesAt, shapesAt, indexesAt, topsAt, countAt, membersAt, cellBytes, rowBytes, textsBytes}
+use Rattle.pair_row.specs.Row.{shapeBytes}
 use Rattle.pair_row.specs.Row.{fieldOf, isSet}
 
 -- n bytes of a text from a place on
@@ -56,7 +59,7 @@ classed p k v row = set (set row (kindsAt + p) k) (variablesAt + p) v
 -- one member more
 abbrev pub joinedMember : ℕ → List ℕ → List ℕ
 joinedMember p row =
-    cond (ltb (getD row countAt 0) 128) (set (set row (membersAt + getD row countAt 0) p) countAt (getD row countAt 0 + 1)) row
+    cond (ltb (getD row countAt 0) pairPlaces) (set (set row (membersAt + getD row countAt 0) p) countAt (getD row countAt 0 + 1)) row
 
 -- the row, with `texts` the bytes that hold the constant already
 abbrev pub constantNoted : ℕ → ℕ → List ℕ → List ℕ → List ℕ
@@ -80,17 +83,18 @@ topped t n row = cond (leb (getD row t 0) n) (set row t (n + 1)) row
 
 abbrev pub variableNoted : ℕ → Bool → ℕ → ℕ → List ℕ → List ℕ
 variableNoted p right k n row =
-    topped (topsAt + 4 * sideOf right + k) n (indexed (indexesAt + 64 * sideOf right + 16 * k + n) p (classed p k 1 row))
+    topped (topsAt + kindCount * sideOf right + k) n
+    (indexed (indexesAt + variablePlaces * sideOf right + numbersOfSide * k + n) p (classed p k 1 row))
 
 -- ---- shapes
 
--- no field has more than 16 terms
+-- no field has more terms than places
 abbrev pub more : ℕ → ℕ
-more n = cond (leb 16 n) 16 (n + 1)
+more n = cond (leb mostTerms n) mostTerms (n + 1)
 
 abbrev pub shapeNoted : ℕ → Bool → ℕ → List ℕ → List ℕ
 shapeNoted f isList n row =
-    let k = shapesAt + 4 * f in
+    let k = shapesAt + shapeBytes * f in
     cond (isSet (getD row (k + 3) 0)) (set row (k + 1) (more (getD row (k + 1) 0)))
     (cond isList (set (set row (k + 2) n) (k + 3) 1) (set row k (more (getD row k 0))))
 
@@ -98,12 +102,12 @@ shapeNoted f isList n row =
 
 -- a rule has four fields, counted from 1
 abbrev pub isField : ℕ → Bool
-isField field = leb 1 field && leb field 4
+isField field = leb 1 field && leb field mostFields
 
 -- how many terms of the pair's field f are noted: `empty` is none, so this is the next term's place in the field, and a token's index is not
 abbrev pub termsIn : List ℕ → ℕ → ℕ
 termsIn row f =
-    let k = shapesAt + 4 * f in
+    let k = shapesAt + shapeBytes * f in
     getD row k 0 + getD row (k + 1) 0 + cond (isSet (getD row (k + 3) 0)) 1 0
 
 -- the term at place p of the pair, which is a term of the pair's field f
@@ -111,20 +115,20 @@ abbrev pub noteBy : Bool → List ℕ → ℕ → ℕ → ℕ → Spelled → �
 noteBy right text at f p Int size v row texts =
     let z = zeros (partOf text at size) in
     let cells = celled p (partOf text (at + z) (size - z)) texts in
-    (constantNoted p (rank (basic integer)) cells (shapeNoted f false 0 row), cells)
+    (constantNoted p (rank (basic (leaf integer))) cells (shapeNoted f false 0 row), cells)
 noteBy right text at f p Str size v row texts =
     let cells = celled p (partOf text (at + 1) size) texts in
-    (constantNoted p (rank (basic string)) cells (shapeNoted f false 0 row), cells)
+    (constantNoted p (rank (basic (leaf string))) cells (shapeNoted f false 0 row), cells)
 noteBy right text at f p (Var k) size v row texts =
-    (variableNoted p right (rank (kindOf k)) (v % 16) (shapeNoted f (same (kindOf k) list) (v % 16) row), texts)
+    (variableNoted p right (rank (kindOf k)) (v % numbersOfSide) (shapeNoted f (isList (kindOf k)) (v % numbersOfSide) row), texts)
 noteBy right text at f p Empty size v row texts = (row, texts)
 
 -- the field's number among the pair's eight, and the term's place
 abbrev pub noteLexeme : Bool → List ℕ → ℕ → ℕ → Lexeme → List ℕ → List ℕ → List ℕ × List ℕ
 noteLexeme right text at field t row texts =
     let f = fieldOf right (field - 1) in
-    cond (isField field && (ltb (termsIn row f) 16 && (ltb at (length text) && leb (t .size) 15)))
-    (noteBy right text at f (16 * f + termsIn row f) (t .what) (t .size) (t .value) row texts) (row, texts)
+    cond (isField field && (ltb (termsIn row f) mostTerms && (ltb at (length text) && leb (t .size) longestString)))
+    (noteBy right text at f (fieldPlaces * f + termsIn row f) (t .what) (t .size) (t .value) row texts) (row, texts)
 
 -- ---- texts
 

@@ -2,10 +2,10 @@
 // never again.
 ghost use mathlib.Core.Path.{_≡_};
 ghost use Prim.Native.Nat.{_+_, _-_, _*_, _≤_, _<_};
-ghost use lib.ListN.{length, getD, set};
+ghost use lib.ListN.{length, getD};
+ghost use Rattle.base_limits.specs.Limits.{mostFields, longestString, kindCount, numbersOfSide, pairPlaces, pairFields};
 ghost use Rattle.base_lists.specs.Seqs.{tabulate};
-ghost use Rattle.math_types.specs.Order.{list};
-ghost use Rattle.math_types.specs.Types.{rank, same};
+ghost use Rattle.math_types.specs.Types.{rank};
 ghost use Rattle.math_types.specs.Values.{kindOf};
 ghost use Rattle.math_codes.specs.Texts.{zeros};
 ghost use Rattle.pair_row.specs.Row.{fieldOf};
@@ -14,31 +14,30 @@ ghost use Rattle.pair_table.specs.Notes.{constantNoted, sideOf, indexed,
 ghost use Rattle.pair_table.specs.Notes.{noteLexeme};
 use math_types::Kind;
 use pair_row::byte_at;
+use pair_row::put_at;
 use text_scan::Lexeme;
 use text_scan::Spelled;
 
-// A place that the row lacks stays unwritten.
-fn put_byte(row: &mut [u8], i: usize, b: u8)
-    ensures { λ _. ⌜ now (row .exit) ≡ set (now (row .entry)) i b ⌝ }
-{
-    if i < row.len() {
-        row[i] = b;
-    }
-}
+// Sizes of the types that the tables have.
+const MOST_TERMS: u8 = base_limits::MOST_TERMS as u8;
+
+const NUMBERS_OF_SIDE: u32 = base_limits::NUMBERS_OF_SIDE as u32;
+// What a field's number among the pair's is above its number on the right side, counted from 1.
+const RIGHT_FIELDS: usize = base_limits::MOST_FIELDS - 1;
 
 // ---- constants
 
 // The bytes of a text from a place on, n of them, become those of the constant at place p.
 fn put_bytes(texts: &mut [u8], p: u8, text: &[u8], from: usize, n: usize)
-    requires { ⌜ (n ≤ 15) × (from ≤ length (now text)) ⌝ }
+    requires { ⌜ (n ≤ longestString) × (from ≤ length (now text)) ⌝ }
     ensures { λ _. ⌜ now (texts .exit) ≡ celled p (partOf (now (text .entry)) from n) (now (texts .entry)) ⌝ }
 {
-    let at = pair_row::CELL * p as usize;
-    put_byte(texts, at, n as u8);
+    let at = pair_row::CELL_BYTES * p as usize;
+    put_at(texts, at, n as u8);
     let mut i: usize = 0;
     while i < n {
         let b = byte_at(text, from + i);
-        put_byte(texts, at + 1 + i, b);
+        put_at(texts, at + 1 + i, b);
         i += 1;
     }
 }
@@ -47,11 +46,13 @@ fn put_bytes(texts: &mut [u8], p: u8, text: &[u8], from: usize, n: usize)
 fn same_constant(row: &[u8], texts: &[u8], p: u8, q: u8) -> bool
     ensures { λ r. ⌜ r ≡ sameConstant (now (row .entry)) (now (texts .entry)) p q ⌝ }
 {
-    if byte_at(row, pair_row::KINDS + p as usize) != byte_at(row, pair_row::KINDS + q as usize) {
+    if byte_at(row, pair_row::KINDS_AT + p as usize)
+        != byte_at(row, pair_row::KINDS_AT + q as usize)
+    {
         return false;
     }
-    let a = pair_row::CELL * p as usize;
-    let b = pair_row::CELL * q as usize;
+    let a = pair_row::CELL_BYTES * p as usize;
+    let b = pair_row::CELL_BYTES * q as usize;
     let n = byte_at(texts, a) as usize;
     let mut i: usize = 0;
     while i <= n {
@@ -67,10 +68,10 @@ fn same_constant(row: &[u8], texts: &[u8], p: u8, q: u8) -> bool
 fn code_of(row: &[u8], texts: &[u8], p: u8) -> u8
     ensures { λ r. ⌜ r ≡ codeIn (now (row .entry)) (now (texts .entry)) p ⌝ }
 {
-    let n = byte_at(row, pair_row::COUNT) as usize;
+    let n = byte_at(row, pair_row::COUNT_AT) as usize;
     let mut k: usize = 0;
     while k < n {
-        let q = byte_at(row, pair_row::MEMBERS + k);
+        let q = byte_at(row, pair_row::MEMBERS_AT + k);
         if same_constant(row, texts, p, q) {
             return q;
         }
@@ -83,20 +84,20 @@ fn code_of(row: &[u8], texts: &[u8], p: u8) -> u8
 fn put_class(row: &mut [u8], p: u8, rank: u8, variable: u8)
     ensures { λ _. ⌜ now (row .exit) ≡ classed p rank variable (now (row .entry)) ⌝ }
 {
-    put_byte(row, pair_row::KINDS + p as usize, rank);
-    put_byte(row, pair_row::VARIABLES + p as usize, variable);
+    put_at(row, pair_row::KINDS_AT + p as usize, rank);
+    put_at(row, pair_row::VARIABLES_AT + p as usize, variable);
 }
 
-// The constant at place p is one more member. (There are at most 128.)
+// The constant at place p is one more member. (There are no more than places.)
 fn join_member(row: &mut [u8], p: u8)
     ensures { λ _. ⌜ now (row .exit) ≡ joinedMember p (now (row .entry)) ⌝ }
 {
-    let k = byte_at(row, pair_row::COUNT);
-    if 128 <= k {
+    let k = byte_at(row, pair_row::COUNT_AT);
+    if pair_row::LISTS <= k {
         return;
     }
-    put_byte(row, pair_row::MEMBERS + k as usize, p);
-    put_byte(row, pair_row::COUNT, k + 1);
+    put_at(row, pair_row::MEMBERS_AT + k as usize, p);
+    put_at(row, pair_row::COUNT_AT, k + 1);
 }
 
 // A constant stands at place p; its bytes are n of the text from a place on.
@@ -109,7 +110,7 @@ fn note_constant(
     from: usize,
     n: usize,
 )
-    requires { ⌜ (n ≤ 15) × (from ≤ length (now text)) ⌝ }
+    requires { ⌜ (n ≤ longestString) × (from ≤ length (now text)) ⌝ }
     ensures { λ _. ⌜ now (texts .exit) ≡ celled p (partOf (now (text .entry)) from n) (now (texts .entry)) ⌝ }
     ensures { λ _. ⌜ now (row .exit) ≡ constantNoted p rank (celled p (partOf (now (text .entry)) from n) (now (texts .entry)))
         (now (row .entry)) ⌝ }
@@ -117,7 +118,7 @@ fn note_constant(
     put_bytes(texts, p, text, from, n);
     put_class(row, p, rank, 0);
     let c = code_of(row, texts, p);
-    put_byte(row, p as usize, c);
+    put_at(row, p as usize, c);
     if c == p {
         join_member(row, p);
     }
@@ -125,14 +126,14 @@ fn note_constant(
 
 // Where the plain text of an integer of n digits begins: its leading zeros are skipped, but for the last digit.
 fn leading_zeros(text: &[u8], at: usize, n: usize) -> usize
-    requires { ⌜ (n ≤ 15) × (at ≤ length (now text)) ⌝ }
+    requires { ⌜ (n ≤ longestString) × (at ≤ length (now text)) ⌝ }
     ensures { λ r. ⌜ r ≡ zeros (partOf (now (text .entry)) at n) ⌝ }
     ensures { λ r. ⌜ r ≤ n ⌝ }
     ensures { λ r. ⌜ at + r ≤ length (now (text .entry)) ⌝ }
 {
     let mut i: usize = 0;
     while i + 1 < n {
-        if byte_at(text, at + i) != 48 {
+        if byte_at(text, at + i) != b'0' {
             return i;
         }
         i += 1;
@@ -144,25 +145,25 @@ fn leading_zeros(text: &[u8], at: usize, n: usize) -> usize
 
 // The place of a variable that is met first is its code.
 fn put_index(row: &mut [u8], i: usize, p: u8)
-    requires { ⌜ p < 128 ⌝ }
+    requires { ⌜ p < pairPlaces ⌝ }
     ensures { λ _. ⌜ now (row .exit) ≡ indexed i p (now (row .entry)) ⌝ }
 {
     let x = byte_at(row, i);
     if x == 0 {
-        put_byte(row, i, p + 1);
-        put_byte(row, p as usize, p);
+        put_at(row, i, p + 1);
+        put_at(row, p as usize, p);
         return;
     }
-    put_byte(row, p as usize, x - 1);
+    put_at(row, p as usize, x - 1);
 }
 
 // More than the largest number, with n among the numbers.
 fn put_top(row: &mut [u8], t: usize, n: u8)
-    requires { ⌜ n < 16 ⌝ }
+    requires { ⌜ n < numbersOfSide ⌝ }
     ensures { λ _. ⌜ now (row .exit) ≡ topped t n (now (row .entry)) ⌝ }
 {
     if byte_at(row, t) <= n {
-        put_byte(row, t, n + 1);
+        put_at(row, t, n + 1);
     }
 }
 
@@ -175,70 +176,61 @@ fn side_of(right: bool) -> usize
 
 // A rule's variable stands at place p.
 fn note_variable(row: &mut [u8], p: u8, right: bool, rank: u8, n: u8)
-    requires { ⌜ (p < 128) × (rank < 4) × (n < 16) ⌝ }
+    requires { ⌜ (p < pairPlaces) × (rank < kindCount) × (n < numbersOfSide) ⌝ }
     ensures { λ _. ⌜ now (row .exit) ≡ variableNoted p right rank n (now (row .entry)) ⌝ }
 {
     let side = side_of(right);
     put_class(row, p, rank, 1);
     put_index(
         row,
-        pair_row::INDEXES + 64 * side + 16 * rank as usize + n as usize,
+        pair_row::INDEXES_AT
+            + base_limits::VARIABLE_PLACES * side
+            + base_limits::NUMBERS_OF_SIDE * rank as usize
+            + n as usize,
         p,
     );
-    put_top(row, pair_row::TOPS + 4 * side + rank as usize, n);
+    put_top(
+        row,
+        pair_row::TOPS_AT + base_limits::KINDS * side + rank as usize,
+        n,
+    );
 }
 
 // ---- shapes
 
-// Field f of the pair's eight has a term more: a list variable of number n, or another. (No field has more than 16.)
+// Field f of the pair's eight has a term more: a list variable of number n, or another. (No field has more than its places.)
 fn note_shape(row: &mut [u8], f: usize, list: bool, n: u8)
-    requires { ⌜ f < 8 ⌝ }
+    requires { ⌜ f < pairFields ⌝ }
     ensures { λ _. ⌜ now (row .exit) ≡ shapeNoted f list n (now (row .entry)) ⌝ }
 {
-    let k = pair_row::SHAPES + 4 * f;
+    let k = pair_row::SHAPES_AT + pair_row::SHAPE_BYTES * f;
     if byte_at(row, k + 3) != 0 {
         let t = byte_at(row, k + 1);
-        put_byte(row, k + 1, more(t));
+        put_at(row, k + 1, more(t));
         return;
     }
     if list {
-        put_byte(row, k + 2, n);
-        put_byte(row, k + 3, 1);
+        put_at(row, k + 2, n);
+        put_at(row, k + 3, 1);
         return;
     }
     let h = byte_at(row, k);
-    put_byte(row, k, more(h));
+    put_at(row, k, more(h));
 }
 
 fn more(n: u8) -> u8
     ensures { λ r. ⌜ r ≡ more n ⌝ }
 {
-    if 16 <= n { 16 } else { n + 1 }
+    if MOST_TERMS <= n { MOST_TERMS } else { n + 1 }
 }
 
 // ---- terms
 
-fn is_list(k: Kind) -> bool
-    ensures { λ r. ⌜ r ≡ same (kindOf k) list ⌝ }
-{
-    match k {
-        Kind::Integer => false,
-        Kind::String => false,
-        Kind::Atom => false,
-        Kind::List => true,
-    }
-}
-
 fn rank_of(k: Kind) -> u8
     ensures { λ r. ⌜ r ≡ rank (kindOf k) ⌝ }
-    ensures { λ r. ⌜ r < 4 ⌝ }
+    ensures { λ r. ⌜ r < kindCount ⌝ }
 {
-    match k {
-        Kind::Integer => 0,
-        Kind::String => 1,
-        Kind::Atom => 2,
-        Kind::List => 3,
-    }
+    math_types::rank(k) as u8
 }
 
 fn is_field(field: usize) -> bool
@@ -247,15 +239,15 @@ fn is_field(field: usize) -> bool
     if field < 1 {
         return false;
     }
-    field <= 4
+    field <= base_limits::MOST_FIELDS
 }
 
 // How many terms of field f are noted.
 fn terms_in(row: &[u8], f: usize) -> usize
-    requires { ⌜ f < 8 ⌝ }
+    requires { ⌜ f < pairFields ⌝ }
     ensures { λ r. ⌜ r ≡ termsIn (now (row .entry)) f ⌝ }
 {
-    let k = pair_row::SHAPES + 4 * f;
+    let k = pair_row::SHAPES_AT + pair_row::SHAPE_BYTES * f;
     let n = byte_at(row, k) as usize + byte_at(row, k + 1) as usize;
     if byte_at(row, k + 3) != 0 {
         return n + 1;
@@ -265,11 +257,15 @@ fn terms_in(row: &[u8], f: usize) -> usize
 
 // The number of a rule's field among the pair's eight.
 fn field_among(right: bool, field: usize) -> usize
-    requires { ⌜ (1 ≤ field) × (field ≤ 4) ⌝ }
+    requires { ⌜ (1 ≤ field) × (field ≤ mostFields) ⌝ }
     ensures { λ r. ⌜ r ≡ fieldOf right (field - 1) ⌝ }
-    ensures { λ r. ⌜ r < 8 ⌝ }
+    ensures { λ r. ⌜ r < pairFields ⌝ }
 {
-    if right { field + 3 } else { field - 1 }
+    if right {
+        field + RIGHT_FIELDS
+    } else {
+        field - 1
+    }
 }
 
 // The term t is the one at place p, which is a place of field f.
@@ -283,7 +279,7 @@ fn note_term(
     p: u8,
     t: Lexeme,
 )
-    requires { ⌜ (at < length (now text)) × (f < 8) × (p < 128) × (t .size ≤ 15) ⌝ }
+    requires { ⌜ (at < length (now text)) × (f < pairFields) × (p < pairPlaces) × (t .size ≤ longestString) ⌝ }
     ensures { λ _. ⌜ now (row .exit)
         ≡ (noteBy right (now (text .entry)) at f p (t .what) (t .size) (t .value) (now (row .entry)) (now (texts .entry))) .0 ⌝ }
     ensures { λ _. ⌜ now (texts .exit)
@@ -301,8 +297,8 @@ fn note_term(
             note_constant(row, texts, p, 1, text, at + 1, t.size);
         }
         Spelled::Var(k) => {
-            let n = (t.value % 16) as u8;
-            note_shape(row, f, is_list(k), n);
+            let n = (t.value % NUMBERS_OF_SIDE) as u8;
+            note_shape(row, f, math_types::is_list(k), n);
             note_variable(row, p, right, rank_of(k), n);
         }
         Spelled::Empty => {}
@@ -328,15 +324,15 @@ pub fn note(
     }
     let f = field_among(right, field);
     let k = terms_in(row, f);
-    if 16 <= k {
+    if base_limits::MOST_TERMS <= k {
         return;
     }
     if text.len() <= at {
         return;
     }
-    if 15 < t.size {
+    if base_limits::LONGEST_STRING < t.size {
         return;
     }
-    let p = (pair_row::FIELD_PLACES * f + k) as u8;
+    let p = (base_limits::FIELD_PLACES * f + k) as u8;
     note_term(row, texts, right, text, at, f, p, t);
 }

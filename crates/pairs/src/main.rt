@@ -3,7 +3,7 @@ use line_io::Output;
 use line_io::State;
 use text_write::Written;
 
-// Puts the answer to line number k behind those that wait. It has room in the 65,562 bytes of the text: no answer has more
+// Puts the answer to line number k behind those that wait. It has room in the bytes of the text: no answer has more
 // (`pair_answer` ensures it).
 fn answer(k: u64, line: &[u8], text: &mut [u8], buffer: &mut [u8], output: Output) -> Output {
     match print_pairs::pair_answer(k, line, text) {
@@ -47,12 +47,15 @@ fn answer_all(chunk: &mut [u8], line: &mut [u8], text: &mut [u8], buffer: &mut [
     line_io::finish(s, buffer);
 }
 
+// Of a line one byte more is kept than it may have: with more it is too long whatever they are (`cut-same` of print_pairs'
+// proofs/Lengths).
+const LINE: usize = base_limits::PAIR_LINE + 1;
+
 // The buffers are made once, and lent for every line.
-// Of a line no more than 8,194 bytes are kept: with more it is too long whatever they are (`cut-same` of print_pairs' proofs/Lengths).
 fn main() {
     let mut chunk = io::large_buffer();
-    let mut line = [0u8; 8194];
-    let mut text = [0u8; 65562];
+    let mut line = [0u8; LINE];
+    let mut text = [0u8; print_pairs::LONGEST_ANSWER];
     let mut buffer = io::large_buffer();
     answer_all(&mut chunk, &mut line, &mut text, &mut buffer);
 }

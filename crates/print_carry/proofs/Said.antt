@@ -9,6 +9,7 @@ use borrow.Author.Tests.{le-ltb}
 use lib.ListN.{length, take, drop, length-drop, drop-of-length-le}
 use lib.Seq.{take-all}
 use Rattle.bytes.specs.Bytes.{indexOf}
+use Rattle.base_limits.specs.Limits.{slipLine}
 use Rattle.math_terms.specs.Terms.{con}
 use Rattle.text_grammar.specs.Ascii.{ascii}
 use Rattle.text_grammar.specs.Plain.{plain}
@@ -32,7 +33,7 @@ use Rattle.text_read.specs.declared.SlipRead.{SlipRead}
 use Rattle.text_read.specs.Answers.{ruleRead, slipRead}
 use Rattle.text_refusals.proofs.verdicts.Verdicts.{number-is}
 use Rattle.text_write.specs.pieces.Refusals.{numberAt}
-use Rattle.print_carry.specs.Carry.{longestLine, rulePart, slipPart, carriedText, carryText, lineText}
+use Rattle.print_carry.specs.Carry.{rulePart, slipPart, carriedText, carryText, lineText}
 use Rattle.print_carry.specs.Values.{saidCarried, saidReads}
 
 -- ---- the answer
@@ -72,12 +73,12 @@ module _ (t : List ℕ) (tab rest : ℕ) (is-tab : tab ≡ indexOf 9 t) (is-rest
       go (no h) = drop-of-length-le t {i = rest} (omega arith) ∙ sym (drop-of-length-le t {i = suc (indexOf 9 t)} (omega arith))
 
   pub line-said : (r : RuleRead) (s : SlipRead)
-      → length t ≤ longestLine
+      → length t ≤ slipLine
       → r ≡ ruleRead (readRule (take tab t))
       → s ≡ slipRead (readSlip (take (length t - rest) (drop rest t)))
       → lineText t ≡ saidReads r s
   unfolding lineText
   line-said r s h is-r is-s =
-      ap (λ (b : Bool). cond b (ascii "line too long") (carryText (readRule (rulePart t)) (readSlip (slipPart t)))) (le-ltb longestLine (length t) h)
+      ap (λ (b : Bool). cond b (ascii "line too long") (carryText (readRule (rulePart t)) (readSlip (slipPart t)))) (le-ltb slipLine (length t) h)
       ∙ sym (reads-said (rulePart t) (slipPart t))
       ∙ ap₂ saidReads (sym (is-r ∙ ap (λ (i : ℕ). ruleRead (readRule (take i t))) is-tab)) (sym (is-s ∙ ap (λ (u : List ℕ). slipRead (readSlip u)) slip-part))

@@ -2,10 +2,11 @@
 use mathlib.Core.Bool.{cond}
 use mathlib.Core.Option.{Option, none, some}
 use mathlib.Core.List.{List, [], _++_, map}
-use Prim.Native.Nat.{ℕ, suc}
+use Prim.Native.Nat.{ℕ, suc, _+_}
 use lib.Dec.{ltb}
 use lib.ListN.{length, take, drop}
 use Rattle.bytes.specs.Bytes.{indexOf}
+use Rattle.base_limits.specs.Limits.{longestSlip, slipLine}
 use Rattle.math_terms.specs.Terms.{con}
 use Rattle.text_grammar.specs.Ascii.{ascii, newline}
 use Rattle.text_grammar.specs.Numbers.{digitsOf}
@@ -17,13 +18,10 @@ use Rattle.apply_spec.specs.Carrying.{Carried, result, unmatched, tooLong}
 use Rattle.apply_spec.specs.Rules.{OurSlip, carried}
 use Rattle.apply_rules.specs.declared.Carry.the-variants.{TooLong}
 use Rattle.apply_rules.specs.Answers.{told}
+use Rattle.text_write.specs.Sizes.{longestNumber}
 use Rattle.text_write.specs.pieces.Refusals.{numberAt}
 
 -- ---- a line
-
--- the longest rule, the tab, the longest slip: 4,096 and 1 and 8,192 bytes
-abbrev pub longestLine : ℕ
-longestLine = 12289
 
 -- byte 9
 abbrev pub tab : ℕ
@@ -57,7 +55,7 @@ carryText (accepted rule) (refused r p) = ascii "refused slip " ++ numberAt (num
 carryText (accepted rule) (accepted slip) = carriedText slip (carried rule (map constants slip))
 
 unfoldable pub lineText : List ℕ → List ℕ
-lineText t = cond (ltb longestLine (length t)) (ascii "line too long") (carryText (readRule (rulePart t)) (readSlip (slipPart t)))
+lineText t = cond (ltb slipLine (length t)) (ascii "line too long") (carryText (readRule (rulePart t)) (readSlip (slipPart t)))
 
 abbrev pub titleText : ℕ → List ℕ
 titleText k = ascii "carry " ++ digitsOf k ++ newline
@@ -66,6 +64,13 @@ titleText k = ascii "carry " ++ digitsOf k ++ newline
 unfoldable pub carryAnswer : ℕ → List ℕ → List ℕ
 carryAnswer k t = titleText k ++ lineText t ++ newline
 
--- a title of at most 27 bytes, `refusal 11 `, a slip of at most 4,607, the line's end: no answer has more
+-- `refusal 11 ` and a slip: of no line is more said
+abbrev pub longestSaid : ℕ
+longestSaid = 8 + 2 + 1 + longestSlip
+
+-- a title, what is said, the line's end: no answer has more
+abbrev pub longestTitle : ℕ
+longestTitle = 6 + longestNumber + 1
+
 abbrev pub longestAnswer : ℕ
-longestAnswer = 4646
+longestAnswer = longestTitle + longestSaid + 1

@@ -76,12 +76,12 @@ fn put_reads(rule: RuleRead, slip: SlipRead, out: &mut [u8], at: usize) -> usize
     }
 }
 
-// What is said of a line. The longest rule, the tab and the longest slip have 12,289 bytes.
+// What is said of a line.
 fn put_line(line: &[u8], out: &mut [u8], at: usize) -> usize
     ensures { λ r. ⌜ Placed (lineText (now (line .entry))) at (now (out .entry)) r (now (out .exit)) ⌝ }
 {
     let n = line.len();
-    if 12289 < n {
+    if base_limits::SLIP_LINE < n {
         return text_write::pieces::put_bytes(b"line too long", out, at);
     }
     let tab = text_write::pieces::tab_place(line);
@@ -91,11 +91,16 @@ fn put_line(line: &[u8], out: &mut [u8], at: usize) -> usize
     put_reads(rule, slip, out, at)
 }
 
-// Room for any answer, which has at most 4,646 bytes.
-fn room() -> [u8; 4646]
+// A title: `carry `, the line's number and its end.
+const LONGEST_TITLE: usize = 6 + text_write::LONGEST_NUMBER + 1;
+// No answer has more: behind the title `refusal 11 `, a slip, the line's end.
+pub const LONGEST_ANSWER: usize = LONGEST_TITLE + (8 + 2 + 1) + base_limits::LONGEST_SLIP + 1;
+
+// Room for any answer.
+fn room() -> [u8; LONGEST_ANSWER]
     ensures { λ r. ⌜ length r ≡ longestAnswer ⌝ }
 {
-    [0; 4646]
+    [0; LONGEST_ANSWER]
 }
 
 // The two lines that `carry` prints for line number k.

@@ -10,9 +10,10 @@ use borrow.Author.Tests.{le-ltb}
 use lib.ListN.{length, take, drop, length-drop, drop-of-length-le}
 use lib.Seq.{take-all}
 use Rattle.bytes.specs.Bytes.{indexOf}
+use Rattle.base_limits.specs.Limits.{largestNumber, slipLine}
 use Rattle.base_lists.specs.Seqs.{All, Any}
 use Rattle.math_types.specs.Order.{basic, list}
-use Rattle.math_types.specs.Types.{Basic, integer, string, atom, Kind}
+use Rattle.math_types.specs.Types.{Basic, Kind, kinds}
 use Rattle.math_terms.specs.Terms.{con, var}
 use Rattle.math_terms.specs.Seqs.{concat-map}
 use Rattle.math_terms.specs.Fillings.{Filling, Occurs}
@@ -44,11 +45,11 @@ use Rattle.match_rules.proofs.texts.Texts.{sides-said, slips-said, compared-tex
 use Rattle.match_rules.proofs.Runs.{run-items, atom-at, atom-value, value-all}
 use Rattle.text_refusals.specs.verdicts.Verdicts.{verdictOf}
 use Rattle.text_refusals.proofs.verdicts.Verdicts.{number-is}
-use Rattle.overlap_spec.specs.Variables.{Variable, kinds, numbers, ofKind, every, occurs, keep, variables}
+use Rattle.overlap_spec.specs.Variables.{Variable, numbers, ofKind, every, occurs, keep, variables}
 use Rattle.overlap_spec.proofs.Variables.{occurs-is}
 use Rattle.text_write.specs.pieces.Refusals.{numberAt}
-use Rattle.print_matches.specs.Matches.{longestLine, rulePart, slipPart, valueText, foundText, matchText, readText, textsText, lineText}
-use Rattle.print_matches.proofs.answers.Values.{variable-viewed, run-viewed, same-over}
+use Rattle.print_matches.specs.Matches.{rulePart, slipPart, valueText, foundText, matchText, readText, textsText, lineText}
+use Rattle.print_matches.proofs.answers.Values.{variable-viewed, run-viewed, same-over, same-kinds}
 use Rattle.print_matches.specs.answers.Values.{runText, saidValue, nameText, saidVariable, saidKind, saidValues, saidMatch}
 use Rattle.print_matches.specs.Values.{verdictText, saidTexts, saidSlip}
 
@@ -90,7 +91,7 @@ module _ (x y : List (List OurTerm)) (is-rule : IsLeft x) (is-slip : IsSlip y) (
   pub value-in : (k : Kind) (n : ℕ) → Any (Occurs k n) x → All ConIn (φ k n)
   value-in = value-all x (is-rule .1) ws φ yes-φ ConIn (slip-in y (is-slip .0 .3))
 
-  atom-said : (k : Basic) (n : ℕ) → n ≤ 15 → Any (Occurs (basic k) n) x
+  atom-said : (k : Basic) (n : ℕ) → n ≤ largestNumber → Any (Occurs (basic k) n) x
       → termText (viewTerm (atomOf (filling .values) (basic k) n)) ≡ fieldText (map con (φ (basic k) n))
   atom-said k n h o =
       let v = atom-value x (is-rule .1) ws φ yes-φ k n o in
@@ -103,11 +104,11 @@ module _ (x y : List (List OurTerm)) (is-rule : IsLeft x) (is-slip : IsSlip y) (
   run-said : (r : Run) (v : List Con) → itemsAt ws r ≡ v → All ConIn v → runText (map encodeSlipField y) r ≡ fieldText (map con v)
   run-said r v e i = run-viewed y (is-slip .1) r ∙ ap (λ (l : List Con). fieldText (map viewTerm (map enc l))) e ∙ ap fieldText (viewed v i)
 
-  value-said : (k : Kind) (n : ℕ) → n ≤ 15 → Any (Occurs k n) x → saidValue k n (map encodeSlipField y) filling ≡ fieldText (map con (φ k n))
+  value-said : (k : Kind) (n : ℕ) → n ≤ largestNumber → Any (Occurs k n) x → saidValue k n (map encodeSlipField y) filling ≡ fieldText (map con (φ k n))
   value-said (basic k) n h o = atom-said k n h o
   value-said list n h o = run-said (runOf filling n) (φ list n) (run-items x (is-rule .1) ws φ yes-φ n h o) (value-in list n o)
 
-  variable-said : (k : Kind) (n : ℕ) → n ≤ 15 → saidVariable (map encodeField x) (map encodeSlipField y) filling k n ≡ ofVariable x φ k n
+  variable-said : (k : Kind) (n : ℕ) → n ≤ largestNumber → saidVariable (map encodeField x) (map encodeSlipField y) filling k n ≡ ofVariable x φ k n
   variable-said k n h = variable-viewed x is-rule (map encodeSlipField y) filling k n ∙ go (occurs k n x) refl
     where
       go : (b : Bool) → occurs k n x ≡ b → cond b (nameText k n ++ saidValue k n (map encodeSlipField y) filling) [] ≡ cond b (valueText φ (k, n)) []
@@ -144,13 +145,8 @@ module _ (x : List (List OurTerm)) (φ : Filling Con Kind ℕ) where
   over (k ∷ ks) = concat-map-append text (ofKind k) (concat-map ofKind ks) ∙ ap₂ (λ (a b : List ℕ). a ++ b) (mapped text (λ (n : ℕ). (k, n)) numbers) (over ks)
 
   -- kind by kind
-  pub by-kind : concat-map (valueText φ) (variables x)
-      ≡ ofKindText x φ (basic integer) ++ (ofKindText x φ (basic string) ++ (ofKindText x φ (basic atom) ++ ofKindText x φ list))
-  by-kind =
-      kept (λ (v : Variable). occurs (v .0) (v .1) x) (valueText φ) every
-      ∙ over kinds
-      ∙ ap (λ (t : List ℕ). ofKindText x φ (basic integer) ++ (ofKindText x φ (basic string) ++ (ofKindText x φ (basic atom) ++ t)))
-      (append-nil (ofKindText x φ list))
+  pub by-kind : concat-map (valueText φ) (variables x) ≡ concat-map (ofKindText x φ) kinds
+  by-kind = kept (λ (v : Variable). occurs (v .0) (v .1) x) (valueText φ) every ∙ over kinds
 
 -- ---- the answer
 
@@ -164,8 +160,7 @@ module _ (x y : List (List OurTerm)) (is-rule : IsLeft x) (is-slip : IsSlip y) w
   values-said : (φ : Filling Con Kind ℕ) → matcher x (map constants y) ≡ some φ
       → saidValues fs gs (record { values = encodeValues φ; runs = runsOf x (map constants y) }) ≡ concat-map (valueText φ) (variables x)
   values-said φ e =
-      ap₂ (λ (a b : List ℕ). a ++ b) (one (basic integer))
-      (ap₂ (λ (a b : List ℕ). a ++ b) (one (basic string)) (ap₂ (λ (a b : List ℕ). a ++ b) (one (basic atom)) (one list)))
+      same-kinds (saidKind fs gs (record { values = encodeValues φ; runs = runsOf x (map constants y) })) (ofKindText x φ) one kinds
       ∙ sym (by-kind x φ)
     where
       one : (k : Kind) → saidKind fs gs (record { values = encodeValues φ; runs = runsOf x (map constants y) }) k ≡ ofKindText x φ k
@@ -225,8 +220,8 @@ module _ (t : List ℕ) (tab rest : ℕ) (is-tab : tab ≡ indexOf 9 t) (is-rest
       go (yes h) = ap (λ (i : ℕ). drop i t) (let e : rest ≡ suc (indexOf 9 t) = omega arith in e)
       go (no h) = drop-of-length-le t {i = rest} (omega arith) ∙ sym (drop-of-length-le t {i = suc (indexOf 9 t)} (omega arith))
 
-  pub line-said : length t ≤ longestLine → lineText t ≡ textsText (take tab t) (take (length t - rest) (drop rest t))
+  pub line-said : length t ≤ slipLine → lineText t ≡ textsText (take tab t) (take (length t - rest) (drop rest t))
   unfolding lineText
   line-said h =
-      ap (λ (b : Bool). cond b (ascii "line too long") (textsText (rulePart t) (slipPart t))) (le-ltb longestLine (length t) h)
+      ap (λ (b : Bool). cond b (ascii "line too long") (textsText (rulePart t) (slipPart t))) (le-ltb slipLine (length t) h)
       ∙ ap₂ textsText (sym (ap (λ (i : ℕ). take i t) is-tab)) (sym slip-part)

@@ -2,10 +2,11 @@
 use mathlib.Core.Bool.{cond}
 use mathlib.Core.Option.{Option, none, some}
 use mathlib.Core.List.{List, _++_, map}
-use Prim.Native.Nat.{ℕ, suc}
+use Prim.Native.Nat.{ℕ, suc, _+_, _*_}
 use lib.Dec.{ltb}
 use lib.ListN.{length, take, drop}
 use Rattle.bytes.specs.Bytes.{indexOf}
+use Rattle.base_limits.specs.Limits.{numbersOfSide, atomPlaces, longestTerm, longestSlipField, slipLine}
 use Rattle.math_types.specs.Types.{Kind}
 use Rattle.math_terms.specs.Terms.{con, var}
 use Rattle.math_terms.specs.Seqs.{concat-map}
@@ -18,13 +19,10 @@ use Rattle.text_grammar.specs.rules.Read.{OurRule, readRule}
 use Rattle.text_grammar.specs.constants.Matching.{constants, matcher, compared}
 use Rattle.overlap_spec.specs.Variables.{Variable, variables}
 use Rattle.text_grammar.specs.Ascii.{ascii, newline}
+use Rattle.text_write.specs.Sizes.{longestNumber}
 use Rattle.text_write.specs.pieces.Refusals.{numberAt}
 
 -- ---- a line
-
--- the longest rule, the tab, the longest slip: 4,096 and 1 and 8,192 bytes
-abbrev pub longestLine : ℕ
-longestLine = 12289
 
 -- byte 9
 abbrev pub tab : ℕ
@@ -64,7 +62,7 @@ unfoldable pub textsText : List ℕ → List ℕ → List ℕ
 textsText t u = readText (readRule t) (readSlip u)
 
 unfoldable pub lineText : List ℕ → List ℕ
-lineText t = cond (ltb longestLine (length t)) (ascii "line too long") (textsText (rulePart t) (slipPart t))
+lineText t = cond (ltb slipLine (length t)) (ascii "line too long") (textsText (rulePart t) (slipPart t))
 
 abbrev pub titleText : ℕ → List ℕ
 titleText k = ascii "match " ++ digitsOf k ++ newline
@@ -72,3 +70,18 @@ titleText k = ascii "match " ++ digitsOf k ++ newline
 -- THE ANSWER to line number k: two lines
 unfoldable pub matchAnswer : ℕ → List ℕ → List ℕ
 matchAnswer k t = titleText k ++ lineText t ++ newline
+
+-- a value behind a blank, a name of at most three bytes and `=`: a term, or a part of a slip's field
+abbrev pub longestValues : ℕ
+longestValues = atomPlaces * (5 + longestTerm) + numbersOfSide * (5 + longestSlipField)
+
+-- `yes `, a count of at most two digits, and the values: of no line is more said
+abbrev pub longestSaid : ℕ
+longestSaid = 4 + 2 + longestValues
+
+-- a title, what is said, the line's end: no answer has more
+abbrev pub longestTitle : ℕ
+longestTitle = 6 + longestNumber + 1
+
+abbrev pub longestAnswer : ℕ
+longestAnswer = longestTitle + longestSaid + 1

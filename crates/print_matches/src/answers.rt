@@ -3,7 +3,7 @@
 ghost use mathlib.Core.Path.{_≡_};
 ghost use mathlib.Core.Bool.{false, _||_};
 ghost use mathlib.Core.List.{map};
-ghost use Prim.Native.Nat.{_≤_, min};
+ghost use Prim.Native.Nat.{_≤_};
 ghost use lib.ListN.{getD};
 ghost use Rattle.math_types.specs.Order.{list};
 ghost use Rattle.math_types.specs.Types.{rank};
@@ -17,6 +17,7 @@ ghost use Rattle.text_write.specs.pieces.Placed.{Placed};
 ghost use Rattle.text_passes.specs.Fields.{fieldCount};
 ghost use Rattle.match_rules.specs.texts.Texts.{sideFields, slipFields};
 ghost use Rattle.print_matches.specs.answers.Values.{itemsFrom, runText, atomText, listText, nameText, saidValues, saidMatch, Noted, notedText};
+use base_numbers::at_most;
 use match_fields::bindings::Filling;
 use match_fields::bindings::Run;
 use match_fields::bindings::Values;
@@ -26,16 +27,12 @@ use text_values::Form;
 use text_values::SlipField;
 use text_values::Term;
 
-// Which variables a rule has: 16 places for each type, in the order of the types.
-struct Variables {
-    has: [bool; 64],
-}
+// The same as a variable's number.
+const NUMBERS_OF_SIDE: u8 = base_limits::NUMBERS_OF_SIDE as u8;
 
-// A count beyond the places counts for all of them.
-fn at_most(n: usize, places: usize) -> usize
-    ensures { λ r. ⌜ r ≡ min n places ⌝ }
-{
-    if n < places { n } else { places }
+// Which variables a rule has: a place for each number of each type, in the order of the types.
+struct Variables {
+    has: [bool; base_limits::VARIABLE_PLACES],
 }
 
 // ---- the rule's variables
@@ -49,7 +46,7 @@ fn note_term(v: Variables, t: Term) -> Variables
         Form::Int(_) => v,
         Form::Str(_) => v,
         Form::Var(k, n) => {
-            if 16 <= n {
+            if NUMBERS_OF_SIDE <= n {
                 return v;
             }
             let i = match_fields::bindings::slot(k, n);
@@ -63,7 +60,7 @@ fn note_term(v: Variables, t: Term) -> Variables
 fn note_field(v: Variables, f: Field) -> Variables
     ensures { λ w. ⌜ Noted (w .has) (λ k n. inField k n (viewField f) || getD (v .has) (slot k n) false) ⌝ }
 {
-    let terms = at_most(f.n, 16);
+    let terms = at_most(f.n, base_limits::MOST_TERMS);
     let mut w = v;
     let mut i: usize = 0;
     while i < terms {
@@ -77,7 +74,9 @@ fn variables_in(rule: &[u8]) -> Variables
     ensures { λ v. ⌜ Noted (v .has) (λ k n. occurs k n (map viewField (sideFields (now (rule .entry))))) ⌝ }
 {
     let fields = text_passes::field_count(rule);
-    let mut v = Variables { has: [false; 64] };
+    let mut v = Variables {
+        has: [false; base_limits::VARIABLE_PLACES],
+    };
     let mut j: usize = 0;
     while j < fields {
         v = note_field(v, text_passes::side_field(rule, j));
@@ -92,7 +91,7 @@ fn variables_in(rule: &[u8]) -> Variables
 fn put_items(f: SlipField, start: usize, count: usize, out: &mut [u8], at: usize) -> usize
     ensures { λ r. ⌜ Placed (fieldText (map viewTerm (itemsFrom f start count))) at (now (out .entry)) r (now (out .exit)) ⌝ }
 {
-    let n = at_most(f.n, 64);
+    let n = at_most(f.n, base_limits::MOST_ITEMS);
     let from = at_most(start, n);
     let end = from + at_most(count, n - from);
     if end == from {
@@ -135,7 +134,7 @@ fn put_name(k: Kind, n: u8, out: &mut [u8], at: usize) -> usize
 {
     let name = Term {
         form: Form::Var(k, n),
-        text: [0; 15],
+        text: [0; base_limits::LONGEST_STRING],
     };
     let a = text_write::pieces::put_bytes(b" ", out, at);
     let b = text_write::pieces::put_term(name, out, a);
@@ -150,7 +149,7 @@ fn put_atoms(k: Kind, rule: Variables, v: Values, out: &mut [u8], at: usize) -> 
     let first = match_fields::bindings::slot(k, 0);
     let mut p = at;
     let mut n: u8 = 0;
-    while n < 16 {
+    while n < NUMBERS_OF_SIDE {
         let i = first + n as usize;
         if rule.has[i] {
             let a = put_name(k, n, out, p);
@@ -168,9 +167,9 @@ fn put_lists(rule: Variables, slip: &[u8], x: Filling, out: &mut [u8], at: usize
     let fields = text_passes::field_count(slip);
     let mut p = at;
     let mut n: u8 = 0;
-    while n < 16 {
+    while n < NUMBERS_OF_SIDE {
         let i = n as usize;
-        if rule.has[48 + i] {
+        if rule.has[base_limits::ATOM_PLACES + i] {
             let a = put_name(Kind::List, n, out, p);
             p = put_run(slip, fields, x.runs[i], out, a);
         }
@@ -185,10 +184,15 @@ fn put_values(rule: &[u8], slip: &[u8], x: Filling, out: &mut [u8], at: usize) -
 {
     let r = variables_in(rule);
     let v = x.values;
-    let a = put_atoms(Kind::Integer, r, v, out, at);
-    let b = put_atoms(Kind::String, r, v, out, a);
-    let c = put_atoms(Kind::Atom, r, v, out, b);
-    put_lists(r, slip, x, out, c)
+    // the types below list have the ranks below list's
+    let n = math_types::rank(Kind::List);
+    let mut p = at;
+    let mut i: usize = 0;
+    while i < n {
+        p = put_atoms(math_types::kind_at(i), r, v, out, p);
+        i += 1;
+    }
+    put_lists(r, slip, x, out, p)
 }
 
 // `no` or `yes`, how many items were compared, and with `yes` the values.

@@ -6,7 +6,7 @@ ghost use Prim.Native.Nat.{_≤_};
 ghost use lib.ListN.{length};
 ghost use Rattle.text_write.specs.Answers.{Writes};
 ghost use Rattle.text_write.specs.pieces.Placed.{Placed};
-ghost use Rattle.print_matches.specs.Matches.{textsText, lineText, matchAnswer};
+ghost use Rattle.print_matches.specs.Matches.{textsText, lineText, matchAnswer, longestAnswer};
 ghost use Rattle.print_matches.specs.Values.{saidSlip};
 
 mod answers; // the text of a match
@@ -52,12 +52,12 @@ fn put_reads(rule: &[u8], slip: &[u8], out: &mut [u8], at: usize) -> usize
     }
 }
 
-// What is said of a line. The longest rule, the tab and the longest slip have 12,289 bytes.
+// What is said of a line.
 fn put_line(line: &[u8], out: &mut [u8], at: usize) -> usize
     ensures { λ r. ⌜ Placed (lineText (now (line .entry))) at (now (out .entry)) r (now (out .exit)) ⌝ }
 {
     let n = line.len();
-    if 12289 < n {
+    if base_limits::SLIP_LINE < n {
         return text_write::pieces::put_bytes(b"line too long", out, at);
     }
     let tab = text_write::pieces::tab_place(line);
@@ -65,8 +65,13 @@ fn put_line(line: &[u8], out: &mut [u8], at: usize) -> usize
     put_reads(&line[..tab], &line[rest..], out, at)
 }
 
-// Enough bytes for any answer: none is longer.
-pub const LONGEST_ANSWER: usize = 19586;
+// A title: `match `, the line's number and its end.
+const LONGEST_TITLE: usize = 6 + text_write::LONGEST_NUMBER + 1;
+// A value behind a blank, a name of at most three bytes and `=`: a term, or a part of a slip's field.
+const LONGEST_VALUES: usize = base_limits::ATOM_PLACES * (5 + base_limits::LONGEST_TERM)
+    + base_limits::NUMBERS_OF_SIDE * (5 + base_limits::LONGEST_SLIP_FIELD);
+// Enough bytes for any answer: none is longer. Behind the title `yes `, a count of at most two digits, the values, the line's end.
+pub const LONGEST_ANSWER: usize = LONGEST_TITLE + 4 + 2 + LONGEST_VALUES + 1;
 
 // The two lines that `matches` prints for line number k, at the front of bytes.
 fn put_answer(k: u64, line: &[u8], out: &mut [u8]) -> usize
@@ -79,7 +84,7 @@ fn put_answer(k: u64, line: &[u8], out: &mut [u8]) -> usize
 
 // The answer straight into bytes that are enough for any.
 fn straight(k: u64, line: &[u8], out: &mut [u8]) -> Written
-    requires { ⌜ 19586 ≤ length (now out) ⌝ }
+    requires { ⌜ longestAnswer ≤ length (now out) ⌝ }
     ensures { λ w. ⌜ Writes (matchAnswer k (now (line .entry))) (now (out .entry)) w (now (out .exit)) ⌝ }
 {
     Written::Bytes(put_answer(k, line, out))
@@ -87,7 +92,7 @@ fn straight(k: u64, line: &[u8], out: &mut [u8]) -> Written
 
 // Room for any answer.
 fn room() -> [u8; LONGEST_ANSWER]
-    ensures { λ r. ⌜ length r ≡ 19586 ⌝ }
+    ensures { λ r. ⌜ length r ≡ longestAnswer ⌝ }
 {
     [0; LONGEST_ANSWER]
 }

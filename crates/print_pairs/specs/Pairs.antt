@@ -1,20 +1,17 @@
 -- What `pairs` prints for one line, which has two rules with a tab between them: the overlaps of the rules. Document 01, "The program".
 use mathlib.Core.Bool.{cond}
 use mathlib.Core.List.{List, _++_}
-use Prim.Native.Nat.{ℕ, suc}
+use Prim.Native.Nat.{ℕ, suc, _+_}
 use lib.Dec.{ltb}
 use lib.ListN.{length, take, drop}
 use Rattle.bytes.specs.Bytes.{indexOf}
+use Rattle.base_limits.specs.Limits.{mostListBytes, pairLine}
 use Rattle.text_grammar.specs.Ascii.{ascii, newline}
 use Rattle.text_grammar.specs.Numbers.{digitsOf}
+use Rattle.text_write.specs.Sizes.{longestNumber}
 use Rattle.print_pairs.specs.overlaps.Texts.{saidOf}
 
 -- ---- a line
-
--- "`line too long` beyond" its limit, "the newline not counted"; document 02: "The whole text may have 4,096 bytes .., and a line
--- for `pairs` 8,193", which is two of the longest rules and the tab
-abbrev pub longestLine : ℕ
-longestLine = 8193
 
 -- byte 9
 abbrev pub tab : ℕ
@@ -31,7 +28,7 @@ rightPart t = drop (suc (indexOf tab t)) t
 
 -- a line over its limit is too long whatever it holds
 unfoldable pub lineText : List ℕ → List ℕ
-lineText t = cond (ltb longestLine (length t)) (ascii "line too long" ++ newline) (saidOf (leftPart t) (rightPart t))
+lineText t = cond (ltb pairLine (length t)) (ascii "line too long" ++ newline) (saidOf (leftPart t) (rightPart t))
 
 -- "`pair K` (K the line number from 1)"
 abbrev pub titleText : ℕ → List ℕ
@@ -41,6 +38,9 @@ titleText k = ascii "pair " ++ digitsOf k ++ newline
 unfoldable pub pairAnswer : ℕ → List ℕ → List ℕ
 pairAnswer k t = titleText k ++ lineText t
 
--- a title of at most 26 bytes, and behind it at most 65,536: no answer has more
+-- a title, and behind it a list: no answer has more
+abbrev pub longestTitle : ℕ
+longestTitle = 5 + longestNumber + 1
+
 abbrev pub longestAnswer : ℕ
-longestAnswer = 65562
+longestAnswer = longestTitle + mostListBytes

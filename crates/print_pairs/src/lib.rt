@@ -4,9 +4,9 @@
 ghost use mathlib.Core.Path.{_≡_};
 ghost use Prim.Native.Nat.{_+_, _≤_};
 ghost use lib.ListN.{length};
+ghost use Rattle.base_limits.specs.Limits.{mostListBytes};
 ghost use Rattle.text_write.specs.Answers.{Writes};
 ghost use Rattle.text_write.specs.pieces.Placed.{Placed};
-ghost use Rattle.print_pairs.specs.overlaps.Texts.{mostBytes};
 ghost use Rattle.print_pairs.specs.Pairs.{lineText, longestAnswer, pairAnswer};
 
 mod overlaps; // the text of what is said of two rules
@@ -15,14 +15,14 @@ use text_write::Written;
 
 // ---- pieces: each is put at a place of the room, and returns the place behind it
 
-// What is said of a line. Two of the longest rules and the tab have 8,193 bytes.
+// What is said of a line.
 fn put_line(line: &[u8], out: &mut [u8], at: usize) -> usize
-    requires { ⌜ at + mostBytes ≤ length (now out) ⌝ }
+    requires { ⌜ at + mostListBytes ≤ length (now out) ⌝ }
     ensures { λ r. ⌜ Placed (lineText (now (line .entry))) at (now (out .entry)) r (now (out .exit)) ⌝ }
-    ensures { λ _. ⌜ length (lineText (now (line .entry))) ≤ mostBytes ⌝ }
+    ensures { λ _. ⌜ length (lineText (now (line .entry))) ≤ mostListBytes ⌝ }
 {
     let n = line.len();
-    if 8193 < n {
+    if base_limits::PAIR_LINE < n {
         return text_write::pieces::put_bytes(b"line too long\n", out, at);
     }
     let tab = text_write::pieces::tab_place(line);
@@ -40,11 +40,16 @@ fn put_answer(k: u64, line: &[u8], out: &mut [u8]) -> usize
     put_line(line, out, a)
 }
 
-// Bytes for any answer: a title of at most 26 and a list of at most 65,536.
-fn longest() -> [u8; 65562]
+// A title: `pair `, the line's number and its end.
+const LONGEST_TITLE: usize = 5 + text_write::LONGEST_NUMBER + 1;
+// No answer has more: a title, and behind it a list.
+pub const LONGEST_ANSWER: usize = LONGEST_TITLE + base_limits::MOST_LIST_BYTES;
+
+// Bytes for any answer.
+fn longest() -> [u8; LONGEST_ANSWER]
     ensures { λ r. ⌜ length r ≡ longestAnswer ⌝ }
 {
-    [0; 65562]
+    [0; LONGEST_ANSWER]
 }
 
 // The lines that `pairs` prints for line number k.
@@ -52,7 +57,7 @@ pub fn pair_answer(k: u64, line: &[u8], out: &mut [u8]) -> Written
     ensures { λ w. ⌜ Writes (pairAnswer k (now (line .entry))) (now (out .entry)) w (now (out .exit)) ⌝ }
     ensures { λ _. ⌜ length (pairAnswer k (now (line .entry))) ≤ longestAnswer ⌝ }
 {
-    if 65562 <= out.len() {
+    if LONGEST_ANSWER <= out.len() {
         return Written::Bytes(put_answer(k, line, out));
     }
     let mut text = longest();

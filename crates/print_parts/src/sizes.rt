@@ -11,7 +11,7 @@ pub enum Size {
 fn is_digit(b: u8) -> bool
     ensures { λ r. ⌜ r ≡ isDigit b ⌝ }
 {
-    48 <= b && b <= 57
+    b'0' <= b && b <= b'9'
 }
 
 // Decimal digits. The value is tested at each digit, so that it stays small.
@@ -26,7 +26,7 @@ fn read_decimal(most: u32, text: &[u8]) -> Size
         if !is_digit(b) {
             return Size::Bad;
         }
-        n = n * 10 + (b - 48) as usize;
+        n = n * 10 + (b - b'0') as usize;
         if limit < n {
             return Size::Bad;
         }
@@ -46,7 +46,7 @@ fn is_left_open(text: &[u8]) -> bool
     if 1 < n {
         return false;
     }
-    text[0] == 45
+    text[0] == b'-'
 }
 
 // A part of a line that asks for at most `most`.

@@ -11,9 +11,9 @@ use Rattle.text_grammar.specs.Ascii.{ascii, newline}
 use Rattle.text_grammar.specs.Numbers.{digitsOf}
 use Rattle.text_write.proofs.Digits.{digits-64}
 use Rattle.print_solve.specs.search.Found.{longestBody}
-use Rattle.print_solve.specs.Solve.{longestLine, lineText, titleText, longestAnswer, solveAnswer}
+use Rattle.print_solve.specs.Solve.{longestLine, lineText, titleText, longestAnswer, solveAnswer, longestTitle}
 
-pub title-short : (k : ℕ) → k < 18446744073709551616 → length (titleText k) ≤ 28
+pub title-short : (k : ℕ) → k < 18446744073709551616 → length (titleText k) ≤ longestTitle
 title-short k h = omega (arith, length-append (ascii "search " ++ digitsOf k) newline, length-append (ascii "search ") (digitsOf k), digits-64 k h)
 
 pub answer-short : (k : ℕ) (t : List ℕ) → k < 18446744073709551616 → length (lineText t) ≤ longestBody → length (solveAnswer k t) ≤ longestAnswer

@@ -9,11 +9,12 @@ use borrow.Author.Tests.{lt-ltb, le-ltb}
 use lib.ListN.{length, take, drop, length-drop, drop-of-length-le}
 use lib.Seq.{take-all, length-take-le}
 use Rattle.bytes.specs.Bytes.{indexOf}
+use Rattle.search_row.specs.own.Sizes.{mostRecords}
 use Rattle.text_grammar.specs.Ascii.{ascii, newline}
 use Rattle.text_grammar.specs.Terms.{OurTerm}
 use Rattle.text_grammar.specs.rules.Read.{readRule}
 use Rattle.print_parts.specs.sizes.Sizes.{sizeOf}
-use Rattle.print_solve.specs.search.Found.{mostRecords, mostBytes}
+use Rattle.print_solve.specs.search.Found.{mostBytes}
 use Rattle.print_solve.specs.Solve.{longestLine, part, behind, fieldIn, searchText, lineText}
 use Rattle.print_solve.specs.Values.{sizesText, rightText}
 

@@ -3,24 +3,27 @@
 use mathlib.Core.Bool.{Bool, cond}
 use mathlib.Core.List.{List, [], _∷_, _++_}
 use mathlib.Core.Option.{Option, none, some}
-use Prim.Native.Nat.{ℕ, suc}
+use Prim.Native.Nat.{ℕ, suc, _+_}
 use lib.Dec.{ltb}
 use lib.ListN.{length, take, drop}
 use Rattle.bytes.specs.Bytes.{indexOf}
+use Rattle.base_limits.specs.Limits.{pairLine}
 use Rattle.text_grammar.specs.Ascii.{ascii, newline}
 use Rattle.text_grammar.specs.Numbers.{digitsOf}
 use Rattle.text_grammar.specs.Terms.{OurTerm}
 use Rattle.text_grammar.specs.Read.{OutcomeOf, refused, accepted, OurFields}
 use Rattle.text_grammar.specs.rules.Read.{OurRule, readRule}
+use Rattle.text_write.specs.Sizes.{longestNumber}
 use Rattle.search_spec.specs.Answers.{linesFor}
+use Rattle.search_row.specs.own.Sizes.{mostRecords}
 use Rattle.print_parts.specs.sizes.Sizes.{sizeOf}
-use Rattle.print_solve.specs.search.Found.{mostRecords, mostBytes, foundText}
+use Rattle.print_solve.specs.search.Found.{mostBytes, longestBody, foundText}
 
 -- ---- a line
 
--- two of the longest rules, 4,096 bytes each, three tabs, `640` and `131072`
+-- two of the longest rules with a tab between them, and behind a tab each `640` and `131072`
 abbrev pub longestLine : ℕ
-longestLine = 8204
+longestLine = pairLine + 1 + 3 + 1 + 6
 
 -- byte 9
 abbrev pub tab : ℕ
@@ -86,6 +89,9 @@ titleText k = ascii "search " ++ digitsOf k ++ newline
 unfoldable pub solveAnswer : ℕ → List ℕ → List ℕ
 solveAnswer k t = titleText k ++ lineText t
 
--- a title of at most 28 bytes, and behind it at most `longestBody`: no answer has more
+-- a title, and behind it at most `longestBody`: no answer has more
+abbrev pub longestTitle : ℕ
+longestTitle = 7 + longestNumber + 1
+
 abbrev pub longestAnswer : ℕ
-longestAnswer = 131164
+longestAnswer = longestTitle + longestBody

@@ -3,13 +3,14 @@ use mathlib.Core.Bool.{cond}
 use mathlib.Core.List.{List, _++_}
 use mathlib.Core.Option.{some}
 use Prim.Native.Nat.{ℕ}
+use Rattle.search_row.specs.own.Sizes.{mostRecords}
 use Rattle.text_grammar.specs.Ascii.{ascii, newline}
 use Rattle.text_grammar.specs.Terms.{OurTerm}
 use Rattle.text_grammar.specs.rules.Read.{readRule}
 use Rattle.text_values.specs.declared.Field.{Field}
 use Rattle.text_accepted.specs.Accepted.{countedField}
 use Rattle.print_parts.specs.sizes.Sizes.{sizeOf}
-use Rattle.print_solve.specs.search.Found.{mostRecords, mostBytes}
+use Rattle.print_solve.specs.search.Found.{mostBytes}
 use Rattle.print_solve.specs.Solve.{hasTab, part, behind, fieldIn, searchText}
 
 -- two fields with a row, and the part that says the room

@@ -4,11 +4,12 @@ ghost use mathlib.Core.Path.{_≡_};
 ghost use mathlib.Core.List.{[]};
 ghost use Prim.Native.Nat.{_≤_};
 ghost use lib.ListN.{length};
+ghost use Rattle.search_row.specs.own.Sizes.{mostRecords};
 ghost use Rattle.text_grammar.specs.rules.Read.{readRule};
 ghost use Rattle.text_accepted.specs.Accepted.{countedField};
 ghost use Rattle.text_write.specs.Answers.{Writes};
 ghost use Rattle.text_write.specs.pieces.Placed.{Placed};
-ghost use Rattle.print_solve.specs.search.Found.{mostRecords, longestBody};
+ghost use Rattle.print_solve.specs.search.Found.{longestBody};
 ghost use Rattle.print_solve.specs.Solve.{fieldIn, lineText, longestAnswer, solveAnswer};
 ghost use Rattle.print_solve.specs.Values.{saidRoom, saidRow, saidSizes, saidRight};
 
@@ -20,14 +21,21 @@ use text_write::Written;
 
 // ---- the parts of a line
 
-// A field of more terms than it can have: no accepted rule has it.
+// How many records and bytes a line may ask for.
+const MOST_RECORDS: u32 = search_row::own::MOST_RECORDS as u32;
+
+const MOST_BYTES: u32 = crate::search::MOST_BYTES as u32;
+// More terms than a field can have.
+const TOO_MANY: usize = base_limits::MOST_TERMS + 1;
+
+// A field that no accepted rule has.
 fn no_field() -> Field
     ensures { λ f. ⌜ countedField f ≡ [] ⌝ }
 {
     let blank = text_values::blank_field();
     let terms = blank.terms;
     Field {
-        n: 17,
+        n: TOO_MANY,
         terms: terms,
     }
 }
@@ -57,7 +65,7 @@ fn put_room(left: Field, right: Field, row: usize, room: &[u8], out: &mut [u8], 
     ensures { λ p. ⌜ Placed (saidRoom left right row (now (room .entry))) at (now (out .entry)) p (now (out .exit)) ⌝ }
     ensures { λ _. ⌜ length (saidRoom left right row (now (room .entry))) ≤ longestBody ⌝ }
 {
-    match print_parts::sizes::read_size(131072, room) {
+    match print_parts::sizes::read_size(MOST_BYTES, room) {
         Size::Of(bytes) => crate::search::put_search(left, right, row, bytes, out, at),
         Size::Bad => text_write::pieces::put_bytes(b"bad room\n", out, at),
     }
@@ -68,7 +76,7 @@ fn put_row(left: Field, right: Field, row: &[u8], room: &[u8], out: &mut [u8], a
     ensures { λ p. ⌜ Placed (saidRow left right (now (row .entry)) (now (room .entry))) at (now (out .entry)) p (now (out .exit)) ⌝ }
     ensures { λ _. ⌜ length (saidRow left right (now (row .entry)) (now (room .entry))) ≤ longestBody ⌝ }
 {
-    match print_parts::sizes::read_size(640, row) {
+    match print_parts::sizes::read_size(MOST_RECORDS, row) {
         Size::Of(records) => put_room(left, right, records, room, out, at),
         Size::Bad => text_write::pieces::put_bytes(b"bad row\n", out, at),
     }
@@ -100,13 +108,16 @@ fn put_right(left: Field, line: &[u8], out: &mut [u8], at: usize) -> usize
     put_sizes(left, right, &line[rest..], out, at)
 }
 
-// What is said of a line. Two of the longest rules, three tabs, `640` and `131072` have 8,204 bytes.
+// The longest line: two rules, and behind a tab each the longest row, `640`, and room, `131072`.
+pub const LONGEST_LINE: usize = base_limits::PAIR_LINE + 1 + 3 + 1 + 6;
+
+// What is said of a line.
 fn put_line(line: &[u8], out: &mut [u8], at: usize) -> usize
     ensures { λ p. ⌜ Placed (lineText (now (line .entry))) at (now (out .entry)) p (now (out .exit)) ⌝ }
     ensures { λ _. ⌜ length (lineText (now (line .entry))) ≤ longestBody ⌝ }
 {
     let n = line.len();
-    if 8204 < n {
+    if LONGEST_LINE < n {
         return text_write::pieces::put_bytes(b"line too long\n", out, at);
     }
     let tab = text_write::pieces::tab_place(line);
@@ -115,11 +126,16 @@ fn put_line(line: &[u8], out: &mut [u8], at: usize) -> usize
     put_right(left, &line[rest..], out, at)
 }
 
-// Room for any answer: a title of at most 28 bytes, counts of at most 64 and lines of at most 131,072.
-fn room() -> [u8; 131164]
+// A title: `search `, the line's number and its end.
+const LONGEST_TITLE: usize = 7 + text_write::LONGEST_NUMBER + 1;
+// No answer has more: a title, and behind it what is said of a search.
+pub const LONGEST_ANSWER: usize = LONGEST_TITLE + crate::search::LONGEST_BODY;
+
+// Room for any answer.
+fn room() -> [u8; LONGEST_ANSWER]
     ensures { λ r. ⌜ length r ≡ longestAnswer ⌝ }
 {
-    [0; 131164]
+    [0; LONGEST_ANSWER]
 }
 
 // The lines that `solve` prints for line number k.

@@ -1,6 +1,7 @@
 -- What `texts` prints for one line: how the line is read as a rule, and how as a slip.
 use mathlib.Core.List.{List, _++_}
-use Prim.Native.Nat.{ℕ}
+use Prim.Native.Nat.{ℕ, _+_}
+use Rattle.base_limits.specs.Limits.{longestRule}
 use Rattle.text_grammar.specs.Read.{Reason, number, OutcomeOf, Outcome, refused, accepted, readSlip}
 use Rattle.text_grammar.specs.rules.Read.{OurRule, readRule}
 use Rattle.text_grammar.specs.rules.Plain.{plainBoth}
@@ -28,3 +29,11 @@ slipAnswer t = ascii "slip " ++ slipText (readSlip t) ++ newline
 -- THE ANSWER: two lines
 unfoldable pub textsAnswer : List ℕ → List ℕ
 textsAnswer t = ruleAnswer t ++ slipAnswer t
+
+-- `refused `, a number of two digits, ` at ` and a place of four
+abbrev pub longestRefusal : ℕ
+longestRefusal = 8 + 2 + 4 + 4
+
+-- `rule ` and a rule, `slip ` and a refusal, each with the line's end: no answer has more
+abbrev pub longestAnswer : ℕ
+longestAnswer = 5 + longestRule + 1 + 5 + longestRefusal + 1

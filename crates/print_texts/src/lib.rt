@@ -5,7 +5,7 @@ ghost use lib.ListN.{length};
 ghost use Rattle.text_write.specs.Answers.{Writes};
 ghost use Rattle.text_grammar.specs.Ascii.{ascii, newline};
 ghost use Rattle.text_write.specs.pieces.Placed.{Placed};
-ghost use Rattle.print_texts.specs.Texts.{ruleAnswer, slipAnswer, textsAnswer};
+ghost use Rattle.print_texts.specs.Texts.{ruleAnswer, slipAnswer, textsAnswer, longestAnswer};
 ghost use Rattle.print_texts.specs.Verdicts.{verdictText, ruleSaid};
 use text_read::RuleRead;
 use text_refusals::verdicts::Verdict;
@@ -73,11 +73,15 @@ fn put_slip_answer(line: &[u8], out: &mut [u8], at: usize) -> usize
     put_newline(out, b)
 }
 
-// Room for any answer of `texts`, which has at most 2,334 bytes.
-fn room() -> [u8; 2334]
-    ensures { λ r. ⌜ length r ≡ 2334 ⌝ }
+// The longest answer: `rule ` and a rule, and `slip ` and a refusal, which is `refused `, a number of two digits, ` at ` and a place of
+// four; each with the line's end.
+const LONGEST_ANSWER: usize = 5 + base_limits::LONGEST_RULE + 1 + 5 + (8 + 2 + 4 + 4) + 1;
+
+// Room for any answer of `texts`.
+fn room() -> [u8; LONGEST_ANSWER]
+    ensures { λ r. ⌜ length r ≡ longestAnswer ⌝ }
 {
-    [0; 2334]
+    [0; LONGEST_ANSWER]
 }
 
 // The two lines that `texts` prints for a line.

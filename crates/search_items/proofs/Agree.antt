@@ -9,16 +9,17 @@ use native.Mathlib.Omega.{arith}
 use lib.Dec.{eqb}
 use lib.ListN.{length, getD, drop, length-map}
 use borrow.Author.Tests.{eq-eqb, eqb-true}
+use Rattle.base_limits.specs.Limits.{pairPlaces}
 use Rattle.base_lists.specs.Seqs.{All}
-use Rattle.base_lists.specs.Truths.{both-is, false-is}
+use Rattle.base_lists.specs.Truths.{both-is, false-is, decided}
 use Rattle.math_terms.specs.Seqs.{concat-map}
 use Rattle.math_search.specs.Problems.{Tm, Field, tm-eq, field-eq, put, putIn}
 use Rattle.math_search.specs.Rules.{occurs}
-use Rattle.math_codes.specs.Lines.{OurAtom, pairPlaces}
+use Rattle.math_codes.specs.Lines.{OurAtom}
 use Rattle.search_spec.specs.Answers.{setting}
 use Rattle.search_items.specs.codes.Codes.{codeTm, codesOf, On}
-use Rattle.search_items.proofs.codes.Codes.{decided, cond-decided, code-tm-once, code-same}
-use Rattle.search_items.specs.Items.{mostItems, itemsOf, collect}
+use Rattle.search_items.proofs.codes.Codes.{cond-decided, code-tm-once, code-same}
+use Rattle.search_items.specs.Items.{itemsOf, collect, mostCodes}
 use Rattle.search_items.specs.Substitution.{putCode, sameCodes, occursIn}
 use Rattle.search_items.specs.Values.{itemsValue}
 use Rattle.search_items.proofs.Collected.{items-collect}
@@ -30,17 +31,17 @@ codes-same (c ∷ s) = both-is (eqb c c) (sameCodes s s) .1 (eq-eqb c c refl, co
 module _ (t : List (Option OurAtom)) where
   -- ---- lists are made and taken apart as the search's
 
-  pub items-of : (ts : Field setting) → length ts ≤ mostItems → itemsOf (itemsValue t ts) ≡ codesOf t ts
+  pub items-of : (ts : Field setting) → length ts ≤ mostCodes → itemsOf (itemsValue t ts) ≡ codesOf t ts
   items-of ts h = items-collect (codesOf t ts) (omega (arith, length-map ts (codeTm t)))
 
-  pub first-agree : (x : Tm setting) (ts : Field setting) → length (x ∷ ts) ≤ mostItems → getD (itemsOf (itemsValue t (x ∷ ts))) 0 0 ≡ codeTm t x
+  pub first-agree : (x : Tm setting) (ts : Field setting) → length (x ∷ ts) ≤ mostCodes → getD (itemsOf (itemsValue t (x ∷ ts))) 0 0 ≡ codeTm t x
   first-agree x ts h = ap (λ (l : List ℕ). getD l 0 0) (items-of (x ∷ ts) h)
 
-  pub rest-agree : (x : Tm setting) (ts : Field setting) → length (x ∷ ts) ≤ mostItems
+  pub rest-agree : (x : Tm setting) (ts : Field setting) → length (x ∷ ts) ≤ mostCodes
       → collect (drop 1 (itemsOf (itemsValue t (x ∷ ts)))) ≡ itemsValue t ts
   rest-agree x ts h = ap (λ (l : List ℕ). collect (drop 1 l)) (items-of (x ∷ ts) h)
 
-  pub before-agree : (x : Tm setting) (ts : Field setting) → length ts ≤ mostItems
+  pub before-agree : (x : Tm setting) (ts : Field setting) → length ts ≤ mostCodes
       → collect (codeTm t x ∷ itemsOf (itemsValue t ts)) ≡ itemsValue t (x ∷ ts)
   before-agree x ts h = ap (λ (l : List ℕ). collect (codeTm t x ∷ l)) (items-of ts h)
 
@@ -66,7 +67,7 @@ module _ (t : List (Option OurAtom)) where
     put-in-agree x s ts h k = ap collect (put-all x s ts h k)
 
     -- what `put_in` makes of the values
-    pub put-in-items : (x : Tm setting) (s ts : Field setting) → On t x → All (On t) ts → length s ≤ mostItems → length ts ≤ mostItems
+    pub put-in-items : (x : Tm setting) (s ts : Field setting) → On t x → All (On t) ts → length s ≤ mostCodes → length ts ≤ mostCodes
         → collect (concat-map (putCode (codeTm t x) (itemsOf (itemsValue t s))) (itemsOf (itemsValue t ts))) ≡ itemsValue t (putIn setting x s ts)
     put-in-items x s ts h k p q =
         ap₂ (λ (a b : List ℕ). collect (concat-map (putCode (codeTm t x) a) b)) (items-of s p) (items-of ts q) ∙ put-in-agree x s ts h k

@@ -5,13 +5,16 @@ ghost use mathlib.Core.List.{[], _∷_, foldl};
 ghost use Prim.Native.Nat.{min};
 ghost use lib.ListN.{getD, drop};
 ghost use Rattle.math_terms.specs.Seqs.{concat-map};
-ghost use Rattle.search_items.specs.Items.{blankItems, itemsOf, pushed, collect};
+ghost use Rattle.search_items.specs.Items.{mostCodes, blankItems, itemsOf, pushed, collect};
 ghost use Rattle.search_items.specs.Substitution.{putCode, sameCodes, occursIn};
 
-// Up to 17 codes. Unused places are 0.
+// A side of a problem has no more codes than a field terms, and a list variable stands for at most one more.
+pub const MOST_CODES: usize = base_limits::MOST_TERMS + 1;
+
+// So many codes. Unused places are 0.
 pub struct Items {
     pub n: usize,
-    pub codes: [u8; 17],
+    pub codes: [u8; MOST_CODES],
 }
 
 // No codes.
@@ -20,7 +23,7 @@ pub fn blank_items() -> Items
 {
     Items {
         n: 0,
-        codes: [0; 17],
+        codes: [0; MOST_CODES],
     }
 }
 
@@ -29,7 +32,7 @@ pub fn push(w: Items, c: u8) -> Items
     ensures { λ r. ⌜ r ≡ pushed w c ⌝ }
 {
     let n = w.n;
-    if 17 <= n {
+    if MOST_CODES <= n {
         return w;
     }
     let mut x = w;
@@ -40,10 +43,10 @@ pub fn push(w: Items, c: u8) -> Items
 
 // How many codes there are. A count beyond the array counts for the whole array.
 pub fn used(w: Items) -> usize
-    ensures { λ r. ⌜ r ≡ min (w .n) 17 ⌝ }
+    ensures { λ r. ⌜ r ≡ min (w .n) mostCodes ⌝ }
 {
     let n = w.n;
-    if n < 17 { n } else { 17 }
+    if n < MOST_CODES { n } else { MOST_CODES }
 }
 
 // The first code, or 0.

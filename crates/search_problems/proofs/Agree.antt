@@ -7,6 +7,7 @@ use Prim.Native.Nat.{ℕ, _≤_, _<_}
 use native.Mathlib.Omega.{arith}
 use lib.ListN.{length, getD}
 use borrow.Author.Tests.{lt-leb}
+use Rattle.base_limits.specs.Limits.{mostTerms, pairPlaces}
 use Rattle.math_types.specs.Types.{basics}
 use Rattle.text_grammar.specs.constants.Constants.{consts}
 use Rattle.math_search.specs.Problems.{Field, Bindings, solved, equation, problem}
@@ -16,7 +17,7 @@ use Rattle.math_search.specs.Rules as rules
 use Rattle.math_search.proofs.Sizes.{sides-short}
 use Rattle.search_problems.specs.variables.Sets.{digits, freshValue, listVariables}
 use Rattle.math_codes.specs.Tables.{Table, Made}
-use Rattle.math_codes.specs.Lines.{OurAtom, ourVars, ourRanks, pairPlaces}
+use Rattle.math_codes.specs.Lines.{OurAtom, ourVars, ourRanks}
 use Rattle.search_spec.specs.Answers.{setting}
 use Rattle.pair_row.specs.Row.{tableIn}
 use Rattle.search_items.specs.declared.Items.{Items}
@@ -82,15 +83,15 @@ gives-is T p r =
 module _ (t : List (Option OurAtom)) (long : length t ≡ pairPlaces) (row : List ℕ) (made-row : Made basics consts ourVars ourRanks (tableIn row) t) where
   module _ (A B : Field setting) (q : Equation t A B) (p : Problem) (L M : Field setting) (σ : Bindings setting) (u : List ℕ)
       (h : Holds t A B p (problem (equation L M) σ u)) where
-    short : (length L ≤ 16) × (length M ≤ 16)
-    short = sides-short setting 16 A B (q .left-short) (q .right-short) (problem (equation L M) σ u) (h .met)
+    short : (length L ≤ mostTerms) × (length M ≤ mostTerms)
+    short = sides-short setting mostTerms A B (q .left-short) (q .right-short) (problem (equation L M) σ u) (h .met)
 
     pub fails-holds : failsOf (tableIn row) p ≡ fails setting L M
     fails-holds =
         ap₂ (failsValue (tableIn row)) (h .left) (h .right)
         ∙ fails-agrees t long row made-row L M (h .rest-in .0) (h .rest-in .1) (omega (arith, short .0)) (omega (arith, short .1))
 
-    small : freshValue (p .used) < 128
+    small : freshValue (p .used) < pairPlaces
     small = omega (arith, fresh-digit t long A B q p (problem (equation L M) σ u) h)
 
     move-holds : (r : Rule) → moveValue (tableIn row) (number r) (p .left) (p .right) (freshValue (p .used)) ≡ moveCode t (rule setting r L M (lowest u))

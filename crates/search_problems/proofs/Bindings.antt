@@ -10,6 +10,7 @@ use native.Mathlib.Decide.{ℕ-discrete}
 use lib.Dec.{eqb, leb}
 use lib.ListN.{length, getD}
 use borrow.Author.Tests.{eqb-true}
+use Rattle.base_limits.specs.Limits.{pairPlaces}
 use Rattle.base_lists.specs.Seqs.{All}
 use Rattle.math_types.specs.Types.{Basic, basic-eq, basics}
 use Rattle.text_grammar.specs.constants.Constants.{consts}
@@ -21,14 +22,14 @@ use Rattle.math_search.proofs.Terms.{atomic-once, atomic≢listvar}
 use Rattle.math_search.proofs.Counts.{put-self, put-ne}
 use Rattle.math_codes.specs.Tables.{same}
 use Rattle.math_codes.specs.States.{swap, replaced}
-use Rattle.math_codes.specs.Lines.{OurAtom, ourVars, pairPlaces}
+use Rattle.math_codes.specs.Lines.{OurAtom, ourVars}
 use Rattle.math_codes.proofs.Tables.{is-code}
 use Rattle.math_codes.proofs.Joins.{Codes, Represents, represents-bind}
 use Rattle.search_spec.specs.Answers.{setting}
 use Rattle.pair_state.specs.declared.State.{State}
 use Rattle.search_items.specs.codes.Codes.{codeTm, On}
 use Rattle.search_items.proofs.codes.Codes.{code-list}
-use Rattle.search_items.specs.Items.{mostItems, itemsOf}
+use Rattle.search_items.specs.Items.{mostCodes, itemsOf}
 use Rattle.search_items.specs.Values.{itemsValue}
 use Rattle.search_items.proofs.Agree.{first-agree, put-in-items}
 use Rattle.search_problems.specs.Applied.{putItems, boundAtoms}
@@ -162,7 +163,7 @@ module _ (t : List (Option OurAtom)) where
 
     -- ---- the values of the list variables
 
-    pub value-bound : (σ : Bindings setting) (x : Tm setting) (s : Field setting) → On t x → length s ≤ mostItems
+    pub value-bound : (σ : Bindings setting) (x : Tm setting) (s : Field setting) → On t x → length s ≤ mostCodes
         → (u : List ℕ) → All (own.Fits t σ) u → putItems (codeTm t x) (itemsValue t s) (valueIn t σ u) ≡ valueIn t (compose setting σ x s) u
     value-bound σ x s i l [] h = refl
     value-bound σ x s i l (n ∷ u) h = put-in-items t long x s (σ (listvar n)) i (h .0 .1) l (h .0 .0)

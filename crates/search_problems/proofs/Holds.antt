@@ -5,6 +5,7 @@ use mathlib.Core.Option.{Option}
 use mathlib.Core.List.{List, [], _∷_}
 use Prim.Native.Nat.{ℕ, _≤_}
 use lib.ListN.{length}
+use Rattle.base_limits.specs.Limits.{mostTerms}
 use Rattle.base_lists.specs.Seqs.{All}
 use Rattle.math_types.specs.Types.{Basic, basics}
 use Rattle.text_grammar.specs.constants.Constants.{consts}
@@ -50,8 +51,8 @@ module _ (t : List (Option OurAtom)) where
   -- what is known of two fields of document 01 on the two sides
   pub record Equation (A B : Field setting) : Type 0 where
     pub linear : Linear setting A B
-    pub left-short : length A ≤ 16
-    pub right-short : length B ≤ 16
+    pub left-short : length A ≤ mostTerms
+    pub right-short : length B ≤ mostTerms
     pub left-in : All (On t) A
     pub right-in : All (On t) B
 

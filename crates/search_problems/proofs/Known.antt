@@ -18,7 +18,7 @@ use Rattle.math_codes.specs.Lines.{OurAtom}
 use Rattle.search_spec.specs.Answers.{setting}
 use Rattle.search_items.specs.codes.Codes.{codesOf, On}
 use Rattle.search_items.specs.declared.Items.{Items}
-use Rattle.search_items.specs.Items.{mostItems, blankItems, itemsOf}
+use Rattle.search_items.specs.Items.{mostCodes, blankItems, itemsOf}
 use Rattle.search_items.proofs.Agree.{items-of}
 use Rattle.search_problems.specs.declared.Problem.{Problem}
 use Rattle.search_problems.proofs.Holds.{Equation, oneAtom, stateOf, valueIn, Holds}
@@ -32,7 +32,7 @@ module _ (t : List (Option OurAtom)) where
   -- w has it
   pub record Listed (σ : Bindings setting) (u : List ℕ) (w : Items) : Type 0 where
     pub items : itemsOf w ≡ codesOf t (valueOf σ u)
-    pub short : length (valueOf σ u) ≤ mostItems
+    pub short : length (valueOf σ u) ≤ mostCodes
     pub within : All (On t) (valueOf σ u)
 
   listed : (σ : Bindings setting) (u : List ℕ) → length u ≤ 1 → All (Fits t σ) u → Listed σ u (valueIn t σ u)

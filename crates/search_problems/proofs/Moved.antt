@@ -8,6 +8,7 @@ use Prim.Native.Nat.{ℕ, _≤_, _<_}
 use native.Mathlib.Omega.{arith}
 use native.Mathlib.Decide.{ℕ-discrete}
 use lib.ListN.{length}
+use Rattle.base_limits.specs.Limits.{mostTerms, numbersOfPair, pairPlaces}
 use Rattle.base_lists.specs.Seqs.{All, all-map}
 use Rattle.math_types.specs.Types.{basics}
 use Rattle.text_grammar.specs.constants.Constants.{consts}
@@ -25,7 +26,7 @@ use Rattle.math_search.proofs.Searching.{fresh-small}
 use Rattle.math_search.proofs.Sizes.{New, sides-short, value-short, fresh-below, names-below}
 use Rattle.search_problems.specs.variables.Sets.{digits, setOf, withName, freshValue, listVariables}
 use Rattle.search_problems.proofs.variables.Laws.{with-one, fresh-lowest, variables-distinct, some-left}
-use Rattle.math_codes.specs.Lines.{OurAtom, ourVars, pairPlaces}
+use Rattle.math_codes.specs.Lines.{OurAtom, ourVars}
 use Rattle.search_spec.specs.Answers.{setting}
 use Rattle.search_items.specs.codes.Codes.{codeTm, On}
 use Rattle.search_items.specs.declared.Items.{Items}
@@ -49,7 +50,7 @@ module _ (t : List (Option OurAtom)) (long : length t ≡ pairPlaces) where
   module _ (A B : Field setting) (q : Equation t A B) where
     -- of a problem that is met: the numbers used, and the fresh one
     module _ (P : search.Problem setting) (m : Met setting A B P) where
-      used-in : All (λ n. n < 32) (search.used setting P)
+      used-in : All (λ n. n < numbersOfPair) (search.used setting P)
       used-in =
           names-below basics consts ourVars A B (q .linear) (q .left-short) (q .right-short) (names-within t A (q .left-in))
           (names-within t B (q .right-in)) P m
@@ -62,7 +63,7 @@ module _ (t : List (Option OurAtom)) (long : length t ≡ pairPlaces) where
     fresh-holds p P h =
         ap freshValue (h .used)
         ∙ fresh-lowest (search.used setting P)
-        (all-map (λ n. n < 32) (λ n. n < digits) (λ n l. omega arith) (search.used setting P) (used-in P (h .met))) (fresh-in P (h .met))
+        (all-map (λ n. n < numbersOfPair) (λ n. n < digits) (λ n l. omega arith) (search.used setting P) (used-in P (h .met))) (fresh-in P (h .met))
 
     -- it has a digit
     pub fresh-digit : (p : Problem) (P : search.Problem setting) → Holds t A B p P → freshValue (p .used) < digits
@@ -73,7 +74,7 @@ module _ (t : List (Option OurAtom)) (long : length t ≡ pairPlaces) where
     fresh-left p P h =
         subst (λ (s : ℕ). listVariables s < digits) (sym (h .used))
         (some-left (lowest (search.used setting P)) (search.used setting P)
-        (all-map (λ n. n < 32) (λ n. n < digits) (λ n l. omega arith) (search.used setting P) (used-in P (h .met))) (fresh-in P (h .met))
+        (all-map (λ n. n < numbersOfPair) (λ n. n < digits) (λ n l. omega arith) (search.used setting P) (used-in P (h .met))) (fresh-in P (h .met))
         (lowest-new (search.used setting P)))
 
     -- "ones count variables of a problem": those used, each once
@@ -85,12 +86,12 @@ module _ (t : List (Option OurAtom)) (long : length t ≡ pairPlaces) where
       fine : Fine setting A B (problem (equation L M) σ u)
       fine = met-fine setting A B (q .linear) (problem (equation L M) σ u) (h .met)
 
-      short : (length L ≤ 16) × (length M ≤ 16)
-      short = sides-short setting 16 A B (q .left-short) (q .right-short) (problem (equation L M) σ u) (h .met)
+      short : (length L ≤ mostTerms) × (length M ≤ mostTerms)
+      short = sides-short setting mostTerms A B (q .left-short) (q .right-short) (problem (equation L M) σ u) (h .met)
 
       -- ---- the values of the two list variables
 
-      lists-moved : (x : Tm setting) (s : Field setting) → On t x → length s ≤ 16
+      lists-moved : (x : Tm setting) (s : Field setting) → On t x → length s ≤ mostTerms
           → map (putItems (codeTm t x) (itemsValue t s)) (p .lists)
           ≡ valueIn t (compose setting σ x s) (namesIn setting A) ∷ (valueIn t (compose setting σ x s) (namesIn setting B) ∷ [])
       lists-moved x s i l =
@@ -105,12 +106,12 @@ module _ (t : List (Option OurAtom)) (long : length t ≡ pairPlaces) where
         does : Bind setting L M (lowest u) x s v n
         does = move-does setting L M (lowest u) (r, bind x s v n) e
 
-        new-in : All (λ k. k < 32) v
+        new-in : All (λ k. k < numbersOfPair) v
         new-in = go (fresh-below basics consts ourVars A B (q .linear) (q .left-short) (q .right-short) L M σ u (h .met) r x s v n e)
           where
-            go : (v ≡ []) ⊎ (lowest u < 32) → All (λ k. k < 32) v
-            go (inl z) = subst (λ (v : List ℕ). All (λ k. k < 32) v) (sym z) tt
-            go (inr g) = all-map (λ k. k ≡ lowest u) (λ k. k < 32) (λ k z. omega arith) v (does .new)
+            go : (v ≡ []) ⊎ (lowest u < numbersOfPair) → All (λ k. k < numbersOfPair) v
+            go (inl z) = subst (λ (v : List ℕ). All (λ k. k < numbersOfPair) v) (sym z) tt
+            go (inr g) = all-map (λ k. k ≡ lowest u) (λ k. k < numbersOfPair) (λ k z. omega arith) v (does .new)
 
         all-in : All (On t) s × AllRest setting (On t) n
         all-in =
@@ -121,8 +122,8 @@ module _ (t : List (Option OurAtom)) (long : length t ≡ pairPlaces) where
         x-in : On t x
         x-in = does .here (On t) (h .rest-in .0) (h .rest-in .1)
 
-        sizes : (length s ≤ 16) × New setting n v
-        sizes = value-short setting 16 L M (lowest u) (short .0) (short .1) r x s v n e
+        sizes : (length s ≤ mostTerms) × New setting n v
+        sizes = value-short setting mostTerms L M (lowest u) (short .0) (short .1) r x s v n e
 
         values-moved : (y : Tm setting) → StandsIn setting A B y → All (On t) (compose setting σ x s y)
         values-moved y i =

@@ -6,11 +6,12 @@ use mathlib.Core.List.{List, [], _∷_, List·Memᴰ, List·Memᴰ·head, List·
 use Prim.Native.Nat.{ℕ, _≤_, _<_}
 use native.Mathlib.Omega.{arith}
 use lib.ListN.{length}
+use Rattle.base_limits.specs.Limits.{numbersOfPair}
 use Rattle.base_lists.specs.Seqs.{All}
 use Rattle.math_search.specs.Problems.{atomic, listvar, Field, Bindings, bindings, namesIn}
 use Rattle.math_search.specs.Problems as search
 use Rattle.math_search.proofs.Sizes.{list-values-short}
-use Rattle.search_items.specs.Items.{mostItems}
+use Rattle.search_items.specs.Items.{mostCodes}
 use Rattle.math_codes.specs.Lines.{OurAtom}
 use Rattle.search_spec.specs.Answers.{setting}
 use Rattle.search_items.specs.codes.Codes.{On}
@@ -23,14 +24,14 @@ names-stand (atomic a ∷ A) R h = names-stand A R (λ n i. h n (List·Memᴰ·t
 names-stand (listvar n ∷ A) R h = (h n (List·Memᴰ·head refl), names-stand A R (λ m i. h m (List·Memᴰ·tail i)))
 
 module _ (t : List (Option OurAtom)) where
-  pub names-within : (A : Field setting) → All (On t) A → All (λ n. n < 32) (namesIn setting A)
+  pub names-within : (A : Field setting) → All (On t) A → All (λ n. n < numbersOfPair) (namesIn setting A)
   names-within [] h = tt
   names-within (atomic a ∷ A) h = names-within A (h .1)
   names-within (listvar n ∷ A) h = (h .0, names-within A (h .1))
 
   -- what n stands for has room, and its terms have codes
   abbrev pub Fits : Bindings setting → ℕ → Type 0
-  Fits σ n = (length (σ (listvar n)) ≤ mostItems) × All (On t) (σ (listvar n))
+  Fits σ n = (length (σ (listvar n)) ≤ mostCodes) × All (On t) (σ (listvar n))
 
   module _ (A B : Field setting) (q : Equation t A B) (p : Problem) (P : search.Problem setting) (h : Holds t A B p P) where
     pub left-fits : All (Fits (bindings setting P)) (namesIn setting A)

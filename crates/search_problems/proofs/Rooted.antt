@@ -9,6 +9,7 @@ use native.Mathlib.Nat.{mod-eq-of-lt}
 use native.Mathlib.Omega.{arith}
 use native.Mathlib.Decide.{ℕ-discrete}
 use lib.ListN.{length, getD, length-map}
+use Rattle.base_limits.specs.Limits.{numbersOfSide, numbersOfPair, rulePlaces, pairPlaces}
 use Rattle.base_lists.specs.Seqs.{All, tabulate-at}
 use Rattle.math_types.specs.Order.{basic, list}
 use Rattle.math_types.specs.Types.{basics}
@@ -33,7 +34,7 @@ use Rattle.search_problems.proofs.variables.Laws.{with-one}
 use Rattle.math_codes.specs.Tables.{Holds, Made}
 use Rattle.math_codes.specs.Entries.{placeShape}
 use Rattle.math_codes.specs.Spots.{spotShape, spotOf}
-use Rattle.math_codes.specs.Lines.{OurAtom, ourVars, ourRanks, rulePlaces, pairPlaces}
+use Rattle.math_codes.specs.Lines.{OurAtom, ourVars, ourRanks}
 use Rattle.math_codes.proofs.Tables.{holds-below}
 use Rattle.math_codes.proofs.Joins.{represents-start}
 use Rattle.math_codes.proofs.Places.{Stands}
@@ -61,17 +62,17 @@ termOn d u = pairs.sideTerm basics consts ℕ-discrete numbers sixteenAbove d u
 
 -- ---- list variables
 
-number-is : (d : Side) (n : ℕ) → n < 16 → listNumber (isRight d) n ≡ sixteenAbove d n
+number-is : (d : Side) (n : ℕ) → n < numbersOfSide → listNumber (isRight d) n ≡ sixteenAbove d n
 number-is left n h = mod-eq-of-lt h
-number-is right n h = ap (λ (k : ℕ). 16 + k) (mod-eq-of-lt h)
+number-is right n h = ap (λ (k : ℕ). numbersOfSide + k) (mod-eq-of-lt h)
 
-names-small : (f : List OurTerm) → All TermIn f → All (λ n. n < 16) (lists f)
+names-small : (f : List OurTerm) → All TermIn f → All (λ n. n < numbersOfSide) (lists f)
 names-small [] h = tt
 names-small (con c ∷ f) h = names-small f (h .1)
 names-small (var (basic k) n ∷ f) h = names-small f (h .1)
 names-small (var list n ∷ f) h = (omega (arith, h .0), names-small f (h .1))
 
-numbers-are : (d : Side) (u : List ℕ) → All (λ n. n < 16) u → map (listNumber (isRight d)) u ≡ map (sixteenAbove d) u
+numbers-are : (d : Side) (u : List ℕ) → All (λ n. n < numbersOfSide) u → map (listNumber (isRight d)) u ≡ map (sixteenAbove d) u
 numbers-are d [] h = refl
 numbers-are d (n ∷ u) h = ap₂ (λ (k : ℕ) (v : List ℕ). k ∷ v) (number-is d n (h .0)) (numbers-are d u (h .1))
 
@@ -158,7 +159,7 @@ module _ (t : List (Option OurAtom)) (long : length t ≡ pairPlaces) (row : Lis
     reads-atom p (some (closed xs)) u f e q h = (ap₂ (λ (c : ℕ) (l : List ℕ). c ∷ l) e (h .0), h .1 ∙ q)
     reads-atom p (some (gapped xs n ys)) u f e q h = (ap₂ (λ (c : ℕ) (l : List ℕ). c ∷ l) e (h .0), h .1 ∙ q)
 
-    reads-list : (n : ℕ) (o : Option (Shape ℕ ℕ)) (f : List OurTerm) → n < 16 → Reads o f → Reads (withList n o) (var list n ∷ f)
+    reads-list : (n : ℕ) (o : Option (Shape ℕ ℕ)) (f : List OurTerm) → n < numbersOfSide → Reads o f → Reads (withList n o) (var list n ∷ f)
     reads-list n none f l h = tt
     reads-list n (some (closed xs)) f l h =
         (ap₂ (λ (k : ℕ) (s : List ℕ). (pairPlaces + k) ∷ s) (number-is d n l) (h .0), ap (λ (u : List ℕ). n ∷ u) (h .1))
@@ -214,7 +215,7 @@ module _ (t : List (Option OurAtom)) (long : length t ≡ pairPlaces) (row : Lis
     on-side b (var (basic j) n ∷ f) h k = ((b, k .0), on-side (suc b) f (h .1) (k .1))
     on-side b (var list n ∷ f) h k = (below d n (omega (arith, h .0)), on-side (suc b) f (h .1) (k .1))
       where
-        below : (d : Side) (n : ℕ) → n < 16 → sixteenAbove d n < 32
+        below : (d : Side) (n : ℕ) → n < numbersOfSide → sixteenAbove d n < numbersOfPair
         below left n h = omega arith
         below right n h = omega arith
 

@@ -6,15 +6,15 @@ use Prim.Native.Nat.{ℕ, suc, _+_, _-_, _<_, _≤_}
 use native.Mathlib.Nat.{mod-lt}
 use native.Mathlib.Omega.{arith}
 use lib.ListN.{getD}
-use Rattle.math_codes.specs.Lines.{pairPlaces}
+use Rattle.base_limits.specs.Limits.{numbersOfSide, numbersOfPair, pairPlaces}
 use Rattle.pair_row.specs.declared.Shape.{Shape}
 use Rattle.search_items.specs.declared.Items.{Items}
 use Rattle.search_items.specs.Items.{blankItems, pushed, collect}
 use Rattle.search_problems.specs.Roots.{listNumber, codesAt, sideItems}
 
-pub number-low : (right : Bool) (n : ℕ) → listNumber right n < 32
-number-low true n = omega (arith, mod-lt n {m = 16} (omega arith))
-number-low false n = omega (arith, mod-lt n {m = 16} (omega arith))
+pub number-low : (right : Bool) (n : ℕ) → listNumber right n < numbersOfPair
+number-low true n = omega (arith, mod-lt n {m = numbersOfSide} (omega arith))
+number-low false n = omega (arith, mod-lt n {m = numbersOfSide} (omega arith))
 
 module _ (row : List ℕ) (whole : Items) (e : ℕ) where
   -- what is left to push makes the whole

@@ -4,10 +4,10 @@ use mathlib.Core.List.{map}
 use Prim.Native.Nat.{ℕ}
 use lib.Dec.{leb}
 use lib.ListN.{getD}
+use Rattle.base_limits.specs.Limits.{pairPlaces}
 use Rattle.math_terms.specs.Seqs.{concat-map}
 use Rattle.search_problems.specs.variables.Sets.{withName}
 use Rattle.math_codes.specs.States.{replaced}
-use Rattle.math_codes.specs.Lines.{pairPlaces}
 use Rattle.pair_state.specs.declared.State.{State}
 use Rattle.search_items.specs.declared.Items.{Items}
 use Rattle.search_items.specs.Items.{itemsOf, collect}

@@ -4,9 +4,9 @@ use mathlib.Core.Bool.{Bool, true, false, cond}
 use mathlib.Core.List.{List, [], _∷_, _++_, map}
 use Prim.Native.Nat.{ℕ, suc, _+_, _%_}
 use lib.ListN.{getD}
+use Rattle.base_limits.specs.Limits.{numbersOfSide, pairPlaces}
 use Rattle.math_overlaps.specs.Candidates.{range}
 use Rattle.search_problems.specs.variables.Sets.{withName}
-use Rattle.math_codes.specs.Lines.{pairPlaces}
 use Rattle.pair_row.specs.declared.Shape.{Shape}
 use Rattle.pair_row.specs.Row.{tableIn, shapeIn}
 use Rattle.search_items.specs.declared.Items.{Items}
@@ -17,8 +17,8 @@ use Rattle.search_problems.specs.declared.Problem.{Problem}
 
 -- "a right-side variable counting 16 above its number"; numbers beyond those of a side, which no table has, count by their remainder
 abbrev pub listNumber : Bool → ℕ → ℕ
-listNumber false n = n % 16
-listNumber true n = 16 + n % 16
+listNumber false n = n % numbersOfSide
+listNumber true n = numbersOfSide + n % numbersOfSide
 
 -- a field's list variable, if it has one
 abbrev pub ownItems : Bool → Shape → Items

@@ -1,7 +1,7 @@
 -- The blank record. What the records stand for is `Holds` of proofs/.
 use mathlib.Core.Bool.{false}
 use lib.ListN.{replicate}
-use Rattle.math_codes.specs.Lines.{pairPlaces}
+use Rattle.base_limits.specs.Limits.{pairPlaces}
 use Rattle.search_items.specs.Items.{blankItems}
 use Rattle.search_problems.specs.declared.Problem.{Problem}
 

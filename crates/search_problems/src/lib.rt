@@ -34,6 +34,11 @@ pub struct Problem {
     pub used: u64,
 }
 
+// How many list variables a set holds.
+const DIGITS: u32 = crate::variables::DIGITS as u32;
+// How much a right-side list variable counts above its number.
+const NUMBERS_OF_SIDE: u8 = base_limits::NUMBERS_OF_SIDE as u8;
+
 // The blank record.
 pub fn blank_problem() -> Problem
     ensures { λ r. ⌜ r ≡ blankProblem ⌝ }
@@ -43,7 +48,9 @@ pub fn blank_problem() -> Problem
         open: false,
         left: w,
         right: w,
-        atoms: State { atoms: [0; 128] },
+        atoms: State {
+            atoms: [0; base_limits::PAIR_PLACES],
+        },
         lists: [w; 2],
         used: 0,
     }
@@ -161,9 +168,9 @@ fn is_made(p: Problem, m: Move) -> bool
     if !m.applies {
         return false;
     }
-    // Document 01: "ones count variables of a problem". Where all 64 are used there is no fresh one, which no problem that is met comes to.
+    // Document 01: "ones count variables of a problem". Where all are used there is no fresh one, which no problem that is met comes to.
     if m.fresh {
-        return list_variables(p) < 64;
+        return list_variables(p) < DIGITS;
     }
     true
 }
@@ -195,12 +202,12 @@ fn gives_by(p: Problem, a: Head, b: Head, rule: usize) -> bool
         return false;
     }
     if search_rules::brings(rule) {
-        return list_variables(p) < 64;
+        return list_variables(p) < DIGITS;
     }
     true
 }
 
-// The first rule from k on that gives a child, by its number; 14 where none does.
+// The first rule from k on that gives a child, by its number; RULES where none does.
 pub fn next_rule(p: Problem, k: usize, row: &[u8]) -> usize
     ensures { λ r. ⌜ r ≡ nextRule (tableIn (now (row .entry))) p k ⌝ }
 {
@@ -209,13 +216,13 @@ pub fn next_rule(p: Problem, k: usize, row: &[u8]) -> usize
     let a = search_rules::head_of(left, row);
     let b = search_rules::head_of(right, row);
     let mut i = k;
-    while i < 14 {
+    while i < search_rules::RULES {
         if gives_by(p, a, b, i) {
             return i;
         }
         i += 1;
     }
-    14
+    search_rules::RULES
 }
 
 // ---- the root
@@ -233,11 +240,15 @@ fn push_codes(y: Items, b: usize, e: usize, row: &[u8]) -> Items
     z
 }
 
-// A right-side list variable counts 16 above its number. (A number over 15, which no table has, counts by its remainder.)
+// "a right-side variable counting 16 above its number". (A number over its limit, which no table has, counts by its remainder.)
 fn list_number(right: bool, n: u8) -> u8
     ensures { λ r. ⌜ r ≡ listNumber right n ⌝ }
 {
-    if right { 16 + n % 16 } else { n % 16 }
+    if right {
+        NUMBERS_OF_SIDE + n % NUMBERS_OF_SIDE
+    } else {
+        n % NUMBERS_OF_SIDE
+    }
 }
 
 // A field of this shape as it stands on the left side, or on the right.

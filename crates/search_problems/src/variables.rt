@@ -2,11 +2,14 @@
 ghost use mathlib.Core.Path.{_≡_};
 ghost use Rattle.search_problems.specs.variables.Sets.{withName, freshValue, listVariables};
 
+// How many digits the set has.
+pub const DIGITS: u8 = 64;
+
 // The set with n too. (A number that has no digit is in no set.)
 pub(crate) fn with_name(set: u64, n: u8) -> u64
     ensures { λ r. ⌜ r ≡ withName set n ⌝ }
 {
-    if 64 <= n {
+    if DIGITS <= n {
         return set;
     }
     set | (1 << n)

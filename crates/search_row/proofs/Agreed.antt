@@ -5,6 +5,7 @@ use mathlib.Core.List.{List, [], _∷_}
 use Prim.Native.Nat.{ℕ, _≤_}
 use native.Mathlib.Omega.{arith}
 use lib.ListN.{length, getD}
+use Rattle.base_limits.specs.Limits.{mostFields, fieldPlaces, rulePlaces, pairPlaces}
 use Rattle.text_grammar.specs.Terms.{OurTerm}
 use Rattle.text_grammar.specs.Limits.{IsLeft}
 use Rattle.text_values.specs.Values.{encodeField}
@@ -17,8 +18,7 @@ use Rattle.math_search.specs.worklist.Machine.{Records}
 use Rattle.math_search.specs.worklist.Agreement.{Agrees, openRest}
 use Rattle.math_search.specs.worklist.Agreement as worklist
 use Rattle.search_spec.specs.Answers.{setting, fieldOn, answerText}
-use Rattle.text_grammar.specs.Sizes.{mostFields}
-use Rattle.math_codes.specs.Lines.{OurAtom, ourRow, fieldPlaces, rulePlaces, pairPlaces}
+use Rattle.math_codes.specs.Lines.{OurAtom, ourRow}
 use Rattle.math_codes.specs.Spots.{Spot}
 use Rattle.math_codes.proofs.Places.{Stands, left-stand, right-stand}
 use Rattle.math_codes.proofs.Lists.{row-long}

@@ -10,6 +10,7 @@ use native.Mathlib.Omega.{arith}
 use native.Mathlib.Nat.{mul-le-mul-left}
 use lib.ListN.{length, length-map, length-set, set}
 use lib.Seq.{getD-set-same}
+use Rattle.base_limits.specs.Limits.{mostTerms}
 use Rattle.search_problems.specs.declared.Problem.{Problem}
 use Rattle.search_problems.specs.Values.{blankProblem}
 use Rattle.text_write.specs.pieces.Stored.{bytesOf, storeLine, storeAll}
@@ -17,7 +18,7 @@ use Rattle.search_steps.specs.declared.turns.State.{State}
 use Rattle.search_steps.specs.Machine.{Config, conf, next, after, after-none, after-next, after-idle, Ends, Reaches, fromRoot}
 use Rattle.math_search.specs.Problems as theory
 use Rattle.math_search.specs.Problems.{Setting, Bindings, root}
-use Rattle.math_search.specs.Rules.{Rule}
+use Rattle.math_search.specs.Rules.{Rule, ruleCount}
 use Rattle.math_search.specs.Queue.{Result, answers, refused, unfinished, searching}
 use Rattle.math_search.specs.Answers.{Linear}
 use Rattle.math_search.proofs.Searching.{searching-ends}
@@ -60,7 +61,7 @@ starts tables texts writing cap p = record {
   busy = true;
   writing = writing;
   refused = false;
-  rule = 14;
+  rule = ruleCount;
   at = 0;
   head = 0;
   tail = nextPlace 0 cap;
@@ -92,14 +93,14 @@ module _ (E : Setting) (tables texts : List ℕ) (Holds : Problem → theory.Pro
     (text : Bindings E → List ℕ) (agrees : Agrees E (records tables texts) Holds number text)
     (bound : ℕ) (short : (p : Problem) (σ : Bindings E) (u : List (E .names .Name)) → Holds p (theory.problem theory.solved σ u) → length (text σ) ≤ bound)
     (low : bound * 2 ^ 34 < 2 ^ 64) where
-  module _ (A B : theory.Field E) (linear : Linear E A B) (a : length A ≤ 16) (b : length B ≤ 16)
+  module _ (A B : theory.Field E) (linear : Linear E A B) (a : length A ≤ mostTerms) (b : length B ≤ mostTerms)
       (writing : Bool) (cap : ℕ) (some-room : 1 ≤ cap) (p : Problem) (is-root : Holds p (root E A B))
       (row : List Problem) (size : length row ≡ cap) (out : List ℕ) where
     abbrev begins : Config
     begins = fromRoot (conf (starts tables texts writing cap p) row out)
 
     abbrev work : Work Problem
-    work = on 14 p (p ∷ []) 0 0 out
+    work = on ruleCount p (p ∷ []) 0 0 out
 
     begins-shows : Shows tables texts writing cap begins work
     begins-shows = (
@@ -114,7 +115,7 @@ module _ (E : Setting) (tables texts : List ℕ) (Holds : Problem → theory.Pro
           busy = true;
           writing = writing;
           refused = false;
-          rule = 14;
+          rule = ruleCount;
           at = 0;
           head = 0;
           tail = tail;

@@ -8,6 +8,7 @@ use Prim.Native.Nat.{ℕ, _*_, _^_, _≤_, _<_}
 use native.Mathlib.Omega.{arith}
 use native.Mathlib.Decide.{ℕ-discrete}
 use lib.ListN.{length, length-map}
+use Rattle.base_limits.specs.Limits.{mostTerms}
 use Rattle.math_types.specs.Types.{basics}
 use Rattle.text_grammar.specs.Terms.{OurTerm}
 use Rattle.text_grammar.specs.Limits.{IsLeft}
@@ -60,10 +61,10 @@ module _ (f g : List OurTerm) where
       (short : (p : Problem) (σ : theory.Bindings setting) (u : List ℕ) → Holds p (theory.problem theory.solved σ u) → length (answerText f g σ) ≤ bound)
       (low : bound * 2 ^ 34 < 2 ^ 64)
       (is-root : Holds (rootValue (rowsIn F G .0)) (root setting (fieldOn left f) (fieldOn right g))) where
-    short-f : length (fieldOn left f) ≤ 16
+    short-f : length (fieldOn left f) ≤ mostTerms
     short-f = omega (arith, is-f .0 .2 .0, length-map f (sideTerm basics consts ℕ-discrete numbers sixteenAbove left))
 
-    short-g : length (fieldOn right g) ≤ 16
+    short-g : length (fieldOn right g) ≤ mostTerms
     short-g = omega (arith, is-g .0 .2 .0, length-map g (sideTerm basics consts ℕ-discrete numbers sixteenAbove right))
 
     pub counting-ends : Ends (counting F G row out)

@@ -8,11 +8,11 @@ use native.Mathlib.Omega.{arith}
 use lib.Dec.{lit<}
 use lib.ListN.{length, getD, length-map}
 use borrow.Author.Tests.{le-leb, lt-ltb}
+use Rattle.base_limits.specs.Limits.{largestNumber, kindCount, entryTerms, numbersOfSide, pairPlaces, pairItems}
 use Rattle.base_lists.specs.Seqs.{All}
 use Rattle.math_types.specs.Order.{basic, list}
 use Rattle.math_terms.specs.Terms.{con, var}
 use Rattle.math_terms.specs.Fillings.{Occurs}
-use Rattle.text_grammar.specs.Sizes.{largestNumber}
 use Rattle.text_grammar.specs.Terms.{OurTerm}
 use Rattle.text_grammar.specs.Limits.{IsLeft}
 use Rattle.math_overlaps.specs.Shapes.{Side, left, right}
@@ -20,7 +20,7 @@ use Rattle.math_search.specs.Problems.{listvar, Field, Bindings, namesIn, solve
 use Rattle.math_search.specs.Pairs.{sixteenAbove}
 use Rattle.math_search.proofs.Root.{names-listvars}
 use Rattle.search_spec.specs.Answers.{setting, fieldOn, answerText}
-use Rattle.math_codes.specs.Lines.{ourRow, pairPlaces, pairItems}
+use Rattle.math_codes.specs.Lines.{ourRow}
 use Rattle.math_codes.specs.Index.{indexedAnswer}
 use Rattle.search_items.specs.codes.Codes.{codeTm, codesOf, On}
 use Rattle.search_items.proofs.codes.Codes.{code-below}
@@ -100,17 +100,17 @@ module _ (f g : List OurTerm) (is-f : IsLeft (f ∷ [])) (is-g : IsLeft (g ∷ [
 
   -- ---- it fits the writer
 
-  fewer : (right : Bool) → ((k : ℕ) → k < 4 → topIn row right k ≤ suc largestNumber) → sideFew row right ≡ true
+  fewer : (right : Bool) → ((k : ℕ) → k < kindCount → topIn row right k ≤ suc largestNumber) → sideFew row right ≡ true
   fewer d h =
       let a = h 0 (lit< tt) in
       let b = h 1 (lit< tt) in
       let c = h 2 (lit< tt) in
       let e = h 3 (lit< tt) in
       rw (
-        le-leb (topIn row d 0) 16 (omega (arith, a)),
-        le-leb (topIn row d 1) 16 (omega (arith, b)),
-        le-leb (topIn row d 2) 16 (omega (arith, c)),
-        le-leb (topIn row d 3) 16 (omega (arith, e)),
+        le-leb (topIn row d 0) numbersOfSide (omega (arith, a)),
+        le-leb (topIn row d 1) numbersOfSide (omega (arith, b)),
+        le-leb (topIn row d 2) numbersOfSide (omega (arith, c)),
+        le-leb (topIn row d 3) numbersOfSide (omega (arith, e)),
       )
 
   are-items : (ts : Field setting) → All (On (ourRow (f ∷ []) (g ∷ []))) ts → areItems (codesOf (ourRow (f ∷ []) (g ∷ [])) ts) ≡ true
@@ -124,7 +124,7 @@ module _ (f g : List OurTerm) (is-f : IsLeft (f ∷ [])) (is-g : IsLeft (g ∷ [
       let t = ourRow (f ∷ []) (g ∷ []) in
       ap valueFits (k .items)
       ∙ ap₂ (λ (a b : Bool). a && b)
-      (le-leb (length (codesOf t (valueOf σ u))) 31 (omega (arith, length-map (valueOf σ u) (codeTm t), k .short)))
+      (le-leb (length (codesOf t (valueOf σ u))) entryTerms (omega (arith, length-map (valueOf σ u) (codeTm t), k .short)))
       (are-items (valueOf σ u) (k .within))
 
   numbers-few : numbersFew row ≡ true

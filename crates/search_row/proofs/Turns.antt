@@ -10,6 +10,7 @@ use lib.Dec.{eqb, ltb}
 use lib.ListN.{length, length-append, getD, set}
 use lib.Seq.{set-getD}
 use borrow.Author.Tests.{ltb-true, ne-eqb}
+use Rattle.math_search.specs.Rules.{ruleCount}
 use Rattle.search_problems.specs.declared.Problem.{Problem}
 use Rattle.search_problems.specs.Values.{blankProblem}
 use Rattle.search_problems.specs.Steps.{failsOf, childOf, gives, nextRule}
@@ -114,11 +115,11 @@ module _ (tables texts : List ℕ) (writing : Bool) (cap : ℕ) where
     abbrev s : State
     s = inRow w head
 
-    shows-full : ltb (w .rule) 14 ≡ true → ltb (length (w .waiting)) cap ≡ false
+    shows-full : ltb (w .rule) ruleCount ≡ true → ltb (length (w .waiting)) cap ≡ false
         → Shows (next (config w head row)) (list.full (records tables texts) writing cap w)
     shows-full t l = (head, row, next-full s row (w .out) t l, r)
 
-    shows-joined : ltb (w .rule) 14 ≡ true → ltb (length (w .waiting)) cap ≡ true
+    shows-joined : ltb (w .rule) ruleCount ≡ true → ltb (length (w .waiting)) cap ≡ true
         → Shows (next (config w head row)) (list.joined (records tables texts) writing cap w (childOf (tableIn tables) (w .held) (w .rule) .problem))
     shows-joined t l = (
       head,
@@ -166,7 +167,7 @@ module _ (tables texts : List ℕ) (writing : Bool) (cap : ℕ) where
             })
             (set row at (childOf (tableIn tables) (w .held) (w .rule) .problem)) (w .out)
 
-    module _ (t : ltb (w .rule) 14 ≡ false) where
+    module _ (t : ltb (w .rule) ruleCount ≡ false) where
       shows-stopped : w .waiting ≡ [] → Shows (next (config w head row)) (list.stopped (records tables texts) writing cap w)
       shows-stopped e = (head, row, next-stopped s row (w .out) t (ap (λ (q : List Problem). eqb (length q) 0) e), r)
 
@@ -240,7 +241,7 @@ module _ (tables texts : List ℕ) (writing : Bool) (cap : ℕ) where
       shows-head [] e = shows-stopped e
       shows-head (p ∷ q) e = shows-taken p q e
 
-    shows-rule : ltb (w .rule) 14 ≡ true → Shows (next (config w head row)) (list.ruleTurn (records tables texts) writing cap w)
+    shows-rule : ltb (w .rule) ruleCount ≡ true → Shows (next (config w head row)) (list.ruleTurn (records tables texts) writing cap w)
     shows-rule t = by (ltb (length (w .waiting)) cap) refl
       where
         by : (c : Bool) → ltb (length (w .waiting)) cap ≡ c
@@ -252,9 +253,9 @@ module _ (tables texts : List ℕ) (writing : Bool) (cap : ℕ) where
 
     -- A TURN
     turn-is : Shows (next (config w head row)) (list.turn (records tables texts) writing cap w)
-    turn-is = by (ltb (w .rule) 14) refl
+    turn-is = by (ltb (w .rule) ruleCount) refl
       where
-        by : (b : Bool) → ltb (w .rule) 14 ≡ b
+        by : (b : Bool) → ltb (w .rule) ruleCount ≡ b
             → Shows (next (config w head row))
             (cond b (list.ruleTurn (records tables texts) writing cap w) (list.headTurn (records tables texts) writing cap w (w .waiting)))
         by true t = shows-rule t

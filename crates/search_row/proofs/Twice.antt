@@ -12,6 +12,7 @@ use native.Mathlib.Omega.{arith}
 use lib.Dec.{leb, ltb, eqb}
 use lib.ListN.{length, length-map, length-set, drop}
 use borrow.Author.Tests.{leb-true, leb-false, le-leb, lt-leb, lt-ltb, ne-eqb}
+use Rattle.base_limits.specs.Limits.{mostTerms}
 use Rattle.text_values.specs.declared.Field.{Field}
 use Rattle.text_accepted.specs.Accepted.{acceptedField}
 use Rattle.text_write.specs.Answers as lent
@@ -122,7 +123,7 @@ module _ (f g : Field) (row : List Problem) (out : List ℕ) where
       (text : Bindings E → List ℕ) (agrees : Agrees E (records tables texts) Holds number text)
       (bound : ℕ) (short : (p : Problem) (σ : Bindings E) (u : List (E .names .Name)) → Holds p (theory.problem theory.solved σ u) → length (text σ) ≤ bound)
       (low : bound * 2 ^ 34 < 2 ^ 64)
-      (A B : theory.Field E) (linear : Linear E A B) (a : length A ≤ 16) (b : length B ≤ 16) (is-root : Holds (rootValue tables) (root E A B))
+      (A B : theory.Field E) (linear : Linear E A B) (a : length A ≤ mostTerms) (b : length B ≤ mostTerms) (is-root : Holds (rootValue tables) (root E A B))
       (both : (acceptedField f && acceptedField g) ≡ true) where
     -- ---- a row with no record: refused at once
 

@@ -8,9 +8,11 @@ use Prim.Native.Nat.{ℕ, _≤_}
 use lib.Dec.{eqb}
 use lib.ListN.{length}
 use borrow.Author.Tests.{eq-eqb, ne-eqb}
+use Rattle.base_limits.specs.Limits.{pairPlaces}
 use Rattle.base_lists.specs.Seqs.{All}
+use Rattle.base_lists.specs.Truths.{decided}
 use Rattle.math_types.specs.Order.{Full}
-use Rattle.math_types.specs.Types.{Basic, basics, rank, entry}
+use Rattle.math_types.specs.Types.{Basic, basics, rank, entry, entry-is}
 use Rattle.text_grammar.specs.Terms.{Con}
 use Rattle.text_grammar.specs.constants.Constants.{consts, con-eq}
 use Rattle.math_overlaps.specs.Shapes.{fixed, free}
@@ -18,18 +20,18 @@ use Rattle.math_search.specs.Problems.{atomic, listvar, Tm, Field, field-eq, te
 use Rattle.math_search.specs.Rules as rules
 use Rattle.math_search.proofs.Terms.{atomic-once}
 use Rattle.math_codes.specs.Tables.{Made}
-use Rattle.math_codes.specs.Lines.{OurAtom, ourVars, ourRanks, pairPlaces}
+use Rattle.math_codes.specs.Lines.{OurAtom, ourVars, ourRanks}
 use Rattle.search_spec.specs.Answers.{setting}
 use Rattle.pair_row.specs.Row.{tableIn}
 use Rattle.search_items.specs.codes.Codes.{codeTm, codesOf, On}
-use Rattle.search_items.proofs.codes.Codes.{decided, code-tm-once}
-use Rattle.search_items.specs.Items.{mostItems}
+use Rattle.search_items.proofs.codes.Codes.{code-tm-once}
+use Rattle.search_items.specs.Items.{mostCodes}
 use Rattle.search_items.specs.Values.{itemsValue}
 use Rattle.search_items.proofs.Agree.{items-of, same-agree, occurs-agree}
 use Rattle.search_rules.specs.declared.Head.{Head}
 use Rattle.search_rules.specs.Fails as failing
 use Rattle.search_rules.specs.Fails.{failsBy, failsOf, failsValue}
-use Rattle.search_rules.proofs.Heads.{lists-behind, headTm, head-agrees, whole-is, le-agrees}
+use Rattle.search_rules.proofs.Heads.{lists-behind, headTm, head-agrees, whole-is}
 
 -- ---- tests
 
@@ -38,7 +40,7 @@ undecided (yes p) = refl
 undecided (no n) = refl
 
 apart-agrees : (j k : Full Basic) → (not (entry (rank j) (rank k)) && not (entry (rank k) (rank j))) ≡ rules.apart setting j k
-apart-agrees j k = ap₂ (λ (p q : Bool). not p && not q) (le-agrees j k) (le-agrees k j)
+apart-agrees j k = ap₂ (λ (p q : Bool). not p && not q) (entry-is j k) (entry-is k j)
 
 -- ---- the failure rules
 
@@ -101,7 +103,7 @@ module _ (t : List (Option OurAtom)) (long : length t ≡ pairPlaces) where
 
   -- THE AGREEMENT of the failure rules
   pub fails-agrees : (row : List ℕ) → Made basics consts ourVars ourRanks (tableIn row) t
-      → (L M : Field setting) → All (On t) L → All (On t) M → length L ≤ mostItems → length M ≤ mostItems
+      → (L M : Field setting) → All (On t) L → All (On t) M → length L ≤ mostCodes → length M ≤ mostCodes
       → failsValue (tableIn row) (itemsValue t L) (itemsValue t M) ≡ rules.fails setting L M
   fails-agrees row m L M h k p q =
       let l = lists-behind row in

@@ -1,24 +1,23 @@
 -- The head of a side's value is the head of the search's field. Assumes nothing.
-use mathlib.Core.Path.{_≡_, refl, sym}
-use mathlib.Core.Bool.{true, false}
+use mathlib.Core.Path.{_≡_, refl}
+use mathlib.Core.Bool.{true}
 use mathlib.Core.Option.{Option}
 use mathlib.Core.List.{List, [], _∷_}
 use Prim.Native.Nat.{ℕ, _+_}
 use native.Mathlib.Omega.{arith}
-use lib.Dec.{eqb}
 use lib.ListN.{length}
 use borrow.Author.Tests.{le-leb}
+use Rattle.base_limits.specs.Limits.{pairPlaces}
 use Rattle.base_lists.specs.Seqs.{All}
-use Rattle.math_types.specs.Order.{Full, basic, list, full-le}
-use Rattle.math_types.specs.Types.{integer, string, atom, Basic, basic-eq, basics, rank, entry, full-is}
+use Rattle.math_types.specs.Types.{basics, rank}
 use Rattle.text_grammar.specs.constants.Constants.{consts}
 use Rattle.math_search.specs.Problems.{Field, termType, fieldType}
 use Rattle.math_codes.specs.Tables.{Table, Made}
-use Rattle.math_codes.specs.Lines.{OurAtom, ourVars, ourRanks, pairPlaces}
+use Rattle.math_codes.specs.Lines.{OurAtom, ourVars, ourRanks}
 use Rattle.search_spec.specs.Answers.{setting}
 use Rattle.pair_row.specs.Row.{tableIn}
 use Rattle.search_items.specs.codes.Codes.{codeTm, codesOf, On}
-use Rattle.search_items.proofs.codes.Codes.{decided, variableTm, listTm, ListsBehind, code-kind, code-variable, code-list}
+use Rattle.search_items.proofs.codes.Codes.{variableTm, listTm, ListsBehind, code-kind, code-variable, code-list}
 use Rattle.search_rules.specs.declared.Head.{Head}
 use Rattle.search_rules.specs.Heads.{noHead, wholeBy, isSome, headOf}
 
@@ -55,29 +54,3 @@ module _ (t : List (Option OurAtom)) where
     pub head-agrees : (L : Field setting) → All (On t) L → headOf T (codesOf t L) ≡ headTm L
     head-agrees [] h = refl
     head-agrees (x ∷ ts) h = rw (code-variable t long T m l x (h .0), code-list t long x (h .0), code-kind t long T m l x (h .0))
-
--- ---- types
-
-pub le-agrees : (j k : Full Basic) → entry (rank j) (rank k) ≡ full-le basics j k
-le-agrees j k = sym (full-is j k)
-
-pub same-basic : (j k : Basic) → eqb (rank (basic j)) (rank (basic k)) ≡ decided (basic-eq j k)
-same-basic integer integer = refl
-same-basic integer string = refl
-same-basic integer atom = refl
-same-basic string integer = refl
-same-basic string string = refl
-same-basic string atom = refl
-same-basic atom integer = refl
-same-basic atom string = refl
-same-basic atom atom = refl
-
-pub basic-list : (k : Basic) → eqb (rank (basic k)) (rank list) ≡ false
-basic-list integer = refl
-basic-list string = refl
-basic-list atom = refl
-
-pub list-basic : (k : Basic) → eqb (rank list) (rank (basic k)) ≡ false
-list-basic integer = refl
-list-basic string = refl
-list-basic atom = refl

@@ -9,9 +9,11 @@ use native.Mathlib.Nat.{mod-eq-of-lt}
 use lib.Dec.{eqb}
 use lib.ListN.{length, getD}
 use borrow.Author.Tests.{eq-eqb, ne-eqb}
+use Rattle.base_limits.specs.Limits.{pairPlaces}
 use Rattle.base_lists.specs.Seqs.{All}
+use Rattle.base_lists.specs.Truths.{decided}
 use Rattle.math_types.specs.Order.{Full, basic, list, full-le}
-use Rattle.math_types.specs.Types.{Basic, basics, basic-eq, rank, entry}
+use Rattle.math_types.specs.Types.{Basic, basics, basic-eq, rank, entry, entry-is, same-basic, not-list, list-not}
 use Rattle.text_grammar.specs.constants.Constants.{consts}
 use Rattle.math_overlaps.specs.Shapes.{fixed, free, Variable, kindIn}
 use Rattle.math_search.specs.Problems.{atomic, listvar, At, Tm, Field, at-eq, tm-eq, field-eq, termType, fieldType, putIn, solved, equation}
@@ -20,13 +22,13 @@ use Rattle.math_search.specs.Rules.{Subst1, Subst2, Subst3, Orient1, Orient2, O
 use Rattle.math_search.specs.Rules as rules
 use Rattle.math_search.proofs.Terms.{atomic-once}
 use Rattle.math_codes.specs.Tables.{Made}
-use Rattle.math_codes.specs.Lines.{OurAtom, ourVars, ourRanks, pairPlaces}
+use Rattle.math_codes.specs.Lines.{OurAtom, ourVars, ourRanks}
 use Rattle.search_spec.specs.Answers.{setting}
 use Rattle.pair_row.specs.Row.{tableIn}
 use Rattle.search_items.specs.codes.Codes.{codeTm, codesOf, On}
-use Rattle.search_items.proofs.codes.Codes.{decided, listTm, code-tm-once, code-same, code-list}
+use Rattle.search_items.proofs.codes.Codes.{listTm, code-tm-once, code-same, code-list}
 use Rattle.search_items.specs.declared.Items.{Items}
-use Rattle.search_items.specs.Items.{mostItems}
+use Rattle.search_items.specs.Items.{mostCodes}
 use Rattle.search_items.specs.Substitution.{sameCodes, occursIn}
 use Rattle.search_items.specs.Values.{itemsValue}
 use Rattle.search_items.proofs.Agree.{items-of, put-in-agree, same-agree, occurs-agree}
@@ -37,10 +39,10 @@ use Rattle.search_rules.specs.Tests.{strictly, listEnd, freshCode}
 use Rattle.search_rules.specs.Moves as values
 use Rattle.search_rules.specs.Moves.{noMove, solvedMove, solvedBy, kept, bound, testsBy, madeBy, moveBy, moveValue}
 use Rattle.search_rules.specs.Values.{number, moveCode}
-use Rattle.search_rules.proofs.Heads.{lists-behind, headTm, head-agrees, whole-is, le-agrees, same-basic, basic-list, list-basic}
+use Rattle.search_rules.proofs.Heads.{lists-behind, headTm, head-agrees, whole-is}
 
 pub below-agrees : (j k : Full Basic) → strictly (rank j) (rank k) ≡ rules.below setting j k
-below-agrees j k = ap₂ (λ (p q : Bool). p && not q) (le-agrees j k) (le-agrees k j)
+below-agrees j k = ap₂ (λ (p q : Bool). p && not q) (entry-is j k) (entry-is k j)
 
 module _ (t : List (Option OurAtom)) (long : length t ≡ pairPlaces) where
   -- ---- tests
@@ -79,7 +81,7 @@ module _ (t : List (Option OurAtom)) (long : length t ≡ pairPlaces) where
       ≡ moveCode t (rules.bindAtom setting x a n)
   bind-atom x a n h k =
       ap₂ (λ (p q : Bool). cond (not p && q) (moveCode t (some (bind (atomic (free x)) (atomic a ∷ []) [] n))) noMove)
-      (same-at a (free x) k h) (le-agrees (termType setting (atomic a)) (basic (kindIn x)))
+      (same-at a (free x) k h) (entry-is (termType setting (atomic a)) (basic (kindIn x)))
       ∙ made-unless (at-eq setting a (free x)) (full-le basics (termType setting (atomic a)) (basic (kindIn x))) (bind (atomic (free x)) (atomic a ∷ []) [] n)
 
   -- a term and a list variable
@@ -189,7 +191,7 @@ module _ (t : List (Option OurAtom)) (long : length t ≡ pairPlaces) where
         ≡ moveCode t (rules.solveBy setting x M)
     solve-by x M h k =
         ap₂ (λ (p q : Bool). cond (p && not q) (moveCode t (some (bind x M [] solved))) noMove)
-        (ap (λ (j : ℕ). entry j (rank (termType setting x))) (whole-is t M) ∙ le-agrees (fieldType setting M) (termType setting x))
+        (ap (λ (j : ℕ). entry j (rank (termType setting x))) (whole-is t M) ∙ entry-is (fieldType setting M) (termType setting x))
         (occurs-agree t long x M h k)
         ∙ made-both (full-le basics (fieldType setting M) (termType setting x)) (rules.occurs setting x M) (bind x M [] solved)
 
@@ -248,9 +250,9 @@ module _ (t : List (Option OurAtom)) (long : length t ≡ pairPlaces) where
         let T = atomic (free x) ∷ (u ∷ L) in
         let S = atomic (free y) ∷ [] in
         ap (turnedIf T S) (same-basic (kindIn x) (kindIn y)) ∙ made-if (basic-eq (kindIn x) (kindIn y)) (keep (equation S T))
-    orient2-agrees (atomic (free x) ∷ (u ∷ L)) (listvar y ∷ []) = ap (turnedIf (atomic (free x) ∷ (u ∷ L)) (listvar y ∷ [])) (basic-list (kindIn x))
+    orient2-agrees (atomic (free x) ∷ (u ∷ L)) (listvar y ∷ []) = ap (turnedIf (atomic (free x) ∷ (u ∷ L)) (listvar y ∷ [])) (not-list (kindIn x))
     orient2-agrees (listvar x ∷ (u ∷ L)) (atomic (fixed d) ∷ []) = refl
-    orient2-agrees (listvar x ∷ (u ∷ L)) (atomic (free y) ∷ []) = ap (turnedIf (listvar x ∷ (u ∷ L)) (atomic (free y) ∷ [])) (list-basic (kindIn y))
+    orient2-agrees (listvar x ∷ (u ∷ L)) (atomic (free y) ∷ []) = ap (turnedIf (listvar x ∷ (u ∷ L)) (atomic (free y) ∷ [])) (list-not (kindIn y))
     orient2-agrees (listvar x ∷ (u ∷ L)) (listvar y ∷ []) = refl
     orient2-agrees (atomic (fixed c) ∷ (u ∷ L)) (s ∷ (v ∷ M)) = refl
     orient2-agrees (atomic (free x) ∷ (u ∷ L)) (atomic (fixed d) ∷ (v ∷ M)) = refl
@@ -307,7 +309,7 @@ module _ (t : List (Option OurAtom)) (long : length t ≡ pairPlaces) where
 
   -- THE AGREEMENT of the rules
   pub move-agrees : (row : List ℕ) → Made basics consts ourVars ourRanks (tableIn row) t
-      → (r : Rule) (L M : Field setting) (f : ℕ) → All (On t) L → All (On t) M → length L ≤ mostItems → length M ≤ mostItems → f < 128
+      → (r : Rule) (L M : Field setting) (f : ℕ) → All (On t) L → All (On t) M → length L ≤ mostCodes → length M ≤ mostCodes → f < pairPlaces
       → moveValue (tableIn row) (number r) (itemsValue t L) (itemsValue t M) f ≡ moveCode t (rule setting r L M f)
   move-agrees row made r L M f h k p q small =
       let l = itemsValue t L in

@@ -7,13 +7,13 @@ use native.Mathlib.Omega.{arith}
 use borrow.Author.Tests.{le-leb}
 use lib.Dec.{leb}
 use lib.ListN.{length, getD, take}
+use Rattle.base_limits.specs.Limits.{pairPlaces}
 use Rattle.math_codes.specs.Tables.{Table}
-use Rattle.search_items.specs.Items.{mostItems}
-use Rattle.math_codes.specs.Lines.{pairPlaces}
+use Rattle.search_items.specs.Items.{mostCodes}
 use Rattle.search_rules.specs.Heads.{headBy, headOf}
 use Rattle.search_rules.specs.Tests.{listEnd}
 
-pub head-used : (T : Table) (n : ℕ) (s : List ℕ) (d : ℕ) → (n ≡ 0 → ⊥) → length s ≡ mostItems → headBy T (getD s 0 d) (leb 2 n) ≡ headOf T (take n s)
+pub head-used : (T : Table) (n : ℕ) (s : List ℕ) (d : ℕ) → (n ≡ 0 → ⊥) → length s ≡ mostCodes → headBy T (getD s 0 d) (leb 2 n) ≡ headOf T (take n s)
 head-used T zero s d h e = absurd (h refl)
 head-used T (suc n) [] d h e = absurd (omega (arith, e))
 head-used T (suc zero) (c ∷ s) d h e = refl
@@ -22,7 +22,7 @@ head-used T (suc (suc n)) (c ∷ (b ∷ s)) d h e = rw (le-leb 2 (suc (suc n)) (
 
 -- ---- a term and a list variable
 
-pub end-not : (n : ℕ) (s : List ℕ) → (n ≡ 2 → ⊥) → length s ≡ mostItems → false ≡ listEnd (take n s)
+pub end-not : (n : ℕ) (s : List ℕ) → (n ≡ 2 → ⊥) → length s ≡ mostCodes → false ≡ listEnd (take n s)
 end-not zero s h e = refl
 end-not (suc n) [] h e = absurd (omega (arith, e))
 end-not (suc zero) (c ∷ s) h e = refl
@@ -31,7 +31,7 @@ end-not (suc (suc zero)) (c ∷ (d ∷ s)) h e = absurd (h refl)
 end-not (suc (suc (suc n))) (c ∷ (d ∷ [])) h e = absurd (omega (arith, e))
 end-not (suc (suc (suc n))) (c ∷ (d ∷ (b ∷ s))) h e = refl
 
-pub end-two : (n : ℕ) (s : List ℕ) (d : ℕ) → n ≡ 2 → length s ≡ mostItems → leb pairPlaces (getD s 1 d) ≡ listEnd (take n s)
+pub end-two : (n : ℕ) (s : List ℕ) (d : ℕ) → n ≡ 2 → length s ≡ mostCodes → leb pairPlaces (getD s 1 d) ≡ listEnd (take n s)
 end-two n [] d h e = absurd (omega (arith, e))
 end-two n (c ∷ []) d h e = absurd (omega (arith, e))
 end-two n (c ∷ (b ∷ s)) d h e = rw h

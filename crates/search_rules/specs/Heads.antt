@@ -4,10 +4,10 @@ use mathlib.Core.Bool.{Bool, true, false, cond}
 use mathlib.Core.List.{List, [], _∷_}
 use Prim.Native.Nat.{ℕ}
 use lib.Dec.{leb}
+use Rattle.base_limits.specs.Limits.{pairPlaces}
 use Rattle.math_types.specs.Order.{list}
 use Rattle.math_types.specs.Types.{rank}
 use Rattle.math_codes.specs.Tables.{Table}
-use Rattle.math_codes.specs.Lines.{pairPlaces}
 use Rattle.search_rules.specs.declared.Head.{Head}
 
 -- a side with no terms has the type list

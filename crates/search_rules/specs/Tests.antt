@@ -3,8 +3,8 @@ use mathlib.Core.Bool.{Bool, false, cond, _&&_, not}
 use mathlib.Core.List.{List, [], _∷_}
 use Prim.Native.Nat.{ℕ, _+_, _%_}
 use lib.Dec.{eqb, leb}
+use Rattle.base_limits.specs.Limits.{pairPlaces}
 use Rattle.math_types.specs.Types.{entry}
-use Rattle.math_codes.specs.Lines.{pairPlaces}
 use Rattle.search_rules.specs.declared.Head.{Head}
 
 -- the first term of the side of b is an atom that can replace the first of the side of a, a variable x of type atom or below.
@@ -25,4 +25,4 @@ listEnd (c ∷ (d ∷ (e ∷ cs))) = false
 
 -- the fresh list variable of a number; numbers of a byte have a code by their remainder
 abbrev pub freshCode : ℕ → ℕ
-freshCode f = pairPlaces + f % 128
+freshCode f = pairPlaces + f % pairPlaces

@@ -182,6 +182,9 @@ fn is_subst1(r: Items, a: Head, b: Head) -> bool
     false
 }
 
+// How many rules there are: "Remove, Decomp1, .., Orient1 to Orient4".
+pub const RULES: usize = 14;
+
 // Whether the rule of this number applies to l = r, the rules counted from 0 in document 01's order. No other number has a rule.
 pub fn applies(rule: usize, l: Items, r: Items, a: Head, b: Head) -> bool
     ensures { λ t. ⌜ t ≡ appliesBy a b (itemsOf l) (itemsOf r) rule ⌝ }
@@ -210,7 +213,7 @@ pub fn applies(rule: usize, l: Items, r: Items, a: Head, b: Head) -> bool
 }
 
 // Which rules bring in the fresh list variable.
-const BRINGS: [bool; 14] = [
+const BRINGS: [bool; RULES] = [
     false, // Remove
     false, // Decomp1
     false, // Decomp1'
@@ -231,7 +234,7 @@ const BRINGS: [bool; 14] = [
 pub fn brings(rule: usize) -> bool
     ensures { λ r. ⌜ r ≡ getD freshRules rule false ⌝ }
 {
-    if 14 <= rule {
+    if RULES <= rule {
         return false;
     }
     BRINGS[rule]
@@ -255,11 +258,11 @@ pub struct Move {
     pub right: Items,
 }
 
-// The code of the fresh list variable of a number. (A number over 127, which no problem has, counts by its remainder.)
+// The code of the fresh list variable of a number. (A number whose code would be no byte, which no problem has, counts by its remainder.)
 fn fresh_code(f: u8) -> u8
     ensures { λ r. ⌜ r ≡ freshCode f ⌝ }
 {
-    pair_row::LISTS + f % 128
+    pair_row::LISTS + f % pair_row::LISTS
 }
 
 // All but the first code of w, where x is replaced by the codes of s.

@@ -10,6 +10,7 @@ use mathlib.Core.List.{List, [], _∷_, List·Memᴰ}
 use Prim.Native.Nat.{ℕ, _<_}
 use native.Mathlib.Omega.{arith}
 use native.Mathlib.Decide.{ℕ-discrete}
+use Rattle.base_limits.specs.Limits.{numbersOfSide}
 use Rattle.base_lists.specs.Seqs.{All}
 use Rattle.math_types.specs.Order.{basic, list}
 use Rattle.math_types.specs.Types.{Basic, basics}
@@ -36,7 +37,7 @@ use Rattle.search_spec.specs.Answers.{setting, fieldOn, found}
 pub found-ends : (room : ℕ) (f g : List OurTerm) → found room f g ≡ unfinished → ⊥
 found-ends room f g e = searching-ends setting room (fieldOn left f) (fieldOn right g) e
 
-lists-small : (f : List OurTerm) → All TermIn f → All (λ n. n < 16) (lists f)
+lists-small : (f : List OurTerm) → All TermIn f → All (λ n. n < numbersOfSide) (lists f)
 lists-small [] h = tt
 lists-small (con c ∷ f) h = lists-small f (h .1)
 lists-small (var (basic k) n ∷ f) h = lists-small f (h .1)

@@ -7,6 +7,7 @@ use Prim.Native.Nat.{ℕ, zero, suc, _+_, _*_, _≤_}
 use native.Mathlib.Omega.{arith}
 use native.Mathlib.Decide.{ℕ-discrete}
 use lib.ListN.{length, length-append, length-map, length-drop}
+use Rattle.base_limits.specs.Limits.{mostTerms, largestInteger, largestNumber, variablePlaces, longestTerm}
 use Rattle.base_lists.specs.Seqs.{All, all-append}
 use Rattle.math_types.specs.Order.{basic, list, full-eq}
 use Rattle.math_types.specs.Types.{Kind, basics}
@@ -14,7 +15,6 @@ use Rattle.math_terms.specs.Terms.{Term, con, var}
 use Rattle.math_terms.specs.Constants.{TermOver}
 use Rattle.math_terms.specs.Seqs.{concat-map}
 use Rattle.math_terms.specs.Fillings.{Occurs}
-use Rattle.text_grammar.specs.Sizes.{largestInteger, largestNumber}
 use Rattle.text_grammar.specs.Terms.{OurTerm, int, str}
 use Rattle.text_grammar.specs.Grammar.{colons}
 use Rattle.text_grammar.specs.Plain.{rawOf, termText, fieldText}
@@ -42,7 +42,7 @@ Ours (listvar n) = Unit {0}
 
 -- a value of at most 17 terms
 abbrev pub Small : Field setting → Type 0
-Small L = (length L ≤ 17) × All Ours L
+Small L = (length L ≤ suc mostTerms) × All Ours L
 
 -- a value under its origins
 abbrev OriginTerms : Type 0
@@ -81,7 +81,8 @@ module _ {C K B : Type 0} (kind-eq : Discrete K) (k : K) where
       go (yes e) r = omega arith
       go (no n) r = omega arith
 
-  all-names-most : (fs : List (List (Term C K B))) → All (λ f. length f ≤ 17) fs → length (concat-map (namesOf kind-eq k) fs) ≤ 17 * length fs
+  all-names-most : (fs : List (List (Term C K B))) → All (λ f. length f ≤ suc mostTerms) fs
+      → length (concat-map (namesOf kind-eq k) fs) ≤ suc mostTerms * length fs
   all-names-most [] h = omega arith
   all-names-most (f ∷ fs) h =
       omega (arith, length-append (namesOf kind-eq k f) (concat-map (namesOf kind-eq k) fs), names-most f, h .0, all-names-most fs (h .1))
@@ -96,13 +97,13 @@ module _ (ν : Kind → Origin ℕ → ℕ) (few : (k : Kind) (b : Origin ℕ) �
   abbrev behind : Field setting → List ℕ
   behind L = colons (map rawOf (map (rename ν) (map originOf L)))
 
-  term-short : (t : Tm setting) → Ours t → length (termText (shownTerm t)) ≤ 17
+  term-short : (t : Tm setting) → Ours t → length (termText (shownTerm t)) ≤ longestTerm
   term-short (atomic (fixed (int n))) o = omega (arith, digits-ten n o)
   term-short (atomic (fixed (str s))) o = omega (arith, length-append s (34 ∷ []), o .1)
   term-short (atomic (free (of d k n))) o = omega (arith, digits-ten (ν (basic k) (named d n)) (few (basic k) (named d n)))
   term-short (listvar n) o = omega (arith, digits-ten (ν list (place n)) (few list (place n)))
 
-  terms-short : (L : Field setting) → All Ours L → length (behind L) ≤ 18 * length L
+  terms-short : (L : Field setting) → All Ours L → length (behind L) ≤ suc longestTerm * length L
   terms-short [] h = omega arith
   terms-short (t ∷ L) h = omega (arith, length-append (termText (shownTerm t)) (behind L), term-short t (h .0), terms-short L (h .1))
 
@@ -142,10 +143,10 @@ keep-most p (x ∷ xs) = go (p x) (keep-most p xs)
     go true r = omega arith
     go false r = omega arith
 
-every-many : length every ≡ 64
+every-many : length every ≡ variablePlaces
 every-many = refl
 
-variables-most : (r : List (List OurTerm)) → length (variables r) ≤ 64
+variables-most : (r : List (List OurTerm)) → length (variables r) ≤ variablePlaces
 variables-most r = omega (arith, keep-most (λ (v : Variable). occurs (v .0) (v .1) r) every, every-many)
 
 -- what occurs is a term of the field
@@ -174,13 +175,13 @@ module _ (d : Side) (f : List OurTerm) (σ : Bindings setting) (h : (t : Tm sett
   small-value list n i = (σ (listvar (sixteenAbove d n)), refl, h (listvar (sixteenAbove d n)) (stands list n (listed list n i .1)))
 
   values-few : (vs : List Variable) → ((v : Variable) → List·Memᴰ v vs → List·Memᴰ v (variables (f ∷ [])))
-      → All (λ (w : OriginTerms). length w ≤ 17) (map (λ (v : Variable). valueOf d σ (v .0) (v .1)) vs)
+      → All (λ (w : OriginTerms). length w ≤ suc mostTerms) (map (λ (v : Variable). valueOf d σ (v .0) (v .1)) vs)
   values-few [] u = tt
   values-few (v ∷ vs) u =
       let s = small-value (v .0) (v .1) (u v (List·Memᴰ·head refl)) in
       (omega (arith, ap (λ (w : OriginTerms). length w) (s .1), length-map (s .0) originOf, s .2 .0), values-few vs (λ w i. u w (List·Memᴰ·tail i)))
 
-  side-few : All (λ (w : OriginTerms). length w ≤ 17) (valuesOn d f σ)
+  side-few : All (λ (w : OriginTerms). length w ≤ suc mostTerms) (valuesOn d f σ)
   side-few = values-few (variables (f ∷ [])) (λ v i. i)
 
   -- what a line shows of the side, under numbers of at most ten digits
@@ -202,14 +203,14 @@ line-short : (l : AnswerLine) (n : ℕ) → 1 ≤ n → length (bindingsText lef
 line-short l n some p q = simp (length-append, length-drop) (omega arith)
 
 module _ (f g : List OurTerm) (σ : Bindings setting)
-    (h : (t : Tm setting) → StandsIn setting (fieldOn left f) (fieldOn right g) t → (length (σ t) ≤ 17) × All Ours (σ t)) where
-  values-short : All (λ (w : OriginTerms). length w ≤ 17) (valuesOf f g σ)
+    (h : (t : Tm setting) → StandsIn setting (fieldOn left f) (fieldOn right g) t → (length (σ t) ≤ suc mostTerms) × All Ours (σ t)) where
+  values-short : All (λ (w : OriginTerms). length w ≤ suc mostTerms) (valuesOf f g σ)
   values-short =
       let l = side-few left f σ (λ t i. h t (inl i)) in
       let r = side-few right g σ (λ t i. h t (inr i)) in
-      all-append (λ (w : OriginTerms). length w ≤ 17) (valuesOn left f σ) (valuesOn right g σ) l r
+      all-append (λ (w : OriginTerms). length w ≤ suc mostTerms) (valuesOn left f σ) (valuesOn right g σ) l r
 
-  values-most : length (valuesOf f g σ) ≤ 128
+  values-most : length (valuesOf f g σ) ≤ variablePlaces + variablePlaces
   values-most =
       let l = length-map (variables (f ∷ [])) (λ v. valueOf left σ (v .0) (v .1)) in
       let r = length-map (variables (g ∷ [])) (λ v. valueOf right σ (v .0) (v .1)) in

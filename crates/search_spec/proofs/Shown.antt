@@ -14,6 +14,7 @@ use native.Mathlib.Decide.{ℕ-discrete}
 use lib.Dec.{ltb}
 use lib.ListN.{length}
 use borrow.Author.Tests.{lt-ltb, le-ltb}
+use Rattle.base_limits.specs.Limits.{numbersOfSide}
 use Rattle.base_lists.specs.Seqs.{All}
 use Rattle.math_types.specs.Order.{basic, list}
 use Rattle.math_types.specs.Types.{Basic, Kind, basics}
@@ -139,19 +140,20 @@ module _ (φ ψ : Filling Con Kind ℕ) (t : Typed basics consts φ) (u : Typed 
 
   -- "a right-side variable counting 16 above its number"
   abbrev listOf : ℕ → List Con
-  listOf n = cond (ltb n 16) (φ list n) (ψ list (n - 16))
+  listOf n = cond (ltb n numbersOfSide) (φ list n) (ψ list (n - numbersOfSide))
 
   left-term : (e : OurTerm) → TermIn e → ground setting constantOf listOf (pairs.sideTerm basics consts ℕ-discrete numbers sixteenAbove left e) ≡ value φ e
   left-term (con c) i = refl
   left-term (var (basic k) n) i = sym (t (basic k) n .1)
-  left-term (var list n) i = ap (λ (b : Bool). cond b (φ list n) (ψ list (n - 16))) (lt-ltb n 16 (omega (arith, i)))
+  left-term (var list n) i = ap (λ (b : Bool). cond b (φ list n) (ψ list (n - numbersOfSide))) (lt-ltb n numbersOfSide (omega (arith, i)))
 
   right-term : (e : OurTerm) → ground setting constantOf listOf (pairs.sideTerm basics consts ℕ-discrete numbers sixteenAbove right e) ≡ value ψ e
   right-term (con c) = refl
   right-term (var (basic k) n) = sym (u (basic k) n .1)
   right-term (var list n) =
-      ap (λ (b : Bool). cond b (φ list (16 + n)) (ψ list (16 + n - 16))) (le-ltb (16 + n) 16 (omega arith))
-      ∙ ap (ψ list) (let z : 16 + n - 16 ≡ n = omega arith in z)
+      ap (λ (b : Bool). cond b (φ list (numbersOfSide + n)) (ψ list (numbersOfSide + n - numbersOfSide)))
+      (le-ltb (numbersOfSide + n) numbersOfSide (omega arith))
+      ∙ ap (ψ list) (let z : numbersOfSide + n - numbersOfSide ≡ n = omega arith in z)
 
   filled-left : (e : List OurTerm) → All TermIn e → concat-map (ground setting constantOf listOf) (fieldOn left e) ≡ fill φ e
   filled-left [] i = refl

@@ -21,7 +21,7 @@ use search_problems::Problem;
 fn is_answer(s: State, p: Problem) -> bool
     ensures { λ r. ⌜ r ≡ answers s p ⌝ }
 {
-    if s.rule < 14 {
+    if s.rule < search_rules::RULES {
         return false;
     }
     if s.count == 0 {

@@ -45,7 +45,7 @@ pub fn begin(left: Field, right: Field, cap: usize) -> State
         busy: choose_bool(on, 0 < cap),
         writing: false,
         refused: choose_bool(on, cap == 0),
-        rule: 14,
+        rule: search_rules::RULES,
         at: 0,
         head: 0,
         tail: tail,

@@ -2,6 +2,7 @@
 ghost use mathlib.Core.Path.{_≡_};
 ghost use mathlib.Core.Bool.{cond};
 ghost use Prim.Native.Nat.{_<_, _-_};
+ghost use Rattle.math_search.specs.Rules.{ruleCount};
 ghost use Rattle.pair_row.specs.Row.{tableIn};
 ghost use Rattle.search_steps.specs.turns.Turns.{nextPlace, aim, worked, firstRule, stopped, taken, headTurn};
 ghost use Rattle.search_steps.specs.turns.Turns.{joined, full, childTurn, ruleTurn, decided};
@@ -21,8 +22,8 @@ pub struct State {
     pub lines: usize,
     pub bytes: usize,
     pub held: Problem,
-    pub row: [u8; 681],
-    pub texts: [u8; 2048],
+    pub row: [u8; pair_row::ROW_BYTES],
+    pub texts: [u8; pair_row::TEXTS_BYTES],
 }
 
 // What a turn makes of the record that it reads, and the state after it.
@@ -57,7 +58,11 @@ fn next_place(i: usize, cap: usize) -> usize
 fn aim(rule: usize, head: usize, tail: usize) -> usize
     ensures { λ r. ⌜ r ≡ aim rule head tail ⌝ }
 {
-    if rule < 14 { tail } else { head }
+    if rule < search_rules::RULES {
+        tail
+    } else {
+        head
+    }
 }
 
 // ---- turns where no problem is held
@@ -79,7 +84,7 @@ fn first_rule(p: Problem, row: &[u8]) -> usize
     if is_worked(p, row) {
         return search_problems::next_rule(p, 0, row);
     }
-    14
+    search_rules::RULES
 }
 
 fn stop(s: State) -> State
@@ -128,7 +133,7 @@ fn take_head(s: State, p: Problem, n: usize) -> Turn
 
 // A child was put at the tail.
 fn join(s: State) -> State
-    requires { ⌜ (s .rule < 14) × (s .count < s .cap) ⌝ }
+    requires { ⌜ (s .rule < ruleCount) × (s .count < s .cap) ⌝ }
     ensures { λ r. ⌜ r ≡ joined s ⌝ }
 {
     let h = s.held;
@@ -156,7 +161,7 @@ fn refuse(s: State) -> State
 }
 
 fn put_child(s: State, p: Problem, q: Problem) -> Turn
-    requires { ⌜ s .rule < 14 ⌝ }
+    requires { ⌜ s .rule < ruleCount ⌝ }
     ensures { λ r. ⌜ r ≡ childTurn s p q ⌝ }
 {
     if s.count < s.cap {
@@ -173,7 +178,7 @@ fn put_child(s: State, p: Problem, q: Problem) -> Turn
 
 // The child by the next rule is put in.
 fn try_rule(s: State, p: Problem) -> Turn
-    requires { ⌜ s .rule < 14 ⌝ }
+    requires { ⌜ s .rule < ruleCount ⌝ }
     ensures { λ r. ⌜ r ≡ ruleTurn s p ⌝ }
 {
     let h = s.held;
@@ -188,7 +193,7 @@ fn try_rule(s: State, p: Problem) -> Turn
 pub(crate) fn decide(s: State, p: Problem, n: usize) -> Turn
     ensures { λ r. ⌜ r ≡ decided s p n ⌝ }
 {
-    if s.rule < 14 {
+    if s.rule < search_rules::RULES {
         return try_rule(s, p);
     }
     take_head(s, p, n)

@@ -4,9 +4,9 @@ use line_io::Output;
 use line_io::State;
 use text_write::Written;
 
-// Puts the answer to line number k behind those that wait. It has room: no answer has more than 131,164 bytes (`solve_answer` ensures it).
+// Puts the answer to line number k behind those that wait. It has room: no answer has more bytes (`solve_answer` ensures it).
 fn answer(k: u64, line: &[u8], buffer: &mut [u8], output: Output) -> Output {
-    let mut text = [0u8; 131164];
+    let mut text = [0u8; print_solve::LONGEST_ANSWER];
     match print_solve::solve_answer(k, line, &mut text) {
         Written::Bytes(n) => line_io::put(&text[..n], buffer, output),
         Written::TooSmall(_) => output,
@@ -41,10 +41,13 @@ fn answer_all(chunk: &mut [u8], line: &mut [u8], buffer: &mut [u8]) {
     line_io::finish(s, buffer);
 }
 
-// Of a line no more than 8,205 bytes are kept: with more it is too long whatever they are (`cut-same` of print_solve' proofs/Lengths).
+// Of a line one byte more is kept than it may have: with more it is too long whatever they are (`cut-same` of print_solve's
+// proofs/Lengths).
+const LINE: usize = print_solve::LONGEST_LINE + 1;
+
 fn main() {
     let mut chunk = io::large_buffer();
-    let mut line = [0u8; 8205];
+    let mut line = [0u8; LINE];
     let mut buffer = io::large_buffer();
     answer_all(&mut chunk, &mut line, &mut buffer);
 }

@@ -1,7 +1,6 @@
 // Which sides of rules and which fields reading can return. Every other value counts as one with no fields.
 ghost use mathlib.Core.Path.{_≡_};
 ghost use mathlib.Core.Bool.{cond};
-ghost use Prim.Native.Nat.{min};
 ghost use Rattle.text_values.specs.Values.{viewTerm, viewField, viewSide};
 ghost use Rattle.text_accepted.specs.linearity.Lists.{addTerm, addField, linear};
 ghost use Rattle.text_accepted.specs.Accepted.{fieldOk, fieldBlank, acceptedRight, acceptedLeft, acceptedField};
@@ -12,7 +11,7 @@ pub mod slips; // which slips reading can return
 pub mod variables; // which variables a side has
 
 use crate::linearity::Lists;
-use math_types::Kind;
+use base_numbers::at_most;
 use text_values::Field;
 use text_values::Form;
 use text_values::RuleSide;
@@ -23,11 +22,11 @@ fn has_terms(f: Field) -> bool
     ensures { λ r. ⌜ r ≡ fieldOk f ⌝ }
 {
     let n = f.n;
-    if 16 < n {
+    if base_limits::MOST_TERMS < n {
         return false;
     }
     let mut i: usize = 0;
-    while i < 16 {
+    while i < base_limits::MOST_TERMS {
         if !text_values::canonical::is_place(f.terms[i], i < n) {
             return false;
         }
@@ -53,24 +52,17 @@ pub(crate) fn is_right(r: RuleSide) -> bool
     ensures { λ b. ⌜ b ≡ acceptedRight r ⌝ }
 {
     let n = r.n;
-    if 4 < n {
+    if base_limits::MOST_FIELDS < n {
         return false;
     }
     let mut i: usize = 0;
-    while i < 4 {
+    while i < base_limits::MOST_FIELDS {
         if !is_field_place(r.fields[i], i < n) {
             return false;
         }
         i += 1;
     }
     true
-}
-
-// A count beyond the array counts for the whole array.
-fn least(n: usize, places: usize) -> usize
-    ensures { λ r. ⌜ r ≡ min n places ⌝ }
-{
-    if n < places { n } else { places }
 }
 
 fn add_term(l: Lists, t: Term) -> Lists
@@ -80,19 +72,19 @@ fn add_term(l: Lists, t: Term) -> Lists
     match form {
         Form::Int(_) => l,
         Form::Str(_) => l,
-        Form::Var(k, v) => match k {
-            Kind::Integer => l,
-            Kind::String => l,
-            Kind::Atom => l,
-            Kind::List => l.add(v as usize),
-        },
+        Form::Var(k, v) => {
+            if math_types::is_list(k) {
+                return l.add(v as usize);
+            }
+            l
+        }
     }
 }
 
 fn add_field(l: Lists, f: Field) -> Lists
     ensures { λ r. ⌜ r ≡ addField l (viewField f) ⌝ }
 {
-    let n = least(f.n, 16);
+    let n = at_most(f.n, base_limits::MOST_TERMS);
     let mut now = l.next_field();
     let mut i: usize = 0;
     while i < n {
@@ -105,7 +97,7 @@ fn add_field(l: Lists, f: Field) -> Lists
 fn is_linear(r: RuleSide) -> bool
     ensures { λ b. ⌜ b ≡ linear (viewSide r) ⌝ }
 {
-    let n = least(r.n, 4);
+    let n = at_most(r.n, base_limits::MOST_FIELDS);
     let mut l = Lists::none();
     let mut i: usize = 0;
     while i < n {

@@ -6,7 +6,7 @@ ghost use Rattle.text_accepted.specs.linearity.Lists.{noLists, nextField
 pub struct Lists {
     pub ok: bool,
     pub here: bool,
-    pub seen: [bool; 16],
+    pub seen: [bool; base_limits::NUMBERS_OF_SIDE],
 }
 
 impl Lists {
@@ -16,7 +16,7 @@ impl Lists {
         Lists {
             ok: true,
             here: false,
-            seen: [false; 16],
+            seen: [false; base_limits::NUMBERS_OF_SIDE],
         }
     }
 
@@ -38,7 +38,7 @@ impl Lists {
         if self.here {
             return false;
         }
-        if 16 <= v {
+        if base_limits::NUMBERS_OF_SIDE <= v {
             return true;
         }
         !self.seen[v]
@@ -52,7 +52,7 @@ impl Lists {
         let mut l = self;
         l.ok = ok;
         l.here = true;
-        if 16 <= v {
+        if base_limits::NUMBERS_OF_SIDE <= v {
             return l;
         }
         l.seen[v] = true;

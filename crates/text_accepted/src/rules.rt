@@ -1,20 +1,13 @@
 // Which rules reading can return. Every other value counts as one with no fields.
 ghost use mathlib.Core.Path.{_≡_};
-ghost use Prim.Native.Nat.{min};
 ghost use Rattle.text_values.specs.Values.{viewTerm, viewField, viewSide};
 ghost use Rattle.text_accepted.specs.rules.Rules.{knownTerm, knownField, known, acceptedRule, leftValue};
+use base_numbers::at_most;
 use text_values::Field;
 use text_values::Form;
 use text_values::Rule;
 use text_values::RuleSide;
 use text_values::Term;
-
-// A count beyond the places counts for all of them.
-fn at_most(n: usize, places: usize) -> usize
-    ensures { λ r. ⌜ r ≡ min n places ⌝ }
-{
-    if n < places { n } else { places }
-}
 
 // ---- x has every variable
 
@@ -32,7 +25,7 @@ fn knows_term(x: RuleSide, t: Term) -> bool
 fn knows_field(x: RuleSide, f: Field) -> bool
     ensures { λ b. ⌜ b ≡ knownField (viewSide x) (viewField f) ⌝ }
 {
-    let terms = at_most(f.n, 16);
+    let terms = at_most(f.n, base_limits::MOST_TERMS);
     let mut i: usize = 0;
     while i < terms {
         if !knows_term(x, f.terms[i]) {
@@ -46,7 +39,7 @@ fn knows_field(x: RuleSide, f: Field) -> bool
 fn knows(x: RuleSide, y: RuleSide) -> bool
     ensures { λ b. ⌜ b ≡ known (viewSide x) (viewSide y) ⌝ }
 {
-    let fields = at_most(y.n, 4);
+    let fields = at_most(y.n, base_limits::MOST_FIELDS);
     let mut i: usize = 0;
     while i < fields {
         if !knows_field(x, y.fields[i]) {

@@ -1,7 +1,7 @@
 // Which slips reading can return. Every other value counts as one with no fields.
 ghost use mathlib.Core.Path.{_≡_};
 ghost use mathlib.Core.Bool.{cond};
-ghost use Rattle.text_grammar.specs.Sizes.{mostFields};
+ghost use Rattle.base_limits.specs.Limits.{mostFields};
 ghost use Rattle.text_values.specs.canonical.Filled.{filledTo};
 ghost use Rattle.text_accepted.specs.slips.Slips.{slipFieldOk, slipFieldBlank, acceptedSlip};
 use text_values::Slip;
@@ -11,11 +11,11 @@ fn has_items(f: SlipField) -> bool
     ensures { λ r. ⌜ r ≡ slipFieldOk f ⌝ }
 {
     let n = f.n;
-    if 64 < n {
+    if base_limits::MOST_ITEMS < n {
         return false;
     }
     let mut i: usize = 0;
-    while i < 64 {
+    while i < base_limits::MOST_ITEMS {
         if !text_values::canonical::is_item_place(f.terms[i], i < n) {
             return false;
         }
@@ -40,11 +40,11 @@ fn has_slip_fields(s: Slip) -> bool
     ensures { λ b. ⌜ b ≡ filledTo mostFields slipFieldOk slipFieldBlank (s .n) (s .fields) ⌝ }
 {
     let n = s.n;
-    if 4 < n {
+    if base_limits::MOST_FIELDS < n {
         return false;
     }
     let mut i: usize = 0;
-    while i < 4 {
+    while i < base_limits::MOST_FIELDS {
         if !is_slip_place(s.fields[i], i < n) {
             return false;
         }

@@ -6,9 +6,9 @@ use mathlib.Core.List.{List, [], _∷_, map}
 use Prim.Native.Nat.{ℕ, suc, _*_, _≤_, _<_}
 use native.Mathlib.Omega.{arith}
 use lib.ListN.{length, length-append, length-map}
+use Rattle.base_limits.specs.Limits.{mostTerms, largestInteger, mostItems, longestTerm, longestField, longestSide, longestSlipField, longestSlip}
 use Rattle.base_lists.specs.Seqs.{All, all-append, all-map}
 use Rattle.math_terms.specs.Terms.{con, var}
-use Rattle.text_grammar.specs.Sizes.{largestInteger}
 use Rattle.text_grammar.specs.Grammar.{Raw, raw-int, raw-str, raw-var, raw-empty, Proper, FieldOk, TextOk, spell, spellF, colons, bars, Says, Grammar}
 use Rattle.text_grammar.specs.Machine.{place2}
 use Rattle.text_grammar.specs.Place.{Answers, Stops}
@@ -146,37 +146,38 @@ pub rule-ok : (w : ℕ) (r : List (List OurTerm)) → Within w r → RuleOk r
 rule-ok w r h = (h .0, all-map (All TermIn) (All TermOk) (λ f g. all-map TermIn TermOk term-ok f g) r (h .3))
 
 -- the plain text is never too long
-pub spell-short : (t : OurTerm) → TermIn t → length (spell (rawOf t)) ≤ 17
+pub spell-short : (t : OurTerm) → TermIn t → length (spell (rawOf t)) ≤ longestTerm
 spell-short (con (int n)) h = omega (arith, digits-ten n h)
 spell-short (con (str s)) h = omega (arith, h .1, length-append s (34 ∷ []))
 spell-short (var k n) h = omega (arith, digits-ten n (omega arith))
 
-colons-short : (ts : List OurTerm) → All TermIn ts → length (colons (map rawOf ts)) ≤ 18 * length ts
+colons-short : (ts : List OurTerm) → All TermIn ts → length (colons (map rawOf ts)) ≤ suc longestTerm * length ts
 colons-short [] h = omega arith
 colons-short (t ∷ ts) h = omega (arith, length-append (spell (rawOf t)) (colons (map rawOf ts)), spell-short t (h .0), colons-short ts (h .1))
 
-pub field-length : (w : ℕ) (f : List OurTerm) → length f ≤ suc w → All TermIn f → suc (length (spellF (rawField f))) ≤ 18 * suc w
+pub field-length : (w : ℕ) (f : List OurTerm) → length f ≤ suc w → All TermIn f → suc (length (spellF (rawField f))) ≤ suc longestTerm * suc w
 field-length w [] l h = omega arith
 field-length w (t ∷ ts) l h = omega (arith, length-append (spell (rawOf t)) (colons (map rawOf ts)), spell-short t (h .0), colons-short ts (h .1))
 
-bars-length : (w : ℕ) (r : List (List OurTerm)) → All (λ f. length f ≤ suc w) r → All (All TermIn) r → length (bars (map rawField r)) ≤ length r * (18 * suc w)
+bars-length : (w : ℕ) (r : List (List OurTerm)) → All (λ f. length f ≤ suc w) r → All (All TermIn) r
+    → length (bars (map rawField r)) ≤ length r * (suc longestTerm * suc w)
 bars-length w [] l h = omega arith
 bars-length w (f ∷ fs) l h =
     omega (arith, length-append (spellF (rawField f)) (bars (map rawField fs)), field-length w f (l .0) (h .0), bars-length w fs (l .1) (h .1))
 
 -- the longest plain text of a rule has 1,151 bytes at most, of a slip 4,607
-pub rule-length : (r : List (List OurTerm)) → Within 16 r → length (plain r) ≤ 1151
+pub rule-length : (r : List (List OurTerm)) → Within mostTerms r → length (plain r) ≤ longestSide
 rule-length [] h = absurd (h .0)
 rule-length (f ∷ fs) h =
-    let a : length (spellF (rawField f)) ≤ 287 = omega (arith, field-length 15 f (h .2 .0) (h .3 .0)) in
-    let b : length (bars (map rawField fs)) ≤ length fs * 288 = bars-length 15 fs (h .2 .1) (h .3 .1) in
+    let a : length (spellF (rawField f)) ≤ longestField = omega (arith, field-length 15 f (h .2 .0) (h .3 .0)) in
+    let b : length (bars (map rawField fs)) ≤ length fs * suc longestField = bars-length 15 fs (h .2 .1) (h .3 .1) in
     omega (arith, length-append (spellF (rawField f)) (bars (map rawField fs)), h .1)
 
-pub slip-length : (r : List (List OurTerm)) → Within 64 r → length (plain r) ≤ 4607
+pub slip-length : (r : List (List OurTerm)) → Within mostItems r → length (plain r) ≤ longestSlip
 slip-length [] h = absurd (h .0)
 slip-length (f ∷ fs) h =
-    let a : length (spellF (rawField f)) ≤ 1151 = omega (arith, field-length 63 f (h .2 .0) (h .3 .0)) in
-    let b : length (bars (map rawField fs)) ≤ length fs * 1152 = bars-length 63 fs (h .2 .1) (h .3 .1) in
+    let a : length (spellF (rawField f)) ≤ longestSlipField = omega (arith, field-length 63 f (h .2 .0) (h .3 .0)) in
+    let b : length (bars (map rawField fs)) ≤ length fs * suc longestSlipField = bars-length 63 fs (h .2 .1) (h .3 .1) in
     omega (arith, length-append (spellF (rawField f)) (bars (map rawField fs)), h .1)
 
 -- ACCEPTED
@@ -217,32 +218,32 @@ rule-read t r e =
     let a = read-accepted rule t r .0 e in
     let n = a .0 in
     let b = base-to rule t (n .0, n .1 .0, n .1 .1 .0, n .1 .1 .1 .0, n .1 .1 .1 .1 .0) in
-    let l = linear-tokens (b .0) .0 (clean-to 16 linear t (b .0) (b .1) (n .1 .1 .1 .1 .1 .0)) in
+    let l = linear-tokens (b .0) .0 (clean-to mostTerms linear t (b .0) (b .1) (n .1 .1 .1 .1 .1 .0)) in
     subst IsLeft (ap fieldsOf (sym (said-is t (b .0) (b .1))) ∙ a .1) (b .2, l)
 
 -- and one within the limits is read from its plain text
 pub rule-plain : (r : List (List OurTerm)) → IsLeft r → readSide (plain r) ≡ accepted r
 rule-plain r h =
     let b = plain-base rule 15 refl r (h .0) (omega (arith, rule-length r (h .0))) in
-    let s = plain-says r (rule-ok 16 r (h .0)) in
-    let l = clean-from 16 linear (plain r) (map rawField r) s (linear-tokens (map rawField r) .1 (subst Linear (sym (back r)) (h .1))) in
-    read-accepted rule (plain r) r .1 ((b .0, (b .1, (b .2, (b .3, (b .4, (l, tt)))))), plain-said r (rule-ok 16 r (h .0)))
+    let s = plain-says r (rule-ok mostTerms r (h .0)) in
+    let l = clean-from mostTerms linear (plain r) (map rawField r) s (linear-tokens (map rawField r) .1 (subst Linear (sym (back r)) (h .1))) in
+    read-accepted rule (plain r) r .1 ((b .0, (b .1, (b .2, (b .3, (b .4, (l, tt)))))), plain-said r (rule-ok mostTerms r (h .0)))
 
 pub slip-read : (t : List ℕ) (r : List (List OurTerm)) → readSlip t ≡ accepted r → IsSlip r
 slip-read t r e =
     let a = read-accepted slip t r .0 e in
     let n = a .0 in
     let b = base-to slip t (n .0, n .1 .0, n .1 .1 .0, n .1 .1 .1 .0, n .1 .1 .1 .1 .0) in
-    let l = names-tokens (b .0) .0 (clean-to 64 variable t (b .0) (b .1) (n .1 .1 .1 .1 .1 .0)) in
+    let l = names-tokens (b .0) .0 (clean-to mostItems variable t (b .0) (b .1) (n .1 .1 .1 .1 .1 .0)) in
     subst IsSlip (ap fieldsOf (sym (said-is t (b .0) (b .1))) ∙ a .1) (b .2, l)
 
 pub slip-plain : (r : List (List OurTerm)) → IsSlip r → readSlip (plain r) ≡ accepted r
 slip-plain r h =
     let b = plain-base slip 63 refl r (h .0) (omega (arith, slip-length r (h .0))) in
-    let s = plain-says r (rule-ok 64 r (h .0)) in
-    let l = clean-from 64 variable (plain r) (map rawField r) s
+    let s = plain-says r (rule-ok mostItems r (h .0)) in
+    let l = clean-from mostItems variable (plain r) (map rawField r) s
     (names-tokens (map rawField r) .1 (subst (λ (q : List (List OurTerm)). All (All IsCon) q) (sym (back r)) (h .1))) in
-    read-accepted slip (plain r) r .1 ((b .0, (b .1, (b .2, (b .3, (b .4, (l, tt)))))), plain-said r (rule-ok 64 r (h .0)))
+    read-accepted slip (plain r) r .1 ((b .0, (b .1, (b .2, (b .3, (b .4, (l, tt)))))), plain-said r (rule-ok mostItems r (h .0)))
 
 -- ACCEPTED is within the limits
 pub rule-iff : (r : List (List OurTerm)) → ((t : List ℕ) × (readSide t ≡ accepted r)) ↔ IsLeft r

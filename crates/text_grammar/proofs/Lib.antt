@@ -1,3 +1,4 @@
+pub mod Begun
 pub mod Parse
 pub mod Place
 pub mod Numbers

@@ -7,8 +7,7 @@ use Prim.Native.Nat.{ℕ}
 use native.Mathlib.Omega.{arith}
 use native.Mathlib.Decide.{ℕ-discrete, decLe}
 use Rattle.base_lists.specs.Seqs.{All, IsNil, IsCons}
-use Rattle.math_types.specs.Order.{basic, list}
-use Rattle.math_types.specs.Types.{integer, string, atom, Kind}
+use Rattle.math_types.specs.Types.{Kind}
 use Rattle.text_grammar.specs.Bytes.{Digit, Inside, letter, digit?, Begins, b-digit, b-quote, b-letter, b-e, b-none, begins, Follows, f-digit, f-colon}
 use Rattle.text_grammar.specs.Bytes.{f-bar}
 use Rattle.text_grammar.specs.Bytes.{f-none, follows, First, n-zero, n-more, n-none, first, Holds, h-quote, h-in, h-none, holds}
@@ -18,6 +17,7 @@ use Rattle.text_grammar.specs.Grammar.{Grammar}
 use Rattle.text_grammar.specs.Machine.{State, after, digits, number, done, quoted, must, Rest, Move, push, turn, term, goA, goD, goE, goN, goQ, goM, then}
 use Rattle.text_grammar.specs.Machine.{move}
 use Rattle.text_grammar.specs.Machine.{Final, final?, thenScan, scan, whole, parse}
+use Rattle.text_grammar.proofs.Begun.{begun-digit, begun-letter}
 
 -- what the rest may be in each state, and how it is spelled
 abbrev pub FitsW : State → List ℕ → List Raw → Type 0
@@ -125,21 +125,10 @@ pub data Unfold (q : State) (o : Rest) : Type 0 where
   goes : (b : ℕ) (m : State × (Rest → Rest)) (o′ : Rest) → move q b ≡ some m → Fits (m .0) o′ → m .1 o′ ≡ o → say q o ≡ b ∷ say (m .0) o′ → Unfold q o
 
 goA-digit : (b : ℕ) (c : Begins b) → Digit b → goA b c ≡ some (digits, term (λ w. raw-int (b ∷ w)))
-goA-digit b (b-digit h) d = refl
-goA-digit b (b-quote h) d = absurd (omega arith)
-goA-digit b (b-letter (basic integer) h) d = absurd (omega arith)
-goA-digit b (b-letter (basic string) h) d = absurd (omega arith)
-goA-digit b (b-letter (basic atom) h) d = absurd (omega arith)
-goA-digit b (b-letter list h) d = absurd (omega arith)
-goA-digit b (b-e h) d = absurd (omega arith)
-goA-digit b (b-none n q l e) d = absurd (n d)
+goA-digit b c d = ap (goA b) (begun-digit b c d .1)
 
 goA-letter : (k : Kind) → move after (letter k) ≡ some (number, term (raw-var k))
-unfolding begins digit? decLe ℕ-discrete
-goA-letter (basic integer) = refl
-goA-letter (basic string) = refl
-goA-letter (basic atom) = refl
-goA-letter list = refl
+goA-letter k = ap (goA (letter k)) (begun-letter k (begins (letter k)) .1)
 
 goA-quote : move after 34 ≡ some (quoted, term raw-str)
 unfolding begins digit? decLe ℕ-discrete

@@ -8,12 +8,12 @@ use native.Mathlib.Decide.{ℕ-discrete, decLe}
 use lib.ListN.{length, length-append, drop}
 use lib.Seq.{drop-at}
 use Rattle.base_lists.specs.Seqs.{All, IsCons}
-use Rattle.math_types.specs.Order.{basic, list}
-use Rattle.math_types.specs.Types.{integer, string, atom, Kind}
-use Rattle.text_grammar.specs.Bytes.{Digit, Inside, letter, digit?, Begins, b-digit, b-quote, b-letter, b-e, b-none, begins}
+use Rattle.math_types.specs.Types.{Kind}
+use Rattle.text_grammar.specs.Bytes.{Digit, Inside, letter, digit?, Begins, begins}
 use Rattle.text_grammar.specs.Grammar.{Raw, raw-int, raw-str, raw-var, raw-empty, spell, Proper, colons, spellF, bars, spellT, FieldOk, TextOk, Says}
 use Rattle.text_grammar.specs.Tokens.{Token, tokensF, tokensT, tokens}
 use Rattle.text_grammar.specs.Walk.{digits1, leadingDigits, quote1, untilQuote, frontB, front, walkOn, walk, walked}
+use Rattle.text_grammar.proofs.Begun.{begun-digit, begun-letter}
 use Rattle.text_grammar.proofs.Numbers.{number-digits}
 
 -- what stands behind a term begins with no digit
@@ -50,21 +50,10 @@ quote-is (b ∷ s) z a = go (ℕ-discrete b 34) ∙ ap (λ (l : List ℕ). b ∷
     go (no n) = refl
 
 pub front-digit : (b : ℕ) (z : List ℕ) (c : Begins b) → Digit b → frontB b z c ≡ raw-int (b ∷ leadingDigits z)
-front-digit b z (b-digit h) d = refl
-front-digit b z (b-quote h) d = absurd (omega arith)
-front-digit b z (b-letter (basic integer) h) d = absurd (omega arith)
-front-digit b z (b-letter (basic string) h) d = absurd (omega arith)
-front-digit b z (b-letter (basic atom) h) d = absurd (omega arith)
-front-digit b z (b-letter list h) d = absurd (omega arith)
-front-digit b z (b-e h) d = absurd (omega arith)
-front-digit b z (b-none n q l e) d = absurd (n d)
+front-digit b z c d = ap (frontB b z) (begun-digit b c d .1)
 
 front-letter : (k : Kind) (z : List ℕ) → front (letter k ∷ z) ≡ raw-var k (leadingDigits z)
-unfolding begins digit? decLe ℕ-discrete
-front-letter (basic integer) z = refl
-front-letter (basic string) z = refl
-front-letter (basic atom) z = refl
-front-letter list z = refl
+front-letter k z = ap (frontB (letter k) z) (begun-letter k (begins (letter k)) .1)
 
 front-quote : (z : List ℕ) → front (34 ∷ z) ≡ raw-str (untilQuote z)
 unfolding begins digit? decLe ℕ-discrete

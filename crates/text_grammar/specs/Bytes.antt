@@ -1,10 +1,11 @@
 -- Which bytes the grammar names, and what a byte may begin, follow, or be held by: views with their evidence.
 use mathlib.Core.Path.{_≡_}
-use mathlib.Core.Logic.{_≢_}
+use mathlib.Core.Logic.{inl, inr, _≢_}
 use Prim.Native.Nat.{ℕ, _≤_}
 use native.Mathlib.Decide.{decLe, ℕ-discrete}
-use Rattle.math_types.specs.Order.{basic, list}
-use Rattle.math_types.specs.Types.{integer, string, atom, Kind}
+use Rattle.math_types.specs.Types.{Kind, kinds, every-kind}
+pub use Rattle.text_grammar.specs.Letters.{letter}
+use Rattle.text_grammar.specs.Letters.{LetterIn, letterIn}
 
 abbrev pub Digit : ℕ → Type 0
 Digit b = (48 ≤ b) × (b ≤ 57)
@@ -12,13 +13,6 @@ Digit b = (48 ≤ b) × (b ≤ 57)
 -- document 01: "bytes from 32 to 126 other than the quote"
 abbrev pub Inside : ℕ → Type 0
 Inside b = (32 ≤ b) × (b ≤ 126) × (b ≢ 34)
-
--- document 01: "a letter for its type (`i` integer, `s` string, `a` atom, `l` list)"
-abbrev pub letter : Kind → ℕ
-letter (basic integer) = 105
-letter (basic string) = 115
-letter (basic atom) = 97
-letter list = 108
 
 unfoldable pub digit? : (b : ℕ) → Dec (Digit b)
 unfolding decLe
@@ -39,23 +33,14 @@ pub data Begins (b : ℕ) : Type 0 where
 
 unfoldable pub begins : (b : ℕ) → Begins b
 unfolding digit? ℕ-discrete
-begins b = go (digit? b) (ℕ-discrete b 34) (ℕ-discrete b 105) (ℕ-discrete b 115) (ℕ-discrete b 97) (ℕ-discrete b 108) (ℕ-discrete b 101)
+begins b = go (digit? b) (ℕ-discrete b 34) (letterIn b kinds) (ℕ-discrete b 101)
   where
-    none-of : b ≢ 105 → b ≢ 115 → b ≢ 97 → b ≢ 108 → (k : Kind) → b ≢ letter k
-    none-of i s a l (basic integer) = i
-    none-of i s a l (basic string) = s
-    none-of i s a l (basic atom) = a
-    none-of i s a l list = l
-
-    go : Dec (Digit b) → Dec (b ≡ 34) → Dec (b ≡ 105) → Dec (b ≡ 115) → Dec (b ≡ 97) → Dec (b ≡ 108) → Dec (b ≡ 101) → Begins b
-    go (yes p) q i s a l e = b-digit p
-    go (no p) (yes q) i s a l e = b-quote q
-    go (no p) (no q) (yes i) s a l e = b-letter (basic integer) i
-    go (no p) (no q) (no i) (yes s) a l e = b-letter (basic string) s
-    go (no p) (no q) (no i) (no s) (yes a) l e = b-letter (basic atom) a
-    go (no p) (no q) (no i) (no s) (no a) (yes l) e = b-letter list l
-    go (no p) (no q) (no i) (no s) (no a) (no l) (yes e) = b-e e
-    go (no p) (no q) (no i) (no s) (no a) (no l) (no e) = b-none p q (none-of i s a l) e
+    go : Dec (Digit b) → Dec (b ≡ 34) → LetterIn b kinds → Dec (b ≡ 101) → Begins b
+    go (yes p) q l e = b-digit p
+    go (no p) (yes q) l e = b-quote q
+    go (no p) (no q) (inl l) e = b-letter (l .0) (l .1)
+    go (no p) (no q) (inr l) (yes e) = b-e e
+    go (no p) (no q) (inr l) (no e) = b-none p q (every-kind (λ k. b ≢ letter k) l) e
 
 -- what may follow a digit, or a term
 pub data Follows (b : ℕ) : Type 0 where

@@ -1,4 +1,4 @@
-pub mod Sizes
+pub mod Letters
 pub mod Bytes
 pub mod Ascii
 pub mod Grammar

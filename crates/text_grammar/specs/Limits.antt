@@ -2,10 +2,10 @@
 use mathlib.Core.List.{List, [], _∷_, _++_}
 use Prim.Native.Nat.{ℕ, suc, _≤_}
 use lib.ListN.{length}
+use Rattle.base_limits.specs.Limits.{mostFields, largestInteger, longestString, largestNumber}
 use Rattle.base_lists.specs.Seqs.{All, Any, IsCons}
 use Rattle.math_types.specs.Order.{basic, list}
 use Rattle.math_terms.specs.Terms.{con, var}
-use Rattle.text_grammar.specs.Sizes.{largestInteger, longestString, largestNumber, mostFields}
 use Rattle.text_grammar.specs.Bytes.{Inside}
 use Rattle.text_grammar.specs.Leftmost.{NoneOf}
 use Rattle.text_grammar.specs.Tokens.{Occ, Clash}

@@ -6,6 +6,7 @@ use mathlib.Core.List.{List, [], _∷_}
 use Prim.Native.Nat.{ℕ, _<_}
 use native.Mathlib.Decide.{decLt}
 use lib.ListN.{length}
+use Rattle.base_limits.specs.Limits.{mostTerms, mostItems, mostRuleBytes, mostSlipBytes}
 use Rattle.text_grammar.specs.Grammar.{Raw, Says}
 use Rattle.text_grammar.specs.Place.{Stops}
 use Rattle.text_grammar.specs.Machine.{parse, place2}
@@ -39,10 +40,10 @@ pub record Sort : Type 0 where
 
 -- a rule's side alone. Document 02: "The whole text may have 4,096 bytes"
 abbrev pub rule : Sort
-rule = record { bytes = 4096; width = 16; order = long ∷ grammar ∷ fields ∷ terms ∷ limits ∷ linear ∷ [] }
+rule = record { bytes = mostRuleBytes; width = mostTerms; order = long ∷ grammar ∷ fields ∷ terms ∷ limits ∷ linear ∷ [] }
 
 abbrev pub slip : Sort
-slip = record { bytes = 8192; width = 64; order = long ∷ grammar ∷ fields ∷ terms ∷ limits ∷ variable ∷ [] }
+slip = record { bytes = mostSlipBytes; width = mostItems; order = long ∷ grammar ∷ fields ∷ terms ∷ limits ∷ variable ∷ [] }
 
 -- the terms that a reason is about, behind the terms before them
 abbrev pub Bad : ℕ → Reason → List Token → Token → Type 0

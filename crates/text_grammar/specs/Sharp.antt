@@ -5,6 +5,7 @@ use mathlib.Core.Option.{some}
 use mathlib.Core.List.{List, [], _∷_, _++_}
 use Prim.Native.Nat.{ℕ, suc, _≤_}
 use lib.ListN.{length, getElem?}
+use Rattle.base_limits.specs.Limits.{mostFields}
 use Rattle.text_grammar.specs.Grammar.{Raw, spell, Says}
 use Rattle.text_grammar.specs.Leftmost.{NoneOf}
 use Rattle.text_grammar.specs.Tokens.{Token, tokens, Over, NotLinear, IsVar}
@@ -32,7 +33,7 @@ abbrev pub Stated : ℕ → Reason → List Token → Token → Type 0
 Stated w long b m = ⊥
 Stated w grammar b m = ⊥
 -- 3: "a fifth field, at its first byte": term 1 of field 5
-Stated w fields b m = (m .inField ≡ 5) × (m .index ≡ 1)
+Stated w fields b m = (m .inField ≡ suc mostFields) × (m .index ≡ 1)
 -- 4: "a seventeenth term in a field", in a slip "a sixty-fifth term"
 Stated w terms b m = m .index ≡ suc w
 -- 5: "a value, digit count, variable number or string length over its limit"

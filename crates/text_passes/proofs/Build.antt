@@ -10,9 +10,9 @@ use borrow.Author.Tests.{lt-ltb, ne-eqb}
 use lib.Dec.{ltb}
 use lib.ListN.{length, set, replicate, length-append, length-map}
 use lib.Seq.{take-all}
+use Rattle.base_limits.specs.Limits.{mostFields, largestInteger, longestString, largestNumber}
 use Rattle.base_lists.specs.Seqs.{All}
 use Rattle.math_types.specs.Values.{kindFrom}
-use Rattle.text_grammar.specs.Sizes.{largestInteger, longestString, largestNumber, mostFields}
 use Rattle.text_grammar.specs.Grammar.{Raw, raw-int, raw-str, raw-var, raw-empty, spell, spellF, FieldOk, TextOk}
 use Rattle.text_grammar.specs.Numbers.{value}
 use Rattle.text_grammar.specs.Tokens.{Token, tokens, tokensF, tokensT, Over}

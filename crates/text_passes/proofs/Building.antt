@@ -33,6 +33,7 @@ use denote.Slice.{sliceTy}
 use denote.Struct.Laws as LL
 use denote.Triple.Statement.{Contract, Triple}
 use lib.Ieee.Bits.{is-true, is-false}
+use Rattle.base_limits.specs.Limits.{mostSlipBytes}
 use Rattle.text_grammar.specs.Grammar.{Raw}
 use Rattle.text_grammar.specs.Walk.{walked as terms-of}
 use Rattle.text_scan.specs.declared.Lexeme.{Lexeme}
@@ -148,7 +149,7 @@ module _ {M : Type 1} (𝓤 : URA M) (H : Heap 𝓤) (A : Atoms 𝓤) (W : Given
 
   module _ (Post : Val → SProp 𝓤) (exits : (x : X .row .Denot) → Good X x
       → x ≡ whole-of bF add push (foldl (put bF add push) (bR, bF) (terms-of (now s))) → ent 𝓤 (⋆ 𝓤 H A Own) (Post (X .val x)))
-      (gt : Text-is κ s) (short : length (now s) ≤ 8192) (𝓣 : Tables 𝓤 H) (k-start : Triple 𝓤 (𝓣 .C #text-passes·start) (Start 𝓤 H A mem run))
+      (gt : Text-is κ s) (short : length (now s) ≤ mostSlipBytes) (𝓣 : Tables 𝓤 H) (k-start : Triple 𝓤 (𝓣 .C #text-passes·start) (Start 𝓤 H A mem run))
       (k-has : Triple 𝓤 (𝓣 .C #text-passes·has-term) (HasTerm 𝓤 H A mem run))
       (k-term : Triple 𝓤 (𝓣 .C #text-passes·term) (Term 𝓤 H A mem run)) (k-turn : Triple 𝓤 (𝓣 .C #text-passes·is-turn) (Is-turn 𝓤 H A mem run))
       (k-passed : Triple 𝓤 (𝓣 .C #text-passes·passed) (Passed 𝓤 H A mem run))
@@ -204,7 +205,7 @@ module _ {M : Type 1} (𝓤 : URA M) (H : Heap 𝓤) (A : Atoms 𝓤) (W : Given
           (λ gf′. land ! (from ! (stop !)) (store ! (L 3) refl (Y .typed (f′ (j .0) (c .1)) gf′)) $
           sets ! (of-opd ! (var ! (L 4) refl)) (init ! (L 15) refl (at-reader (j .0) (j .3))) $
           calls-passed ! mem run (fmOf 𝓤 H (W .laws) 𝓣) κ q s (j .0) (j .3) k-passed (lexeme (j .0)) gp
-          (within (length (now s)) (j .0 .place) less short, j .2 .0 .0, j .2 .0 .1, lexeme-small (now s) 8192 (j .0 .place) (lexeme (j .0)) refl short)
+          (within (length (now s)) (j .0 .place) less short, j .2 .0 .0, j .2 .0 .1, lexeme-small (now s) mostSlipBytes (j .0 .place) (lexeme (j .0)) refl short)
           (λ Q. and-then ! (var ! (L 15) refl) (and-then ! (var ! (L 5) refl) (no-more !)))
           (λ gr. land ! (from ! (stop !)) (init ! (L 7) refl (reader-typedᵉ 𝓤 H A W κ (reader s (a′ (j .0))) gr)) $
           assigns-last ! (of-opd ! (var ! (L 7) refl)) (from ! (stop !)) (store ! (L 4) refl (reader-typedᵉ 𝓤 H A W κ (reader s (a′ (j .0))) gr)) $

@@ -25,6 +25,7 @@ use denote.Struct.Laws as LL
 use denote.Struct.Rest.{rest}
 use denote.Triple.Statement.{Contract, Triple}
 use denote.Triple.Walked.{says}
+use Rattle.base_limits.specs.Limits.{mostSlipBytes}
 use Rattle.text_scan.specs.declared.Lexeme.{Lexeme}
 use Rattle.text_scan.specs.Lexemes.{lexemeOf}
 use Rattle.text_scan.proofs.Lexeme as O
@@ -90,7 +91,8 @@ module _ {M : Type 1} (𝓤 : URA M) (H : Heap 𝓤) (A : Atoms 𝓤) (W : Given
   abbrev to-passed : At → Lexeme → Passed 𝓤 H A mem run .Ghost
   to-passed a p = (((κ, tt), (q, tt), tt, (reader s a, (p, tt)), (mach (reader s a) ∷ [], (mach-lexeme p ∷ [], tt))), tt)
 
-  gives-passed : (a : At) (p : Lexeme) → At-is a → Lexeme-is p → (a .place ≤ 8192) × (a .field ≤ a .place + 1) × (a .index ≤ a .place + 1) × (p .size ≤ 8192)
+  gives-passed : (a : At) (p : Lexeme) → At-is a → Lexeme-is p
+      → (a .place ≤ mostSlipBytes) × (a .field ≤ a .place + 1) × (a .index ≤ a .place + 1) × (p .size ≤ mostSlipBytes)
       → ent 𝓤 (⋆ 𝓤 H A Kept) (Passed 𝓤 H A mem run .pre (to-passed a p))
   gives-passed a p g h low =
       qed W Kept ∵ says ! low $ use1 W (‵ (B (κ, tt) .own (reader s a) (mach (reader s a) ∷ []))) (held 𝓤 H A W κ s a g) $
@@ -129,7 +131,7 @@ module _ {M : Type 1} {𝓤 : URA M} {H : Heap 𝓤} {A : Atoms 𝓤} {K : Type 
           (lexemeOf (termAt (now s) a)) (λ z ws. id⊢ 𝓤 _) (Kept 𝓤 H A W mem run κ q s) (LifeToken 𝓤 κ q) (gives-term 𝓤 H A W mem run κ q s a g) (id⊢ 𝓤 _)) ops k
 
       pub calls-passed : Triple 𝓤 (C #text-passes·passed) (Passed 𝓤 H A mem run) → (p : Lexeme) → Lexeme-is p
-          → (a .place ≤ 8192) × (a .field ≤ a .place + 1) × (a .index ≤ a .place + 1) × (p .size ≤ 8192)
+          → (a .place ≤ mostSlipBytes) × (a .field ≤ a .place + 1) × (a .index ≤ a .place + 1) × (p .size ≤ mostSlipBytes)
           → ((P : SProp 𝓤) → Opds K W (raw P ∷ ‵ (Text κ s) ∷ Γ) E xs (mach (reader s a) ∷ mach-lexeme p ∷ []))
           → (Reader-is κ (reader s (next-at (now s) a p))
           → Seq K W (‵ (Text κ s) ∷ LifeToken 𝓤 κ q ∷ Γ) (lands C Λ E d (mach (reader s (next-at (now s) a p))) rest Q))

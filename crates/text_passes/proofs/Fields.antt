@@ -8,8 +8,8 @@ use native.Mathlib.Omega.{arith}
 use native.Mathlib.Decide.{decLt}
 use borrow.Author.Tests.{lt-ltb, le-ltb, eq-eqb, ne-eqb}
 use lib.ListN.{length, getD, length-map, List·getD-eq-default}
+use Rattle.base_limits.specs.Limits.{mostFields}
 use Rattle.base_lists.specs.Seqs.{All}
-use Rattle.text_grammar.specs.Sizes.{mostFields}
 use Rattle.text_grammar.specs.Grammar.{Raw, spell, spellF, FieldOk, Says}
 use Rattle.text_grammar.specs.Tokens.{tokens, tokensF, tokensT, Over, FifthField, TooMany, TokenOver}
 use Rattle.text_grammar.specs.Terms.{OurTerm, termOf, fieldOf, fieldsOf}

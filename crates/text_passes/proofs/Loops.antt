@@ -5,6 +5,7 @@ use mathlib.Core.List.{List, foldl}
 use Prim.Native.Nat.{ℕ, _+_, _-_, _<_, _≤_, _^_}
 use native.Mathlib.Omega.{arith}
 use lib.ListN.{length, drop, length-drop}
+use Rattle.base_limits.specs.Limits.{mostSlipBytes}
 use Rattle.text_grammar.specs.Tokens.{Token}
 use Rattle.text_grammar.specs.Walk.{front, walk, walked}
 use Rattle.text_scan.specs.declared.Lexeme.{Lexeme}
@@ -40,10 +41,10 @@ pub lexeme-small : (t : List ℕ) (n k : ℕ) (p : Lexeme) → p ≡ lexemeOf (f
 lexeme-small t n k p e h = let s = size-fits (drop k t) in let d = length-drop k t in let q = ap (λ (x : Lexeme). x .size) e in omega arith
 
 -- a place within a text of at most 8192 bytes
-pub within : (n a : ℕ) → a < n → n ≤ 8192 → a ≤ 8192
+pub within : (n a : ℕ) → a < n → n ≤ mostSlipBytes → a ≤ mostSlipBytes
 within n a h k = omega arith
 
-pub within-fits : (n a : ℕ) → a < n → n ≤ 8192 → a < 2 ^ 64
+pub within-fits : (n a : ℕ) → a < n → n ≤ mostSlipBytes → a < 2 ^ 64
 within-fits n a h k = omega arith
 
 -- behind a term fewer bytes are left
@@ -52,8 +53,9 @@ fewer-left t a p h = let b = behind-place t a (a .place + spelled p) in omega ar
 
 -- what the code has at a term: it may go behind it, and is then nearer to the end
 module _ (t : List ℕ) (a : At) (p : Lexeme) (is-p : p ≡ lexemeOf (termAt t a)) (less : a .place < length t) where
-  pub may-pass : length t ≤ 8192 → Low a → (a .place ≤ 8192) × (a .field ≤ a .place + 1) × (a .index ≤ a .place + 1) × (p .size ≤ 8192)
-  may-pass short low = (within (length t) (a .place) less short, low .0, low .1, lexeme-small t 8192 (a .place) p is-p short)
+  pub may-pass : length t ≤ mostSlipBytes → Low a
+      → (a .place ≤ mostSlipBytes) × (a .field ≤ a .place + 1) × (a .index ≤ a .place + 1) × (p .size ≤ mostSlipBytes)
+  may-pass short low = (within (length t) (a .place) less short, low .0, low .1, lexeme-small t mostSlipBytes (a .place) p is-p short)
 
   pub nearer : (a′ : At) → a′ ≡ behind t a (a .place + spelled p) → length t - a′ .place < length t - a .place
   nearer a′ is-a = subst (λ (b : At). length t - b .place < length t - a .place) (sym is-a) (fewer-left t a p less)

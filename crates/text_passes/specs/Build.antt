@@ -5,7 +5,7 @@ use mathlib.Core.List.{List, foldl}
 use Prim.Native.Nat.{ℕ, _+_}
 use lib.Dec.{eqb, ltb}
 use lib.ListN.{set}
-use Rattle.text_grammar.specs.Sizes.{mostFields}
+use Rattle.base_limits.specs.Limits.{mostFields}
 use Rattle.text_grammar.specs.Grammar.{Raw, raw-int, raw-str, raw-var, raw-empty}
 use Rattle.text_grammar.specs.Tokens.{Token}
 use Rattle.text_grammar.specs.Read.{rule, slip}

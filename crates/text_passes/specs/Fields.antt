@@ -4,7 +4,7 @@ use mathlib.Core.Bool.{Bool, cond, not, _&&_}
 use mathlib.Core.List.{List, foldl}
 use Prim.Native.Nat.{ℕ, _+_, min}
 use lib.Dec.{eqb, ltb}
-use Rattle.text_grammar.specs.Sizes.{mostFields}
+use Rattle.base_limits.specs.Limits.{mostFields}
 use Rattle.text_grammar.specs.Grammar.{Raw}
 use Rattle.text_grammar.specs.Tokens.{Token}
 use Rattle.text_grammar.specs.Walk.{walked}

@@ -6,6 +6,7 @@ ghost use mathlib.Core.List.{foldl};
 ghost use Prim.Native.Nat.{_+_, _≤_, _<_};
 ghost use lib.Dec.{ltb};
 ghost use lib.ListN.{length, drop};
+ghost use Rattle.base_limits.specs.Limits.{mostSlipBytes};
 ghost use Rattle.text_grammar.specs.Walk.{front, walked};
 ghost use Rattle.text_values.specs.Values.{viewSide};
 ghost use Rattle.text_scan.specs.declared.Found.the-variants.{Nothing};
@@ -40,7 +41,7 @@ struct Reader<'a> {
 
 // The number of bytes of a written term.
 fn spelled(p: Lexeme) -> usize
-    requires { ⌜ p .size ≤ 8192 ⌝ }
+    requires { ⌜ p .size ≤ mostSlipBytes ⌝ }
     ensures { λ r. ⌜ r ≡ spelled p ⌝ }
 {
     let what = p.what;
@@ -59,12 +60,12 @@ fn colon_at(text: &[u8], e: usize) -> bool
     if text.len() <= e {
         return false;
     }
-    text[e] == 58
+    text[e] == b':'
 }
 
 // Where the term behind this one stands: behind `:` in the same field, behind `|` in the next.
 fn behind(text: &[u8], a: At, p: Lexeme) -> At
-    requires { ⌜ (a .place ≤ 8192) × (a .field ≤ a .place + 1) × (a .index ≤ a .place + 1) × (p .size ≤ 8192) ⌝ }
+    requires { ⌜ (a .place ≤ mostSlipBytes) × (a .field ≤ a .place + 1) × (a .index ≤ a .place + 1) × (p .size ≤ mostSlipBytes) ⌝ }
     ensures { λ r. ⌜ r ≡ behind (now (text .entry)) a (a .place + spelled p) ⌝ }
 {
     let end = a.place + spelled(p);
@@ -112,7 +113,8 @@ fn term<'a>(r: Reader<'a>) -> Lexeme
 
 // The reader moved behind the term p, which stands at its place.
 fn passed<'a>(r: Reader<'a>, p: Lexeme) -> Reader<'a>
-    requires { ⌜ (r .at .place ≤ 8192) × (r .at .field ≤ r .at .place + 1) × (r .at .index ≤ r .at .place + 1) × (p .size ≤ 8192) ⌝ }
+    requires { ⌜ (r .at .place ≤ mostSlipBytes) × (r .at .field ≤ r .at .place + 1) × (r .at .index ≤ r .at .place + 1)
+        × (p .size ≤ mostSlipBytes) ⌝ }
     ensures { λ q. ⌜ q ≡ passed (r .entry) p ⌝ }
 {
     let at = behind(r.text, r.at, p);
@@ -131,7 +133,7 @@ fn nothing_yet() -> Survey
 
 // All refusals from 3 on, in one pass over the terms.
 fn survey_of(text: &[u8], slip: bool) -> Survey
-    requires { ⌜ length (now text) ≤ 8192 ⌝ }
+    requires { ⌜ length (now text) ≤ mostSlipBytes ⌝ }
     ensures { λ r. ⌜ r ≡ foldl (surveyToken slip ((sortOf slip) .width)) nothingYet (walked (now (text .entry))) ⌝ }
 {
     let mut s = nothing_yet();
@@ -169,7 +171,7 @@ fn note_unknown(found: Found, left: RuleSide, place: usize, p: Lexeme) -> Found
 
 // The first variable that the side `left` lacks.
 fn unknown_of(text: &[u8], left: RuleSide) -> Found
-    requires { ⌜ length (now text) ≤ 8192 ⌝ }
+    requires { ⌜ length (now text) ≤ mostSlipBytes ⌝ }
     ensures { λ r. ⌜ r ≡ foldl (unknownToken (viewSide left)) Nothing (walked (now (text .entry))) ⌝ }
 {
     let mut found = nowhere();
@@ -212,7 +214,7 @@ fn push_term(f: Field, t: Term) -> Field
     ensures { λ r. ⌜ r ≡ pushTerm f t ⌝ }
 {
     let n = f.n;
-    if 16 <= n {
+    if base_limits::MOST_TERMS <= n {
         return f;
     }
     let mut g = f;
@@ -225,7 +227,7 @@ fn push_field(r: RuleSide, f: Field) -> RuleSide
     ensures { λ s. ⌜ s ≡ pushField r f ⌝ }
 {
     let n = r.n;
-    if 4 <= n {
+    if base_limits::MOST_FIELDS <= n {
         return r;
     }
     let mut s = r;
@@ -249,7 +251,7 @@ fn push_item(f: SlipField, t: Term) -> SlipField
     ensures { λ r. ⌜ r ≡ pushItem f t ⌝ }
 {
     let n = f.n;
-    if 64 <= n {
+    if base_limits::MOST_ITEMS <= n {
         return f;
     }
     let mut g = f;
@@ -262,7 +264,7 @@ fn push_slip_field(s: Slip, f: SlipField) -> Slip
     ensures { λ r. ⌜ r ≡ pushSlipField s f ⌝ }
 {
     let n = s.n;
-    if 4 <= n {
+    if base_limits::MOST_FIELDS <= n {
         return s;
     }
     let mut r = s;
@@ -283,7 +285,7 @@ fn is_turn(a: At) -> bool
 
 // The rule that a text without refusals says.
 fn build_side(text: &[u8]) -> RuleSide
-    requires { ⌜ length (now text) ≤ 8192 ⌝ }
+    requires { ⌜ length (now text) ≤ mostSlipBytes ⌝ }
     ensures { λ r. ⌜ r ≡ builtSide (walked (now (text .entry))) ⌝ }
 {
     let mut rule = text_values::blank_side();
@@ -305,7 +307,7 @@ fn build_side(text: &[u8]) -> RuleSide
 
 // The slip that a text without refusals says.
 fn build_slip(text: &[u8]) -> Slip
-    requires { ⌜ length (now text) ≤ 8192 ⌝ }
+    requires { ⌜ length (now text) ≤ mostSlipBytes ⌝ }
     ensures { λ r. ⌜ r ≡ builtSlip (walked (now (text .entry))) ⌝ }
 {
     let mut slip = text_values::blank_slip();
@@ -325,13 +327,13 @@ fn build_slip(text: &[u8]) -> Slip
     push_slip_field(slip, field)
 }
 
-// ---- the public functions: a text of more than 8,192 bytes, which is no rule and no slip, is not gone through
+// ---- the public functions: a text of more bytes than a slip may have, which is no rule either, is not gone through
 
 // All refusals from 3 on.
 pub fn survey(text: &[u8], slip: bool) -> Survey
     ensures { λ r. ⌜ r ≡ surveyIn slip (now (text .entry)) ⌝ }
 {
-    if 8192 < text.len() {
+    if base_limits::MOST_SLIP_BYTES < text.len() {
         return nothing_yet();
     }
     survey_of(text, slip)
@@ -341,7 +343,7 @@ pub fn survey(text: &[u8], slip: bool) -> Survey
 pub fn unknown_in(text: &[u8], left: RuleSide) -> Found
     ensures { λ r. ⌜ r ≡ unknownIn (viewSide left) (now (text .entry)) ⌝ }
 {
-    if 8192 < text.len() {
+    if base_limits::MOST_SLIP_BYTES < text.len() {
         return nowhere();
     }
     unknown_of(text, left)
@@ -351,7 +353,7 @@ pub fn unknown_in(text: &[u8], left: RuleSide) -> Found
 pub fn side_in(text: &[u8]) -> RuleSide
     ensures { λ r. ⌜ r ≡ sideIn (now (text .entry)) ⌝ }
 {
-    if 8192 < text.len() {
+    if base_limits::MOST_SLIP_BYTES < text.len() {
         return text_values::blank_side();
     }
     build_side(text)
@@ -361,7 +363,7 @@ pub fn side_in(text: &[u8]) -> RuleSide
 pub fn slip_in(text: &[u8]) -> Slip
     ensures { λ r. ⌜ r ≡ slipIn (now (text .entry)) ⌝ }
 {
-    if 8192 < text.len() {
+    if base_limits::MOST_SLIP_BYTES < text.len() {
         return text_values::blank_slip();
     }
     build_slip(text)
@@ -397,7 +399,7 @@ fn stores(p: Lexeme, field: usize, wanted: usize, n: usize, places: usize) -> bo
 pub fn field_count(text: &[u8]) -> usize
     ensures { λ r. ⌜ r ≡ fieldCount (now (text .entry)) ⌝ }
 {
-    if 8192 < text.len() {
+    if base_limits::MOST_SLIP_BYTES < text.len() {
         return 0;
     }
     let mut n: usize = 0;
@@ -407,8 +409,8 @@ pub fn field_count(text: &[u8]) -> usize
         let p = text_scan::lexeme_at(text, a.place);
         a = behind(text, a, p);
     }
-    if 4 < n {
-        return 4;
+    if base_limits::MOST_FIELDS < n {
+        return base_limits::MOST_FIELDS;
     }
     n
 }
@@ -418,10 +420,10 @@ pub fn side_field(text: &[u8], j: usize) -> Field
     ensures { λ f. ⌜ f ≡ sideField (now (text .entry)) j ⌝ }
 {
     let mut f = text_values::blank_field();
-    if 8192 < text.len() {
+    if base_limits::MOST_SLIP_BYTES < text.len() {
         return f;
     }
-    if 4 <= j {
+    if base_limits::MOST_FIELDS <= j {
         return f;
     }
     let wanted = j + 1;
@@ -429,7 +431,7 @@ pub fn side_field(text: &[u8], j: usize) -> Field
     let mut a = first();
     while a.place < text.len() && a.field <= wanted {
         let p = text_scan::lexeme_at(text, a.place);
-        if stores(p, a.field, wanted, n, 16) {
+        if stores(p, a.field, wanted, n, base_limits::MOST_TERMS) {
             f.terms[n] = text_scan::terms::term_at(text, a.place);
             n += 1;
         }
@@ -444,10 +446,10 @@ pub fn slip_field(text: &[u8], j: usize) -> SlipField
     ensures { λ f. ⌜ f ≡ slipField (now (text .entry)) j ⌝ }
 {
     let mut f = text_values::blank_slip_field();
-    if 8192 < text.len() {
+    if base_limits::MOST_SLIP_BYTES < text.len() {
         return f;
     }
-    if 4 <= j {
+    if base_limits::MOST_FIELDS <= j {
         return f;
     }
     let wanted = j + 1;
@@ -455,7 +457,7 @@ pub fn slip_field(text: &[u8], j: usize) -> SlipField
     let mut a = first();
     while a.place < text.len() && a.field <= wanted {
         let p = text_scan::lexeme_at(text, a.place);
-        if stores(p, a.field, wanted, n, 64) {
+        if stores(p, a.field, wanted, n, base_limits::MOST_ITEMS) {
             f.terms[n] = text_scan::terms::term_at(text, a.place);
             n += 1;
         }
@@ -471,7 +473,7 @@ pub fn note_side(text: &[u8], right: bool, row: &mut [u8], texts: &mut [u8]) -> 
     ensures { λ _. ⌜ now (row .exit) ≡ (notedIn right (now (text .entry)) (now (row .entry)) (now (texts .entry))) .0 ⌝ }
     ensures { λ _. ⌜ now (texts .exit) ≡ (notedIn right (now (text .entry)) (now (row .entry)) (now (texts .entry))) .1 ⌝ }
 {
-    if 8192 < text.len() {
+    if base_limits::MOST_SLIP_BYTES < text.len() {
         return 0;
     }
     let mut n: usize = 0;
@@ -482,8 +484,8 @@ pub fn note_side(text: &[u8], right: bool, row: &mut [u8], texts: &mut [u8]) -> 
         pair_table::note(row, texts, right, text, a.place, a.field, p);
         a = behind(text, a, p);
     }
-    if 4 < n {
-        return 4;
+    if base_limits::MOST_FIELDS < n {
+        return base_limits::MOST_FIELDS;
     }
     n
 }

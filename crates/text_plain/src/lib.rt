@@ -2,8 +2,8 @@
 // Document 01: "Writing a rule gives its one plain text: no `empty` unless the field has no terms, integers without leading zeros."
 // The text is put together in room that is known to be enough, piece behind piece, and then given whole or not at all (refusal 8).
 ghost use mathlib.Core.Path.{_≡_};
-ghost use Prim.Native.Nat.{min};
 ghost use lib.ListN.{length};
+ghost use Rattle.base_limits.specs.Limits.{longestSide};
 ghost use Rattle.text_grammar.specs.Plain.{fieldText, plain};
 ghost use Rattle.text_values.specs.Values.{viewField, viewSide};
 ghost use Rattle.text_accepted.specs.Accepted.{countedLeft};
@@ -13,16 +13,10 @@ ghost use Rattle.text_write.specs.pieces.Placed.{Placed};
 pub mod rules; // rules with both sides
 pub mod slips; // slips
 
+use base_numbers::at_most;
 use text_values::Field;
 use text_values::RuleSide;
 use text_write::Written;
-
-// How many of n: the views end a count where its array ends, and so does the code.
-fn at_most(n: usize, most: usize) -> usize
-    ensures { λ r. ⌜ r ≡ min n most ⌝ }
-{
-    if n < most { n } else { most }
-}
 
 // ---- pieces: each is put at a place, and returns the place behind it
 
@@ -30,7 +24,7 @@ fn at_most(n: usize, most: usize) -> usize
 fn put_field(f: Field, out: &mut [u8], at: usize) -> usize
     ensures { λ r. ⌜ Placed (fieldText (viewField f)) at (now (out .entry)) r (now (out .exit)) ⌝ }
 {
-    let n = at_most(f.n, 16);
+    let n = at_most(f.n, base_limits::MOST_TERMS);
     if n == 0 {
         return text_write::pieces::put_bytes(b"empty", out, at);
     }
@@ -48,7 +42,7 @@ fn put_field(f: Field, out: &mut [u8], at: usize) -> usize
 pub(crate) fn put_side(r: RuleSide, out: &mut [u8], at: usize) -> usize
     ensures { λ p. ⌜ Placed (plain (viewSide r)) at (now (out .entry)) p (now (out .exit)) ⌝ }
 {
-    let n = at_most(r.n, 4);
+    let n = at_most(r.n, base_limits::MOST_FIELDS);
     if n == 0 {
         return at;
     }
@@ -64,11 +58,11 @@ pub(crate) fn put_side(r: RuleSide, out: &mut [u8], at: usize) -> usize
 
 // ---- a left side
 
-// Room for any side's plain text, which has at most 1,151 bytes.
-fn room() -> [u8; 1151]
-    ensures { λ r. ⌜ length r ≡ 1151 ⌝ }
+// Room for any side's plain text.
+fn room() -> [u8; base_limits::LONGEST_SIDE]
+    ensures { λ r. ⌜ length r ≡ longestSide ⌝ }
 {
-    [0; 1151]
+    [0; base_limits::LONGEST_SIDE]
 }
 
 // A left side's plain text. Document 01: a value that no reading can return "counts there as one with no fields; writing such a

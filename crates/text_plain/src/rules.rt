@@ -2,6 +2,7 @@
 // The text is put together in room that is known to be enough, piece behind piece, and then given whole or not at all (refusal 8).
 ghost use mathlib.Core.Path.{_≡_};
 ghost use lib.ListN.{length};
+ghost use Rattle.base_limits.specs.Limits.{longestRule};
 ghost use Rattle.text_grammar.specs.rules.Plain.{plainBoth};
 ghost use Rattle.text_values.specs.Values.{viewRule};
 ghost use Rattle.text_accepted.specs.rules.Rules.{countedRule};
@@ -24,11 +25,11 @@ pub fn put_rule(r: Rule, out: &mut [u8], at: usize) -> usize
     crate::put_side(right, out, b)
 }
 
-// Room for any rule's plain text, which has at most 2,304 bytes: 1,151 for each side.
-fn room() -> [u8; 2304]
-    ensures { λ r. ⌜ length r ≡ 2304 ⌝ }
+// Room for any rule's plain text.
+fn room() -> [u8; base_limits::LONGEST_RULE]
+    ensures { λ r. ⌜ length r ≡ longestRule ⌝ }
 {
-    [0; 2304]
+    [0; base_limits::LONGEST_RULE]
 }
 
 // A rule's plain text. Document 01: a value that no reading can return "counts there as one with no fields; writing such a

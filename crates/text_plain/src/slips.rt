@@ -2,23 +2,17 @@
 // leading zeros".
 // The text is put together in room that is known to be enough, piece behind piece, and then given whole or not at all (refusal 8).
 ghost use mathlib.Core.Path.{_≡_};
-ghost use Prim.Native.Nat.{min};
 ghost use lib.ListN.{length};
+ghost use Rattle.base_limits.specs.Limits.{longestSlip};
 ghost use Rattle.text_grammar.specs.Plain.{fieldText, plain};
 ghost use Rattle.text_values.specs.Values.{viewSlipField, viewSlip};
 ghost use Rattle.text_accepted.specs.slips.Slips.{countedSlip};
 ghost use Rattle.text_write.specs.Answers.{Writes};
 ghost use Rattle.text_write.specs.pieces.Placed.{Placed};
+use base_numbers::at_most;
 use text_values::Slip;
 use text_values::SlipField;
 use text_write::Written;
-
-// How many of n: the views end a count where its array ends, and so does the code.
-fn at_most(n: usize, most: usize) -> usize
-    ensures { λ r. ⌜ r ≡ min n most ⌝ }
-{
-    if n < most { n } else { most }
-}
 
 // ---- pieces: each is put at a place, and returns the place behind it
 
@@ -26,7 +20,7 @@ fn at_most(n: usize, most: usize) -> usize
 fn put_field(f: SlipField, out: &mut [u8], at: usize) -> usize
     ensures { λ r. ⌜ Placed (fieldText (viewSlipField f)) at (now (out .entry)) r (now (out .exit)) ⌝ }
 {
-    let n = at_most(f.n, 64);
+    let n = at_most(f.n, base_limits::MOST_ITEMS);
     if n == 0 {
         return text_write::pieces::put_bytes(b"empty", out, at);
     }
@@ -44,7 +38,7 @@ fn put_field(f: SlipField, out: &mut [u8], at: usize) -> usize
 pub fn put_slip(s: Slip, out: &mut [u8], at: usize) -> usize
     ensures { λ p. ⌜ Placed (plain (viewSlip s)) at (now (out .entry)) p (now (out .exit)) ⌝ }
 {
-    let n = at_most(s.n, 4);
+    let n = at_most(s.n, base_limits::MOST_FIELDS);
     if n == 0 {
         return at;
     }
@@ -60,11 +54,11 @@ pub fn put_slip(s: Slip, out: &mut [u8], at: usize) -> usize
 
 // ---- an accepted slip
 
-// Room for any slip's plain text, which has at most 4,607 bytes.
-fn room() -> [u8; 4607]
-    ensures { λ r. ⌜ length r ≡ 4607 ⌝ }
+// Room for any slip's plain text.
+fn room() -> [u8; base_limits::LONGEST_SLIP]
+    ensures { λ r. ⌜ length r ≡ longestSlip ⌝ }
 {
-    [0; 4607]
+    [0; base_limits::LONGEST_SLIP]
 }
 
 // A slip's plain text. Document 01: a value that no reading can return "counts there as one with no fields"; so it has no bytes.

@@ -9,10 +9,10 @@ use native.Mathlib.Omega.{arith}
 use native.Mathlib.Decide.{decLt}
 use lib.Dec.{ltb}
 use lib.ListN.{length, take, drop, length-drop}
+use Rattle.base_limits.specs.Limits.{largestNumber}
 use Rattle.base_lists.specs.Seqs.{All}
 use Rattle.math_terms.specs.Terms.{con, var}
 use Rattle.math_terms.specs.Fillings.{Occurs}
-use Rattle.text_grammar.specs.Sizes.{largestNumber}
 use Rattle.text_grammar.specs.Terms.{OurTerm, fieldsOf}
 use Rattle.text_grammar.specs.Limits.{TermIn, IsLeft}
 use Rattle.text_grammar.specs.Read.{Reason, long, grammar, fields, terms, limits, linear, variable, unknown, number, rule, slip, said}

@@ -3,6 +3,7 @@
 ghost use mathlib.Core.Path.{_≡_};
 ghost use Prim.Native.Nat.{_≤_};
 ghost use lib.ListN.{length};
+ghost use Rattle.base_limits.specs.Limits.{mostRuleBytes, mostSlipBytes};
 ghost use Rattle.text_grammar.specs.Read.{readSlip};
 ghost use Rattle.text_grammar.specs.rules.Read.{readRule};
 ghost use Rattle.text_refusals.specs.verdicts.Verdicts.{verdictOf};
@@ -40,8 +41,8 @@ pub struct LeftJudged {
 pub fn judge_slip(text: &[u8]) -> Verdict
     ensures { λ r. ⌜ r ≡ verdictOf (readSlip (now (text .entry))) ⌝ }
 {
-    if 8192 < text.len() {
-        return Verdict::Refused(Reason::Long, 8192);
+    if base_limits::MOST_SLIP_BYTES < text.len() {
+        return Verdict::Refused(Reason::Long, base_limits::MOST_SLIP_BYTES);
     }
     match text_scan::grammar_place(text) {
         Found::At(p) => Verdict::Refused(Reason::Grammar, p),
@@ -70,7 +71,7 @@ pub fn read_slip(text: &[u8]) -> SlipRead
 
 // What the right side's survey says of the whole text: its list variables may recur and share a field, and it begins at place d.
 fn right_verdict(v: Verdict, d: usize) -> Verdict
-    requires { ⌜ (d ≤ 8192) × PlacedIn 8192 v ⌝ }
+    requires { ⌜ (d ≤ mostSlipBytes) × PlacedIn mostSlipBytes v ⌝ }
     ensures { λ r. ⌜ r ≡ rightOf d v ⌝ }
 {
     match v {
@@ -86,7 +87,7 @@ fn right_verdict(v: Verdict, d: usize) -> Verdict
 
 // Refusal 10: the first variable of the right side, which begins at place d, that the left side lacks.
 fn unknown_verdict(f: Found, d: usize) -> Verdict
-    requires { ⌜ (d ≤ 8192) × FoundIn 8192 f ⌝ }
+    requires { ⌜ (d ≤ mostSlipBytes) × FoundIn mostSlipBytes f ⌝ }
     ensures { λ r. ⌜ r ≡ unknownOf d f ⌝ }
 {
     match f {
@@ -97,7 +98,7 @@ fn unknown_verdict(f: Found, d: usize) -> Verdict
 
 // The refusals from 3 on of a text with an arrow behind p bytes.
 fn judge_two(text: &[u8], p: usize) -> Verdict
-    requires { ⌜ (length (now text) ≤ 4096) × (splitOf (now text) ≡ Two p) ⌝ }
+    requires { ⌜ (length (now text) ≤ mostRuleBytes) × (splitOf (now text) ≡ Two p) ⌝ }
     ensures { λ r. ⌜ r ≡ verdictOf (readRule (now (text .entry))) ⌝ }
 {
     let d = p + 2;
@@ -120,8 +121,8 @@ fn judge_rule(text: &[u8], split: Split) -> Verdict
     requires { ⌜ split ≡ splitOf (now text) ⌝ }
     ensures { λ r. ⌜ r ≡ verdictOf (readRule (now (text .entry))) ⌝ }
 {
-    if 4096 < text.len() {
-        return Verdict::Refused(Reason::Long, 4096);
+    if base_limits::MOST_RULE_BYTES < text.len() {
+        return Verdict::Refused(Reason::Long, base_limits::MOST_RULE_BYTES);
     }
     match split {
         Split::Stops(p) => Verdict::Refused(Reason::Grammar, p),

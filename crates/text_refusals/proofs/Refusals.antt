@@ -10,10 +10,11 @@ use native.Mathlib.Decide.{decLt}
 use borrow.Author.Tests.{lt-ltb, le-ltb, eq-eqb, ne-eqb}
 use lib.Dec.{ltb}
 use lib.ListN.{length, drop}
+use Rattle.base_limits.specs.Limits.{mostFields, mostDigits, largestInteger, longestString, largestNumber}
 use Rattle.base_lists.specs.Seqs.{All, Any}
 use Rattle.math_types.specs.Order.{basic, list}
+use Rattle.math_types.specs.Types.{isList}
 use Rattle.math_types.specs.Values.{kindOf, kindFrom, kindOf-from}
-use Rattle.text_grammar.specs.Sizes.{mostDigits, largestInteger, longestString, largestNumber, mostFields}
 use Rattle.text_grammar.specs.Grammar.{Raw, raw-int, raw-str, raw-var, raw-empty, spell, spellF, FieldOk}
 use Rattle.text_grammar.specs.Numbers.{value}
 use Rattle.text_grammar.specs.Leftmost.{leftmost}
@@ -33,7 +34,7 @@ use Rattle.text_refusals.specs.verdicts.Verdicts.{numberOf, reasonFrom, 
 use Rattle.text_refusals.proofs.verdicts.Verdicts.{first-former, first-latter, first-none, first-assoc, first-keeps, first-takes}
 use Rattle.text_refusals.proofs.verdicts.Verdicts.{refusedBy, verdictBy, verdict-chain, Behind, behind-less, Rising, verdict-behind}
 use Rattle.text_refusals.specs.declared.Survey.{Survey}
-use Rattle.text_refusals.specs.Refusals.{overLexeme, isList, clashBy, variableBy, lastBad, lastReason, met, addBy, listsAt, atOf, surveyToken, nothingYet}
+use Rattle.text_refusals.specs.Refusals.{overLexeme, clashBy, variableBy, lastBad, lastReason, met, addBy, listsAt, atOf, surveyToken, nothingYet}
 
 -- ---- the tests of the code and the decisions of the definition
 
@@ -189,7 +190,7 @@ module _ (w : ℕ) where
   linear-last b n l (raw-var (basic k) ds) (yes h) x y t o v = absurd h
   linear-last b n l (raw-var (basic k) ds) (no h) x y t o v = rw (list-kind (basic k))
   linear-last {A} b n l (raw-var list ds) d x y t o v =
-      let small : value ds ≤ 15 = omega arith in
+      let small : value ds ≤ largestNumber = omega arith in
       let e : capped (value ds) ≡ value ds = omega arith in
       rw e (go d (tracks-clash (value ds) t small o))
     where
@@ -294,7 +295,7 @@ module _ (w : ℕ) where
     added (raw-str s) u c = plain-then
     added (raw-var (basic k) ds) u c = rw (list-kind (basic k)) plain-then
     added (raw-var list ds) u c =
-        let small : value ds ≤ 15 = omega arith in
+        let small : value ds ≤ largestNumber = omega arith in
         let e : capped (value ds) ≡ value ds = omega arith in
         rw e (go (stillOk l (value ds)) refl (tracks-clash (value ds) t small o) (tracks-add (value ds) t small))
       where

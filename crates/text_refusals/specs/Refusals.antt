@@ -3,10 +3,9 @@
 use mathlib.Core.Bool.{Bool, true, false, cond, not, _||_}
 use Prim.Native.Nat.{ℕ}
 use lib.Dec.{eqb, ltb}
-use Rattle.math_types.specs.Order.{basic, list}
-use Rattle.math_types.specs.Types.{Kind}
+use Rattle.math_types.specs.Types.{isList}
+use Rattle.base_limits.specs.Limits.{mostFields, mostDigits, largestInteger, longestString, largestNumber}
 use Rattle.math_types.specs.Values.{kindOf}
-use Rattle.text_grammar.specs.Sizes.{mostDigits, largestInteger, longestString, largestNumber, mostFields}
 use Rattle.text_grammar.specs.Tokens.{Token}
 use Rattle.text_accepted.specs.declared.linearity.Lists.{Lists}
 use Rattle.text_accepted.specs.linearity.Lists.{noLists, nextField, stillOk, addList}
@@ -31,10 +30,6 @@ overBy Empty n v = false
 
 abbrev pub overLexeme : Lexeme → Bool
 overLexeme p = overBy (p .what) (p .size) (p .value)
-
-abbrev pub isList : Kind → Bool
-isList (basic k) = false
-isList list = true
 
 -- refusal 6: a list variable with which left-linearity is lost
 abbrev pub clashBy : Spelled → ℕ → Lists → Bool

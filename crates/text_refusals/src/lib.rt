@@ -1,8 +1,7 @@
 // Which refusal from 3 on a written term meets, and the first that is tried over the terms of a text so far.
 ghost use mathlib.Core.Path.{_≡_};
-ghost use Rattle.math_types.specs.Values.{kindOf};
 ghost use Rattle.text_refusals.specs.verdicts.Verdicts.{sortOf};
-ghost use Rattle.text_refusals.specs.Refusals.{overLexeme, isList, clashBy, variableBy, lastBad, lastReason, met, addBy, listsAt};
+ghost use Rattle.text_refusals.specs.Refusals.{overLexeme, clashBy, variableBy, lastBad, lastReason, met, addBy, listsAt};
 ghost use Rattle.text_refusals.specs.Refusals.{surveyed};
 
 pub mod unknown; // refusal 10
@@ -10,7 +9,6 @@ pub mod verdicts; // what is said of a text
 
 use crate::verdicts::Reason;
 use crate::verdicts::Verdict;
-use math_types::Kind;
 use text_accepted::linearity::Lists;
 use text_scan::Lexeme;
 use text_scan::Spelled;
@@ -28,6 +26,9 @@ pub struct Survey {
     pub lists: Lists,
 }
 
+// The largest number as a lexeme's value.
+const LARGEST_NUMBER: u32 = base_limits::LARGEST_NUMBER as u32;
+
 // Refusal 5: a value, digit count, variable number or string length over its limit.
 fn is_over(p: Lexeme) -> bool
     ensures { λ r. ⌜ r ≡ overLexeme p ⌝ }
@@ -37,25 +38,14 @@ fn is_over(p: Lexeme) -> bool
     let v = p.value;
     match what {
         Spelled::Int => {
-            if 10 < n {
+            if base_limits::MOST_DIGITS < n {
                 return true;
             }
-            2147483647 < v
+            base_limits::LARGEST_INTEGER < v
         }
-        Spelled::Str => 15 < n,
-        Spelled::Var(_) => 15 < v,
+        Spelled::Str => base_limits::LONGEST_STRING < n,
+        Spelled::Var(_) => LARGEST_NUMBER < v,
         Spelled::Empty => false,
-    }
-}
-
-fn is_list(k: Kind) -> bool
-    ensures { λ r. ⌜ r ≡ isList (kindOf k) ⌝ }
-{
-    match k {
-        Kind::Integer => false,
-        Kind::String => false,
-        Kind::Atom => false,
-        Kind::List => true,
     }
 }
 
@@ -69,7 +59,7 @@ fn is_clash(p: Lexeme, l: Lists) -> bool
         Spelled::Int => false,
         Spelled::Str => false,
         Spelled::Var(k) => {
-            if !is_list(k) {
+            if !math_types::is_list(k) {
                 return false;
             }
             !l.add(v as usize).ok
@@ -115,7 +105,7 @@ fn last_reason(slip: bool) -> Reason
 fn met(slip: bool, width: usize, a: At, p: Lexeme, l: Lists) -> Verdict
     ensures { λ r. ⌜ r ≡ met slip width a p l ⌝ }
 {
-    if 4 < a.field {
+    if base_limits::MOST_FIELDS < a.field {
         return Verdict::Refused(Reason::Fields, a.place);
     }
     if width < a.index {
@@ -139,7 +129,7 @@ fn add_lexeme(l: Lists, p: Lexeme) -> Lists
         Spelled::Int => l,
         Spelled::Str => l,
         Spelled::Var(k) => {
-            if is_list(k) {
+            if math_types::is_list(k) {
                 return l.add(v as usize);
             }
             l
@@ -161,7 +151,11 @@ fn lists_at(a: At, l: Lists) -> Lists
 fn width_of(slip: bool) -> usize
     ensures { λ r. ⌜ r ≡ (sortOf slip) .width ⌝ }
 {
-    if slip { 64 } else { 16 }
+    if slip {
+        base_limits::MOST_ITEMS
+    } else {
+        base_limits::MOST_TERMS
+    }
 }
 
 // The survey with the term p, which stands at a.

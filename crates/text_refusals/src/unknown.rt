@@ -6,7 +6,10 @@ use text_scan::Lexeme;
 use text_scan::Spelled;
 use text_values::RuleSide;
 
-// Whether a written term is a variable that the side lacks. No side has one with a number over 15.
+// The largest number as a lexeme's value.
+const LARGEST_NUMBER: u32 = base_limits::LARGEST_NUMBER as u32;
+
+// Whether a written term is a variable that the side lacks. No side has one with a number over its limit.
 pub fn is_unknown(left: RuleSide, p: Lexeme) -> bool
     ensures { λ r. ⌜ r ≡ unknownLexeme (viewSide left) p ⌝ }
 {
@@ -16,7 +19,7 @@ pub fn is_unknown(left: RuleSide, p: Lexeme) -> bool
         Spelled::Int => false,
         Spelled::Str => false,
         Spelled::Var(k) => {
-            if 15 < v {
+            if LARGEST_NUMBER < v {
                 return true;
             }
             !text_accepted::variables::has_variable(left, k, v as u8)

@@ -10,9 +10,9 @@ use native.Mathlib.Omega.{arith}
 use native.Mathlib.Decide.{ℕ-discrete, decLe}
 use lib.ListN.{length, drop, getD, drop-of-length-le}
 use lib.Seq.{drop-cons}
+use Rattle.base_limits.specs.Limits.{largestInteger}
 use Rattle.text_grammar.specs.Bytes.{Digit, digit?}
 use Rattle.text_grammar.specs.Numbers.{val, value}
-use Rattle.text_grammar.specs.Sizes.{largestInteger}
 use Rattle.text_grammar.specs.Walk.{digits1, leadingDigits, quote1, untilQuote}
 use Rattle.text_scan.specs.Lexemes.{capped, counted, isDigit}
 

@@ -15,9 +15,7 @@ use lib.Dec.{T, leb, eqb}
 use lib.ListN.{getD}
 use Rattle.base_lists.specs.Seqs.{Any, any?}
 use Rattle.base_lists.specs.Tables.{both, allBelow, all-below}
-use Rattle.math_types.specs.Order.{basic, list}
-use Rattle.math_types.specs.Types.{integer, string, atom}
-use Rattle.text_grammar.specs.Bytes as bytes
+use Rattle.text_grammar.specs.Letters.{letters}
 use Rattle.text_grammar.specs.Bytes.{digit?, Begins, b-digit, b-quote, b-letter, b-e, b-none, begins, Follows, f-digit, f-colon, f-bar}
 use Rattle.text_grammar.specs.Bytes.{f-none}
 use Rattle.text_grammar.specs.Bytes.{follows, Holds, h-quote, h-in, h-none, holds}
@@ -92,7 +90,7 @@ unfoldable pub fineOf : ℕ → ℕ
 fineOf b =
     pick (eqb b 48) 1
     (pick (within 49 57 b) 2
-    (pick (isIn b (bytes.letter (basic integer) ∷ bytes.letter (basic string) ∷ bytes.letter (basic atom) ∷ bytes.letter list ∷ [])) 3
+    (pick (isIn b letters) 3
     (pick (eqb b 34) 4
     (pick (eqb b 58) 5
     (pick (eqb b 124) 6

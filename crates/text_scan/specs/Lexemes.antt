@@ -4,11 +4,11 @@ use mathlib.Core.Bool.{Bool, decide}
 use mathlib.Core.List.{List}
 use Prim.Native.Nat.{ℕ, suc, min}
 use lib.ListN.{length}
+use Rattle.base_limits.specs.Limits.{largestInteger}
 use Rattle.math_types.specs.Values.{kindFrom}
 use Rattle.text_grammar.specs.Bytes.{digit?, Begins, b-digit, b-quote, b-letter, b-e, b-none}
 use Rattle.text_grammar.specs.Grammar.{Raw, raw-int, raw-str, raw-var, raw-empty}
 use Rattle.text_grammar.specs.Numbers.{value}
-use Rattle.text_grammar.specs.Sizes.{largestInteger}
 use Rattle.text_scan.specs.declared.Digits.{Digits}
 use Rattle.text_scan.specs.declared.Lexeme.{Lexeme}
 use Rattle.text_scan.specs.declared.Spelled.{Spelled}

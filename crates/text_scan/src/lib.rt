@@ -93,7 +93,7 @@ fn is_digit(b: u8) -> bool
 }
 
 // One above the largest integer.
-const TOO_LARGE: u64 = 2147483648;
+const TOO_LARGE: u64 = base_limits::LARGEST_INTEGER as u64 + 1;
 
 // All values past the largest integer count as the same, so that no run of digits overflows.
 fn cap(v: u64) -> u64

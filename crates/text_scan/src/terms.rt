@@ -1,27 +1,22 @@
 // The value of the term that is written at a place of a text.
 ghost use mathlib.Core.Path.{_≡_};
-ghost use Prim.Native.Nat.{_≤_, min};
+ghost use Prim.Native.Nat.{_≤_};
 ghost use lib.ListN.{length, take, drop};
-ghost use Rattle.text_grammar.specs.Sizes.{longestString};
+ghost use Rattle.base_limits.specs.Limits.{longestString};
 ghost use Rattle.text_grammar.specs.Walk.{front};
 ghost use Rattle.text_values.specs.Values.{pad};
 ghost use Rattle.text_scan.specs.terms.Terms.{termFrom};
 use crate::Spelled;
+use base_numbers::at_most;
 use text_values::Form;
 use text_values::Term;
 
-fn at_most(n: usize, limit: usize) -> usize
-    ensures { λ r. ⌜ r ≡ min n limit ⌝ }
-{
-    if n < limit { n } else { limit }
-}
-
 // The bytes of a string: n of the text from `from` on, as far as there are any.
-fn string_at(text: &[u8], from: usize, n: usize) -> [u8; 15]
-    requires { ⌜ (from ≤ length (now text)) × (n ≤ 15) ⌝ }
+fn string_at(text: &[u8], from: usize, n: usize) -> [u8; base_limits::LONGEST_STRING]
+    requires { ⌜ (from ≤ length (now text)) × (n ≤ longestString) ⌝ }
     ensures { λ r. ⌜ r ≡ pad longestString 0 (take n (drop from (now (text .entry)))) ⌝ }
 {
-    let mut bytes = [0u8; 15];
+    let mut bytes = [0u8; base_limits::LONGEST_STRING];
     let mut i: usize = 0;
     while i < n {
         if text.len() - from <= i {
@@ -45,10 +40,10 @@ pub fn term_at(text: &[u8], place: usize) -> Term
     match what {
         Spelled::Int => Term {
             form: Form::Int(p.value),
-            text: [0; 15],
+            text: [0; base_limits::LONGEST_STRING],
         },
         Spelled::Str => {
-            let n = at_most(p.size, 15);
+            let n = at_most(p.size, base_limits::LONGEST_STRING);
             let bytes = string_at(text, place + 1, n);
             Term {
                 form: Form::Str(n as u8),
@@ -57,7 +52,7 @@ pub fn term_at(text: &[u8], place: usize) -> Term
         }
         Spelled::Var(k) => Term {
             form: Form::Var(k, (p.value % 256) as u8),
-            text: [0; 15],
+            text: [0; base_limits::LONGEST_STRING],
         },
         Spelled::Empty => text_values::blank_term(),
     }

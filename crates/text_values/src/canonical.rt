@@ -8,13 +8,13 @@ use crate::Term;
 fn is_inside(b: u8) -> bool
     ensures { λ r. ⌜ r ≡ isInside b ⌝ }
 {
-    if b < 32 {
+    if b < b' ' {
         return false;
     }
-    if 126 < b {
+    if b'~' < b {
         return false;
     }
-    b != 34
+    b != b'"'
 }
 
 // What is asked of a byte of a string's array: used or not.
@@ -28,14 +28,14 @@ fn is_byte(b: u8, used: bool) -> bool
 }
 
 // A string of n bytes, and zeros behind it.
-fn is_text(text: [u8; 15], n: usize) -> bool
+fn is_text(text: [u8; base_limits::LONGEST_STRING], n: usize) -> bool
     ensures { λ r. ⌜ r ≡ textOk n text ⌝ }
 {
-    if 15 < n {
+    if base_limits::LONGEST_STRING < n {
         return false;
     }
     let mut i: usize = 0;
-    while i < 15 {
+    while i < base_limits::LONGEST_STRING {
         if !is_byte(text[i], i < n) {
             return false;
         }
@@ -52,14 +52,14 @@ fn is_term(t: Term) -> bool
     let text = t.text;
     match form {
         Form::Int(n) => {
-            if 2147483647 < n {
+            if base_limits::LARGEST_INTEGER < n {
                 return false;
             }
             is_text(text, 0)
         }
         Form::Str(k) => is_text(text, k as usize),
         Form::Var(_, n) => {
-            if 15 < n {
+            if base_limits::LARGEST_NUMBER < n {
                 return false;
             }
             is_text(text, 0)

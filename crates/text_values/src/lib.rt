@@ -16,18 +16,18 @@ pub enum Form {
 
 pub struct Term {
     pub form: Form,
-    pub text: [u8; 15],
+    pub text: [u8; base_limits::LONGEST_STRING],
 }
 
 pub struct Field {
     pub n: usize,
-    pub terms: [Term; 16],
+    pub terms: [Term; base_limits::MOST_TERMS],
 }
 
 // One side of a rule.
 pub struct RuleSide {
     pub n: usize,
-    pub fields: [Field; 4],
+    pub fields: [Field; base_limits::MOST_FIELDS],
 }
 
 // A rule. A right side with no fields is none: a right side has one field at least.
@@ -38,12 +38,12 @@ pub struct Rule {
 
 pub struct SlipField {
     pub n: usize,
-    pub terms: [Term; 64],
+    pub terms: [Term; base_limits::MOST_ITEMS],
 }
 
 pub struct Slip {
     pub n: usize,
-    pub fields: [SlipField; 4],
+    pub fields: [SlipField; base_limits::MOST_FIELDS],
 }
 
 pub fn blank_term() -> Term
@@ -51,7 +51,7 @@ pub fn blank_term() -> Term
 {
     Term {
         form: Form::Int(0),
-        text: [0; 15],
+        text: [0; base_limits::LONGEST_STRING],
     }
 }
 
@@ -62,7 +62,7 @@ pub fn blank_field() -> Field
     let t = blank_term();
     Field {
         n: 0,
-        terms: [t; 16],
+        terms: [t; base_limits::MOST_TERMS],
     }
 }
 
@@ -73,7 +73,7 @@ pub fn blank_side() -> RuleSide
     let f = blank_field();
     RuleSide {
         n: 0,
-        fields: [f; 4],
+        fields: [f; base_limits::MOST_FIELDS],
     }
 }
 
@@ -91,7 +91,7 @@ pub fn blank_slip_field() -> SlipField
     let t = blank_term();
     SlipField {
         n: 0,
-        terms: [t; 64],
+        terms: [t; base_limits::MOST_ITEMS],
     }
 }
 
@@ -102,7 +102,7 @@ pub fn blank_slip() -> Slip
     let f = blank_slip_field();
     Slip {
         n: 0,
-        fields: [f; 4],
+        fields: [f; base_limits::MOST_FIELDS],
     }
 }
 

@@ -8,6 +8,7 @@ use native.Mathlib.Decide.{decLt}
 use lib.ListN.{length, set, length-append}
 use lib.Seq.{sets}
 use Rattle.base_lists.specs.Seqs.{IsCons, all-append}
+use Rattle.text_write.specs.Sizes.{longestNumber}
 use Rattle.text_grammar.specs.Bytes.{Digit}
 use Rattle.text_grammar.specs.Grammar.{Number}
 use Rattle.text_grammar.specs.Numbers.{value, digitsOf}
@@ -59,7 +60,7 @@ digits-most (suc k) n h = go (decLt n 10) (λ m l. digits-most k m l)
 pub digits-32 : (n : ℕ) → n < 4294967296 → length (digitsOf n) ≤ 10
 digits-32 n h = digits-most 9 n (omega arith)
 
-pub digits-64 : (n : ℕ) → n < 18446744073709551616 → length (digitsOf n) ≤ 20
+pub digits-64 : (n : ℕ) → n < 18446744073709551616 → length (digitsOf n) ≤ longestNumber
 digits-64 n h = digits-most 19 n (omega arith)
 
 -- ---- writing them

@@ -1,3 +1,4 @@
+pub mod Sizes
 pub mod Room
 pub mod Answers
 pub mod pieces

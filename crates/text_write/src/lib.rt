@@ -2,10 +2,12 @@
 // The bytes are counted first, so that a buffer that is too small keeps its old bytes (refusal 8);
 // then they are written into room that is known.
 ghost use mathlib.Core.Path.{_≡_};
-ghost use Prim.Native.Nat.{_≤_, min};
+ghost use Prim.Native.Nat.{_≤_};
 ghost use lib.ListN.{length, take};
+ghost use Rattle.base_limits.specs.Limits.{longestTerm};
+ghost use Rattle.text_write.specs.Sizes.{longestNumber};
 ghost use Rattle.math_types.specs.Values.{kindOf};
-ghost use Rattle.text_grammar.specs.Bytes.{letter};
+ghost use Rattle.text_grammar.specs.Letters.{letter};
 ghost use Rattle.text_grammar.specs.Grammar.{raw-str, spell};
 ghost use Rattle.text_grammar.specs.Numbers.{digitsOf};
 ghost use Rattle.text_grammar.specs.Plain.{termText};
@@ -15,6 +17,7 @@ ghost use Rattle.text_write.specs.Answers.{Writes};
 
 pub mod pieces; // pieces of a text, one behind the other
 
+use base_numbers::at_most;
 use math_types::Kind;
 use text_values::Form;
 use text_values::Term;
@@ -27,18 +30,14 @@ pub enum Written {
     TooSmall(usize),
 }
 
-// How many of n: the views end a count where its array ends, and so does the code.
-fn at_most(n: usize, most: usize) -> usize
-    ensures { λ r. ⌜ r ≡ min n most ⌝ }
-{
-    if n < most { n } else { most }
-}
+// The digits of the largest number of 64 bits.
+pub const LONGEST_NUMBER: usize = 20;
 
 // ---- how many bytes. Each count has a bound beside it, so that the sums of counts can't wrap.
 
 // Document 01: "integers without leading zeros".
 fn digits_size(n: u64) -> usize
-    ensures { λ r. ⌜ (r ≡ length (digitsOf n)) × (r ≤ 20) ⌝ }
+    ensures { λ r. ⌜ (r ≡ length (digitsOf n)) × (r ≤ longestNumber) ⌝ }
 {
     let mut size: usize = 1;
     let mut m = n;
@@ -50,12 +49,12 @@ fn digits_size(n: u64) -> usize
 }
 
 fn term_size(t: Term) -> usize
-    ensures { λ r. ⌜ (r ≡ length (termText (viewTerm t))) × (r ≤ 17) ⌝ }
+    ensures { λ r. ⌜ (r ≡ length (termText (viewTerm t))) × (r ≤ longestTerm) ⌝ }
 {
     let form = t.form;
     match form {
         Form::Int(n) => digits_size(n as u64),
-        Form::Str(k) => at_most(k as usize, 15) + 2,
+        Form::Str(k) => at_most(k as usize, base_limits::LONGEST_STRING) + 2,
         Form::Var(_, n) => digits_size(n as u64) + 1,
     }
 }
@@ -67,11 +66,11 @@ fn put_digits(n: u64, out: &mut [u8], at: usize) -> usize
     ensures { λ r. ⌜ Put (digitsOf n) at (now (out .entry)) r (now (out .exit)) ⌝ }
 {
     if n < 10 {
-        out[at] = 48 + (n as u8);
+        out[at] = b'0' + (n as u8);
         return at + 1;
     }
     let p = put_digits(n / 10, out, at);
-    out[p] = 48 + ((n % 10) as u8);
+    out[p] = b'0' + ((n % 10) as u8);
     p + 1
 }
 
@@ -88,27 +87,22 @@ fn put_bytes(bytes: &[u8], out: &mut [u8], at: usize) -> usize
 }
 
 // A string between its quotes.
-fn put_string(text: [u8; 15], k: u8, out: &mut [u8], at: usize) -> usize
+fn put_string(text: [u8; base_limits::LONGEST_STRING], k: u8, out: &mut [u8], at: usize) -> usize
     requires { ⌜ Room (spell (raw-str (take k text))) at (now out) ⌝ }
     ensures { λ r. ⌜ Put (spell (raw-str (take k text))) at (now (out .entry)) r (now (out .exit)) ⌝ }
 {
-    let n = at_most(k as usize, 15);
+    let n = at_most(k as usize, base_limits::LONGEST_STRING);
     out[at] = b'"';
     let p = put_bytes(&text[..n], out, at + 1);
     out[p] = b'"';
     p + 1
 }
 
-// Document 01: "a letter for its type (`i` integer, `s` string, `a` atom, `l` list)".
+// A type's letter.
 fn letter(k: Kind) -> u8
     ensures { λ r. ⌜ r ≡ letter (kindOf k) ⌝ }
 {
-    match k {
-        Kind::Integer => b'i',
-        Kind::String => b's',
-        Kind::Atom => b'a',
-        Kind::List => b'l',
-    }
+    text_grammar::letter_at(math_types::rank(k) as u8)
 }
 
 fn put_term(t: Term, out: &mut [u8], at: usize) -> usize
@@ -131,10 +125,10 @@ fn put_term(t: Term, out: &mut [u8], at: usize) -> usize
 
 // ---- the public functions
 
-// A term's text, which has at most 17 bytes.
+// A term's text.
 pub(crate) fn write_term(t: Term, out: &mut [u8]) -> Written
     ensures { λ w. ⌜ Writes (termText (viewTerm t)) (now (out .entry)) w (now (out .exit)) ⌝ }
-    ensures { λ _. ⌜ length (termText (viewTerm t)) ≤ 17 ⌝ }
+    ensures { λ _. ⌜ length (termText (viewTerm t)) ≤ longestTerm ⌝ }
 {
     let long = term_size(t);
     if out.len() < long {

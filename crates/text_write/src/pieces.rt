@@ -39,20 +39,20 @@ pub fn put_bytes(text: &[u8], out: &mut [u8], at: usize) -> usize
     p
 }
 
-// A number's digits. The largest of 64 bits has 20.
+// A number's digits.
 pub fn put_number(n: u64, out: &mut [u8], at: usize) -> usize
     ensures { λ r. ⌜ Placed (digitsOf n) at (now (out .entry)) r (now (out .exit)) ⌝ }
 {
-    let mut digits = [0u8; 20];
+    let mut digits = [0u8; crate::LONGEST_NUMBER];
     let size = size_of(crate::write_number(n, &mut digits));
     put_bytes(&digits[..size], out, at)
 }
 
-// A term's text, which has at most 17 bytes.
+// A term's text.
 pub fn put_term(t: Term, out: &mut [u8], at: usize) -> usize
     ensures { λ r. ⌜ Placed (termText (viewTerm t)) at (now (out .entry)) r (now (out .exit)) ⌝ }
 {
-    let mut text = [0u8; 17];
+    let mut text = [0u8; base_limits::LONGEST_TERM];
     let size = size_of(crate::write_term(t, &mut text));
     put_bytes(&text[..size], out, at)
 }
@@ -72,7 +72,7 @@ pub fn put_number_at(n: u64, place: u64, out: &mut [u8], at: usize) -> usize
 pub fn tab_place(line: &[u8]) -> usize
     ensures { λ r. ⌜ (r ≡ indexOf 9 (now (line .entry))) × (r ≤ length (now (line .entry))) ⌝ }
 {
-    bytes::scan::find(line, 0, line.len(), 9)
+    bytes::scan::find(line, 0, line.len(), b'\t')
 }
 
 // The text into the lent bytes, or its size where they are too few.

@@ -3,7 +3,8 @@ use line_io::Output;
 use line_io::State;
 use text_write::Written;
 
-// Puts a line's answer behind those that wait. It has room: an answer has at most 2,334 bytes.
+// Puts a line's answer behind those that wait. It has room: no answer has more bytes than the kit's buffer (`texts-short` of
+// print_texts' proofs/Lengths).
 fn answer(line: &[u8], buffer: &mut [u8], output: Output) -> Output {
     let mut text = io::buffer();
     match print_texts::texts_answer(line, &mut text) {
@@ -40,10 +41,13 @@ fn answer_all(chunk: &mut [u8], line: &mut [u8], buffer: &mut [u8]) {
     line_io::finish(s, buffer);
 }
 
-// Of a line no more than 8,193 bytes are kept: with more it is refused by 1 whatever they are (`cut-same` of answers' proofs/Lengths).
+// Of a line one byte more is kept than a slip may have: with more it is refused by 1 whatever they are (`cut-same` of print_texts'
+// proofs/Lengths).
+const LINE: usize = base_limits::MOST_SLIP_BYTES + 1;
+
 fn main() {
     let mut chunk = io::large_buffer();
-    let mut line = [0u8; 8193];
+    let mut line = [0u8; LINE];
     let mut buffer = io::large_buffer();
     answer_all(&mut chunk, &mut line, &mut buffer);
 }

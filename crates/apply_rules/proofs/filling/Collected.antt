@@ -9,6 +9,7 @@ use borrow.Author.Tests.{le-leb, lt-leb}
 use lib.Dec.{leb}
 use lib.ListN.{length, set, replicate, length-append}
 use lib.Seq.{set-append-seam}
+use Rattle.base_limits.specs.Limits.{mostItems}
 use Rattle.text_values.specs.declared.Term.{Term}
 use Rattle.text_values.specs.declared.SlipField.{SlipField}
 use Rattle.text_values.specs.Values.{pad, blankTerm}
@@ -26,47 +27,49 @@ pad-more w d s a h =
     ∙ sym (append-assoc s (a ∷ []) (replicate k d))
     ∙ ap (λ (m : ℕ). (s ++ a ∷ []) ++ replicate m d) (sym e′)
 
-push-short : (s : List Term) (t : Term) → length s < 64 → pushed (slipField s) t ≡ slipField (s ++ t ∷ [])
+push-short : (s : List Term) (t : Term) → length s < mostItems → pushed (slipField s) t ≡ slipField (s ++ t ∷ [])
 push-short s t h =
-    rw (lt-leb 64 (length s) h)
-    (ap₂ (λ (n : ℕ) (l : List Term). record { n = n; terms = l }) (sym (length-append s (t ∷ []))) (pad-more 64 blankTerm s t h))
+    rw (lt-leb mostItems (length s) h)
+    (ap₂ (λ (n : ℕ) (l : List Term). record { n = n; terms = l }) (sym (length-append s (t ∷ []))) (pad-more mostItems blankTerm s t h))
 
-fold-short : (ts s : List Term) → length s + length ts ≤ 64 → foldl pushed (slipField s) ts ≡ slipField (s ++ ts)
+fold-short : (ts s : List Term) → length s + length ts ≤ mostItems → foldl pushed (slipField s) ts ≡ slipField (s ++ ts)
 fold-short [] s h = ap slipField (sym (append-nil s))
 fold-short (t ∷ ts) s h =
     ap (λ (w : SlipField). foldl pushed w ts) (push-short s t (omega arith))
     ∙ fold-short ts (s ++ t ∷ []) (omega (arith, length-append s (t ∷ [])))
     ∙ ap slipField (append-assoc s (t ∷ []) ts)
 
-pub collected-short : (ts : List Term) → length ts ≤ 64 → collected ts ≡ slipField ts
+pub collected-short : (ts : List Term) → length ts ≤ mostItems → collected ts ≡ slipField ts
 collected-short ts h = fold-short ts [] (omega arith)
 
-push-count : (w : SlipField) (t : Term) → (pushed w t) .n ≡ min (w .n + 1) 65
-push-count w t = go (decLe 64 (w .n))
+push-count : (w : SlipField) (t : Term) → (pushed w t) .n ≡ min (w .n + 1) (suc mostItems)
+push-count w t = go (decLe mostItems (w .n))
   where
-    go : Dec (64 ≤ w .n) → (pushed w t) .n ≡ min (w .n + 1) 65
-    go (yes h) = rw (le-leb 64 (w .n) h) (let e : 65 ≡ min (w .n + 1) 65 = omega arith in e)
-    go (no h) = rw (lt-leb 64 (w .n) (omega arith)) (let e : w .n + 1 ≡ min (w .n + 1) 65 = omega arith in e)
+    go : Dec (mostItems ≤ w .n) → (pushed w t) .n ≡ min (w .n + 1) (suc mostItems)
+    go (yes h) = rw (le-leb mostItems (w .n) h) (let e : (suc mostItems) ≡ min (w .n + 1) (suc mostItems) = omega arith in e)
+    go (no h) = rw (lt-leb mostItems (w .n) (omega arith)) (let e : w .n + 1 ≡ min (w .n + 1) (suc mostItems) = omega arith in e)
 
-fold-count : (ts : List Term) (w : SlipField) → w .n ≤ 65 → (foldl pushed w ts) .n ≡ min (w .n + length ts) 65
-fold-count [] w h = let e : w .n ≡ min (w .n + 0) 65 = omega arith in e
+fold-count : (ts : List Term) (w : SlipField) → w .n ≤ (suc mostItems) → (foldl pushed w ts) .n ≡ min (w .n + length ts) (suc mostItems)
+fold-count [] w h = let e : w .n ≡ min (w .n + 0) (suc mostItems) = omega arith in e
 fold-count (t ∷ ts) w h =
     let c = push-count w t in
-    fold-count ts (pushed w t) (omega arith) ∙ (let e : min ((pushed w t) .n + length ts) 65 ≡ min (w .n + length (t ∷ ts)) 65 = omega arith in e)
+    fold-count ts (pushed w t) (omega arith)
+    ∙ (let e : min ((pushed w t) .n + length ts) (suc mostItems) ≡ min (w .n + length (t ∷ ts)) (suc mostItems) = omega arith in e)
 
-pub collected-count : (ts : List Term) → (collected ts) .n ≡ min (length ts) 65
-collected-count ts = fold-count ts (slipField []) (omega arith) ∙ (let e : min ((slipField []) .n + length ts) 65 ≡ min (length ts) 65 = omega arith in e)
+pub collected-count : (ts : List Term) → (collected ts) .n ≡ min (length ts) (suc mostItems)
+collected-count ts = fold-count ts (slipField []) (omega arith)
+    ∙ (let e : min ((slipField []) .n + length ts) (suc mostItems) ≡ min (length ts) (suc mostItems) = omega arith in e)
 
 -- ---- what the count tells
 
 module _ (ts : List Term) (f : SlipField) (is-f : f ≡ collected ts) where
-  count-is : f .n ≡ min (length ts) 65
+  count-is : f .n ≡ min (length ts) (suc mostItems)
   count-is = ap (λ (w : SlipField). w .n) is-f ∙ collected-count ts
 
-  pub short-by : (f .n ≤ 64) → (leb (length ts) 64 ≡ true) × (f ≡ slipField ts)
+  pub short-by : (f .n ≤ mostItems) → (leb (length ts) mostItems ≡ true) × (f ≡ slipField ts)
   short-by h =
-      let k : length ts ≤ 64 = omega (arith, count-is) in
-      (le-leb (length ts) 64 k, is-f ∙ collected-short ts k)
+      let k : length ts ≤ mostItems = omega (arith, count-is) in
+      (le-leb (length ts) mostItems k, is-f ∙ collected-short ts k)
 
-  pub long-by : 64 < f .n → leb (length ts) 64 ≡ false
-  long-by h = lt-leb (length ts) 64 (omega (arith, count-is))
+  pub long-by : mostItems < f .n → leb (length ts) mostItems ≡ false
+  long-by h = lt-leb (length ts) mostItems (omega (arith, count-is))

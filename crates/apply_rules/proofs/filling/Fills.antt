@@ -8,13 +8,13 @@ use Prim.Native.Nat.{ℕ, _-_}
 use lib.Dec.{leb}
 use lib.ListN.{length, take, replicate, length-map}
 use lib.Seq.{take-at}
+use Rattle.base_limits.specs.Limits.{mostFields, mostTerms, mostItems}
 use Rattle.base_lists.specs.Seqs.{Any}
 use Rattle.math_types.specs.Types.{Kind}
 use Rattle.math_types.specs.Values.{kindOf-from}
 use Rattle.math_terms.specs.Terms.{con, var}
 use Rattle.math_terms.specs.Seqs.{concat-map}
 use Rattle.math_terms.specs.Fillings.{Filling, value, fill, Occurs}
-use Rattle.text_grammar.specs.Sizes.{mostFields}
 use Rattle.text_grammar.specs.Terms.{Con, int, str, OurTerm}
 use Rattle.text_values.specs.declared.Term.{Term}
 use Rattle.text_values.specs.declared.Field.{Field}
@@ -37,7 +37,8 @@ unpadded w d g s = take-at (map g s) (replicate (w - length (map g s)) d) (lengt
 
 slip-field-of : (v : List Con) → slipField (map enc v) ≡ encodeSlipField (map con v)
 slip-field-of v =
-    ap₂ (λ (n : ℕ) (l : List Term). record { n = n; terms = pad 64 blankTerm l }) (length-map v enc ∙ sym (length-map v con)) (sym (map-map encodeTerm con v))
+    ap₂ (λ (n : ℕ) (l : List Term). record { n = n; terms = pad mostItems blankTerm l }) (length-map v enc ∙ sym (length-map v con))
+    (sym (map-map encodeTerm con v))
 
 slip-fields-of : (w : List (List Con)) → map slipField (map (map enc) w) ≡ map encodeSlipField (map (map con) w)
 slip-fields-of [] = refl
@@ -50,7 +51,7 @@ slip-of w =
 
 short-of : {A B : Type 0} (g : A → B) (w : List (List A)) → allShort (map (map g) w) ≡ allShort w
 short-of g [] = refl
-short-of g (v ∷ w) = ap₂ (λ (n : ℕ) (b : Bool). leb n 64 && b) (length-map v g) (short-of g w)
+short-of g (v ∷ w) = ap₂ (λ (n : ℕ) (b : Bool). leb n mostItems && b) (length-map v g) (short-of g w)
 
 -- the answer of so many constants
 abbrev pub filledWith : List (List Con) → Filled
@@ -84,7 +85,7 @@ module _ (x : FillingValue) (s : Slip) (θ : Filling Con Kind ℕ) where
   fields-filled [] g = refl
   fields-filled (f ∷ y) g =
       ap₂ (λ (a : List Term) (l : List (List Term)). a ∷ l)
-      (ap (concat-map (filledTerm x s)) (unpadded 16 blankTerm encodeTerm f) ∙ field-filled f (λ k n o. g k n (inl o)))
+      (ap (concat-map (filledTerm x s)) (unpadded mostTerms blankTerm encodeTerm f) ∙ field-filled f (λ k n o. g k n (inl o)))
       (fields-filled y (λ k n o. g k n (inr o)))
 
   -- FILLING IN a side of which x gives every variable θ's items: `ok` exactly where no field has more than 64 items, and then it is the slip of them

@@ -7,8 +7,8 @@ use native.Mathlib.Omega.{arith}
 use lib.Dec.{leb}
 use lib.ListN.{length, getD, set, take, drop, length-take, length-map, drop-of-length-le}
 use lib.Seq.{take-add, take-all}
+use Rattle.base_limits.specs.Limits.{mostFields, mostTerms, mostItems}
 use Rattle.math_terms.specs.Seqs.{concat-map}
-use Rattle.text_grammar.specs.Sizes.{mostFields}
 use Rattle.text_values.specs.declared.Term.{Term}
 use Rattle.text_values.specs.declared.Field.{Field}
 use Rattle.text_values.specs.declared.SlipField.{SlipField}
@@ -29,9 +29,10 @@ take-nil (suc n) = refl
 
 module _ (whole : SlipField) (f : SlipField) where
   abbrev pub Copying : ℕ → ℕ → SlipField → Type 0
-  Copying i left y = (length (f .terms) ≡ 64) × (whole ≡ foldl pushed y (take left (drop i (itemsOf f))))
+  Copying i left y = (length (f .terms) ≡ mostItems) × (whole ≡ foldl pushed y (take left (drop i (itemsOf f))))
 
-  pub copying-one : (i left : ℕ) (y z : SlipField) (d : Term) → Copying i left y → i < min (f .n) 64 → (left ≡ 0 → ⊥) → z ≡ pushed y (getD (f .terms) i d)
+  pub copying-one : (i left : ℕ) (y z : SlipField) (d : Term) → Copying i left y → i < min (f .n) mostItems → (left ≡ 0 → ⊥)
+      → z ≡ pushed y (getD (f .terms) i d)
       → Copying (i + 1) (left - 1) z
   copying-one i zero y z d v h k e = absurd (k refl)
   copying-one i (suc left) y z d v h k e = (
@@ -44,7 +45,7 @@ module _ (whole : SlipField) (f : SlipField) where
   pub copying-none : (i left : ℕ) (y : SlipField) → Copying i left y → left ≡ 0 → y ≡ whole
   copying-none i left y v e = sym (v .1 ∙ ap (λ (m : ℕ). foldl pushed y (take m (drop i (itemsOf f)))) e)
 
-  pub copying-all : (i left : ℕ) (y : SlipField) → Copying i left y → min (f .n) 64 ≤ i → y ≡ whole
+  pub copying-all : (i left : ℕ) (y : SlipField) → Copying i left y → min (f .n) mostItems ≤ i → y ≡ whole
   copying-all i left y v h =
       sym (v .1
       ∙ ap (λ (l : List Term). foldl pushed y (take left l)) (drop-of-length-le (itemsOf f) {i = i} (omega (arith, length-take (f .n) (f .terms), v .0)))
@@ -58,9 +59,9 @@ fold-each f g b s x = foldl-append f x (g b) (concat-map g s)
 
 module _ (whole : SlipField) (g : Term → List Term) (n : ℕ) (s : List Term) where
   abbrev pub Pushing : ℕ → SlipField → Type 0
-  Pushing i y = (length s ≡ 16) × (whole ≡ foldl pushed y (concat-map g (drop i (take n s))))
+  Pushing i y = (length s ≡ mostTerms) × (whole ≡ foldl pushed y (concat-map g (drop i (take n s))))
 
-  pub pushing-one : (i : ℕ) (y z : SlipField) (d : Term) → Pushing i y → i < min n 16 → z ≡ foldl pushed y (g (getD s i d)) → Pushing (i + 1) z
+  pub pushing-one : (i : ℕ) (y z : SlipField) (d : Term) → Pushing i y → i < min n mostTerms → z ≡ foldl pushed y (g (getD s i d)) → Pushing (i + 1) z
   pushing-one i y z d v h e = (
     v .0,
     v .1
@@ -69,7 +70,7 @@ module _ (whole : SlipField) (g : Term → List Term) (n : ℕ) (s : List Term) 
         ∙ ap (λ (w : SlipField). foldl pushed w (concat-map g (drop (i + 1) (take n s)))) (sym e),
   )
 
-  pub pushing-all : (i : ℕ) (y : SlipField) → Pushing i y → min n 16 ≤ i → y ≡ whole
+  pub pushing-all : (i : ℕ) (y : SlipField) → Pushing i y → min n mostTerms ≤ i → y ≡ whole
   pushing-all i y v h =
       sym (v .1
       ∙ ap (λ (l : List Term). foldl pushed y (concat-map g l)) (drop-of-length-le (take n s) {i = i} (omega (arith, length-take n s, v .0))))
@@ -108,7 +109,7 @@ module _ (g : Field → List Term) (n : ℕ) (s : List Field) where
         ∙ ap (map g) (here n s i d (omega arith) (omega (arith, v .0)))
         ∙ ap (λ (l : List (List Term)). g (getD s i d) ∷ l) (sym (drop-map g (i + 1) (take n s)))
 
-    all-next : allShort fs ≡ leb (length (g (getD s i d))) 64 && allShort (drop (i + 1) fs)
+    all-next : allShort fs ≡ leb (length (g (getD s i d))) mostItems && allShort (drop (i + 1) fs)
     all-next = v .4 ∙ ap allShort next
 
     one-more : take (i + 1) fs ≡ take i fs ++ g (getD s i d) ∷ []
@@ -117,7 +118,7 @@ module _ (g : Field → List Term) (n : ℕ) (s : List Field) where
     place : length (map slipField (take i fs)) ≡ i
     place = length-map (take i fs) slipField ∙ length-take i fs ∙ (let e : min i (length fs) ≡ i = omega (arith, count (v .0)) in e)
 
-    pub standing-one : f .n ≤ 64 → (new : Slip) → new .n ≡ out .n → new .fields ≡ set (out .fields) i f → Standing (i + 1) new
+    pub standing-one : f .n ≤ mostItems → (new : Slip) → new .n ≡ out .n → new .fields ≡ set (out .fields) i f → Standing (i + 1) new
     standing-one k new is-n is-new =
         let b = short-by (g (getD s i d)) f is-f k in (
           v .0,
@@ -132,7 +133,7 @@ module _ (g : Field → List Term) (n : ℕ) (s : List Field) where
           all-next ∙ ap (λ (x : Bool). x && allShort (drop (i + 1) fs)) (b .0),
         )
 
-    pub standing-long : 64 < f .n → (b : Slip) → b ≡ blankSlip → record { ok = false; slip = b } ≡ filledAs fs
+    pub standing-long : mostItems < f .n → (b : Slip) → b ≡ blankSlip → record { ok = false; slip = b } ≡ filledAs fs
     standing-long k b is-b =
         ap (λ (x : Slip). record { ok = false; slip = x }) is-b
         ∙ sym (ap by-short (all-next ∙ ap (λ (x : Bool). x && allShort (drop (i + 1) fs)) (long-by (g (getD s i d)) f is-f k)))

@@ -4,7 +4,7 @@ use mathlib.Core.Bool.{Bool, true, false, false≢true, true≢false}
 use mathlib.Core.List.{[], _∷_}
 use Prim.Native.Nat.{ℕ}
 use Rattle.math_types.specs.Order.{basic, list}
-use Rattle.math_types.specs.Types.{integer, string, atom, Kind, same}
+use Rattle.math_types.specs.Types.{Kind, isList}
 use Rattle.math_types.specs.Values.{kindOf}
 use Rattle.math_types.specs.declared.Kind.{Kind as KindValue}
 use Rattle.text_values.specs.declared.Form.the-variants.{Var}
@@ -15,17 +15,15 @@ use Rattle.match_fields.specs.bindings.Values.{atomOf, runOf}
 use Rattle.apply_rules.specs.filling.Filled.{runItems, valueItems, filledForm, filledTerm}
 
 module _ (x : Filling) (s : Slip) (n : ℕ) where
-  run-of-kind : (k : Kind) → same k list ≡ true → runItems s (runOf x n) ≡ valueItems x s k n
-  run-of-kind (basic integer) e = absurd (false≢true e)
-  run-of-kind (basic string) e = absurd (false≢true e)
-  run-of-kind (basic atom) e = absurd (false≢true e)
+  run-of-kind : (k : Kind) → isList k ≡ true → runItems s (runOf x n) ≡ valueItems x s k n
+  run-of-kind (basic k) e = absurd (false≢true e)
   run-of-kind list e = refl
 
-  atom-of-kind : (k : Kind) → same k list ≡ false → atomOf (x .values) k n ∷ [] ≡ valueItems x s k n
+  atom-of-kind : (k : Kind) → isList k ≡ false → atomOf (x .values) k n ∷ [] ≡ valueItems x s k n
   atom-of-kind (basic k) e = refl
   atom-of-kind list e = absurd (true≢false e)
 
-module _ (x : Filling) (s : Slip) (t : Term) (k : KindValue) (n : ℕ) (is : t .form ≡ Var k n) (b : Bool) (is-b : b ≡ same (kindOf k) list) where
+module _ (x : Filling) (s : Slip) (t : Term) (k : KindValue) (n : ℕ) (is : t .form ≡ Var k n) (b : Bool) (is-b : b ≡ isList (kindOf k)) where
   pub run-filled : b ≡ true → runItems s (runOf x n) ≡ filledTerm x s t
   run-filled e = run-of-kind x s n (kindOf k) (sym is-b ∙ e) ∙ sym (ap (filledForm x s t) is)
 

@@ -5,11 +5,11 @@ use mathlib.Core.List.{List, [], _∷_, map}
 use Prim.Native.Nat.{ℕ}
 use lib.Dec.{leb}
 use lib.ListN.{length, getD, take, drop}
+use Rattle.base_limits.specs.Limits.{mostFields}
 use Rattle.math_types.specs.Order.{basic, list}
 use Rattle.math_types.specs.Types.{Kind}
 use Rattle.math_types.specs.Values.{kindOf}
 use Rattle.math_terms.specs.Seqs.{concat-map}
-use Rattle.text_grammar.specs.Sizes.{mostFields}
 use Rattle.text_grammar.specs.Read.{slip}
 use Rattle.text_values.specs.declared.Form.{Form}
 use Rattle.text_values.specs.declared.Form.the-variants.{Int, Str, Var}

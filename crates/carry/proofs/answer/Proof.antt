@@ -5,7 +5,7 @@ use lib.ListN.{replicate}
 use lib.Seq.{length-take-le}
 use borrow.Author.Needs.{needs}
 use Rattle.text_write.proofs.pieces.Pieces.{written-in}
-use Rattle.print_carry.specs.Carry.{carryAnswer}
+use Rattle.print_carry.specs.Carry.{carryAnswer, longestAnswer}
 use Rattle.carry.proofs.answer.Statement.{statement}
 use Rattle.carry.proofs.answer.Tie as tie
 
@@ -22,13 +22,13 @@ array-share-prefix-text : tie.Need-array-share-prefix-text
 array-share-prefix-text c =
     let W = c .before .before .before .before .carry-answer in
     let z = c .before .before .before .before .before .before .before .before .args in
-    omega (arith, written-in (carryAnswer (z .k) (z .line .now)) (replicate 4646 0) (W .ensures .0) (c .before .n .given .1), W .kept .1 .1 .0)
+    omega (arith, written-in (carryAnswer (z .k) (z .line .now)) (replicate longestAnswer 0) (W .ensures .0) (c .before .n .given .1), W .kept .1 .1 .0)
 
 slice-aggregate-put : tie.Need-slice-aggregate-put
 slice-aggregate-put c =
     let W = c .before .before .before .before .before .carry-answer in
     let z = c .before .before .before .before .before .before .before .before .before .args in
-    let h = written-in (carryAnswer (z .k) (z .line .now)) (replicate 4646 0) (W .ensures .0) (c .before .before .n .given .1) in
+    let h = written-in (carryAnswer (z .k) (z .line .now)) (replicate longestAnswer 0) (W .ensures .0) (c .before .before .n .given .1) in
     sym (length-take-le _ _ (omega (arith, h, W .kept .1 .1 .0)))
 
 put-requires : tie.Need-put-requires

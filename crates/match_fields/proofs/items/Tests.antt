@@ -4,13 +4,13 @@ use mathlib.Core.Bool.{Bool, true, false, cond, false≢true}
 use Prim.Native.Nat.{ℕ}
 use lib.ListN.{getD}
 use Rattle.math_types.specs.Order.{basic, list}
-use Rattle.math_types.specs.Types.{integer, string, atom, Kind, le, same}
+use Rattle.math_types.specs.Types.{Kind, le, isList}
 use Rattle.math_types.specs.Values.{kindOf, kindFrom, kindOf-from}
 use Rattle.text_values.specs.declared.Term.{Term}
 use Rattle.text_values.specs.Values.{blankTerm}
 use Rattle.match_fields.specs.declared.bindings.Values.{Values}
 use Rattle.match_fields.specs.bindings.Values.{slot}
-use Rattle.match_fields.specs.items.Tests.{sameTerm, itemKind, bound, met, testVar, isList}
+use Rattle.match_fields.specs.items.Tests.{sameTerm, itemKind, bound, met, testVar}
 
 module _ (v : Values) (k : Kind) (i : ℕ) (item : Term) (b : Bool) (is-b : b ≡ getD (v .known) i false) where
   pub met-known : (old : Term) (r : Bool) → b ≡ true → old ≡ getD (v .terms) i blankTerm
@@ -31,13 +31,6 @@ module _ (v : Values) (k : Kind) (i : ℕ) (item : Term) (b : Bool) (is-b : b �
 
     pub met-bad : c ≡ false → record { ok = false; values = v } ≡ met (getD (v .known) i false) k i item v
     met-bad e = by false e
-
--- the kind of list variables
-pub list-kind : (k : Kind) → same k list ≡ isList k
-list-kind (basic integer) = refl
-list-kind (basic string) = refl
-list-kind (basic atom) = refl
-list-kind list = refl
 
 pub test-list : (k : Kind) (n : ℕ) (item : Term) (v : Values) → isList k ≡ true → record { ok = true; values = v } ≡ testVar k n item v
 test-list (basic k) n item v e = absurd (false≢true e)

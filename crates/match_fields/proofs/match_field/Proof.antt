@@ -1,5 +1,6 @@
 -- `match_fields::match_field` meets its contract. Assumes nothing.
 use mathlib.Core.Path.{_≡_, sym, _∙_}
+use Rattle.base_limits.specs.Limits.{mostItems}
 use Rattle.base_lists.specs.Seqs.{long-mapped}
 use borrow.Author.Tests.{not-false}
 use lib.ListN.{length}
@@ -21,12 +22,12 @@ fits-length-requires c κs = search needs
 
 returns : tie.Need-returns
 returns c =
-    let h : length (c .before .before .before .before .args .w .terms) ≡ 64 = search long-mapped
+    let h : length (c .before .before .before .before .args .w .terms) ≡ mostItems = search long-mapped
     in (
       field-fails (termsOf (c .before .before .before .before .args .f)) (itemsOf (c .before .before .before .before .args .w))
           (c .before .before .before .before .args .v) (c .before .before .before .shape-of .result) (c .before .before .at-most .result)
           (c .before .fits-length .result) (c .before .before .before .shape-of .ensures)
-          (items-count (c .before .before .before .before .args .w .n) (c .before .before .before .before .args .w .terms) 64
+          (items-count (c .before .before .before .before .args .w .n) (c .before .before .before .before .args .w .terms) mostItems
           (c .before .before .at-most .result) h (c .before .before .at-most .ensures)) (c .before .fits-length .ensures) (c .if1 .taken),
       omega arith,
     )
@@ -41,12 +42,12 @@ walk-field-requires c κs = search needs
 
 returns-2 : tie.Need-returns-2
 returns-2 c =
-    let h : length (c .before .before .before .before .before .args .w .terms) ≡ 64 = search long-mapped
+    let h : length (c .before .before .before .before .before .args .w .terms) ≡ mostItems = search long-mapped
     in (
       field-goes (termsOf (c .before .before .before .before .before .args .f)) (itemsOf (c .before .before .before .before .before .args .w))
           (c .before .before .before .before .before .args .v) (c .before .before .before .before .shape-of .result)
           (c .before .before .before .at-most .result) (c .before .before .fits-length .result) (c .before .before .before .before .shape-of .ensures)
-          (items-count (c .before .before .before .before .before .args .w .n) (c .before .before .before .before .before .args .w .terms) 64
+          (items-count (c .before .before .before .before .before .args .w .n) (c .before .before .before .before .before .args .w .terms) mostItems
           (c .before .before .before .at-most .result) h (c .before .before .before .at-most .ensures)) (c .before .before .fits-length .ensures)
           (c .walk-field .result) (c .before .if1 .left) (c .walk-field .ensures .0),
       c .walk-field .ensures .1,

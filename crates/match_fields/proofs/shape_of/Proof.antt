@@ -2,6 +2,7 @@
 use borrow.Author.Needs.{needs}
 use mathlib.Core.Path.{_≡_, refl}
 use native.Mathlib.Omega.{arith}
+use Rattle.base_limits.specs.Limits.{mostTerms}
 use Rattle.base_lists.specs.Seqs.{long-mapped}
 use Prim.Native.Nat.{_-_, min}
 use Rattle.match_fields.proofs.Walks.{Counted, counted-one, counted-all}
@@ -9,7 +10,7 @@ use Rattle.match_fields.proofs.shape_of.Statement.{statement}
 use Rattle.match_fields.proofs.shape_of.Tie as tie
 
 abbrev Inv-loop : tie.InvT-loop
-Inv-loop f n s₀ i₀ s i = (n ≡ min (f .n) 16) × Counted (f .n) (f .terms) 16 i s
+Inv-loop f n s₀ i₀ s i = (n ≡ min (f .n) mostTerms) × Counted (f .n) (f .terms) mostTerms i s
 
 abbrev μ-loop : tie.MeasureT-loop
 μ-loop f n s₀ i₀ s i = n - i
@@ -39,13 +40,13 @@ loop-again : tie.Need-loop-again Inv-loop μ-loop
 loop-again c = let v = c .before .before .before .loop .inv in let h = c .before .before .loop-test .taken in (
   v .0,
   rw (c .with-term .ensures) (counted-one (c .before .before .before .before .before .args .t1 .n) (c .before .before .before .before .before .args .t1 .terms)
-      16 (c .before .before .before .loop .i) (c .before .before .before .loop .s) _ (v .1) (omega (arith, v .0))),
+      mostTerms (c .before .before .before .loop .i) (c .before .before .before .loop .s) _ (v .1) (omega (arith, v .0))),
 )
 
 returns : tie.Need-returns Inv-loop μ-loop
 returns c =
     let v = c .before .loop .inv in let h = c .loop-test .left in counted-all (c .before .before .before .args .t1 .n)
-    (c .before .before .before .args .t1 .terms) 16 (c .before .loop .i) (c .before .loop .s) (v .1) (omega (arith, v .0))
+    (c .before .before .before .args .t1 .terms) mostTerms (c .before .loop .i) (c .before .loop .s) (v .1) (omega (arith, v .0))
 
 pub shape-of-spec : {M : Type 1} → statement M
 shape-of-spec =

@@ -5,6 +5,7 @@ use mathlib.Core.Path.{_≡_}
 use mathlib.Core.Logic.{⊎-elim}
 use native.Mathlib.Omega.{arith}
 use Prim.Native.Nat.{_+_, _-_, _≤_, min}
+use Rattle.base_limits.specs.Limits.{mostTerms, mostItems}
 use Rattle.base_lists.specs.Seqs.{long-mapped}
 use Rattle.match_fields.proofs.Walks.{absent, Reached, reached-none, reached-list, reached-one, reached-fail, reached-all, reached-same}
 use Rattle.match_fields.proofs.walk_field.Statement.{statement}
@@ -12,7 +13,7 @@ use Rattle.match_fields.proofs.walk_field.Tie as tie
 
 abbrev Inv-loop : tie.InvT-loop
 Inv-loop w gap f n now₀ compared₀ p₀ i₀ now compared p i =
-    (gap ≤ 64) × (n ≡ min (f .n) 16) × (i ≤ n) × Reached gap (take (w .n) (w .terms)) (f .n) (f .terms) 16 now₀ i p compared now
+    (gap ≤ mostItems) × (n ≡ min (f .n) mostTerms) × (i ≤ n) × Reached gap (take (w .n) (w .terms)) (f .n) (f .terms) mostTerms now₀ i p compared now
 
 abbrev μ-loop : tie.MeasureT-loop
 μ-loop w gap f n now₀ compared₀ p₀ i₀ now compared p i = n - i
@@ -23,8 +24,8 @@ at-most-requires c κs = search needs
 loop-holds : tie.Need-loop-holds Inv-loop μ-loop
 loop-holds c =
     let z = c .before .args in
-    let h : length (z .t1 .terms) ≡ 16 = search long-mapped in
-    (c .before .pre, c .at-most .ensures, omega arith, reached-none (z .gap) (take (z .w .n) (z .w .terms)) (z .t1 .n) (z .t1 .terms) 16 (z .v) h)
+    let h : length (z .t1 .terms) ≡ mostTerms = search long-mapped in
+    (c .before .pre, c .at-most .ensures, omega arith, reached-none (z .gap) (take (z .w .n) (z .w .terms)) (z .t1 .n) (z .t1 .terms) mostTerms (z .v) h)
 
 mul-t : tie.Need-mul-t Inv-loop μ-loop
 mul-t c = let h = c .loop-test .taken in let e = c .before .loop .inv .1 in omega arith
@@ -53,7 +54,7 @@ returns c =
     let l = c .before .before .before .before .before .before .before .before .loop in
     let h = c .before .before .before .before .before .before .before .loop-test .taken in
     let v = l .inv in (
-      reached-fail (z .gap) (take (z .w .n) (z .w .terms)) (z .t1 .n) (z .t1 .terms) 16 (z .v) (l .i) (l .p) (l .compared) (l .now) absent (v .3)
+      reached-fail (z .gap) (take (z .w .n) (z .w .terms)) (z .t1 .n) (z .t1 .terms) mostTerms (z .v) (l .i) (l .p) (l .compared) (l .now) absent (v .3)
           (omega (arith, v .1))
           (c .before .before .before .before .before .is-list-term .result) (c .before .before .before .before .before .is-list-term .ensures)
           (c .before .before .before .before .if1 .left)
@@ -77,18 +78,18 @@ loop-again c =
     let z = c .before .before .before .before .before .before .args in
     let h = c .before .before .before .loop-test .taken in
     let v = l .inv in
-    let same = reached-same (z .gap) (take (z .w .n) (z .w .terms)) (z .t1 .n) (z .t1 .terms) 16 (z .v) (l .i + 1) in
+    let same = reached-same (z .gap) (take (z .w .n) (z .w .terms)) (z .t1 .n) (z .t1 .terms) mostTerms (z .v) (l .i + 1) in
     let I = c .before .is-list-term in (
       v .0,
       v .1,
       omega arith,
       ⊎-elim
           (λ w. same (l .p + z .gap) (c .if1 .p) (l .compared) (c .if1 .compared) (l .now) (c .if1 .now) (w .1) (w .2) (w .3)
-          (reached-list (z .gap) (take (z .w .n) (z .w .terms)) (z .t1 .n) (z .t1 .terms) 16 (z .v) (l .i) (l .p) (l .compared) (l .now) absent (v .3)
+          (reached-list (z .gap) (take (z .w .n) (z .w .terms)) (z .t1 .n) (z .t1 .terms) mostTerms (z .v) (l .i) (l .p) (l .compared) (l .now) absent (v .3)
           (omega (arith, v .1))
           (I .result) (I .ensures) (w .0 .taken) (v .0)))
           (λ w. same (l .p + 1) (c .if1 .p) (l .compared + 1) (c .if1 .compared) (w .2 .result .values) (c .if1 .now) (w .6) (w .7) (w .8)
-          (reached-one (z .gap) (take (z .w .n) (z .w .terms)) (z .t1 .n) (z .t1 .terms) 16 (z .v) (l .i) (l .p) (l .compared) (l .now) absent (v .3)
+          (reached-one (z .gap) (take (z .w .n) (z .w .terms)) (z .t1 .n) (z .t1 .terms) mostTerms (z .v) (l .i) (l .p) (l .compared) (l .now) absent (v .3)
           (omega (arith, v .1))
           (I .result) (I .ensures) (w .0 .left) (w .1 .result) (w .1 .ensures) (w .2 .result) (w .2 .ensures) (w .4 .left)))
           (c .if1 .came),
@@ -100,7 +101,8 @@ returns-2 c =
     let l = c .before .loop in
     let v = l .inv in
     let h = c .loop-test .left in (
-      reached-all (z .gap) (take (z .w .n) (z .w .terms)) (z .t1 .n) (z .t1 .terms) 16 (z .v) (l .i) (l .p) (l .compared) (l .now) (v .3) (omega (arith, v .1)),
+      reached-all (z .gap) (take (z .w .n) (z .w .terms)) (z .t1 .n) (z .t1 .terms) mostTerms (z .v) (l .i) (l .p) (l .compared) (l .now) (v .3)
+          (omega (arith, v .1)),
       omega (arith, v .1, v .2, v .3 .2),
     )
 

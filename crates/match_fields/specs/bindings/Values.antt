@@ -1,6 +1,7 @@
 -- The values that a filling has, blank where it has none.
 use Prim.Native.Nat.{ℕ, _+_, _*_}
 use lib.ListN.{getD}
+use Rattle.base_limits.specs.Limits.{numbersOfSide}
 use Rattle.math_types.specs.Types.{Kind, rank}
 use Rattle.text_values.specs.declared.Term.{Term}
 use Rattle.text_values.specs.Values.{blankTerm}
@@ -10,7 +11,7 @@ use Rattle.match_fields.specs.declared.bindings.Filling.{Filling}
 
 -- the place of the variable of kind k and number n
 abbrev pub slot : Kind → ℕ → ℕ
-slot k n = 16 * rank k + n
+slot k n = numbersOfSide * rank k + n
 
 abbrev pub atomOf : Values → Kind → ℕ → Term
 atomOf v k n = getD (v .terms) (slot k n) blankTerm

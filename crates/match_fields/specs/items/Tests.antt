@@ -5,7 +5,7 @@ use Prim.Native.Nat.{ℕ}
 use lib.Dec.{eqb}
 use lib.ListN.{getD, set}
 use Rattle.math_types.specs.Order.{basic, list}
-use Rattle.math_types.specs.Types.{integer, string, Kind, le}
+use Rattle.math_types.specs.Types.{leaf, integer, string, Kind, le}
 use Rattle.math_types.specs.Values.{kindOf}
 use Rattle.text_values.specs.declared.Form.{Form}
 use Rattle.text_values.specs.declared.Form.the-variants.{Int, Str, Var}
@@ -37,8 +37,8 @@ sameTerm a b = sameForm (a .form) (b .form) (a .text) (b .text)
 
 -- the kind of a constant
 abbrev pub itemKind : Form → Kind
-itemKind (Int n) = basic integer
-itemKind (Str k) = basic string
+itemKind (Int n) = basic (leaf integer)
+itemKind (Str k) = basic (leaf string)
 itemKind (Var k n) = kindOf k
 
 -- ---- a term of the rule against an item of the slip
@@ -62,7 +62,3 @@ testBy (Var k n) t item v = testVar (kindOf k) n item v
 
 abbrev pub tested : Term → Term → Values → Tested
 tested t item v = testBy (t .form) t item v
-
-abbrev pub isList : Kind → Bool
-isList (basic k) = false
-isList list = true

@@ -4,6 +4,7 @@ use mathlib.Core.Logic.{⊎-elim}
 use Prim.Native.Nat.{ℕ, _+_, _-_, min}
 use native.Mathlib.Omega.{arith}
 use borrow.Author.Needs.{needs}
+use Rattle.base_limits.specs.Limits.{mostTerms, mostItems}
 use Rattle.base_lists.specs.Seqs.{long-mapped}
 use Rattle.match_fields.specs.Fields.{termsOf}
 use Rattle.match_fields.proofs.Walks.{items-count}
@@ -13,7 +14,7 @@ use Rattle.match_rules.proofs.run_field.Statement.{statement}
 use Rattle.match_rules.proofs.run_field.Tie as tie
 
 abbrev Inv-loop : tie.InvT-loop
-Inv-loop j f n gap y₀ i₀ y i = (n ≡ min (f .n) 16) × Put j gap (f .n) (f .terms) 16 y₀ i y
+Inv-loop j f n gap y₀ i₀ y i = (n ≡ min (f .n) mostTerms) × Put j gap (f .n) (f .terms) mostTerms y₀ i y
 
 abbrev μ-loop : tie.MeasureT-loop
 μ-loop j f n gap y₀ i₀ y i = n - i
@@ -60,9 +61,9 @@ loop-again c =
     let I = c .before .is-list-term in (
       l .inv .0,
       ⊎-elim
-          (λ w. put-one (z .j) gap (z .t2 .n) (z .t2 .terms) 16 (z .x) (l .i) (l .y) (c .if1 .y) _ (l .inv .1) (omega (arith, l .inv .0))
+          (λ w. put-one (z .j) gap (z .t2 .n) (z .t2 .terms) mostTerms (z .x) (l .i) (l .y) (c .if1 .y) _ (l .inv .1) (omega (arith, l .inv .0))
           (w .2 ∙ w .1 .ensures))
-          (λ w. put-none (z .j) gap (z .t2 .n) (z .t2 .terms) 16 (z .x) (l .i) (l .y) (c .if1 .y) _ (I .result) (l .inv .1) (omega (arith, l .inv .0))
+          (λ w. put-none (z .j) gap (z .t2 .n) (z .t2 .terms) mostTerms (z .x) (l .i) (l .y) (c .if1 .y) _ (I .result) (l .inv .1) (omega (arith, l .inv .0))
           (I .ensures) (w .0 .left) (w .1))
           (c .if1 .came),
     )
@@ -75,11 +76,11 @@ returns c =
     let gap = c .before .before .left-over in
     let items = c .before .before .before .at-most2 in
     let terms = c .before .before .before .before .at-most in
-    put-all (z .j) (gap .result) (z .t2 .n) (z .t2 .terms) 16 (z .x) (l .i) (l .y) (l .inv .1) (omega (arith, l .inv .0))
+    put-all (z .j) (gap .result) (z .t2 .n) (z .t2 .terms) mostTerms (z .x) (l .i) (l .y) (l .inv .1) (omega (arith, l .inv .0))
     ∙ ap (λ (g : ℕ). runsOver (z .j) g 0 (termsOf (z .t2)) (z .x))
     (gap .ensures
-    ∙ ap₂ (λ (m n : ℕ). m + 1 - n) (items-count (z .w .n) (z .w .terms) 64 (items .result) (search long-mapped) (items .ensures))
-    (items-count (z .t2 .n) (z .t2 .terms) 16 (terms .result) (search long-mapped) (terms .ensures)))
+    ∙ ap₂ (λ (m n : ℕ). m + 1 - n) (items-count (z .w .n) (z .w .terms) mostItems (items .result) (search long-mapped) (items .ensures))
+    (items-count (z .t2 .n) (z .t2 .terms) mostTerms (terms .result) (search long-mapped) (terms .ensures)))
 
 pub run-field-spec : {M : Type 1} → statement M
 run-field-spec =

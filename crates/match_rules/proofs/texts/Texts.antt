@@ -8,8 +8,8 @@ use native.Mathlib.Omega.{arith}
 use borrow.Author.Tests.{eq-eqb, ne-eqb}
 use lib.ListN.{length, getD, take, length-map}
 use lib.Seq.{take-all}
+use Rattle.base_limits.specs.Limits.{mostFields, mostTerms}
 use Rattle.base_lists.specs.Seqs.{All, all-map, tabulate-long, tabulate-at, tabulated}
-use Rattle.text_grammar.specs.Sizes.{mostFields}
 use Rattle.text_grammar.specs.Walk.{walked}
 use Rattle.text_grammar.specs.Terms.{OurTerm}
 use Rattle.text_grammar.specs.Limits.{TermIn}
@@ -108,7 +108,8 @@ module _ (t u : List ℕ) (n : ℕ) (is-n : n ≡ fieldCount t) (same : fieldCou
     p-at : p ≡ fieldProgress (termsOf (getD fs j blankField)) (itemsOf (getD ws j blankSlipField)) v
     p-at = is-p ∙ ap₂ (λ (a : Field) (b : SlipField). fieldProgress (termsOf a) (itemsOf b) v) f-at w-at
 
-    pub gone-one : (y : Filling) → p .compared ≤ 16 → not (p .tested .ok) ≡ false → y ≡ runsIn j f w x → Gone (j + 1) (c + p .compared) (p .tested .values) y
+    pub gone-one : (y : Filling) → p .compared ≤ mostTerms → not (p .tested .ok) ≡ false → y ≡ runsIn j f w x
+        → Gone (j + 1) (c + p .compared) (p .tested .values) y
     gone-one y b q e = (
       passed-one fs ws n noValues j c v blankField blankSlipField (g .0) h p p-at b q,
       put-field fs ws n (fillingOf noValues) j x y blankField blankSlipField (g .1) h (e ∙ ap₂ (λ (a : Field) (d : SlipField). runsIn j a d x) f-at w-at),

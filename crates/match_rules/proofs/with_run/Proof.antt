@@ -7,12 +7,11 @@ use borrow.Author.Tests.{not-true, not-false}
 use lib.ListN.{length, set}
 use lib.Seq.{set-out}
 use Prim.Native.Nat.{ℕ}
+use Rattle.base_limits.specs.Limits.{numbersOfSide}
 use Rattle.base_lists.specs.Seqs.{long-mapped}
 use Rattle.text_values.specs.declared.Form.{Form}
 use Rattle.match_fields.specs.declared.bindings.Run.{Run}
 use Rattle.match_fields.specs.declared.bindings.Filling.{Filling}
-use Rattle.math_types.specs.Values.{kindOf}
-use Rattle.match_fields.proofs.items.Tests.{list-kind}
 use Rattle.match_rules.specs.Tests.{runBy}
 use Rattle.match_rules.proofs.with_run.Statement.{statement}
 use Rattle.match_rules.proofs.with_run.Tie as tie
@@ -34,8 +33,8 @@ enum-told-2 c = search needs
 enum-known-form : tie.Need-enum-known-form
 enum-known-form c = search needs
 
-same-kind-requires : tie.Need-same-kind-requires
-same-kind-requires c κs = search needs
+is-list-requires : tie.Need-is-list-requires
+is-list-requires c κs = search needs
 
 returns : tie.Need-returns
 returns c =
@@ -43,7 +42,7 @@ returns c =
     let f = c .before .before .before .form in
     sym (ap (byForm (z .args .r) (z .args .x)) (f .given .1)
     ∙ ap (byList (f .given .0 .1 .0) (z .args .r) (z .args .x))
-    (sym (list-kind (kindOf (f .given .0 .0))) ∙ sym (c .before .same-kind .ensures) ∙ not-true _ (c .if1 .taken)))
+    (sym (c .before .is-list .ensures) ∙ not-true _ (c .if1 .taken)))
 
 cast-i : tie.Need-cast-i
 cast-i c = search needs
@@ -52,11 +51,11 @@ returns-2 : tie.Need-returns-2
 returns-2 c =
     let z = c .before .before .before .before .before .before in
     let f = c .before .before .before .before .form in
-    let h : length (z .args .x .runs) ≡ 16 = search long-mapped in
+    let h : length (z .args .x .runs) ≡ numbersOfSide = search long-mapped in
     let b = c .if2 .taken in
     sym (ap (byForm (z .args .r) (z .args .x)) (f .given .1)
     ∙ ap (byList (f .given .0 .1 .0) (z .args .r) (z .args .x))
-    (sym (list-kind (kindOf (f .given .0 .0))) ∙ sym (c .before .before .same-kind .ensures) ∙ not-false _ (c .before .if1 .left))
+    (sym (c .before .before .is-list .ensures) ∙ not-false _ (c .before .if1 .left))
     ∙ rw (set-out (z .args .x .runs) (f .given .0 .1 .0) (z .args .r) (omega arith)))
 
 mul-r : tie.Need-mul-r
@@ -77,7 +76,7 @@ returns-5 c =
     let f = c .before .before .before .before .form in
     sym (ap (byForm (z .args .r) (z .args .x)) (f .given .1)
     ∙ ap (byList (f .given .0 .1 .0) (z .args .r) (z .args .x))
-    (sym (list-kind (kindOf (f .given .0 .0))) ∙ sym (c .before .before .same-kind .ensures) ∙ not-false _ (c .before .if1 .left)))
+    (sym (c .before .before .is-list .ensures) ∙ not-false _ (c .before .if1 .left)))
 
 pub with-run-spec : {M : Type 1} → statement M
 with-run-spec =
@@ -86,7 +85,7 @@ with-run-spec =
     enum-told
     enum-told-2
     enum-known-form
-    same-kind-requires
+    is-list-requires
     returns
     cast-i
     returns-2

@@ -14,7 +14,7 @@ use lib.ListN.{length, length-append}
 use borrow.Author.Tests.{leb-true, leb-false, le-ltb, lt-ltb}
 use Rattle.math_terms.specs.Seqs.{concat-map}
 use Rattle.math_search.specs.Problems.{Names, Setting, Field, Bindings, solved, equation, Problem, problem, root}
-use Rattle.math_search.specs.Rules.{Rule, ruleOrder, Move, fails, rule, add, collect, apply}
+use Rattle.math_search.specs.Rules.{Rule, ruleOrder, Move, fails, rule, add, collect, apply, ruleCount}
 use Rattle.math_search.specs.Queue.{total, Result, answers, refused, unfinished, enqueue, onward, answer, offspring, run, searching}
 use Rattle.math_search.proofs.Queue.{begins}
 use Rattle.math_search.specs.worklist.Next.{nextOk, next-end, next-here, next-on}
@@ -98,7 +98,7 @@ module _ (E : Setting) (D : Records) (Holds : D .Rec → Problem E → Type 0) (
   abbrev made : Bindings E → List Name → List (Rule × Move E) → List (Problem E)
   made σ u ms = map (λ (c : Rule × Problem E). c .1) (map (λ (m : Rule × Move E). (m .0, apply E σ u (m .1))) ms)
 
-  numbered-length : (k : ℕ) (rs : List Rule) → Numbered number k rs → k + length rs ≡ 14
+  numbered-length : (k : ℕ) (rs : List Rule) → Numbered number k rs → k + length rs ≡ ruleCount
   numbered-length k [] h = omega arith
   numbered-length k (r ∷ rs) h = omega (arith, numbered-length (k + 1) rs (h .1))
 
@@ -107,18 +107,18 @@ module _ (E : Setting) (D : Records) (Holds : D .Rec → Problem E → Type 0) (
     abbrev from : ℕ → List Rec → Work Rec
     from k q = on (nextOk (ok p) k) p q a b o
 
-    at-rule : (k : ℕ) (q : List Rec) → k < 14 → ok p k ≡ true → from k q ≡ on k p q a b o
+    at-rule : (k : ℕ) (q : List Rec) → k < ruleCount → ok p k ≡ true → from k q ≡ on k p q a b o
     at-rule k q h e = ap (λ (j : ℕ). on j p q a b o) (next-here (ok p) k h e)
 
-    turn-put : (k : ℕ) (q : List Rec) → k < 14 → ok p k ≡ true → length q < cap → onTurn (from k q) ≡ from (k + 1) (q ++ child p k ∷ [])
-    turn-put k q h e l = ap onTurn (at-rule k q h e) ∙ rw (lt-ltb k 14 h, lt-ltb (length q) cap l) refl
+    turn-put : (k : ℕ) (q : List Rec) → k < ruleCount → ok p k ≡ true → length q < cap → onTurn (from k q) ≡ from (k + 1) (q ++ child p k ∷ [])
+    turn-put k q h e l = ap onTurn (at-rule k q h e) ∙ rw (lt-ltb k ruleCount h, lt-ltb (length q) cap l) refl
 
-    turn-full : (k : ℕ) (q : List Rec) → k < 14 → ok p k ≡ true → cap ≤ length q → onTurn (from k q) ≡ machine.full D writing cap (on k p q a b o)
-    turn-full k q h e l = ap onTurn (at-rule k q h e) ∙ rw (lt-ltb k 14 h, le-ltb (length q) cap l) refl
+    turn-full : (k : ℕ) (q : List Rec) → k < ruleCount → ok p k ≡ true → cap ≤ length q → onTurn (from k q) ≡ machine.full D writing cap (on k p q a b o)
+    turn-full k q h e l = ap onTurn (at-rule k q h e) ∙ rw (lt-ltb k ruleCount h, le-ltb (length q) cap l) refl
 
     abbrev Tried : ℕ → List Rec → Option (List (Problem E)) → Type 0
     Tried k q none = StopsRefused D writing cap (from k q)
-    Tried k q (some Q) = (q′ : List Rec) × Goes (from k q) (on 14 p q′ a b o) × Both q′ Q
+    Tried k q (some Q) = (q′ : List Rec) × Goes (from k q) (on ruleCount p q′ a b o) × Both q′ Q
 
     -- one turn before
     tried-on : (k : ℕ) (q q′ : List Rec) → onTurn (from k q) ≡ from (k + 1) q′ → (r : Option (List (Problem E))) → Tried (k + 1) q′ r → Tried k q r
@@ -134,12 +134,12 @@ module _ (E : Setting) (D : Records) (Holds : D .Rec → Problem E → Type 0) (
     tried-on k q q′ e (some Q) h = (h .0, turns (from (k + 1) q′) refl e (h .1), h .2)
 
     -- a rule that gives no child takes no turn
-    tried-pass : (k : ℕ) (q : List Rec) → k < 14 → ok p k ≡ false → (r : Option (List (Problem E))) → Tried (k + 1) q r → Tried k q r
+    tried-pass : (k : ℕ) (q : List Rec) → k < ruleCount → ok p k ≡ false → (r : Option (List (Problem E))) → Tried (k + 1) q r → Tried k q r
     tried-pass k q l e r h = go r (sym (next-on (ok p) k l e)) h
       where
         Then : Option (List (Problem E)) → ℕ → Type 0
         Then none j = StopsRefused D writing cap (on j p q a b o)
-        Then (some Q) j = (q′ : List Rec) × Goes (on j p q a b o) (on 14 p q′ a b o) × Both q′ Q
+        Then (some Q) j = (q′ : List Rec) × Goes (on j p q a b o) (on ruleCount p q′ a b o) × Both q′ Q
 
         go : (r : Option (List (Problem E))) → nextOk (ok p) (k + 1) ≡ nextOk (ok p) k → Tried (k + 1) q r → Tried k q r
         go none e h = subst (Then none) e h
@@ -153,7 +153,7 @@ module _ (E : Setting) (D : Records) (Holds : D .Rec → Problem E → Type 0) (
           go (rule E r L M (pick u)) (subst (λ (j : ℕ). ChildIs E D Holds p j σ u (rule E r L M (pick u))) (h .0) (g .child-is p L M σ u hp nf r))
           (λ q′ Q′ both′. tries rs (k + 1) (h .1) q′ Q′ both′)
         where
-          low : k < 14
+          low : k < ruleCount
           low = omega (arith, numbered-length k (r ∷ rs) h)
 
           put-in : (m : Move E) → ok p k ≡ true → Holds (child p k) (apply E σ u m)
@@ -223,14 +223,14 @@ module _ (E : Setting) (D : Records) (Holds : D .Rec → Problem E → Type 0) (
     abbrev line-out : List ℕ
     line-out = cond writing (store (text σ) b o) o
 
-    turn-answer : onTurn (on 14 p₀ (p ∷ q) a b o) ≡ on 14 p q (plus a 1) (plus b (length (text σ))) line-out
+    turn-answer : onTurn (on ruleCount p₀ (p ∷ q) a b o) ≡ on ruleCount p q (plus a 1) (plus b (length (text σ))) line-out
     turn-answer = rw (g .open-is p solved σ u h, g .line-is p σ u h) refl
 
-    answered : (xs : List (Bindings E)) → Outcome (on 14 p q (plus a 1) (plus b (length (text σ))) line-out) (answers xs)
-        → Outcome (on 14 p₀ (p ∷ q) a b o) (answers (σ ∷ xs))
+    answered : (xs : List (Bindings E)) → Outcome (on ruleCount p q (plus a 1) (plus b (length (text σ))) line-out) (answers xs)
+        → Outcome (on ruleCount p₀ (p ∷ q) a b o) (answers (σ ∷ xs))
     answered xs c few low = record {
       end = s .end;
-      leads = turns (on 14 p q (plus a 1) (plus b (length (text σ))) line-out) refl turn-answer (s .leads);
+      leads = turns (on ruleCount p q (plus a 1) (plus b (length (text σ))) line-out) refl turn-answer (s .leads);
       idle = s .idle;
       not-refused = s .not-refused;
       counted = omega (arith, s .counted, one-more);
@@ -253,14 +253,15 @@ module _ (E : Setting) (D : Records) (Holds : D .Rec → Problem E → Type 0) (
         longer : plus b (length (text σ)) ≡ b + length (text σ)
         longer = plus-is b (length (text σ)) (omega (arith, line-short, mul-suc bound (length xs)))
 
-        s : StopsWith D writing cap (on 14 p q (plus a 1) (plus b (length (text σ))) line-out) (map text xs)
+        s : StopsWith D writing cap (on ruleCount p q (plus a 1) (plus b (length (text σ))) line-out) (map text xs)
         s = c (omega (arith, one-more)) (omega (arith, longer, line-short, mul-suc bound (length xs)))
 
-    outcome-answer : (r : Result E) → Outcome (on 14 p q (plus a 1) (plus b (length (text σ))) line-out) r → Outcome (on 14 p₀ (p ∷ q) a b o) (answer E σ r)
+    outcome-answer : (r : Result E) → Outcome (on ruleCount p q (plus a 1) (plus b (length (text σ))) line-out) r
+        → Outcome (on ruleCount p₀ (p ∷ q) a b o) (answer E σ r)
     outcome-answer unfinished c = tt
     outcome-answer refused c = record {
       end = c .end;
-      leads = turns (on 14 p q (plus a 1) (plus b (length (text σ))) line-out) refl turn-answer (c .leads);
+      leads = turns (on ruleCount p q (plus a 1) (plus b (length (text σ))) line-out) refl turn-answer (c .leads);
       idle = c .idle;
       is-refused = c .is-refused;
       no-lines = c .no-lines;
@@ -270,10 +271,10 @@ module _ (E : Setting) (D : Records) (Holds : D .Rec → Problem E → Type 0) (
     outcome-answer (answers xs) c = answered xs c
 
   -- nothing waits
-  outcome-none : (p₀ : Rec) (a b : ℕ) (o : List ℕ) → Outcome (on 14 p₀ [] a b o) (answers [])
+  outcome-none : (p₀ : Rec) (a b : ℕ) (o : List ℕ) → Outcome (on ruleCount p₀ [] a b o) (answers [])
   outcome-none p₀ a b o few low = record {
-    end = machine.stopped D writing cap (on 14 p₀ [] a b o);
-    leads = turns (machine.stopped D writing cap (on 14 p₀ [] a b o)) refl refl here;
+    end = machine.stopped D writing cap (on ruleCount p₀ [] a b o);
+    leads = turns (machine.stopped D writing cap (on ruleCount p₀ [] a b o)) refl refl here;
     idle = refl;
     not-refused = refl;
     counted = omega arith;
@@ -284,19 +285,19 @@ module _ (E : Setting) (D : Records) (Holds : D .Rec → Problem E → Type 0) (
 
   -- a turn that takes an open problem: it fails, or it is held
   module _ (p₀ p : Rec) (q : List Rec) (a b : ℕ) (o : List ℕ) (L M : Field E) (σ : Bindings E) (u : List Name) (h : Holds p (problem (equation L M) σ u)) where
-    turn-fail : fails E L M ≡ true → onTurn (on 14 p₀ (p ∷ q) a b o) ≡ on 14 p q a b o
+    turn-fail : fails E L M ≡ true → onTurn (on ruleCount p₀ (p ∷ q) a b o) ≡ on ruleCount p q a b o
     turn-fail e = rw (g .open-is p (equation L M) σ u h, g .fails-is p L M σ u h ∙ e) refl
 
-    turn-hold : fails E L M ≡ false → onTurn (on 14 p₀ (p ∷ q) a b o) ≡ from p a b o 0 q
+    turn-hold : fails E L M ≡ false → onTurn (on ruleCount p₀ (p ∷ q) a b o) ≡ from p a b o 0 q
     turn-hold e = rw (g .open-is p (equation L M) σ u h, g .fails-is p L M σ u h ∙ e) refl
 
     outcome-open : (Q : List (Problem E)) → Both q Q → (k : ℕ)
-        → ((q′ : List Rec) (Q′ : List (Problem E)) → Both q′ Q′ → Outcome (on 14 p q′ a b o) (run E k cap Q′))
-        → Outcome (on 14 p₀ (p ∷ q) a b o) (onward E (enqueue E cap Q (offspring E (problem (equation L M) σ u))) (λ Q′. run E k cap Q′))
+        → ((q′ : List Rec) (Q′ : List (Problem E)) → Both q′ Q′ → Outcome (on ruleCount p q′ a b o) (run E k cap Q′))
+        → Outcome (on ruleCount p₀ (p ∷ q) a b o) (onward E (enqueue E cap Q (offspring E (problem (equation L M) σ u))) (λ Q′. run E k cap Q′))
     outcome-open Q both k rec = by (fails E L M) refl
       where
         held : fails E L M ≡ false → (x : Option (List (Problem E))) → Tried p a b o 0 q x
-            → Outcome (on 14 p₀ (p ∷ q) a b o) (onward E x (λ Q′. run E k cap Q′))
+            → Outcome (on ruleCount p₀ (p ∷ q) a b o) (onward E x (λ Q′. run E k cap Q′))
         held nf none t = record {
           end = t .end;
           leads = turns (from p a b o 0 q) refl (turn-hold nf) (t .leads);
@@ -307,15 +308,16 @@ module _ (E : Setting) (D : Records) (Holds : D .Rec → Problem E → Type 0) (
           untouched = t .untouched;
         }
         held nf (some Q′) t =
-            outcome-on 14 14 p₀ p (p ∷ q) (t .0) a b o (turns (from p a b o 0 q) refl (turn-hold nf) (t .1)) (run E k cap Q′)
+            outcome-on ruleCount ruleCount p₀ p (p ∷ q) (t .0) a b o (turns (from p a b o 0 q) refl (turn-hold nf) (t .1)) (run E k cap Q′)
             (rec (t .0) Q′ (t .2))
 
         by : (f : Bool) → fails E L M ≡ f
-            → Outcome (on 14 p₀ (p ∷ q) a b o) (onward E (enqueue E cap Q (made σ u (cond f [] (collect E L M (pick u) ruleOrder)))) (λ Q′. run E k cap Q′))
-        by true e = outcome-on 14 14 p₀ p (p ∷ q) q a b o (turns (on 14 p q a b o) refl (turn-fail e) here) (run E k cap Q) (rec q Q both)
+            → Outcome (on ruleCount p₀ (p ∷ q) a b o)
+            (onward E (enqueue E cap Q (made σ u (cond f [] (collect E L M (pick u) ruleOrder)))) (λ Q′. run E k cap Q′))
+        by true e = outcome-on ruleCount ruleCount p₀ p (p ∷ q) q a b o (turns (on ruleCount p q a b o) refl (turn-fail e) here) (run E k cap Q) (rec q Q both)
         by false e = held e (enqueue E cap Q (made σ u (collect E L M (pick u) ruleOrder))) (tries p a b o L M σ u h e ruleOrder 0 (g .ordered) q Q both)
 
-  pub outcome : (k : ℕ) (Q : List (Problem E)) (q : List Rec) → Both q Q → (p₀ : Rec) (a b : ℕ) (o : List ℕ) → Outcome (on 14 p₀ q a b o) (run E k cap Q)
+  pub outcome : (k : ℕ) (Q : List (Problem E)) (q : List Rec) → Both q Q → (p₀ : Rec) (a b : ℕ) (o : List ℕ) → Outcome (on ruleCount p₀ q a b o) (run E k cap Q)
   outcome zero [] [] both p₀ a b o = outcome-none p₀ a b o
   outcome zero [] (p ∷ q) both p₀ a b o = absurd both
   outcome zero (P ∷ Q) q both p₀ a b o = tt
@@ -330,6 +332,8 @@ module _ (E : Setting) (D : Records) (Holds : D .Rec → Problem E → Type 0) (
 
   -- ---- from the root alone
 
-  pub search-outcome : (A B : Field E) (p p₀ : Rec) (o : List ℕ) → Holds p (root E A B) → 1 ≤ cap → Outcome (on 14 p₀ (p ∷ []) 0 0 o) (searching E cap A B)
+  pub search-outcome : (A B : Field E) (p p₀ : Rec) (o : List ℕ) → Holds p (root E A B) → 1 ≤ cap
+      → Outcome (on ruleCount p₀ (p ∷ []) 0 0 o) (searching E cap A B)
   search-outcome A B p p₀ o h c =
-      subst (Outcome (on 14 p₀ (p ∷ []) 0 0 o)) (sym (begins E cap A B c)) (outcome (total E (root E A B ∷ [])) (root E A B ∷ []) (p ∷ []) (h, tt) p₀ 0 0 o)
+      subst (Outcome (on ruleCount p₀ (p ∷ []) 0 0 o)) (sym (begins E cap A B c))
+      (outcome (total E (root E A B ∷ [])) (root E A B ∷ []) (p ∷ []) (h, tt) p₀ 0 0 o)

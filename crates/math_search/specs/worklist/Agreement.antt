@@ -5,12 +5,12 @@ use mathlib.Core.Option.{Option, none, some}
 use mathlib.Core.List.{List, [], _∷_}
 use Prim.Native.Nat.{ℕ, _+_}
 use Rattle.math_search.specs.Problems.{Names, Setting, Field, Bindings, Rest, solved, equation, Problem, problem}
-use Rattle.math_search.specs.Rules.{Rule, ruleOrder, Move, fails, rule, apply}
+use Rattle.math_search.specs.Rules.{Rule, ruleOrder, Move, fails, rule, apply, ruleCount}
 use Rattle.math_search.specs.worklist.Machine.{Records}
 
 -- the rules have the numbers from k on to 13
 abbrev pub Numbered : (Rule → ℕ) → ℕ → List Rule → Type 0
-Numbered number k [] = k ≡ 14
+Numbered number k [] = k ≡ ruleCount
 Numbered number k (r ∷ rs) = (number r ≡ k) × Numbered number (k + 1) rs
 
 module _ (E : Setting) (D : Records) (Holds : D .Rec → Problem E → Type 0) where

@@ -7,6 +7,7 @@ use mathlib.Core.List.{List, [], _∷_, _++_}
 use Prim.Native.Nat.{ℕ, _+_, _%_, _^_}
 use lib.Dec.{ltb}
 use lib.ListN.{length}
+use Rattle.math_search.specs.Rules.{ruleCount}
 use Rattle.math_search.specs.worklist.Next.{nextOk}
 
 -- what the machine does with the records of problems
@@ -62,7 +63,7 @@ module _ (D : Records) (writing : Bool) (cap : ℕ) where
   taken w p q = record {
     busy = true;
     refused = w .refused;
-    rule = cond (worked p) (nextOk (ok p) 0) 14;
+    rule = cond (worked p) (nextOk (ok p) 0) ruleCount;
     held = p;
     waiting = q;
     lines = cond (isOpen p) (w .lines) (plus (w .lines) 1);
@@ -98,7 +99,7 @@ module _ (D : Records) (writing : Bool) (cap : ℕ) where
   ruleTurn w = childTurn w (child (w .held) (w .rule))
 
   abbrev pub turn : Work Rec → Work Rec
-  turn w = cond (ltb (w .rule) 14) (ruleTurn w) (headTurn w (w .waiting))
+  turn w = cond (ltb (w .rule) ruleCount) (ruleTurn w) (headTurn w (w .waiting))
 
   -- lines put in one behind the other
   abbrev pub storeAll : List (List ℕ) → ℕ → List ℕ → List ℕ

@@ -1,31 +1,32 @@
--- The next rule: the first number from k on, of those of the rules, that a test holds of; 14, the number of the rules, where none is left.
+-- The next rule: the first number from k on, of those of the rules, that a test holds of; the number of the rules where none is left.
 use mathlib.Core.Path.{_≡_, _∙_, ap}
 use mathlib.Core.Bool.{Bool, true, false, cond}
 use Prim.Native.Nat.{ℕ, zero, suc, _+_, _-_, _<_, _≤_}
 use native.Mathlib.Omega.{arith}
+use Rattle.math_search.specs.Rules.{ruleCount}
 
 -- n numbers are left
 unfoldable pub nextIn : ℕ → (ℕ → Bool) → ℕ → ℕ
-nextIn zero ok k = 14
+nextIn zero ok k = ruleCount
 nextIn (suc n) ok k = cond (ok k) k (nextIn n ok (k + 1))
 
 abbrev pub nextOk : (ℕ → Bool) → ℕ → ℕ
-nextOk ok k = nextIn (14 - k) ok k
+nextOk ok k = nextIn (ruleCount - k) ok k
 
 module _ (ok : ℕ → Bool) (k : ℕ) where
-  pub next-end : 14 ≤ k → nextOk ok k ≡ 14
+  pub next-end : ruleCount ≤ k → nextOk ok k ≡ ruleCount
   unfolding nextIn
   next-end h = ap (λ (n : ℕ). nextIn n ok k) none
     where
-      none : 14 - k ≡ 0
+      none : ruleCount - k ≡ 0
       none = omega arith
 
-  module _ (low : k < 14) where
+  module _ (low : k < ruleCount) where
     one-less : nextOk ok k ≡ cond (ok k) k (nextOk ok (k + 1))
     unfolding nextIn
     one-less = ap (λ (n : ℕ). nextIn n ok k) some
       where
-        some : 14 - k ≡ suc (14 - (k + 1))
+        some : ruleCount - k ≡ suc (ruleCount - (k + 1))
         some = omega arith
 
     pub next-here : ok k ≡ true → nextOk ok k ≡ k

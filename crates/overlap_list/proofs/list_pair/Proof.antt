@@ -6,10 +6,11 @@ use native.Mathlib.Omega.{arith}
 use lib.ListN.{length}
 use lib.Seq.{sets}
 use borrow.Author.Needs.{needs}
+use Rattle.base_limits.specs.Limits.{entryLine}
 use Rattle.text_write.specs.pieces.Stored.{bytesOf}
 use Rattle.overlap_list.specs.declared.Tally.{Tally}
 use Rattle.overlap_list.specs.declared.Listed.the-variants.{TooSmall}
-use Rattle.overlap_list.specs.Listing.{allLines, longestLine}
+use Rattle.overlap_list.specs.Listing.{allLines}
 use Rattle.overlap_list.specs.Answers.{ListsLines}
 use Rattle.overlap_list.proofs.Counts.{measured, too-small, room-enough}
 use Rattle.overlap_list.proofs.Short.{surely-fits}
@@ -33,7 +34,7 @@ returns c =
     let ls = allLines (z .args .row .now) (z .args .texts .now) (z .args .fields) in
     let fits : length (bytesOf ls) ≤ length (z .args .out .now) =
     surely-fits (n .result) (length (bytesOf ls)) (length (z .args .out .now)) (c .before .before .before .before .if1 .taken)
-    (subst (λ m. length (bytesOf ls) ≤ m * longestLine) (sym (n .ensures)) (z .pre .1 .1)) in
+    (subst (λ m. length (bytesOf ls) ≤ m * entryLine) (sym (n .ensures)) (z .pre .1 .1)) in
     room-enough ls (z .args .out .now) (u .result) (u .ensures .0) (omega (arith, fits, ap (λ (x : Tally). x .bytes) (u .ensures .0))) (u .ensures .1)
 
 slice-relend-prefix-all-lines : tie.Need-slice-relend-prefix-all-lines

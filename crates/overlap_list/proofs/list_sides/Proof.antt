@@ -1,5 +1,6 @@
 -- `overlap_list::list_sides` meets its contract: the plain text of a value says what the value counts as. Assumes nothing.
 use lib.ListN.{replicate}
+use Rattle.base_limits.specs.Limits.{longestSide}
 use Rattle.text_grammar.specs.Plain.{plain}
 use Rattle.text_accepted.specs.Accepted.{countedLeft}
 use Rattle.text_write.proofs.pieces.Pieces.{written-long, written-count, written-front}
@@ -30,28 +31,28 @@ size-of-requires-2 c κs = search needs
 array-share-prefix-a : tie.Need-array-share-prefix-a
 array-share-prefix-a c =
     let v = c .before .before .before .before .before .before .before .before .before .args .left in
-    written-long (plain (countedLeft v)) (replicate 1151 0) (plain-short v)
+    written-long (plain (countedLeft v)) (replicate longestSide 0) (plain-short v)
     (c .before .before .before .before .size-of .ensures)
     (c .before .before .before .before .before .before .write-side .ensures)
 
 slice-aggregate-list-texts : tie.Need-slice-aggregate-list-texts
 slice-aggregate-list-texts c =
     let v = c .before .before .before .before .before .before .before .before .before .before .args .left in
-    written-count (plain (countedLeft v)) (replicate 1151 0) (plain-short v)
+    written-count (plain (countedLeft v)) (replicate longestSide 0) (plain-short v)
     (c .before .before .before .before .before .size-of .ensures)
     (c .before .before .before .before .before .before .before .write-side .ensures)
 
 array-share-prefix-b : tie.Need-array-share-prefix-b
 array-share-prefix-b c =
     let v = c .before .before .before .before .before .before .before .before .before .before .args .right in
-    written-long (plain (countedLeft v)) (replicate 1151 0) (plain-short v)
+    written-long (plain (countedLeft v)) (replicate longestSide 0) (plain-short v)
     (c .before .size-of2 .ensures)
     (c .before .before .before .write-side2 .ensures)
 
 slice-aggregate-list-texts-2 : tie.Need-slice-aggregate-list-texts-2
 slice-aggregate-list-texts-2 c =
     let v = c .before .before .before .before .before .before .before .before .before .before .before .args .right in
-    written-count (plain (countedLeft v)) (replicate 1151 0) (plain-short v)
+    written-count (plain (countedLeft v)) (replicate longestSide 0) (plain-short v)
     (c .before .before .size-of2 .ensures)
     (c .before .before .before .before .write-side2 .ensures)
 
@@ -65,11 +66,11 @@ returns : tie.Need-returns
 returns c =
     let z = c .before .before .before .before .before .before .before .before .before .before .before .before .before .before .before .args in
     let a =
-    written-front (plain (countedLeft (z .left))) (replicate 1151 0) (plain-short (z .left))
+    written-front (plain (countedLeft (z .left))) (replicate longestSide 0) (plain-short (z .left))
     (c .before .before .before .before .before .before .before .before .before .before .size-of .ensures)
     (c .before .before .before .before .before .before .before .before .before .before .before .before .write-side .ensures) in
     let b =
-    written-front (plain (countedLeft (z .right))) (replicate 1151 0) (plain-short (z .right))
+    written-front (plain (countedLeft (z .right))) (replicate longestSide 0) (plain-short (z .right))
     (c .before .before .before .before .before .before .size-of2 .ensures)
     (c .before .before .before .before .before .before .before .before .write-side2 .ensures) in
     sides-listed (z .left) (z .right) a b (c .before .before .list-texts .ensures)

@@ -5,6 +5,7 @@ use Prim.Native.Nat.{ℕ, _+_, _-_, _*_}
 use native.Mathlib.Omega.{arith}
 use lib.ListN.{getD}
 use borrow.Author.Needs.{needs}
+use Rattle.base_limits.specs.Limits.{numbersOfSide}
 use Rattle.pair_row.specs.Row.{indexIn}
 use Rattle.pair_lines.proofs.atom_of.Statement.{statement}
 use Rattle.pair_lines.proofs.atom_of.Tie as tie
@@ -22,7 +23,8 @@ byte-at-requires : tie.Need-byte-at-requires
 byte-at-requires c κs = search needs
 
 -- the atom's place
-place : (c : tie.Joined1) → let z = c .before .before .before .before .args in c .if1 .place ≡ indexIn (z .row .now) (z .right) (16 * z .rank + z .n) - 1
+place : (c : tie.Joined1) → let z = c .before .before .before .before .args in
+    c .if1 .place ≡ indexIn (z .row .now) (z .right) (numbersOfSide * z .rank + z .n) - 1
 place c =
     let e = c .before .index-at .ensures in
     ⊎-elim (λ w. omega (arith, e, w .0 .taken, w .1)) (λ w. omega (arith, e, w .0 .left, w .1)) (c .if1 .came)

@@ -5,6 +5,7 @@ use Prim.Native.Nat.{_+_, _-_, _*_, _≤_}
 use native.Mathlib.Omega.{arith}
 use lib.ListN.{getD}
 use borrow.Author.Needs.{needs}
+use Rattle.base_limits.specs.Limits.{entryTerms, pairPlaces}
 use Rattle.pair_row.specs.Row.{tableIn, spotOf}
 use Rattle.overlap_entries.specs.Entries.{itemAt}
 use Rattle.pair_lines.specs.Lines.{countAt}
@@ -14,8 +15,8 @@ use Rattle.pair_lines.proofs.lay_field.Tie as tie
 
 abbrev Inv-loop : tie.InvT-loop
 Inv-loop row j atoms items₀ counts₀ numbers₀ s t n long count from i₀ items counts numbers i =
-    Named (tableIn row) items₀ (record { counts = counts₀; numbers = numbers₀ }) (31 * j) (31 * j)
-    (itemAt atoms (spotOf s) (spotOf t) n long (128 + j)) i items counts numbers
+    Named (tableIn row) items₀ (record { counts = counts₀; numbers = numbers₀ }) (entryTerms * j) (entryTerms * j)
+    (itemAt atoms (spotOf s) (spotOf t) n long (pairPlaces + j)) i items counts numbers
     × (i ≤ count)
 
 abbrev μ-loop : tie.MeasureT-loop
@@ -46,9 +47,10 @@ loop-holds : tie.Need-loop-holds Inv-loop μ-loop
 loop-holds c =
     let k = c .before .before .before in
     let z = k .before .before .before .before .before .before .before .args in (
-      named-first (tableIn (z .row .now)) (z .items .now) (record { counts = z .counts .now; numbers = z .numbers .now }) (31 * z .j) (31 * z .j)
+      named-first (tableIn (z .row .now)) (z .items .now) (record { counts = z .counts .now; numbers = z .numbers .now }) (entryTerms * z .j)
+          (entryTerms * z .j)
           (itemAt (z .atoms .now) (spotOf (k .before .shape-at .result)) (spotOf (k .shape-at2 .result)) (getD (z .t3 .sizes) (z .j) 0)
-          (getD (z .t3 .longs) (z .j) false) (128 + z .j))
+          (getD (z .t3 .longs) (z .j) false) (pairPlaces + z .j))
           (k .before .before .before .before .before .before .before .pre .2),
       omega arith,
     )
@@ -89,9 +91,9 @@ loop-again c =
     let l = x .before .before .loop in
     let k = x .before .before .before .before .before .before in
     let z = k .before .before .before .before .before .before .before .args in (
-      named-one (tableIn (z .row .now)) (z .items .now) (record { counts = z .counts .now; numbers = z .numbers .now }) (31 * z .j) (31 * z .j)
+      named-one (tableIn (z .row .now)) (z .items .now) (record { counts = z .counts .now; numbers = z .numbers .now }) (entryTerms * z .j) (entryTerms * z .j)
           (itemAt (z .atoms .now) (spotOf (k .before .shape-at .result)) (spotOf (k .shape-at2 .result)) (getD (z .t3 .sizes) (z .j) 0)
-          (getD (z .t3 .longs) (z .j) false) (128 + z .j))
+          (getD (z .t3 .longs) (z .j) false) (pairPlaces + z .j))
           (l .i) (l .items) (l .counts) (l .numbers) (l .inv .0) (x .item-at .result) (x .item-at .ensures) _ _ _
           (n .before .before .before .before .before .put-at .ensures)
           (n .name-item .ensures .0)
@@ -104,9 +106,9 @@ same-length c =
     let l = c .before .loop in
     let k = c .before .before .before .before .before in
     let z = k .before .before .before .before .before .before .before .args in
-    named-long (tableIn (z .row .now)) (z .items .now) (record { counts = z .counts .now; numbers = z .numbers .now }) (31 * z .j) (31 * z .j)
+    named-long (tableIn (z .row .now)) (z .items .now) (record { counts = z .counts .now; numbers = z .numbers .now }) (entryTerms * z .j) (entryTerms * z .j)
     (itemAt (z .atoms .now) (spotOf (k .before .shape-at .result)) (spotOf (k .shape-at2 .result)) (getD (z .t3 .sizes) (z .j) 0)
-    (getD (z .t3 .longs) (z .j) false) (128 + z .j))
+    (getD (z .t3 .longs) (z .j) false) (pairPlaces + z .j))
     (l .i) (l .items) (l .counts) (l .numbers) (l .inv .0) .0
 
 same-length-2 : tie.Need-same-length-2 Inv-loop μ-loop
@@ -114,9 +116,9 @@ same-length-2 c =
     let l = c .before .loop in
     let k = c .before .before .before .before .before in
     let z = k .before .before .before .before .before .before .before .args in
-    named-long (tableIn (z .row .now)) (z .items .now) (record { counts = z .counts .now; numbers = z .numbers .now }) (31 * z .j) (31 * z .j)
+    named-long (tableIn (z .row .now)) (z .items .now) (record { counts = z .counts .now; numbers = z .numbers .now }) (entryTerms * z .j) (entryTerms * z .j)
     (itemAt (z .atoms .now) (spotOf (k .before .shape-at .result)) (spotOf (k .shape-at2 .result)) (getD (z .t3 .sizes) (z .j) 0)
-    (getD (z .t3 .longs) (z .j) false) (128 + z .j))
+    (getD (z .t3 .longs) (z .j) false) (pairPlaces + z .j))
     (l .i) (l .items) (l .counts) (l .numbers) (l .inv .0) .1
 
 same-length-3 : tie.Need-same-length-3 Inv-loop μ-loop
@@ -124,9 +126,9 @@ same-length-3 c =
     let l = c .before .loop in
     let k = c .before .before .before .before .before in
     let z = k .before .before .before .before .before .before .before .args in
-    named-long (tableIn (z .row .now)) (z .items .now) (record { counts = z .counts .now; numbers = z .numbers .now }) (31 * z .j) (31 * z .j)
+    named-long (tableIn (z .row .now)) (z .items .now) (record { counts = z .counts .now; numbers = z .numbers .now }) (entryTerms * z .j) (entryTerms * z .j)
     (itemAt (z .atoms .now) (spotOf (k .before .shape-at .result)) (spotOf (k .shape-at2 .result)) (getD (z .t3 .sizes) (z .j) 0)
-    (getD (z .t3 .longs) (z .j) false) (128 + z .j))
+    (getD (z .t3 .longs) (z .j) false) (pairPlaces + z .j))
     (l .i) (l .items) (l .counts) (l .numbers) (l .inv .0) .2
 
 returns : tie.Need-returns Inv-loop μ-loop
@@ -137,9 +139,9 @@ returns c =
     let z = k .before .before .before .before .before .before .before .args in
     let e : l .i ≡ countAt (z .t3) (z .j) = omega (arith, l .inv .1, c .loop-test .left, d .ensures) in
     let r =
-    named-all (tableIn (z .row .now)) (z .items .now) (record { counts = z .counts .now; numbers = z .numbers .now }) (31 * z .j) (31 * z .j)
+    named-all (tableIn (z .row .now)) (z .items .now) (record { counts = z .counts .now; numbers = z .numbers .now }) (entryTerms * z .j) (entryTerms * z .j)
     (itemAt (z .atoms .now) (spotOf (k .before .shape-at .result)) (spotOf (k .shape-at2 .result)) (getD (z .t3 .sizes) (z .j) 0)
-    (getD (z .t3 .longs) (z .j) false) (128 + z .j))
+    (getD (z .t3 .longs) (z .j) false) (pairPlaces + z .j))
     (l .i) (l .items) (l .counts) (l .numbers) (l .inv .0) _
     (field-is (z .row .now) (z .t3) (z .atoms .now) (z .j) (l .i) (k .before .shape-at .result) (k .shape-at2 .result) (k .before .shape-at .ensures)
     (k .shape-at2 .ensures) e) in

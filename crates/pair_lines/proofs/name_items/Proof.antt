@@ -5,6 +5,7 @@ use Prim.Native.Nat.{ℕ, _-_, _≤_}
 use native.Mathlib.Omega.{arith}
 use lib.ListN.{length, take}
 use borrow.Author.Needs.{needs}
+use Rattle.pair_lines.specs.Lines.{mostCount}
 use Rattle.math_codes.specs.Names.{nameCodes}
 use Rattle.pair_row.specs.Row.{tableIn}
 use Rattle.pair_lines.proofs.Loops.{names-long}
@@ -32,7 +33,8 @@ name-item-requires c κs =
     let c9 = c .before .before .before .before .before .before .before .before .before in
     let z = c9 .args in
     let L = c .before .before .before .before .loop in
-    items-few (tableIn (z .row .now)) (inHand (z .counts .now) (z .numbers .now)) (z .items .now) 254 (L .i) (L .counts) (L .numbers) (L .inv .1) (c9 .pre)
+    items-few (tableIn (z .row .now)) (inHand (z .counts .now) (z .numbers .now)) (z .items .now) mostCount (L .i) (L .counts) (L .numbers) (L .inv .1)
+    (c9 .pre)
 
 add-i : tie.Need-add-i Inv-loop μ-loop
 add-i c = search needs

@@ -8,7 +8,7 @@ use lib.ListN.{length}
 use borrow.Author.Needs.{needs}
 use Rattle.math_codes.specs.Names.{nameFields}
 use Rattle.pair_row.specs.Row.{tableIn, topIn}
-use Rattle.pair_lines.specs.Lines.{Few}
+use Rattle.pair_lines.specs.Lines.{Few, mostCount}
 use Rattle.pair_lines.specs.Answers.{valueWith, listedAt, listedRank}
 use Rattle.pair_lines.proofs.Loops.{all-named}
 use Rattle.pair_lines.proofs.Answers.{Gives, inHand, gives-as, upTo, values-one, values-few, listed-there, listed-not}
@@ -50,9 +50,9 @@ name-value-requires c κs =
     let T = tableIn (z .row .now) in
     let f = listedAt (z .row .now) (z .right) (z .atoms .now) (z .items .now) (z .rank) in
     let k = topIn (z .row .now) (z .right) (z .rank) in
-    subst (λ (vs : List (List ℕ)). Few 254 (nameFields T (inHand (L .counts) (L .numbers)) vs .counts))
+    subst (λ (vs : List (List ℕ)). Few mostCount (nameFields T (inHand (L .counts) (L .numbers)) vs .counts))
     (sym (there (c3) (c .before .before .if1 .taken)))
-    (values-few T (inHand (z .counts .now) (z .numbers .now)) f 254 (L .n) k (L .counts) (L .numbers) (L .inv .1)
+    (values-few T (inHand (z .counts .now) (z .numbers .now)) f mostCount (L .n) k (L .counts) (L .numbers) (L .inv .1)
     (omega (arith, c3 .before .loop-test .taken, c3 .before .before .before .top-at .ensures)) (c12 .pre))
 
 add-n : tie.Need-add-n Inv-loop μ-loop

@@ -5,7 +5,7 @@ use Prim.Native.Nat.{ℕ}
 use borrow.Author.Needs.{needs}
 use Rattle.math_codes.specs.Names.{nameCode, nameCodes}
 use Rattle.pair_row.specs.Row.{tableIn}
-use Rattle.pair_lines.specs.Lines.{Few}
+use Rattle.pair_lines.specs.Lines.{Few, mostCount}
 use Rattle.pair_lines.specs.Answers.{valueWith}
 use Rattle.pair_lines.proofs.Answers.{inHand, gives-as, few-first, with-atom, with-items}
 use Rattle.pair_lines.proofs.name_value.Statement.{statement}
@@ -18,7 +18,7 @@ name-item-requires : tie.Need-name-item-requires
 name-item-requires c κs =
     let c9 = c .before .before .before .before .before .before .before .before .before in
     let z = c9 .args in
-    few-first (tableIn (z .row .now)) 254 (valueWith (z .row .now) (z .right) (z .atoms .now) (z .items .now) (z .rank) (z .n))
+    few-first (tableIn (z .row .now)) mostCount (valueWith (z .row .now) (z .right) (z .atoms .now) (z .items .now) (z .rank) (z .n))
     (inHand (z .counts .now) (z .numbers .now)) (c9 .pre)
 
 same-length : tie.Need-same-length
@@ -47,7 +47,7 @@ name-items-requires c κs =
     let z = c8 .args in
     let T = tableIn (z .row .now) in
     let x = inHand (z .counts .now) (z .numbers .now) in
-    subst (λ (l : List ℕ). Few 254 (nameCodes T x l .counts))
+    subst (λ (l : List ℕ). Few mostCount (nameCodes T x l .counts))
     (sym (with-items (z .row .now) (z .right) (z .atoms .now) (z .items .now) (z .rank) (z .n) (c2 .if1 .left))) (c8 .pre)
 
 same-length-3 : tie.Need-same-length-3

@@ -5,6 +5,7 @@ use Prim.Native.Nat.{ℕ, _-_, _≤_}
 use native.Mathlib.Omega.{arith}
 use lib.ListN.{length}
 use borrow.Author.Needs.{needs}
+use Rattle.pair_lines.specs.Lines.{mostCount}
 use Rattle.math_codes.specs.Names.{nameFields}
 use Rattle.pair_row.specs.Row.{tableIn}
 use Rattle.pair_lines.specs.Answers.{listedRank, listedIn}
@@ -29,7 +30,7 @@ name-rank-requires c κs =
     let z = c9 .args in
     let L = c .before .before .before .loop in
     let f = listedRank (z .row .now) (z .right) (z .atoms .now) (z .items .now) in
-    values-few (tableIn (z .row .now)) (inHand (z .counts .now) (z .numbers .now)) f 254 (L .rank) 4 (L .counts) (L .numbers) (L .inv .1)
+    values-few (tableIn (z .row .now)) (inHand (z .counts .now) (z .numbers .now)) f mostCount (L .rank) 4 (L .counts) (L .numbers) (L .inv .1)
     (c .before .before .loop-test .taken) (c9 .pre)
 
 add-rank : tie.Need-add-rank Inv-loop μ-loop

@@ -7,6 +7,7 @@ use native.Mathlib.Omega.{arith}
 use lib.ListN.{length, take, drop, length-append}
 use lib.Seq.{take-all}
 use borrow.Author.Needs.{needs}
+use Rattle.base_limits.specs.Limits.{entryTerms, entryPlaces}
 use Rattle.math_codes.specs.Lines.{itemsText, fieldsText}
 use Rattle.pair_row.specs.Row.{tableIn, textIn}
 use Rattle.pair_lines.specs.Lines.{Puts, countAt, fieldIn, itemsIn}
@@ -107,7 +108,7 @@ item-count-requires : tie.Need-item-count-requires Inv-loop μ-loop
 item-count-requires c κs = search needs
 
 -- the field's items stand in the row
-within : (c : tie.After-item-count Inv-loop μ-loop) → 31 * c .before .before .before .before .before .loop .j + c .item-count .result ≤ 124
+within : (c : tie.After-item-count Inv-loop μ-loop) → entryTerms * c .before .before .before .before .before .loop .j + c .item-count .result ≤ entryPlaces
 within c =
     let c4 = c .before .before .before .before in
     let c5 = c4 .before in
@@ -135,7 +136,7 @@ field : (c : tie.After-item-count Inv-loop μ-loop)
     → let c5 = c .before .before .before .before .before in
     let c12 = c5 .before .before .before .before .before .before .before in
     let z = c12 .args in
-    take (31 * c5 .loop .j + c .item-count .result - 31 * c5 .loop .j) (drop (31 * c5 .loop .j) (z .items .now))
+    take (entryTerms * c5 .loop .j + c .item-count .result - entryTerms * c5 .loop .j) (drop (entryTerms * c5 .loop .j) (z .items .now))
     ≡ fieldIn (z .row .now) (z .t4) (z .atoms .now) (c5 .loop .j)
 field c =
     let c4 = c .before .before .before .before in
@@ -143,8 +144,8 @@ field c =
     let c12 = c5 .before .before .before .before .before .before .before in
     let z = c12 in
     let j = c5 .loop .j in
-    ap₂ (λ (n : ℕ) (l : List ℕ). take n (drop (31 * j) l))
-    (let e : 31 * j + c .item-count .result - 31 * j ≡ countAt (z .args .t4) j = omega (arith, c .item-count .ensures) in e) (z .pre .0 .1)
+    ap₂ (λ (n : ℕ) (l : List ℕ). take n (drop (entryTerms * j) l))
+    (let e : entryTerms * j + c .item-count .result - entryTerms * j ≡ countAt (z .args .t4) j = omega (arith, c .item-count .ensures) in e) (z .pre .0 .1)
     ∙ laid-field (z .args .row .now) (z .args .fields) (z .args .t4) (z .args .atoms .now) (z .pre .0 .0) j (c4 .loop-test .taken)
 
 put-run-requires : tie.Need-put-run-requires Inv-loop μ-loop

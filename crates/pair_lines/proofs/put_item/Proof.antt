@@ -7,7 +7,8 @@ use native.Mathlib.Omega.{arith}
 use lib.ListN.{length, getD, length-append}
 use borrow.Author.Needs.{needs}
 use Rattle.text_grammar.specs.Numbers.{digitsOf}
-use Rattle.math_codes.specs.Lines.{letterAt, itemText}
+use Rattle.text_grammar.specs.Letters.{letterAt}
+use Rattle.math_codes.specs.Lines.{itemText}
 use Rattle.pair_row.specs.Row.{tableIn, bytesIn, textIn}
 use Rattle.pair_lines.proofs.Puts.{puts-as, puts-next}
 use Rattle.pair_lines.proofs.Texts.{item-name, item-plain, item-string}
@@ -20,8 +21,8 @@ kind-at-requires c κs = search needs
 is-variable-requires : tie.Need-is-variable-requires
 is-variable-requires c κs = search needs
 
-letter-requires : tie.Need-letter-requires
-letter-requires c κs = search needs
+letter-at-requires : tie.Need-letter-at-requires
+letter-at-requires c κs = search needs
 
 -- the item's text, by what the tests say
 named : (c : tie.Then1)
@@ -108,7 +109,8 @@ returns c =
     let z = c18 .args in
     let k = letterAt (tableIn (z .row .now) .kind (z .c)) in
     let n = getD (z .numbers .now) (z .c) 0 - 1 in
-    let first = puts-as (z .at) (z .out .now) (ap (λ (b : ℕ). b ∷ []) (c10 .letter .ensures ∙ ap letterAt (c13 .kind-at .ensures))) (c8 .put-byte .ensures) in
+    let first =
+    puts-as (z .at) (z .out .now) (ap (λ (b : ℕ). b ∷ []) (c10 .letter-at .ensures ∙ ap letterAt (c13 .kind-at .ensures))) (c8 .put-byte .ensures) in
     let second = puts-as _ _ (ap digitsOf (number (c4))) (c .before .before .put-digits .ensures) in
     puts-as (z .at) (z .out .now) (named (c11)) (puts-next (k ∷ []) (digitsOf n) (z .at) (z .out .now) first second)
 
@@ -167,7 +169,7 @@ put-item-spec =
     (tie.spec
     kind-at-requires
     is-variable-requires
-    letter-requires
+    letter-at-requires
     put-byte-requires
     cast-byte-at
     byte-at-requires

@@ -7,6 +7,7 @@ use native.Mathlib.Omega.{arith}
 use lib.ListN.{length, getD}
 use borrow.Author.Needs.{needs}
 use borrow.Author.Tests.{not-true, not-false}
+use Rattle.base_limits.specs.Limits.{pairItems, entryPlaces}
 use Rattle.math_codes.specs.Lines.{fieldsText}
 use Rattle.pair_row.specs.Row.{tableIn, textIn}
 use Rattle.pair_lines.specs.Lines.{numbersFew, fits, itemsIn, runBy, valuesIn}
@@ -93,10 +94,10 @@ put-fields-requires c κs =
     ((ok (c11 .before .before .before), c11 .lay .ensures .0), omega (arith, small (c .before .before .before .before)))
 
 -- the rows of items and numbers have their lengths
-items-long : (c : tie.After-lay) → length (c .lay .result .items) ≡ 124
+items-long : (c : tie.After-lay) → length (c .lay .result .items) ≡ entryPlaces
 items-long c = search needs
 
-long : (c : tie.After-lay) → length (c .lay .result .numbers) ≡ 160
+long : (c : tie.After-lay) → length (c .lay .result .numbers) ≡ pairItems
 long c = search needs
 
 slice-aggregate-put-values : tie.Need-slice-aggregate-put-values

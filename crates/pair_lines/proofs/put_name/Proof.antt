@@ -6,7 +6,7 @@ use Prim.Native.Nat.{ℕ}
 use native.Mathlib.Omega.{arith}
 use borrow.Author.Needs.{needs}
 use Rattle.text_grammar.specs.Numbers.{digitsOf}
-use Rattle.math_codes.specs.Lines.{letterAt}
+use Rattle.text_grammar.specs.Letters.{letterAt}
 use Rattle.pair_lines.specs.Lines.{tagOf, blank}
 use Rattle.pair_lines.proofs.Puts.{puts-as, puts-next, blank-few, blank-led}
 use Rattle.pair_lines.proofs.put_name.Statement.{statement}
@@ -21,8 +21,8 @@ put-byte-requires c κs =
     let z = c4 .before .before .before .args in
     omega (arith, c4 .put-blank .ensures .0, blank-few (z .led) (z .at))
 
-letter-requires : tie.Need-letter-requires
-letter-requires c κs = search needs
+letter-at-requires : tie.Need-letter-at-requires
+letter-at-requires c κs = search needs
 
 put-byte-requires-2 : tie.Need-put-byte-requires-2
 put-byte-requires-2 c κs =
@@ -81,7 +81,7 @@ returns c =
     let B = c15 .put-byte in
     let C = c10 .put-byte2 in
     let second = puts-as (A .result) (A .last .1 .0) (ap (λ (b : ℕ). b ∷ []) (tag (c17))) (B .ensures) in
-    let third = puts-as (B .result) (B .last .1 .0) (ap (λ (b : ℕ). b ∷ []) (c12 .letter .ensures)) (C .ensures) in
+    let third = puts-as (B .result) (B .last .1 .0) (ap (λ (b : ℕ). b ∷ []) (c12 .letter-at .ensures)) (C .ensures) in
     let end = puts-next (digitsOf (z .n)) (61 ∷ []) (C .result) (C .last .1 .0) (c6 .put-digits .ensures) (c .before .before .put-byte3 .ensures) in
     let named = puts-next (k ∷ []) (digitsOf (z .n) ++ 61 ∷ []) (B .result) (B .last .1 .0) third end in
     let tagged = puts-next (m ∷ []) (k ∷ (digitsOf (z .n) ++ 61 ∷ [])) (A .result) (A .last .1 .0) second named in
@@ -94,7 +94,7 @@ put-name-spec =
     (tie.spec
     put-blank-requires
     put-byte-requires
-    letter-requires
+    letter-at-requires
     put-byte-requires-2
     put-digits-requires
     put-byte-requires-3

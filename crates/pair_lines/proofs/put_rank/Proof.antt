@@ -6,6 +6,7 @@ use Prim.Native.Nat.{ℕ, _+_, _-_, _*_, _≤_, _<_}
 use native.Mathlib.Omega.{arith}
 use lib.ListN.{length}
 use borrow.Author.Needs.{needs}
+use Rattle.base_limits.specs.Limits.{numbersOfSide}
 use Rattle.text_grammar.specs.Numbers.{digitsOf}
 use Rattle.math_terms.specs.Seqs.{concat-map}
 use Rattle.math_overlaps.specs.Candidates.{range}
@@ -54,7 +55,7 @@ room c =
 there : (c : tie.After-index-at Inv-loop μ-loop)
     → let z = c .before .before .before .before .before .before .before .before .before .before .before .args in
     (c .index-at .result ≡ 0 → ⊥)
-    → indexIn (z .row .now) (z .right) (16 * z .rank + c .before .before .loop .n) ≡ 0
+    → indexIn (z .row .now) (z .right) (numbersOfSide * z .rank + c .before .before .loop .n) ≡ 0
     → ⊥
 there c h e = h (c .index-at .ensures ∙ e)
 

@@ -50,34 +50,34 @@ add-byte-at c = search needs
 byte-at-requires : tie.Need-byte-at-requires
 byte-at-requires c κs = search needs
 
-cast-least : tie.Need-cast-least
-cast-least c = search needs
+cast-at-most : tie.Need-cast-at-most
+cast-at-most c = search needs
 
-least-requires : tie.Need-least-requires
-least-requires c κs = search needs
+at-most-requires : tie.Need-at-most-requires
+at-most-requires c κs = search needs
 
 byte-at-requires-2 : tie.Need-byte-at-requires-2
 byte-at-requires-2 c κs = search needs
 
-cast-least-2 : tie.Need-cast-least-2
-cast-least-2 c = search needs
+cast-at-most-2 : tie.Need-cast-at-most-2
+cast-at-most-2 c = search needs
 
-least-requires-2 : tie.Need-least-requires-2
-least-requires-2 c κs = search needs
+at-most-requires-2 : tie.Need-at-most-requires-2
+at-most-requires-2 c κs = search needs
 
 sub-put-run : tie.Need-sub-put-run
-sub-put-run c = omega (arith, c .least2 .ensures)
+sub-put-run c = omega (arith, c .at-most2 .ensures)
 
 part-put-run-start : tie.Need-part-put-run-start
-part-put-run-start c = omega (arith, c .least2 .ensures)
+part-put-run-start c = omega (arith, c .at-most2 .ensures)
 
 part-put-run-end : tie.Need-part-put-run-end
-part-put-run-end c = omega (arith, c .before .before .least .ensures)
+part-put-run-end c = omega (arith, c .before .before .at-most .ensures)
 
 -- the run is the value
-run : (c : tie.After-least2)
+run : (c : tie.After-at-most2)
     → let z = c .before .before .before .before .before .before .before .before .before .before .before .before .args in
-    take (c .before .before .least .result - c .least2 .result) (drop (c .least2 .result) (z .items .now))
+    take (c .before .before .at-most .result - c .at-most2 .result) (drop (c .at-most2 .result) (z .items .now))
     ≡ valueIn (z .row .now) (z .right) (z .atoms .now) (runBy (z .runs .now) (z .items .now)) (z .rank) (z .n)
 run c =
     let c4 = c .before .before .before .before in
@@ -85,9 +85,9 @@ run c =
     let l = z .items .now in
     let a = getD (z .runs .now) (2 * z .n) 0 in
     let b = getD (z .runs .now) (2 * z .n + 1) 0 in
-    let T = c .before .before .least in
+    let T = c .before .before .at-most in
     let t : T .result ≡ min b (length l) = T .ensures ∙ ap (λ (x : ℕ). min x (length l)) (c .before .before .before .byte-at .ensures) in
-    let f : c .least2 .result ≡ min a (min b (length l)) = c .least2 .ensures ∙ ap₂ min (c .before .byte-at2 .ensures) t in
+    let f : c .at-most2 .result ≡ min a (min b (length l)) = c .at-most2 .ensures ∙ ap₂ min (c .before .byte-at2 .ensures) t in
     ap₂ (λ (x y : ℕ). take (x - y) (drop y l)) t f
     ∙ part-within l a b
     ∙ value-run (z .row .now) (z .right) (z .atoms .now) (runBy (z .runs .now) l) (z .rank) (z .n) (c4 .if1 .left)
@@ -122,11 +122,11 @@ put-value-spec =
     mul-k
     add-byte-at
     byte-at-requires
-    cast-least
-    least-requires
+    cast-at-most
+    at-most-requires
     byte-at-requires-2
-    cast-least-2
-    least-requires-2
+    cast-at-most-2
+    at-most-requires-2
     sub-put-run
     part-put-run-start
     part-put-run-end

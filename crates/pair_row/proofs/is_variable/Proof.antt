@@ -1,7 +1,7 @@
 -- `pair_row::is_variable` meets its contract. Assumes nothing.
 use borrow.Author.Needs.{needs}
 use borrow.Author.Tests.{le-leb, lt-leb}
-use Rattle.math_codes.specs.Lines.{pairPlaces}
+use Rattle.base_limits.specs.Limits.{pairPlaces}
 use Rattle.pair_row.proofs.is_variable.Statement.{statement}
 use Rattle.pair_row.proofs.is_variable.Tie as tie
 

@@ -1,7 +1,7 @@
 -- `pair_row::kind_at` meets its contract. Assumes nothing.
 use borrow.Author.Needs.{needs}
 use borrow.Author.Tests.{le-leb, lt-leb}
-use Rattle.math_codes.specs.Lines.{pairPlaces}
+use Rattle.base_limits.specs.Limits.{pairPlaces}
 use Rattle.pair_row.proofs.kind_at.Statement.{statement}
 use Rattle.pair_row.proofs.kind_at.Tie as tie
 

@@ -2,6 +2,7 @@
 use mathlib.Core.Path.{refl, sym, _∙_}
 use lib.ListN.{length}
 use borrow.Author.Tests.{not-true, not-false, lt-ltb, le-ltb, le-leb, lt-leb}
+use Rattle.base_limits.specs.Limits.{mostTerms, longestString}
 use Rattle.pair_table.proofs.Loops.{field-within}
 use borrow.Author.Needs.{needs}
 use Rattle.pair_table.proofs.note.Statement.{statement}
@@ -31,7 +32,7 @@ returns-2 c =
       not-false (c .before .before .before .before .before .is-field .result) (c .before .before .before .before .if1 .left),
       ← c .before .before .before .field-among .ensures .0,
       ← c .before .terms-in .ensures,
-      le-ltb (c .before .terms-in .result) 16 (c .if2 .taken),
+      le-ltb (c .before .terms-in .result) mostTerms (c .if2 .taken),
     )
     (refl, refl)
 
@@ -50,7 +51,7 @@ returns-3 c =
       not-false (c6 .is-field .result) (c5 .if1 .left),
       ← c4 .field-among .ensures .0,
       ← c2 .terms-in .ensures,
-      lt-ltb (c2 .terms-in .result) 16 (c .before .if2 .left),
+      lt-ltb (c2 .terms-in .result) mostTerms (c .before .if2 .left),
       le-ltb (c10 .args .at) (length (c10 .args .text .now)) (c .if3 .taken),
     )
     (refl, refl)
@@ -72,9 +73,9 @@ returns-4 c =
       not-false (c8 .is-field .result) (c7 .if1 .left),
       ← c6 .field-among .ensures .0,
       ← c4 .terms-in .ensures,
-      lt-ltb (c4 .terms-in .result) 16 (c3 .if2 .left),
+      lt-ltb (c4 .terms-in .result) mostTerms (c3 .if2 .left),
       lt-ltb (c12 .args .at) (length (c12 .args .text .now)) (c2 .if3 .left),
-      lt-leb (c12 .args .t .size) 15 (c .if4 .taken),
+      lt-leb (c12 .args .t .size) longestString (c .if4 .taken),
     )
     (refl, refl)
 
@@ -112,9 +113,9 @@ returns-5 c =
       not-false (c15 .is-field .result) (c14 .if1 .left),
       ← c13 .field-among .ensures .0,
       ← c11 .terms-in .ensures,
-      lt-ltb (c11 .terms-in .result) 16 (c10 .if2 .left),
+      lt-ltb (c11 .terms-in .result) mostTerms (c10 .if2 .left),
       lt-ltb (c19 .args .at) (length (c19 .args .text .now)) (c9 .if3 .left),
-      le-leb (c19 .args .t .size) 15 (c7 .if4 .left),
+      le-leb (c19 .args .t .size) longestString (c7 .if4 .left),
     )
     (c4 .note-term .ensures .0, c4 .note-term .ensures .1)
 

@@ -13,8 +13,8 @@ put-class-requires c κs = search needs
 code-of-requires : tie.Need-code-of-requires
 code-of-requires c κs = search needs
 
-put-byte-requires : tie.Need-put-byte-requires
-put-byte-requires c κs = search needs
+put-at-requires : tie.Need-put-at-requires
+put-at-requires c κs = search needs
 
 join-member-requires : tie.Need-join-member-requires
 join-member-requires c κs = search needs
@@ -37,7 +37,7 @@ returns c =
       c18 .put-bytes .ensures,
       rw (
         c2 .join-member .ensures,
-        c7 .put-byte .ensures,
+        c7 .put-at .ensures,
         ← c14 .put-class .ensures,
         ← c18 .put-bytes .ensures,
         ← c9 .code-of .ensures,
@@ -60,7 +60,7 @@ returns-2 c =
     let c19 = c14 .before .before .before .before .before in (
       c14 .put-bytes .ensures,
       rw (
-        c3 .put-byte .ensures,
+        c3 .put-at .ensures,
         ← c10 .put-class .ensures,
         ← c14 .put-bytes .ensures,
         ← c5 .code-of .ensures,
@@ -75,7 +75,7 @@ note-constant-spec =
     put-bytes-requires
     put-class-requires
     code-of-requires
-    put-byte-requires
+    put-at-requires
     join-member-requires
     same-length
     same-length-2

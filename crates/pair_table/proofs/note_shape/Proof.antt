@@ -22,14 +22,14 @@ add-byte-at-2 c = search needs
 byte-at-requires-2 : tie.Need-byte-at-requires-2
 byte-at-requires-2 c κs = search needs
 
-add-put-byte : tie.Need-add-put-byte
-add-put-byte c = search needs
+add-put-at : tie.Need-add-put-at
+add-put-at c = search needs
 
 more-requires : tie.Need-more-requires
 more-requires c κs = search needs
 
-put-byte-requires : tie.Need-put-byte-requires
-put-byte-requires c κs = search needs
+put-at-requires : tie.Need-put-at-requires
+put-at-requires c κs = search needs
 
 same-length : tie.Need-same-length
 same-length c = search needs
@@ -42,24 +42,24 @@ returns c =
     let c7 = c5 .before .before in
     let c8 = c7 .before in
     rw (
-      c2 .put-byte .ensures,
+      c2 .put-at .ensures,
       c3 .more .ensures,
       c5 .byte-at2 .ensures,
       ← c8 .byte-at .ensures,
       ne-eqb (c8 .byte-at .result) 0 (c7 .if1 .taken),
     )
 
-add-put-byte-2 : tie.Need-add-put-byte-2
-add-put-byte-2 c = search needs
+add-put-at-2 : tie.Need-add-put-at-2
+add-put-at-2 c = search needs
 
-put-byte-requires-2 : tie.Need-put-byte-requires-2
-put-byte-requires-2 c κs = search needs
+put-at-requires-2 : tie.Need-put-at-requires-2
+put-at-requires-2 c κs = search needs
 
-add-put-byte-3 : tie.Need-add-put-byte-3
-add-put-byte-3 c = search needs
+add-put-at-3 : tie.Need-add-put-at-3
+add-put-at-3 c = search needs
 
-put-byte-requires-3 : tie.Need-put-byte-requires-3
-put-byte-requires-3 c κs = search needs
+put-at-requires-3 : tie.Need-put-at-requires-3
+put-at-requires-3 c κs = search needs
 
 same-length-2 : tie.Need-same-length-2
 same-length-2 c = search needs
@@ -72,8 +72,8 @@ returns-2 c =
     let c9 = c8 .before in
     let c10 = c9 .before in
     rw (
-      c2 .put-byte3 .ensures,
-      c6 .put-byte2 .ensures,
+      c2 .put-at3 .ensures,
+      c6 .put-at2 .ensures,
       ← c10 .byte-at .ensures,
       eq-eqb (c10 .byte-at .result) 0 (c9 .if1 .left),
       c8 .if2 .taken,
@@ -85,8 +85,8 @@ byte-at-requires-3 c κs = search needs
 more-requires-2 : tie.Need-more-requires-2
 more-requires-2 c κs = search needs
 
-put-byte-requires-4 : tie.Need-put-byte-requires-4
-put-byte-requires-4 c κs = search needs
+put-at-requires-4 : tie.Need-put-at-requires-4
+put-at-requires-4 c κs = search needs
 
 same-length-3 : tie.Need-same-length-3
 same-length-3 c = search needs
@@ -100,7 +100,7 @@ returns-3 c =
     let c8 = c7 .before in
     let c9 = c8 .before in
     rw (
-      c2 .put-byte4 .ensures,
+      c2 .put-at4 .ensures,
       c3 .more2 .ensures,
       c5 .byte-at3 .ensures,
       ← c9 .byte-at .ensures,
@@ -118,19 +118,19 @@ note-shape-spec =
     byte-at-requires
     add-byte-at-2
     byte-at-requires-2
-    add-put-byte
+    add-put-at
     more-requires
-    put-byte-requires
+    put-at-requires
     same-length
     returns
-    add-put-byte-2
-    put-byte-requires-2
-    add-put-byte-3
-    put-byte-requires-3
+    add-put-at-2
+    put-at-requires-2
+    add-put-at-3
+    put-at-requires-3
     same-length-2
     returns-2
     byte-at-requires-3
     more-requires-2
-    put-byte-requires-4
+    put-at-requires-4
     same-length-3
     returns-3)

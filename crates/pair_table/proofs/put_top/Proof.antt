@@ -7,11 +7,11 @@ use Rattle.pair_table.proofs.put_top.Tie as tie
 byte-at-requires : tie.Need-byte-at-requires
 byte-at-requires c κs = search needs
 
-add-put-byte : tie.Need-add-put-byte
-add-put-byte c = search needs
+add-put-at : tie.Need-add-put-at
+add-put-at c = search needs
 
-put-byte-requires : tie.Need-put-byte-requires
-put-byte-requires c κs = search needs
+put-at-requires : tie.Need-put-at-requires
+put-at-requires c κs = search needs
 
 same-length : tie.Need-same-length
 same-length c = search needs
@@ -22,7 +22,7 @@ returns c =
     let c4 = c2 .before .before in
     let c5 = c4 .before in
     let c8 = c5 .before .before .before in
-    rw (c2 .put-byte .ensures, ← c5 .byte-at .ensures, le-leb (c5 .byte-at .result) (c8 .args .n) (c4 .if1 .taken))
+    rw (c2 .put-at .ensures, ← c5 .byte-at .ensures, le-leb (c5 .byte-at .result) (c8 .args .n) (c4 .if1 .taken))
 
 same-length-2 : tie.Need-same-length-2
 same-length-2 c = search needs
@@ -37,8 +37,8 @@ put-top-spec =
     tie.close
     (tie.spec
     byte-at-requires
-    add-put-byte
-    put-byte-requires
+    add-put-at
+    put-at-requires
     same-length
     returns
     same-length-2

@@ -5,6 +5,7 @@ use Prim.Native.Nat.{_+_, _-_, _*_, _≤_}
 use native.Mathlib.Omega.{arith}
 use lib.ListN.{getD}
 use borrow.Author.Tests.{eq-eqb, ne-eqb}
+use Rattle.pair_row.specs.Row.{cellBytes}
 use Rattle.pair_table.specs.Notes.{sameFrom}
 use Rattle.pair_table.proofs.Loops.{same-begin, same-one, same-other, same-none, same-whole}
 use borrow.Author.Needs.{needs}
@@ -49,7 +50,7 @@ cast-n c = search needs
 loop-holds : tie.Need-loop-holds Inv-loop μ-loop
 loop-holds c =
     let c6 = c .before .before .before .before .before .before in
-    (omega arith, same-begin (c6 .args .texts .now) (16 * c6 .args .p) (16 * c6 .args .q) (c .byte-at3 .result + 1))
+    (omega arith, same-begin (c6 .args .texts .now) (cellBytes * c6 .args .p) (cellBytes * c6 .args .q) (c .byte-at3 .result + 1))
 
 add-byte-at-3 : tie.Need-add-byte-at-3 Inv-loop μ-loop
 add-byte-at-3 c = omega (arith, c .before .loop .inv .0)
@@ -78,11 +79,11 @@ returns-2 c =
     let t = a .texts .now in
     let n = c5 .byte-at3 .result in
     let k = sym (c8 .byte-at .ensures) ∙ c6 .if1 .left ∙ c7 .byte-at2 .ensures in
-    let x = getD t (16 * a .p + L .i) 0 in
-    let y = getD t (16 * a .q + L .i) 0 in
+    let x = getD t (cellBytes * a .p + L .i) 0 in
+    let y = getD t (cellBytes * a .q + L .i) 0 in
     let d = ne-eqb x y (λ e. c .if2 .taken (c2 .byte-at4 .ensures ∙ e ∙ sym (c .before .byte-at5 .ensures))) in
     sym (same-whole (a .row .now) t (a .p) (a .q) n false k (c5 .byte-at3 .ensures)
-    (L .inv .1 ∙ same-other t (16 * a .p) (16 * a .q) (n + 1) (L .i) (omega (arith, c3 .loop-test .taken)) d))
+    (L .inv .1 ∙ same-other t (cellBytes * a .p) (cellBytes * a .q) (n + 1) (L .i) (omega (arith, c3 .loop-test .taken)) d))
 
 add-i : tie.Need-add-i Inv-loop μ-loop
 add-i c = omega (arith, c .before .before .before .before .loop .inv .0)
@@ -102,8 +103,9 @@ loop-again c =
     let t = a .texts .now in
     let n = c5 .byte-at3 .result in
     let h = c3 .loop-test .taken in
-    let e = eq-eqb (getD t (16 * a .p + L .i) 0) (getD t (16 * a .q + L .i) 0) (sym (c2 .byte-at4 .ensures) ∙ c .if2 .left ∙ c .before .byte-at5 .ensures) in
-    (omega (arith, h), L .inv .1 ∙ same-one t (16 * a .p) (16 * a .q) (n + 1) (L .i) (omega (arith, h)) e)
+    let e = eq-eqb (getD t (cellBytes * a .p + L .i) 0) (getD t (cellBytes * a .q + L .i) 0)
+    (sym (c2 .byte-at4 .ensures) ∙ c .if2 .left ∙ c .before .byte-at5 .ensures) in
+    (omega (arith, h), L .inv .1 ∙ same-one t (cellBytes * a .p) (cellBytes * a .q) (n + 1) (L .i) (omega (arith, h)) e)
 
 returns-3 : tie.Need-returns-3 Inv-loop μ-loop
 returns-3 c =
@@ -118,7 +120,7 @@ returns-3 c =
     let n = c2 .byte-at3 .result in
     let k = sym (c5 .byte-at .ensures) ∙ c3 .if1 .left ∙ c4 .byte-at2 .ensures in
     sym (same-whole (a .row .now) t (a .p) (a .q) n true k (c2 .byte-at3 .ensures)
-    (L .inv .1 ∙ same-none t (16 * a .p) (16 * a .q) (n + 1) (L .i) (omega (arith, c .loop-test .left))))
+    (L .inv .1 ∙ same-none t (cellBytes * a .p) (cellBytes * a .q) (n + 1) (L .i) (omega (arith, c .loop-test .left))))
 
 pub same-constant-spec : {M : Type 1} → statement M
 same-constant-spec =

@@ -7,8 +7,10 @@ use native.Mathlib.Numerals.{add-one}
 use native.Mathlib.Omega.{arith}
 use native.Mathlib.Decide.{decLe}
 use lib.ListN.{length, getD, take, drop, length-take, length-drop, drop-of-length-le}
-use lib.Seq.{take-all, take-take, take-add, drop-at, length-take-le}
-use Rattle.math_types.specs.Types.{Kind, rank-below}
+use lib.Seq.{take-all, take-take, take-add, drop-at, drop-cons, length-take-le}
+use Rattle.math_types.specs.Order.{list}
+use Rattle.math_types.specs.Types.{Kind, kinds, atomKinds, rank-kinds, kindAt, basic-at}
+use Rattle.base_limits.specs.Limits.{mostItems, numbersOfSide, variablePlaces}
 use Rattle.math_terms.specs.Seqs.{concat-map}
 use Rattle.text_grammar.specs.Grammar.{colons}
 use Rattle.text_grammar.specs.Plain.{rawOf, termText, fieldText}
@@ -23,8 +25,8 @@ use Rattle.match_fields.proofs.bindings.Entries.{entry-any}
 use Rattle.match_fields.proofs.Walks.{here}
 use Rattle.overlap_spec.specs.Variables.{numbersFrom}
 use Rattle.text_write.specs.pieces.Placed.{Placed}
-use Rattle.text_write.proofs.pieces.Pieces.{Left, all-left, left-next, rest-as, none-left, placed-next}
-use Rattle.print_matches.specs.answers.Values.{itemsFrom, runText, atomText, listText, nameText, notedText}
+use Rattle.text_write.proofs.pieces.Pieces.{Left, all-left, left-next, rest-as, none-left, placed-next, placed-as}
+use Rattle.print_matches.specs.answers.Values.{itemsFrom, runText, atomText, listText, saidValue, nameText, notedText}
 
 -- ---- the items of a run
 
@@ -56,7 +58,7 @@ module _ {A : Type 0} (l : List A) (start count from end : ℕ) (is-from : from 
   part = ap (take count) first ∙ most ∙ sym (drop-front from (min count (length l - from)) l (omega arith)) ∙ ap (λ (i : ℕ). drop from (take i l)) (sym is-end)
 
 -- the run's items are those from `from` on before `end`
-module _ (f : SlipField) (start count n from end : ℕ) (long : length (f .terms) ≡ 64) (is-n : n ≡ min (f .n) 64)
+module _ (f : SlipField) (start count n from end : ℕ) (long : length (f .terms) ≡ mostItems) (is-n : n ≡ min (f .n) mostItems)
     (is-from : from ≡ min start n) (is-end : end ≡ from + min count (n - from)) where
   counted : n ≡ length (take (f .n) (f .terms))
   counted = omega (arith, length-take (f .n) (f .terms))
@@ -84,13 +86,14 @@ last-item s end i h = ap rowText (drop-of-length-le (take end s) {i = i} (omega 
 
 -- ---- the variables of one type, by number
 
-number-next : (g : ℕ → List ℕ) (n : ℕ) → n < 16 → concat-map g (numbersFrom (16 - n) n) ≡ g n ++ concat-map g (numbersFrom (16 - (n + 1)) (n + 1))
+number-next : (g : ℕ → List ℕ) (n : ℕ) → n < numbersOfSide
+    → concat-map g (numbersFrom (numbersOfSide - n) n) ≡ g n ++ concat-map g (numbersFrom (numbersOfSide - (n + 1)) (n + 1))
 number-next g n h =
-    ap (λ (m : ℕ). concat-map g (numbersFrom m n)) (let e : 16 - n ≡ suc (16 - (n + 1)) = omega arith in e)
-    ∙ ap (λ (m : ℕ). g n ++ concat-map g (numbersFrom (16 - (n + 1)) m)) (sym (add-one n))
+    ap (λ (m : ℕ). concat-map g (numbersFrom m n)) (let e : numbersOfSide - n ≡ suc (numbersOfSide - (n + 1)) = omega arith in e)
+    ∙ ap (λ (m : ℕ). g n ++ concat-map g (numbersFrom (numbersOfSide - (n + 1)) m)) (sym (add-one n))
 
-number-last : (g : ℕ → List ℕ) (n : ℕ) → 16 ≤ n → concat-map g (numbersFrom (16 - n) n) ≡ []
-number-last g n h = ap (λ (m : ℕ). concat-map g (numbersFrom m n)) (let e : 16 - n ≡ 0 = omega arith in e)
+number-last : (g : ℕ → List ℕ) (n : ℕ) → numbersOfSide ≤ n → concat-map g (numbersFrom (numbersOfSide - n) n) ≡ []
+number-last g n h = ap (λ (m : ℕ). concat-map g (numbersFrom m n)) (let e : numbersOfSide - n ≡ 0 = omega arith in e)
 
 module _ (v : List Bool) (k : Kind) (value : ℕ → List ℕ) (at : ℕ) (old : List ℕ) where
   abbrev one : ℕ → List ℕ
@@ -98,26 +101,27 @@ module _ (v : List Bool) (k : Kind) (value : ℕ → List ℕ) (at : ℕ) (old :
 
   -- those from number n on are left to put
   abbrev pub From : ℕ → ℕ → List ℕ → Type 0
-  From n p new = (n ≤ 16) × (length v ≡ 64) × Left (notedText v k value) at old (concat-map one (numbersFrom (16 - n) n)) p new
+  From n p new = (n ≤ numbersOfSide) × (length v ≡ variablePlaces)
+      × Left (notedText v k value) at old (concat-map one (numbersFrom (numbersOfSide - n) n)) p new
 
-  pub from-none : length v ≡ 64 → From 0 at old
+  pub from-none : length v ≡ variablePlaces → From 0 at old
   from-none e = (omega arith, e, all-left _ _ _)
 
   pub from-as : (n : ℕ) {p q : ℕ} {l m : List ℕ} → q ≡ p → m ≡ l → From n p l → From n q m
   from-as n {p} {q} {l} {m} e i f = subst (λ (a : ℕ). From n a m) (sym e) (subst (λ (t : List ℕ). From n p t) (sym i) f)
 
-  pub from-all : (n p : ℕ) (new : List ℕ) → From n p new → 16 ≤ n → Placed (notedText v k value) at old p new
+  pub from-all : (n p : ℕ) (new : List ℕ) → From n p new → numbersOfSide ≤ n → Placed (notedText v k value) at old p new
   from-all n p new f h = none-left _ _ _ (rest-as _ _ _ p new (number-last one n h) (f .2))
 
-  module _ (n p : ℕ) (new : List ℕ) (f : From n p new) (h : n < 16) (i : ℕ) (is-i : i ≡ slot k n) (d : Bool) where
+  module _ (n p : ℕ) (new : List ℕ) (f : From n p new) (h : n < numbersOfSide) (i : ℕ) (is-i : i ≡ slot k n) (d : Bool) where
     below : i < length v
-    below = omega (arith, is-i, rank-below k, f .1)
+    below = omega (arith, is-i, rank-kinds k, f .1)
 
     noted : (b : Bool) → getD v i d ≡ b → one n ≡ cond b (nameText k n ++ value n) []
     noted b e = ap (λ (a : Bool). cond a (nameText k n ++ value n) []) (ap (λ (j : ℕ). getD v j false) (sym is-i) ∙ entry-any v i false d below ∙ e)
 
     rest : List ℕ
-    rest = concat-map one (numbersFrom (16 - (n + 1)) (n + 1))
+    rest = concat-map one (numbersFrom (numbersOfSide - (n + 1)) (n + 1))
 
     left-as : (b : Bool) → getD v i d ≡ b → Left (notedText v k value) at old (cond b (nameText k n ++ value n) [] ++ rest) p new
     unfolding rest
@@ -131,6 +135,46 @@ module _ (v : List Bool) (k : Kind) (value : ℕ → List ℕ) (at : ℕ) (old :
     pub from-other : getD v i d ≡ false → From (n + 1) p new
     unfolding rest
     from-other e = (omega arith, f .1, left-as false e)
+
+-- ---- the types in their order
+
+module _ (v : List Bool) (ws : List SlipField) (x : Filling) where
+  -- the rule's variables of one type
+  abbrev pub kindText : Kind → List ℕ
+  kindText k = notedText v k (λ n. saidValue k n ws x)
+
+  module _ (at : ℕ) (old : List ℕ) where
+    -- the types from rank i on are left to put
+    abbrev pub KindsFrom : ℕ → ℕ → List ℕ → Type 0
+    KindsFrom i p new = (i ≤ atomKinds) × Left (concat-map kindText kinds) at old (concat-map kindText (drop i kinds)) p new
+
+    pub kinds-none : KindsFrom 0 at old
+    kinds-none = (omega arith, all-left _ _ _)
+
+    module _ (i p : ℕ) (new : List ℕ) (f : KindsFrom i p new) where
+      -- one more, which is below list
+      pub kinds-next : i < atomKinds → (k : Kind) → k ≡ kindAt i → {q : ℕ} {m : List ℕ} → Placed (notedText v k (atomText (x .values) k)) p new q m
+          → KindsFrom (i + 1) q m
+      kinds-next h k e a = (
+        omega arith,
+        left-next _ _ _ (kindText (kindAt i)) (concat-map kindText (drop (i + 1) kinds))
+            (rest-as _ _ _ p new (ap (concat-map kindText) split) (f .1)) (placed-as p new told a),
+      )
+        where
+          split : drop i kinds ≡ kindAt i ∷ drop (i + 1) kinds
+          split = drop-cons kinds i list (omega arith) ∙ ap (λ (j : ℕ). kindAt i ∷ drop j kinds) (sym (add-one i))
+
+          told : kindText (kindAt i) ≡ notedText v k (atomText (x .values) k)
+          told =
+              let b = basic-at i h in
+              ap kindText (b .1) ∙ ap (λ (j : Kind). notedText v j (atomText (x .values) j)) (sym (b .1) ∙ sym e)
+
+      -- and list is the last
+      pub kinds-all : atomKinds ≤ i → {q : ℕ} {m : List ℕ} → Placed (notedText v list (listText ws x)) p new q m → Placed (concat-map kindText kinds) at old q m
+      kinds-all h a =
+          none-left _ _ _
+          (left-next _ _ _ (kindText list) []
+          (rest-as _ _ _ p new (ap (λ (j : ℕ). concat-map kindText (drop j kinds)) (let e : i ≡ atomKinds = omega (arith, f .0) in e)) (f .1)) a)
 
 -- ---- a value, in its place
 

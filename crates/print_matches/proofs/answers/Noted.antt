@@ -10,9 +10,10 @@ use borrow.Author.Tests.{eq-eqb, ne-eqb}
 use lib.Dec.{eqb}
 use lib.ListN.{length, getD, set, drop, replicate, drop-of-length-le, getD-replicate}
 use lib.Seq.{drop-cons, getD-set-same, getD-set-other}
+use Rattle.base_limits.specs.Limits.{largestNumber, numbersOfSide, variablePlaces}
 use Rattle.base_lists.specs.Seqs.{tabulate-long, tabulate-at}
 use Rattle.math_types.specs.declared.Kind.{Kind as KindValue}
-use Rattle.math_types.specs.Types.{Kind, rank, rank-below, same}
+use Rattle.math_types.specs.Types.{Kind, rank, rank-kinds, same}
 use Rattle.math_types.specs.Values.{kindOf}
 use Rattle.math_terms.specs.Terms.{con}
 use Rattle.text_grammar.specs.Terms.{Con, OurTerm}
@@ -53,13 +54,13 @@ module _ (v : List Bool) (f : Form) (s : List ℕ) where
         go true e = by k n true false e q
         go false e = by k n false false e q
 
-    pub with-high : 16 ≤ m → With v
+    pub with-high : numbersOfSide ≤ m → With v
     with-high h k n l = other-number k n (ne-eqb n m (λ e. omega arith))
 
-    pub place-below : m < 16 → (i : ℕ) → i ≡ slot (kindOf j) m → i < 64
-    place-below h i e = omega (arith, e, rank-below (kindOf j))
+    pub place-below : m < numbersOfSide → (i : ℕ) → i ≡ slot (kindOf j) m → i < variablePlaces
+    place-below h i e = omega (arith, e, rank-kinds (kindOf j))
 
-    pub with-variable : m < 16 → (i : ℕ) → i ≡ slot (kindOf j) m → length v ≡ 64 → With (set v i true)
+    pub with-variable : m < numbersOfSide → (i : ℕ) → i ≡ slot (kindOf j) m → length v ≡ variablePlaces → With (set v i true)
     with-variable h i e long k n l = go (ℕ-discrete (rank k) (rank (kindOf j))) (ℕ-discrete n m)
       where
         apart : (slot k n ≡ i → ⊥) → getD (set v i true) (slot k n) false ≡ getD v (slot k n) false
@@ -69,7 +70,7 @@ module _ (v : List Bool) (f : Form) (s : List ℕ) where
         go (yes p) (yes q) =
             let here : i ≡ slot k n = omega (arith, e, p, q) in
             ap (λ (d : ℕ). getD (set v d true) (slot k n) false) here
-            ∙ getD-set-same v (slot k n) true false (omega (arith, rank-below k, long))
+            ∙ getD-set-same v (slot k n) true false (omega (arith, rank-kinds k, long))
             ∙ by k n true true (eq-eqb (rank k) (rank (kindOf j)) p) (eq-eqb n m q)
         go (yes p) (no q) = apart (λ z. q (omega (arith, e, p, z))) ∙ by k n true false (eq-eqb (rank k) (rank (kindOf j)) p) (ne-eqb n m q)
         go (no p) (yes q) = apart (λ z. p (omega (arith, e, q, z))) ∙ by k n false true (ne-eqb (rank k) (rank (kindOf j)) p) (eq-eqb n m q)
@@ -85,7 +86,7 @@ swap false b c = refl
 module _ {A : Type 0} (test : Kind → ℕ → A → Bool) (v : List Bool) (all : List A) where
   -- with `rest` noted too, all of them are noted
   abbrev pub Open : List A → List Bool → Type 0
-  Open rest w = (k : Kind) (n : ℕ) → n ≤ 15 → some (test k n) rest || getD w (slot k n) false ≡ some (test k n) all || getD v (slot k n) false
+  Open rest w = (k : Kind) (n : ℕ) → n ≤ largestNumber → some (test k n) rest || getD w (slot k n) false ≡ some (test k n) all || getD v (slot k n) false
 
   pub open-all : Open all v
   open-all k n h = refl
@@ -117,11 +118,11 @@ or-false : (b : Bool) → b || false ≡ b
 or-false true = refl
 or-false false = refl
 
-pub side-noted : (w : List Bool) (l : List Field) → Noted w (λ (k : Kind) (n : ℕ). some (isIn k n) l || getD (replicate 64 false) (slot k n) false)
+pub side-noted : (w : List Bool) (l : List Field) → Noted w (λ (k : Kind) (n : ℕ). some (isIn k n) l || getD (replicate variablePlaces false) (slot k n) false)
     → Noted w (λ (k : Kind) (n : ℕ). occurs k n (map viewField l))
 side-noted w l q k n h =
     q k n h
-    ∙ ap (λ (b : Bool). some (isIn k n) l || b) (getD-replicate 64 (slot k n) false false (omega (arith, rank-below k)))
+    ∙ ap (λ (b : Bool). some (isIn k n) l || b) (getD-replicate variablePlaces (slot k n) false false (omega (arith, rank-kinds k)))
     ∙ or-false (some (isIn k n) l)
     ∙ sym (some-field k n l)
 

@@ -1,11 +1,12 @@
 -- The texts that are made of values, case by case as code makes them. Assumes nothing.
 use mathlib.Core.Path.{_≡_, refl, sym, ap, ap₂, _∙_}
 use mathlib.Core.Bool.{Bool, true, false, cond, not}
-use mathlib.Core.List.{List, [], _++_, map}
+use mathlib.Core.List.{List, [], _∷_, _++_, map}
 use Prim.Native.Nat.{ℕ, zero, suc, _+_, _-_, _<_}
 use native.Mathlib.Omega.{arith}
 use borrow.Author.Tests.{not-true, not-false}
 use lib.ListN.{getD}
+use Rattle.base_limits.specs.Limits.{numbersOfSide}
 use Rattle.base_lists.specs.Seqs.{All}
 use Rattle.math_types.specs.Types.{Kind}
 use Rattle.math_terms.specs.Seqs.{concat-map}
@@ -37,11 +38,16 @@ pub same-over : (f g : ℕ → List ℕ) (m n : ℕ) → ((i : ℕ) → i < n + 
 same-over f g zero n h = refl
 same-over f g (suc m) n h = ap₂ (λ (a b : List ℕ). a ++ b) (h n (omega arith)) (same-over f g m (suc n) (λ i l. h i (omega arith)))
 
+-- and of each type
+pub same-kinds : (f g : Kind → List ℕ) → ((k : Kind) → f k ≡ g k) → (ks : List Kind) → concat-map f ks ≡ concat-map g ks
+same-kinds f g h [] = refl
+same-kinds f g h (k ∷ ks) = ap₂ (λ (a b : List ℕ). a ++ b) (h k) (same-kinds f g h ks)
+
 -- each is shown where it is noted, and it is noted where `has` says
 pub noted-said : (v : List Bool) (has : Kind → ℕ → Bool) → Noted v has → (k : Kind) (value : ℕ → List ℕ)
     → concat-map (λ (n : ℕ). cond (has k n) (nameText k n ++ value n) []) numbers ≡ notedText v k value
 noted-said v has q k value =
-    same-over (λ (n : ℕ). cond (has k n) (nameText k n ++ value n) []) (λ (n : ℕ). cond (getD v (slot k n) false) (nameText k n ++ value n) []) 16 0
+    same-over (λ (n : ℕ). cond (has k n) (nameText k n ++ value n) []) (λ (n : ℕ). cond (getD v (slot k n) false) (nameText k n ++ value n) []) numbersOfSide 0
     (λ n l. ap (λ (b : Bool). cond b (nameText k n ++ value n) []) (sym (q k n (omega arith))))
 
 -- ---- a match, by the answer

@@ -4,8 +4,9 @@ use mathlib.Core.Bool.{Bool, false, cond}
 use mathlib.Core.List.{List, [], _++_, map}
 use Prim.Native.Nat.{ℕ, _≤_}
 use lib.ListN.{getD, take, drop}
+use Rattle.base_limits.specs.Limits.{largestNumber}
 use Rattle.math_types.specs.Order.{basic, list}
-use Rattle.math_types.specs.Types.{integer, string, atom, Kind}
+use Rattle.math_types.specs.Types.{Kind, kinds}
 use Rattle.math_terms.specs.Terms.{var}
 use Rattle.math_terms.specs.Seqs.{concat-map}
 use Rattle.text_grammar.specs.Ascii.{ascii}
@@ -54,8 +55,7 @@ abbrev pub saidKind : List Field → List SlipField → Filling → Kind → Lis
 saidKind fs ws x k = concat-map (saidVariable fs ws x k) numbers
 
 abbrev pub saidValues : List Field → List SlipField → Filling → List ℕ
-saidValues fs ws x =
-    saidKind fs ws x (basic integer) ++ (saidKind fs ws x (basic string) ++ (saidKind fs ws x (basic atom) ++ saidKind fs ws x list))
+saidValues fs ws x = concat-map (saidKind fs ws x) kinds
 
 -- ---- a match
 
@@ -65,11 +65,11 @@ saidMatch fs ws c =
     cond (c .found .yes) (ascii "yes " ++ digitsOf (c .compared) ++ saidValues fs ws (c .found .filling))
     (ascii "no " ++ digitsOf (c .compared))
 
--- ---- which variables a rule has, as code notes it: a place for each, 16 for each type
+-- ---- which variables a rule has, as code notes it: a place for each number of each type
 
 -- the variable of type k and number n is noted where `has` says
 abbrev pub Noted : List Bool → (Kind → ℕ → Bool) → Type 0
-Noted v has = (k : Kind) (n : ℕ) → n ≤ 15 → getD v (slot k n) false ≡ has k n
+Noted v has = (k : Kind) (n : ℕ) → n ≤ largestNumber → getD v (slot k n) false ≡ has k n
 
 -- of each variable of type k that is noted, its name and its value
 abbrev pub notedText : List Bool → Kind → (ℕ → List ℕ) → List ℕ

@@ -6,6 +6,7 @@ use native.Mathlib.Omega.{arith}
 use lib.ListN.{length, take, drop, length-append, length-drop, take-append-drop}
 use lib.Seq.{sets, sets-eq, length-take-le, drop-append-le, drop-drop}
 use borrow.Author.Tests.{le-leb, lt-leb}
+use Rattle.base_limits.specs.Limits.{mostListBytes}
 use Rattle.text_grammar.specs.Terms.{OurTerm}
 use Rattle.text_grammar.specs.Ascii.{ascii, newline}
 use Rattle.text_grammar.specs.Numbers.{digitsOf}
@@ -20,7 +21,7 @@ use Rattle.overlap_list.proofs.Answers.{written, kept, lines-told, small-told}
 use Rattle.text_write.specs.pieces.Placed.{Placed}
 use Rattle.text_write.proofs.pieces.Pieces.{placed-as}
 use Rattle.text_write.proofs.pieces.Bounds.{Piece, piece-as}
-use Rattle.print_pairs.specs.overlaps.Texts.{mostBytes, listedText}
+use Rattle.print_pairs.specs.overlaps.Texts.{listedText}
 
 -- what stands behind a text at the front of the part of n bytes from `at` on
 part-rest : (t old : List ℕ) (at n : ℕ) → length t ≤ n → at + n ≤ length old
@@ -41,10 +42,10 @@ part-stored t old at n h k =
     ∙ sym (sets-eq t old at (omega arith))
 
 -- a size of 64 bits is short
-long-short : (b : ℕ) → b < 18446744073709551616 → length (ascii "too long " ++ digitsOf b ++ newline) ≤ mostBytes
+long-short : (b : ℕ) → b < 18446744073709551616 → length (ascii "too long " ++ digitsOf b ++ newline) ≤ mostListBytes
 long-short b h = omega (arith, length-append (ascii "too long " ++ digitsOf b) newline, length-append (ascii "too long ") (digitsOf b), digits-64 b h)
 
-module _ (x y : List (List OurTerm)) (old : List ℕ) (at n : ℕ) (is-n : n ≡ mostBytes) (room : at + mostBytes ≤ length old) where
+module _ (x y : List (List OurTerm)) (old : List ℕ) (at n : ℕ) (is-n : n ≡ mostListBytes) (room : at + mostListBytes ≤ length old) where
   abbrev text : List ℕ
   text = overlapText x y
 
@@ -52,7 +53,7 @@ module _ (x y : List (List OurTerm)) (old : List ℕ) (at n : ℕ) (is-n : n ≡
   abbrev part : List ℕ
   part = take n (drop at old)
 
-  part-long : length part ≡ mostBytes
+  part-long : length part ≡ mostListBytes
   part-long = length-take-le n (drop at old) (omega (arith, length-drop at old)) ∙ is-n
 
   -- the whole room, with m in the place of what was lent
@@ -67,20 +68,20 @@ module _ (x y : List (List OurTerm)) (old : List ℕ) (at n : ℕ) (is-n : n ≡
       ∙ take-append-drop at old
 
   module _ {r : Listed} {m : List ℕ} (is : Lists x y part r m) (e b : ℕ) where
-    lines-fit : r ≡ Lines e b → (b ≡ length text) × (length text ≤ mostBytes)
+    lines-fit : r ≡ Lines e b → (b ≡ length text) × (length text ≤ mostListBytes)
     lines-fit h = let f = lines-told is e b h in (f .0, omega (arith, f .1, part-long))
 
-    too-many : r ≡ TooSmall e b → (b ≡ length text) × (mostBytes < length text)
+    too-many : r ≡ TooSmall e b → (b ≡ length text) × (mostListBytes < length text)
     too-many h = let f = small-told is e b h in (f .0, omega (arith, f .1, part-long))
 
     -- the list was written
     pub list-in : r ≡ Lines e b → at + b ≤ length old
     list-in h = omega (arith, lines-fit h)
 
-    pub list-put : r ≡ Lines e b → Piece mostBytes (listedText text) at old (at + b) (roomWith m)
+    pub list-put : r ≡ Lines e b → Piece mostListBytes (listedText text) at old (at + b) (roomWith m)
     list-put h =
         let f = lines-fit h in
-        let whole : listedText text ≡ text = rw (le-leb (length text) mostBytes (f .1)) in (
+        let whole : listedText text ≡ text = rw (le-leb (length text) mostListBytes (f .1)) in (
           placed-as at old whole (
             omega (arith, f .0, f .1),
             ap roomWith (written is (omega (arith, f .1, part-long))) ∙ part-stored text old at n (omega (arith, f .1)) (omega arith),
@@ -99,10 +100,10 @@ module _ (x y : List (List OurTerm)) (old : List ℕ) (at n : ℕ) (is-n : n ≡
     list-long : r ≡ TooSmall e b → listedText text ≡ ascii "too long " ++ digitsOf b ++ newline
     list-long h =
         let f = too-many h in
-        rw (lt-leb (length text) mostBytes (f .1)) (ap (λ (k : ℕ). ascii "too long " ++ digitsOf k ++ newline) (sym (f .0)))
+        rw (lt-leb (length text) mostListBytes (f .1)) (ap (λ (k : ℕ). ascii "too long " ++ digitsOf k ++ newline) (sym (f .0)))
 
     pub list-refused : r ≡ TooSmall e b → b < 18446744073709551616 → {p : ℕ} {new : List ℕ}
-        → Placed (ascii "too long " ++ digitsOf b ++ newline) at (roomWith m) p new → Piece mostBytes (listedText text) at old p new
+        → Placed (ascii "too long " ++ digitsOf b ++ newline) at (roomWith m) p new → Piece mostListBytes (listedText text) at old p new
     list-refused h k {p} {new} q =
         let there = subst (λ (l : List ℕ). Placed (ascii "too long " ++ digitsOf b ++ newline) at l p new) (list-left h) q in
-        piece-as mostBytes at old (list-long h) (there, long-short b k)
+        piece-as mostListBytes at old (list-long h) (there, long-short b k)

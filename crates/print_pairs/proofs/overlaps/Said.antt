@@ -4,6 +4,7 @@ use mathlib.Core.List.{[], _++_}
 use Prim.Native.Nat.{ℕ, _≤_, _<_}
 use native.Mathlib.Omega.{arith}
 use borrow.Author.Tests.{le-leb, lt-leb}
+use Rattle.base_limits.specs.Limits.{mostListBytes}
 use Rattle.text_grammar.specs.Ascii.{ascii, newline}
 use Rattle.text_grammar.specs.Read.{OutcomeOf, refused, accepted}
 use Rattle.text_grammar.specs.rules.Read.{OurRule}
@@ -15,14 +16,14 @@ use Rattle.overlap_spec.specs.Overlaps.{linesOf, overlapText}
 use Rattle.text_read.specs.Answers.{leftSaid}
 use Rattle.overlap_list.proofs.Lists.{no-right}
 use Rattle.text_write.specs.pieces.Refusals.{numberAt}
-use Rattle.print_pairs.specs.overlaps.Texts.{mostBytes, listedText, readText, textsIn}
+use Rattle.print_pairs.specs.overlaps.Texts.{listedText, readText, textsIn}
 
 -- with as many bytes as it may have all is said
-pub in-room : (k : ℕ) (o p : OutcomeOf OurRule) → mostBytes ≤ k → textsIn k o p ≡ readText o p
-in-room k o p h = rw (le-leb mostBytes k h)
+pub in-room : (k : ℕ) (o p : OutcomeOf OurRule) → mostListBytes ≤ k → textsIn k o p ≡ readText o p
+in-room k o p h = rw (le-leb mostListBytes k h)
 
-pub no-room : (k : ℕ) (o p : OutcomeOf OurRule) → k < mostBytes → textsIn k o p ≡ []
-no-room k o p h = rw (lt-leb mostBytes k h)
+pub no-room : (k : ℕ) (o p : OutcomeOf OurRule) → k < mostListBytes → textsIn k o p ≡ []
+no-room k o p h = rw (lt-leb mostListBytes k h)
 
 module _ (o p : OutcomeOf OurRule) where
   pub left-said : (r : Reason) (i : ℕ) → verdictOf o ≡ Refused r i → readText o p ≡ ascii "refused left " ++ numberAt (numberOf r) i ++ newline

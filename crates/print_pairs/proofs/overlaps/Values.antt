@@ -3,6 +3,7 @@ use mathlib.Core.List.{List, _++_}
 use Prim.Native.Nat.{ℕ, _≤_, _<_}
 use native.Mathlib.Omega.{arith}
 use lib.ListN.{length, length-append}
+use Rattle.base_limits.specs.Limits.{mostListBytes}
 use Rattle.text_grammar.specs.Ascii.{newline}
 use Rattle.text_write.proofs.Digits.{digits-64}
 use Rattle.text_refusals.specs.declared.verdicts.Reason.{Reason}
@@ -10,7 +11,6 @@ use Rattle.text_refusals.specs.declared.verdicts.Reason.the-variants.{Long, Gra
 use Rattle.text_refusals.specs.verdicts.Verdicts.{numberOf}
 use Rattle.text_write.specs.pieces.Refusals.{numberAt}
 use Rattle.text_write.proofs.pieces.Refusals.{number-at-most}
-use Rattle.print_pairs.specs.overlaps.Texts.{mostBytes}
 
 number-small : (r : Reason) → numberOf r < 100
 number-small Long = omega arith
@@ -23,7 +23,7 @@ number-small Variable = omega arith
 number-small Unknown = omega arith
 
 pub refusal-short : (words : List ℕ) (r : Reason) (p : ℕ) → length words ≤ 14 → p < 18446744073709551616
-    → length (words ++ numberAt (numberOf r) p ++ newline) ≤ mostBytes
+    → length (words ++ numberAt (numberOf r) p ++ newline) ≤ mostListBytes
 refusal-short words r p h k =
     let a = length-append (words ++ numberAt (numberOf r) p) newline in
     let b = length-append words (numberAt (numberOf r) p) in

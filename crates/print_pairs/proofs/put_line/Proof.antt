@@ -4,8 +4,8 @@ use Prim.Native.Nat.{_-_}
 use native.Mathlib.Omega.{arith}
 use lib.ListN.{length}
 use lib.Seq.{length-take-le}
+use Rattle.base_limits.specs.Limits.{mostListBytes}
 use Rattle.text_write.proofs.pieces.Bounds.{piece-as}
-use Rattle.print_pairs.specs.overlaps.Texts.{mostBytes}
 use Rattle.print_pairs.proofs.Said.{line-said}
 use Rattle.print_pairs.proofs.Lengths.{line-long}
 use borrow.Author.Needs.{needs}
@@ -25,7 +25,7 @@ returns : tie.Need-returns
 returns c =
     let z = c .before .before .before .before .before .before .before .before .args in
     let said = line-long (z .line .now) (c .before .before .before .before .before .if1 .taken) in
-    piece-as mostBytes (z .at) (z .out .now) said (c .before .before .put-bytes .ensures, omega arith)
+    piece-as mostListBytes (z .at) (z .out .now) said (c .before .before .put-bytes .ensures, omega arith)
 
 tab-place-requires : tie.Need-tab-place-requires
 tab-place-requires c κs = search needs
@@ -62,7 +62,7 @@ returns-2 c =
     let k = length (z .out .now) - z .at in
     let short = c .before .before .before .before .before .before .before .before .if1 .left in
     let said = line-said (z .line .now) (T .result) (D .result) (T .ensures .0) (D .ensures) k short (omega (arith, s .pre)) in
-    piece-as mostBytes (z .at) (z .out .now) said (c .before .before .put-texts .ensures)
+    piece-as mostListBytes (z .at) (z .out .now) said (c .before .before .put-texts .ensures)
 
 pub put-line-spec : {M : Type 1} → statement M
 put-line-spec =

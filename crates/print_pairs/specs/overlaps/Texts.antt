@@ -4,6 +4,7 @@ use mathlib.Core.List.{List, [], _++_}
 use Prim.Native.Nat.{ℕ, _-_}
 use lib.Dec.{leb}
 use lib.ListN.{length}
+use Rattle.base_limits.specs.Limits.{mostListBytes}
 use Rattle.text_grammar.specs.Ascii.{ascii, newline}
 use Rattle.text_grammar.specs.Numbers.{digitsOf}
 use Rattle.text_grammar.specs.Read.{number, OutcomeOf, refused, accepted}
@@ -11,13 +12,9 @@ use Rattle.text_grammar.specs.rules.Read.{OurRule, readRule}
 use Rattle.overlap_spec.specs.Overlaps.{overlapText}
 use Rattle.text_write.specs.pieces.Refusals.{numberAt}
 
--- "`too long B` where B bytes exceed its 65,536"
-abbrev pub mostBytes : ℕ
-mostBytes = 65536
-
 -- "the overlap lines", each of which ends with a newline, or in their place one line with their size
 abbrev pub listedText : List ℕ → List ℕ
-listedText t = cond (leb (length t) mostBytes) t (ascii "too long " ++ digitsOf (length t) ++ newline)
+listedText t = cond (leb (length t) mostListBytes) t (ascii "too long " ++ digitsOf (length t) ++ newline)
 
 -- "`refused left N at P`, or else `refused right N at P`, N the number and P the place"; the overlaps are those of the left sides
 abbrev pub readText : OutcomeOf OurRule → OutcomeOf OurRule → List ℕ
@@ -27,7 +24,7 @@ readText (accepted left) (accepted right) = listedText (overlapText (left .0) (r
 
 -- the same where k bytes are left for it: with fewer than it may have nothing is said
 abbrev pub textsIn : ℕ → OutcomeOf OurRule → OutcomeOf OurRule → List ℕ
-textsIn k o p = cond (leb mostBytes k) (readText o p) []
+textsIn k o p = cond (leb mostListBytes k) (readText o p) []
 
 -- ---- of texts, and of the bytes from a place on
 

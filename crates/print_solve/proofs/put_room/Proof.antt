@@ -3,12 +3,13 @@ use mathlib.Core.Path.{_≡_, sym, ap, ap₂, _∙_}
 use mathlib.Core.Option.{some}
 use Prim.Native.Nat.{ℕ, min}
 use native.Mathlib.Omega.{arith}
+use Rattle.search_row.specs.own.Sizes.{mostRecords}
 use Rattle.text_accepted.specs.Accepted.{countedField}
 use Rattle.text_write.proofs.pieces.Bounds.{piece-as}
 use Rattle.search_spec.specs.Answers.{linesFor}
 use Rattle.print_parts.specs.sizes.Sizes.{sizeOf}
 use Rattle.print_parts.proofs.sizes.Digits.{size-least, size-of, size-bad}
-use Rattle.print_solve.specs.search.Found.{mostRecords, mostBytes, foundText, longestBody}
+use Rattle.print_solve.specs.search.Found.{mostBytes, foundText, longestBody}
 use Rattle.print_solve.specs.Solve.{searchText}
 use borrow.Author.Needs.{needs}
 use Rattle.print_solve.proofs.put_room.Statement.{statement}

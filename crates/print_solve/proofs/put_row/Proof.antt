@@ -3,11 +3,12 @@ use mathlib.Core.Path.{sym, ap, _∙_}
 use mathlib.Core.Option.{Option}
 use Prim.Native.Nat.{ℕ}
 use native.Mathlib.Omega.{arith}
+use Rattle.search_row.specs.own.Sizes.{mostRecords}
 use Rattle.text_accepted.specs.Accepted.{countedField}
 use Rattle.text_write.proofs.pieces.Bounds.{piece-as}
 use Rattle.print_parts.specs.sizes.Sizes.{sizeOf}
 use Rattle.print_parts.proofs.sizes.Digits.{size-least, size-of, size-bad}
-use Rattle.print_solve.specs.search.Found.{mostRecords, mostBytes, longestBody}
+use Rattle.print_solve.specs.search.Found.{mostBytes, longestBody}
 use Rattle.print_solve.specs.Solve.{searchText}
 use borrow.Author.Needs.{needs}
 use Rattle.print_solve.proofs.put_row.Statement.{statement}

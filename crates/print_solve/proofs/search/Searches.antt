@@ -26,10 +26,10 @@ use Rattle.text_write.proofs.pieces.Bounds.{Piece, piece-as}
 use Rattle.search_row.specs.declared.Searched.{Searched}
 use Rattle.search_row.specs.declared.Searched.the-variants.{Lines, TooSmall, Full}
 use Rattle.search_row.specs.Answers.{told, searchedOf, foundIn, Searches}
-use Rattle.print_solve.specs.search.Found.{mostBytes, countText, countsText, foundText, longestBody}
+use Rattle.print_solve.specs.search.Found.{mostBytes, countText, countsText, foundText, longestBody, longestCounts}
 
 -- the line of a refusal and two counts of 64 bits is short
-pub counts-short : (r n b : ℕ) → r < 10 → n < 18446744073709551616 → b < 18446744073709551616 → length (countsText r n b) ≤ 64
+pub counts-short : (r n b : ℕ) → r < 10 → n < 18446744073709551616 → b < 18446744073709551616 → length (countsText r n b) ≤ longestCounts
 counts-short r n b h k j =
     let x = countText "refusal " r in
     let y = countText " lines " n in

@@ -2,17 +2,15 @@
 use Prim.Native.String.{String}
 use mathlib.Core.Bool.{cond}
 use mathlib.Core.List.{List, _++_}
-use Prim.Native.Nat.{ℕ}
+use Prim.Native.Nat.{ℕ, _+_}
 use lib.Dec.{leb}
 use lib.ListN.{length}
 use Rattle.text_grammar.specs.Ascii.{ascii, newline}
 use Rattle.text_grammar.specs.Numbers.{digitsOf}
+use Rattle.text_write.specs.Sizes.{longestNumber}
 use Rattle.search_spec.specs.Answers.{Lines, lines, nine, bytesOf}
 
--- as many records and bytes as there are
-abbrev pub mostRecords : ℕ
-mostRecords = 640
-
+-- as many bytes as there are
 abbrev pub mostBytes : ℕ
 mostBytes = 131072
 
@@ -31,6 +29,10 @@ foundText room (lines ls) =
     cond (leb (length text) room) (countsText 0 (length ls) (length text) ++ text) (countsText 8 (length ls) (length text))
 foundText room nine = countsText 9 0 0
 
--- the counts' line of at most 64 bytes, and behind it at most `mostBytes`
+-- the counts' line: `refusal ` and a digit, ` lines ` and ` bytes ` with a number each, the line's end
+abbrev pub longestCounts : ℕ
+longestCounts = 8 + 1 + (7 + longestNumber) + (7 + longestNumber) + 1
+
+-- and behind it at most `mostBytes`
 abbrev pub longestBody : ℕ
-longestBody = 131136
+longestBody = longestCounts + mostBytes

@@ -5,6 +5,7 @@ use mathlib.Core.List.{List, [], _∷_, _++_, map, List·Memᴰ, Memᴰ·append-
 use Prim.Native.Nat.{ℕ, _+_}
 use native.Mathlib.Omega.{arith}
 use lib.ListN.{length, getD, drop}
+use Rattle.base_limits.specs.Limits.{mostFields, numbersOfSide, fieldPlaces, rulePlaces, pairPlaces, listItems, pairItems}
 use Rattle.base_lists.specs.Seqs.{All, Any}
 use Rattle.math_types.specs.Order.{basic, list}
 use Rattle.math_types.specs.Types.{Basic, Kind, basics}
@@ -24,7 +25,7 @@ use Rattle.math_search.specs.Pairs.{sixteenAbove}
 use Rattle.math_search.proofs.Seqs.{all-mem}
 use Rattle.math_codes.specs.Tables.{IsCode, Table, codeOf, same}
 use Rattle.math_codes.specs.Names.{noNames, nameFields}
-use Rattle.math_codes.specs.Lines.{ourVars, OurOriginTerm, pairPlaces, listItems, pairItems, valuesText, ourRow, ourTerms, OurTables}
+use Rattle.math_codes.specs.Lines.{ourVars, OurOriginTerm, valuesText, ourRow, ourTerms, OurTables}
 use Rattle.math_codes.specs.Whole.{valueOn}
 use Rattle.math_codes.specs.Index.{Indexes, Tops, indexedValues, listedValues, indexedAnswer}
 use Rattle.math_codes.proofs.Tables.{code-holds, is-code}
@@ -69,7 +70,7 @@ module _ (f g : List OurTerm) (T : Table) (texts : ℕ → List ℕ) (ot : OurTa
 
   -- ---- the values of the field on a side
 
-  module _ (d : Side) (e : List OurTerm) (ok : IsLeft (e ∷ [])) (b : ℕ) (st : StandAll (ourRow r₁ r₂) d 16 b (e ∷ [])) (x tops : ℕ → ℕ)
+  module _ (d : Side) (e : List OurTerm) (ok : IsLeft (e ∷ [])) (b : ℕ) (st : StandAll (ourRow r₁ r₂) d fieldPlaces b (e ∷ [])) (x tops : ℕ → ℕ)
       (ix : Indexes r₁ r₂ d (e ∷ []) x) (tp : Tops (e ∷ []) tops) (runs : ℕ → List ℕ)
       (known : (n : ℕ) → Occurs list n e
       → (runs n ≡ codesOf (ourRow r₁ r₂) (σ (listvar (sixteenAbove d n)))) × All (On (ourRow r₁ r₂)) (σ (listvar (sixteenAbove d n)))) where
@@ -82,7 +83,7 @@ module _ (f g : List OurTerm) (T : Table) (texts : ℕ → List ℕ) (ot : OurTa
 
     value-items : (k : Kind) (n : ℕ) → Any (Occurs k n) (e ∷ []) → Each Item (value (k, n)) (valueOf d σ k n)
     value-items (basic k) n o =
-        let p = there (ourRow r₁ r₂) d k n 16 b (e ∷ []) st o in
+        let p = there (ourRow r₁ r₂) d k n fieldPlaces b (e ∷ []) st o in
         let x = free (of d k n) in
         let c = codeOf (same basics consts ourVars) (ourRow r₁ r₂) x in
         subst (λ (us : Field setting). Each Item (value (basic k, n)) (map originOf us)) (sym (one (of d k n))) (
@@ -123,17 +124,17 @@ module _ (f g : List OurTerm) (T : Table) (texts : ℕ → List ℕ) (ot : OurTa
       (known₁ : (n : ℕ) → Occurs list n f
       → (runs₁ n ≡ codesOf (ourRow r₁ r₂) (σ (listvar n))) × All (On (ourRow r₁ r₂)) (σ (listvar n)))
       (known₂ : (n : ℕ) → Occurs list n g
-      → (runs₂ n ≡ codesOf (ourRow r₁ r₂) (σ (listvar (16 + n)))) × All (On (ourRow r₁ r₂)) (σ (listvar (16 + n)))) where
+      → (runs₂ n ≡ codesOf (ourRow r₁ r₂) (σ (listvar (numbersOfSide + n)))) × All (On (ourRow r₁ r₂)) (σ (listvar (numbersOfSide + n)))) where
     pub answer-agrees : indexedAnswer T texts x₁ t₁ runs₁ x₂ t₂ runs₂ atoms ≡ answerText f g σ
     answer-agrees =
-        let st₁ = left-stand 16 4 r₁ r₂ (ok₁ .0 .2) (ok₂ .0 .2) (omega (arith, ok₁ .0 .1)) in
-        let st₂ = right-stand 16 4 r₁ r₂ (ok₁ .0 .2) (ok₂ .0 .2) (omega (arith, ok₁ .0 .1)) in
+        let st₁ = left-stand fieldPlaces mostFields r₁ r₂ (ok₁ .0 .2) (ok₂ .0 .2) (omega (arith, ok₁ .0 .1)) in
+        let st₂ = right-stand fieldPlaces mostFields r₁ r₂ (ok₁ .0 .2) (ok₂ .0 .2) (omega (arith, ok₁ .0 .1)) in
         let is = listedValues x₁ t₁ atoms runs₁ ++ listedValues x₂ t₂ atoms runs₂ in
         let h = each-append (Each Item) (listedValues x₁ t₁ atoms runs₁) (listedValues x₂ t₂ atoms runs₂) (valuesOn left f σ) (valuesOn right g σ)
         (listed-items left f ok₁ 0 st₁ x₁ t₁ ix₁ tp₁ runs₁ known₁)
-        (listed-items right g ok₂ 64 st₂ x₂ t₂ ix₂ tp₂ runs₂ known₂) in
+        (listed-items right g ok₂ rulePlaces st₂ x₂ t₂ ix₂ tp₂ runs₂ known₂) in
         ap₂ (λ (a b : List ℕ). drop 1 (a ++ b) ++ 10 ∷ [])
         (side-text left f ok₁ 0 st₁ x₁ t₁ ix₁ tp₁ runs₁ known₁ is h
         (λ v i. Memᴰ·append-left (valuesOn right g σ) (Memᴰ·map (λ (v : listed.Variable). valueOf left σ (v .0) (v .1)) i)) leftTag)
-        (side-text right g ok₂ 64 st₂ x₂ t₂ ix₂ tp₂ runs₂ known₂ is h
+        (side-text right g ok₂ rulePlaces st₂ x₂ t₂ ix₂ tp₂ runs₂ known₂ is h
         (λ v i. Memᴰ·append-right (valuesOn left f σ) (Memᴰ·map (λ (v : listed.Variable). valueOf right σ (v .0) (v .1)) i)) rightTag)

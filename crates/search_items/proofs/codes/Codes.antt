@@ -10,21 +10,20 @@ use native.Mathlib.Omega.{arith}
 use lib.Dec.{eqb, leb}
 use lib.ListN.{length}
 use borrow.Author.Tests.{eq-eqb, ne-eqb, le-leb, lt-leb}
+use Rattle.base_lists.specs.Truths.{decided}
+use Rattle.base_limits.specs.Limits.{pairPlaces, listItems}
 use Rattle.math_types.specs.Order.{list}
 use Rattle.math_types.specs.Types.{basics, rank}
 use Rattle.text_grammar.specs.constants.Constants.{consts}
 use Rattle.math_overlaps.specs.Shapes.{fixed, free}
 use Rattle.math_search.specs.Problems.{atomic, listvar, At, Tm, tm-eq, termType}
 use Rattle.math_codes.specs.Tables.{Holds, codeOf, same, Table, Made}
-use Rattle.math_codes.specs.Lines.{OurAtom, ourVars, ourRanks, pairPlaces, listItems}
+use Rattle.math_codes.specs.Lines.{OurAtom, ourVars, ourRanks}
 use Rattle.math_codes.proofs.Tables.{holds-below, code-holds, code-first, code-once}
 use Rattle.search_spec.specs.Answers.{setting}
 use Rattle.search_items.specs.codes.Codes.{codeTm, On}
 
 -- ---- decisions as Bools
-
-abbrev pub decided : {P : Type 0} → Dec P → Bool
-decided d = ite d true false
 
 pub cond-decided : {A P : Type 0} (d : Dec P) (b : Bool) (x y : A) → b ≡ decided d → cond b x y ≡ ite d x y
 cond-decided (yes p) b x y e = ap (λ (c : Bool). cond c x y) e

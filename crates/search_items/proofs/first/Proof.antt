@@ -2,6 +2,7 @@
 use mathlib.Core.Path.{_≡_}
 use native.Mathlib.Omega.{arith}
 use lib.ListN.{length}
+use Rattle.search_items.specs.Items.{mostCodes}
 use Rattle.search_items.proofs.Loops.{first-used}
 use borrow.Author.Needs.{needs}
 use Rattle.search_items.proofs.first.Statement.{statement}
@@ -16,7 +17,7 @@ element-copy-out-result c = search needs
 returns-2 : tie.Need-returns-2
 returns-2 c =
     let z = c .before .before .args in
-    let p : length (z .t1 .codes) ≡ 17 = search needs in
+    let p : length (z .t1 .codes) ≡ mostCodes = search needs in
     let h = c .before .if1 .left in
     first-used (z .t1 .n) (z .t1 .codes) _ 0 h (omega arith)
 

@@ -2,13 +2,14 @@
 use mathlib.Core.Path.{_≡_, refl}
 use Prim.Native.Nat.{_-_, min}
 use native.Mathlib.Omega.{arith}
+use Rattle.search_items.specs.Items.{mostCodes}
 use Rattle.search_items.proofs.Comparing.{Missed, missed-one, missed-not, missed-all}
 use borrow.Author.Needs.{needs}
 use Rattle.search_items.proofs.occurs.Statement.{statement}
 use Rattle.search_items.proofs.occurs.Tie as tie
 
 abbrev Inv-loop : tie.InvT-loop
-Inv-loop x w n i₀ i = (n ≡ min (w .n) 17) × Missed x (w .n) (w .codes) 17 i
+Inv-loop x w n i₀ i = (n ≡ min (w .n) mostCodes) × Missed x (w .n) (w .codes) mostCodes i
 
 abbrev μ-loop : tie.MeasureT-loop
 μ-loop x w n i₀ i = n - i
@@ -27,7 +28,7 @@ returns c =
     let z = c .before .before .before .before .before .args in
     let L = c .before .before .before .loop in
     let h = c .before .before .loop-test .taken in
-    missed-not (z .x) (z .t2 .n) (z .t2 .codes) 17 (L .i) _ (L .inv .1) (omega (arith, L .inv .0)) (c .if1 .taken)
+    missed-not (z .x) (z .t2 .n) (z .t2 .codes) mostCodes (L .i) _ (L .inv .1) (omega (arith, L .inv .0)) (c .if1 .taken)
 
 add-i : tie.Need-add-i Inv-loop μ-loop
 add-i c = search needs
@@ -40,14 +41,14 @@ loop-again c =
     let z = c .before .before .before .before .before .args in
     let L = c .before .before .before .loop in
     let h = c .before .before .loop-test .taken in
-    (L .inv .0, missed-one (z .x) (z .t2 .n) (z .t2 .codes) 17 (L .i) _ (L .inv .1) (omega (arith, L .inv .0)) (c .if1 .left))
+    (L .inv .0, missed-one (z .x) (z .t2 .n) (z .t2 .codes) mostCodes (L .i) _ (L .inv .1) (omega (arith, L .inv .0)) (c .if1 .left))
 
 returns-2 : tie.Need-returns-2 Inv-loop μ-loop
 returns-2 c =
     let z = c .before .before .before .args in
     let L = c .before .loop in
     let h = c .loop-test .left in
-    missed-all (z .x) (z .t2 .n) (z .t2 .codes) 17 (L .i) (L .inv .1) (omega (arith, L .inv .0))
+    missed-all (z .x) (z .t2 .n) (z .t2 .codes) mostCodes (L .i) (L .inv .1) (omega (arith, L .inv .0))
 
 pub occurs-spec : {M : Type 1} → statement M
 occurs-spec =

@@ -4,14 +4,14 @@ use mathlib.Core.List.{foldl}
 use Prim.Native.Nat.{_-_, min}
 use native.Mathlib.Omega.{arith}
 use lib.ListN.{drop}
-use Rattle.search_items.specs.Items.{itemsOf, pushed}
+use Rattle.search_items.specs.Items.{itemsOf, pushed, mostCodes}
 use Rattle.search_items.proofs.Loops.{Folding, folding-one, folding-all}
 use borrow.Author.Needs.{needs}
 use Rattle.search_items.proofs.push_from.Statement.{statement}
 use Rattle.search_items.proofs.push_from.Tie as tie
 
 abbrev Inv-loop : tie.InvT-loop
-Inv-loop k w n y₀ i₀ y i = (n ≡ min (w .n) 17) × Folding pushed (foldl pushed y₀ (drop k (itemsOf w))) (w .n) (w .codes) 17 i y
+Inv-loop k w n y₀ i₀ y i = (n ≡ min (w .n) mostCodes) × Folding pushed (foldl pushed y₀ (drop k (itemsOf w))) (w .n) (w .codes) mostCodes i y
 
 abbrev μ-loop : tie.MeasureT-loop
 μ-loop k w n y₀ i₀ y i = n - i
@@ -41,7 +41,7 @@ loop-again c =
     let h = c .before .before .loop-test .taken in
     let whole = foldl pushed (z .x) (drop (z .k) (itemsOf (z .t2))) in (
       L .inv .0,
-      folding-one pushed whole (z .t2 .n) (z .t2 .codes) 17 (L .i) (L .y) (c .push .result) _ (L .inv .1) (omega (arith, L .inv .0))
+      folding-one pushed whole (z .t2 .n) (z .t2 .codes) mostCodes (L .i) (L .y) (c .push .result) _ (L .inv .1) (omega (arith, L .inv .0))
           (c .push .ensures),
     )
 
@@ -50,7 +50,8 @@ returns c =
     let z = c .before .before .before .args in
     let L = c .before .loop in
     let h = c .loop-test .left in
-    folding-all pushed (foldl pushed (z .x) (drop (z .k) (itemsOf (z .t2)))) (z .t2 .n) (z .t2 .codes) 17 (L .i) (L .y) (L .inv .1) (omega (arith, L .inv .0))
+    folding-all pushed (foldl pushed (z .x) (drop (z .k) (itemsOf (z .t2)))) (z .t2 .n) (z .t2 .codes) mostCodes (L .i) (L .y) (L .inv .1)
+    (omega (arith, L .inv .0))
 
 pub push-from-spec : {M : Type 1} → statement M
 push-from-spec =

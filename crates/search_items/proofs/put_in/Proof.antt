@@ -4,7 +4,7 @@ use mathlib.Core.List.{foldl}
 use Prim.Native.Nat.{ℕ, _-_, min}
 use native.Mathlib.Omega.{arith}
 use Rattle.search_items.specs.declared.Items.{Items}
-use Rattle.search_items.specs.Items.{blankItems, itemsOf, pushed}
+use Rattle.search_items.specs.Items.{blankItems, itemsOf, pushed, mostCodes}
 use Rattle.search_items.specs.Substitution.{putCode}
 use Rattle.search_items.proofs.Loops.{Folding, folding-one, folding-all, each, fold-each}
 use borrow.Author.Needs.{needs}
@@ -16,7 +16,7 @@ abbrev putOne : ℕ → Items → Items → ℕ → Items
 putOne x s = each pushed (putCode x (itemsOf s))
 
 abbrev Inv-loop : tie.InvT-loop
-Inv-loop x s w n y₀ i₀ y i = (n ≡ min (w .n) 17) × Folding (putOne x s) (foldl (putOne x s) blankItems (itemsOf w)) (w .n) (w .codes) 17 i y
+Inv-loop x s w n y₀ i₀ y i = (n ≡ min (w .n) mostCodes) × Folding (putOne x s) (foldl (putOne x s) blankItems (itemsOf w)) (w .n) (w .codes) mostCodes i y
 
 abbrev μ-loop : tie.MeasureT-loop
 μ-loop x s w n y₀ i₀ y i = n - i
@@ -52,7 +52,7 @@ loop-again c =
     let f = putOne (z .x) (z .s) in
     let p = c .put-code in (
       L .inv .0,
-      folding-one f (foldl f blankItems (itemsOf (z .t3))) (z .t3 .n) (z .t3 .codes) 17 (L .i) (L .y) (p .result) _ (L .inv .1)
+      folding-one f (foldl f blankItems (itemsOf (z .t3))) (z .t3 .n) (z .t3 .codes) mostCodes (L .i) (L .y) (p .result) _ (L .inv .1)
           (omega (arith, L .inv .0)) (p .ensures),
     )
 
@@ -62,7 +62,7 @@ returns c =
     let L = c .before .loop in
     let h = c .loop-test .left in
     let f = putOne (z .x) (z .s) in
-    folding-all f (foldl f blankItems (itemsOf (z .t3))) (z .t3 .n) (z .t3 .codes) 17 (L .i) (L .y) (L .inv .1) (omega (arith, L .inv .0))
+    folding-all f (foldl f blankItems (itemsOf (z .t3))) (z .t3 .n) (z .t3 .codes) mostCodes (L .i) (L .y) (L .inv .1) (omega (arith, L .inv .0))
     ∙ fold-each pushed (putCode (z .x) (itemsOf (z .s))) (itemsOf (z .t3)) blankItems
 
 pub put-in-spec : {M : Type 1} → statement M

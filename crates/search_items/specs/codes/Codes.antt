@@ -3,11 +3,12 @@
 use mathlib.Core.Option.{Option}
 use mathlib.Core.List.{List, map}
 use Prim.Native.Nat.{ℕ, _+_, _<_}
+use Rattle.base_limits.specs.Limits.{pairPlaces, listItems}
 use Rattle.math_types.specs.Types.{basics}
 use Rattle.text_grammar.specs.constants.Constants.{consts}
 use Rattle.math_search.specs.Problems.{atomic, listvar, Tm, Field}
 use Rattle.math_codes.specs.Tables.{Holds, codeOf, same}
-use Rattle.math_codes.specs.Lines.{OurAtom, ourVars, pairPlaces, listItems}
+use Rattle.math_codes.specs.Lines.{OurAtom, ourVars}
 use Rattle.search_spec.specs.Answers.{setting}
 
 module _ (t : List (Option OurAtom)) where

@@ -3,7 +3,7 @@ use mathlib.Core.Path.{ap}
 use mathlib.Core.List.{List}
 use Prim.Native.Nat.{ℕ}
 use borrow.Author.Tests.{le-leb, lt-leb}
-use Rattle.math_codes.specs.Lines.{pairPlaces}
+use Rattle.base_limits.specs.Limits.{pairPlaces}
 use Rattle.pair_state.specs.declared.State.{State}
 use borrow.Author.Needs.{needs}
 use Rattle.search_problems.proofs.bound_atoms.Statement.{statement}

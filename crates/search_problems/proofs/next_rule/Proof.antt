@@ -2,6 +2,7 @@
 use mathlib.Core.Path.{_≡_, sym, _∙_, ap₂}
 use Prim.Native.Nat.{_-_}
 use native.Mathlib.Omega.{arith}
+use Rattle.math_search.specs.Rules.{ruleCount}
 use Rattle.math_search.specs.worklist.Next.{nextOk, next-end, next-here, next-on}
 use Rattle.pair_row.specs.Row.{tableIn}
 use Rattle.search_items.specs.Items.{itemsOf}
@@ -17,7 +18,7 @@ Inv-loop p k row a b i₀ i =
     (a ≡ headOf (tableIn row) (itemsOf (p .left))) × (b ≡ headOf (tableIn row) (itemsOf (p .right))) × (nextOk (givesBy p a b) i ≡ nextRule (tableIn row) p k)
 
 abbrev μ-loop : tie.MeasureT-loop
-μ-loop p k row a b i₀ i = 14 - i
+μ-loop p k row a b i₀ i = ruleCount - i
 
 head-of-requires : tie.Need-head-of-requires Inv-loop μ-loop
 head-of-requires c κs = search needs

@@ -43,8 +43,8 @@ use Rattle.search_row.specs.declared.Searched.{Searched}
 use Rattle.search_row.specs.Answers.{Searches}
 use Rattle.search_row.proofs.Searched as N
 use Rattle.search_row.proofs.Searched.Laws as N′
-use Rattle.search_row.proofs.own.at_most as at-most
-use Rattle.search_row.proofs.own.at_most.Symbol.{name as #search-run·at-most}
+use Rattle.base_numbers.proofs.at_most as at-most
+use Rattle.base_numbers.proofs.at_most.Symbol.{name as #base-numbers·at-most}
 use Rattle.search_row.proofs.Calls.{mach-field, mach-answer}
 use Rattle.search_row.proofs.search as search′
 use Rattle.search_row.proofs.search.Symbol.{name as #search-row·search}
@@ -99,9 +99,9 @@ module _ {M : Type 1} (𝓤 : URA M) (H : Heap 𝓤) (A : Atoms 𝓤) (W : Given
 module _ {M : Type 1} {𝓤 : URA M} {H : Heap 𝓤} {A : Atoms 𝓤} {K : Type 0} {W : Given 𝓤 H A} {Γ : List (Item 𝓤)}
     {E : Env 𝓤 H} {C : Calls 𝓤 H} {Λ : Loops 𝓤 H} {Q : Post 𝓤 H} {d : Place} {rest : Body} where
   module _ (t : K) (mem : Memory → SProp 𝓤) (run : Routine → Fun 𝓤) (fm : FmC 𝓤 H (W .laws) C) {xs : List Operand} where
-    pub calls-at-most : Triple 𝓤 (C #search-run·at-most) (AtMost 𝓤 H A mem run) → (m n : ℕ) → m < 2 ^ 64
+    pub calls-at-most : Triple 𝓤 (C #base-numbers·at-most) (AtMost 𝓤 H A mem run) → (m n : ℕ) → m < 2 ^ 64
         → n < 2 ^ 64 → ((P : SProp 𝓤) → Opds K W (raw P ∷ Γ) E xs (vint w64 m ∷ vint w64 n ∷ []))
-        → Seq K W Γ (lands C Λ E d (vint w64 (min m n)) rest Q) → Seq K W Γ (runs C Λ E (seq (call #search-run·at-most xs d) rest) Q)
+        → Seq K W Γ (lands C Λ E d (vint w64 (min m n)) rest Q) → Seq K W Γ (runs C Λ E (seq (call #base-numbers·at-most xs d) rest) Q)
     calls-at-most known m n fits fits′ ops k =
         use0 W (raw (AtMost 𝓤 H A mem run .pre (to-at-most 𝓤 H A W mem run m n))) (goes-at-most 𝓤 H A W mem run m n fits fits′) $
         calls-at t fm (AtMost 𝓤 H A mem run) known (to-at-most 𝓤 H A W mem run m n) (ops _) (λ w.

@@ -2,6 +2,7 @@
 use mathlib.Core.Path.{sym}
 use mathlib.Core.Bool.{false}
 use lib.ListN.{List·getD-eq-default}
+use Rattle.math_search.specs.Rules.{ruleCount}
 use Rattle.search_items.specs.Items.{itemsOf}
 use Rattle.search_rules.specs.Tests.{listEnd}
 use Rattle.search_rules.specs.Moves.{testsBy}
@@ -72,7 +73,7 @@ returns-15 c =
     let z = c .before .args in
     let ls = itemsOf (z .l) in
     let ms = itemsOf (z .r) in
-    sym (List·getD-eq-default (testsBy (z .a) (z .b) (listEnd ms) ls ms) false (not-below 14 (z .rule) (c .match .rest)))
+    sym (List·getD-eq-default (testsBy (z .a) (z .b) (listEnd ms) ls ms) false (not-below ruleCount (z .rule) (c .match .rest)))
 
 pub applies-spec : {M : Type 1} → statement M
 applies-spec =

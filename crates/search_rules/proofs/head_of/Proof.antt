@@ -2,7 +2,7 @@
 use mathlib.Core.Path.{_≡_}
 use lib.ListN.{length}
 use Rattle.pair_row.specs.Row.{tableIn}
-use Rattle.search_items.specs.Items.{mostItems}
+use Rattle.search_items.specs.Items.{mostCodes}
 use Rattle.search_rules.proofs.Sides.{head-used}
 use borrow.Author.Needs.{needs}
 use Rattle.search_rules.proofs.head_of.Statement.{statement}
@@ -30,7 +30,7 @@ returns-2 : tie.Need-returns-2
 returns-2 c =
     let d = c .before .before in
     let z = d .before .before .before .before .args in
-    let e : length (z .t1 .codes) ≡ mostItems = search needs in
+    let e : length (z .t1 .codes) ≡ mostCodes = search needs in
     rw (c .whole-of .ensures, c .before .is-variable .ensures, d .kind-at .ensures)
     (head-used (tableIn (z .row .now)) (z .t1 .n) (z .t1 .codes) _ (d .before .before .if1 .left) e)
 

@@ -2,6 +2,7 @@
 use mathlib.Core.Path.{sym, _∙_}
 use lib.ListN.{List·getD-eq-default}
 use borrow.Author.Needs.{needs}
+use Rattle.math_search.specs.Rules.{ruleCount}
 use Rattle.pair_row.specs.Row.{tableIn}
 use Rattle.search_items.specs.Items.{itemsOf}
 use Rattle.search_rules.specs.Moves.{noMove, madeBy}
@@ -215,7 +216,7 @@ returns-16 c =
     let all = madeBy (a .result .first) (b .result .first) (z .left) (z .right) (itemsOf (z .left)) (itemsOf (z .right)) (g .fresh-code .result) in
     applied (tableIn (z .row .now)) (z .rule) (z .left) (z .right) (z .fresh) (a .result) (b .result)
     (a .ensures) (b .ensures) (w .applies .result) (w .applies .ensures) (g .fresh-code .result) (g .fresh-code .ensures) (g .before .if1 .left)
-    (c .no-move2 .ensures ∙ sym (List·getD-eq-default all noMove (not-below 14 (z .rule) (c .before .match .rest))))
+    (c .no-move2 .ensures ∙ sym (List·getD-eq-default all noMove (not-below ruleCount (z .rule) (c .before .match .rest))))
 
 pub move-of-spec : {M : Type 1} → statement M
 move-of-spec =

@@ -1,7 +1,7 @@
 -- `search_rules::put_rest` meets its contract. Assumes nothing.
 use mathlib.Core.Path.{_≡_}
 use lib.ListN.{length}
-use Rattle.search_items.specs.Items.{mostItems}
+use Rattle.search_items.specs.Items.{mostCodes}
 use Rattle.search_items.proofs.Collected.{items-rest}
 use borrow.Author.Needs.{needs}
 use Rattle.search_rules.proofs.put_rest.Statement.{statement}
@@ -16,7 +16,7 @@ put-in-requires c κs = search needs
 returns : tie.Need-returns
 returns c =
     let z = c .before .before .args in
-    let e : length (z .w .codes) ≡ mostItems = search needs in
+    let e : length (z .w .codes) ≡ mostCodes = search needs in
     rw (c .put-in .ensures, c .before .rest .ensures, items-rest (z .w) e)
 
 pub put-rest-spec : {M : Type 1} → statement M

@@ -4,7 +4,7 @@ use Prim.Native.Nat.{ℕ, _≤_}
 use native.Mathlib.Omega.{arith}
 use lib.ListN.{length, take, length-take}
 use Rattle.base_lists.specs.Seqs.{long-mapped}
-use Rattle.search_items.specs.Items.{mostItems}
+use Rattle.search_items.specs.Items.{mostCodes}
 use Rattle.search_items.proofs.Collected.{used-items}
 use borrow.Author.Needs.{needs}
 use Rattle.search_steps.proofs.Steps.{put-as}
@@ -23,7 +23,7 @@ slice-aggregate-put-answer c = search needs
 array-share-prefix-left : tie.Need-array-share-prefix-left
 array-share-prefix-left c =
     let z = c .before .before .before .before .before .before .before .before .before .args in
-    let e : length (z .l .codes) ≡ mostItems = search long-mapped in
+    let e : length (z .l .codes) ≡ mostCodes = search long-mapped in
     let u = c .before .before .before .before .before .used in
     let h : u .result ≤ length (z .l .codes) = omega (arith, u .ensures, e) in
     h
@@ -31,7 +31,7 @@ array-share-prefix-left c =
 slice-aggregate-put-answer-2 : tie.Need-slice-aggregate-put-answer-2
 slice-aggregate-put-answer-2 c =
     let z = c .before .before .before .before .before .before .before .before .before .before .args in
-    let e : length (z .l .codes) ≡ mostItems = search long-mapped in
+    let e : length (z .l .codes) ≡ mostCodes = search long-mapped in
     let u = c .before .before .before .before .before .before .used in
     let h : u .result ≡ length (take (u .result) (z .l .codes)) = omega (arith, u .ensures, e, length-take (u .result) (z .l .codes)) in
     h
@@ -39,7 +39,7 @@ slice-aggregate-put-answer-2 c =
 array-share-prefix-right : tie.Need-array-share-prefix-right
 array-share-prefix-right c =
     let z = c .before .before .before .before .before .before .before .before .before .before .args in
-    let e : length (z .r .codes) ≡ mostItems = search long-mapped in
+    let e : length (z .r .codes) ≡ mostCodes = search long-mapped in
     let u = c .before .before .before .before .before .used2 in
     let h : u .result ≤ length (z .r .codes) = omega (arith, u .ensures, e) in
     h
@@ -47,7 +47,7 @@ array-share-prefix-right c =
 slice-aggregate-put-answer-3 : tie.Need-slice-aggregate-put-answer-3
 slice-aggregate-put-answer-3 c =
     let z = c .before .before .before .before .before .before .before .before .before .before .before .args in
-    let e : length (z .r .codes) ≡ mostItems = search long-mapped in
+    let e : length (z .r .codes) ≡ mostCodes = search long-mapped in
     let u = c .before .before .before .before .before .before .used2 in
     let h : u .result ≡ length (take (u .result) (z .r .codes)) = omega (arith, u .ensures, e, length-take (u .result) (z .r .codes)) in
     h
@@ -63,8 +63,8 @@ returns c =
     let z = c .before .before .before .before .before .before .before .before .before .before .before .before .before .before .before .args in
     let a = c .before .before .before .before .before .before .before .before .before .before .before .used in
     let b = c .before .before .before .before .before .before .before .before .before .before .used2 in
-    let e : length (z .l .codes) ≡ mostItems = search long-mapped in
-    let d : length (z .r .codes) ≡ mostItems = search long-mapped in
+    let e : length (z .l .codes) ≡ mostCodes = search long-mapped in
+    let d : length (z .r .codes) ≡ mostCodes = search long-mapped in
     put-as (z .row .now) (z .texts .now) (z .st .atoms) (z .out .now)
     (ap (λ (k : ℕ). take k (z .l .codes)) (a .ensures) ∙ used-items (z .l) e) (ap (λ (k : ℕ). take k (z .r .codes)) (b .ensures) ∙ used-items (z .r) d)
     (c .before .before .put-answer .ensures .0)

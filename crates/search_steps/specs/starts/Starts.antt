@@ -4,12 +4,13 @@
 use mathlib.Core.Bool.{true, false, _&&_, cond}
 use Prim.Native.Nat.{ℕ}
 use lib.Dec.{eqb, ltb, leb}
+use Rattle.math_search.specs.Rules.{ruleCount}
 use Rattle.text_values.specs.declared.Field.{Field}
 use Rattle.search_steps.specs.tables.Tables.{rowsIn}
 use Rattle.search_problems.specs.Roots.{rootValue}
 use Rattle.text_accepted.specs.Accepted.{acceptedField}
 use Rattle.search_steps.specs.declared.turns.State.{State}
-use Rattle.search_steps.specs.turns.Turns.{rules, nextPlace}
+use Rattle.search_steps.specs.turns.Turns.{nextPlace}
 
 -- the state that the search of two fields starts in: it counts. It is not busy where a field stands on no accepted rule's left side;
 -- and document 01: "a row of none refuses every pair of accepted fields"
@@ -18,7 +19,7 @@ begun f g cap = record {
   busy = cond (acceptedField f && acceptedField g) (ltb 0 cap) false;
   writing = false;
   refused = cond (acceptedField f && acceptedField g) (eqb cap 0) false;
-  rule = rules;
+  rule = ruleCount;
   at = 0;
   head = 0;
   tail = nextPlace 0 cap;

@@ -8,6 +8,7 @@
 use mathlib.Core.Bool.{Bool, true, false, not, cond}
 use Prim.Native.Nat.{ℕ, _+_, _-_, _%_, _^_}
 use lib.Dec.{eqb, ltb}
+use Rattle.math_search.specs.Rules.{ruleCount}
 use Rattle.math_codes.specs.Tables.{Table}
 use Rattle.pair_row.specs.Row.{tableIn}
 use Rattle.search_problems.specs.declared.Problem.{Problem}
@@ -18,13 +19,10 @@ use Rattle.search_steps.specs.declared.turns.Turn.{Turn}
 
 -- ---- what a turn reads off the state
 
--- how many rules there are: `rule` is the number of the next rule that gives the held problem a child, and this where none is left or no
--- problem is held
-abbrev pub rules : ℕ
-rules = 14
-
+-- `rule` is the number of the next rule that gives the held problem a child, and the number of the rules where none is left or no problem
+-- is held
 abbrev pub trying : ℕ → Bool
-trying rule = ltb rule rules
+trying rule = ltb rule ruleCount
 
 -- the next place, round the end
 abbrev pub nextPlace : ℕ → ℕ → ℕ
@@ -44,7 +42,7 @@ worked T p = cond (p .«open») (not (failsOf T p)) false
 
 -- the first rule that gives a problem a child
 abbrev pub firstRule : Table → Problem → ℕ
-firstRule T p = cond (worked T p) (nextRule T p 0) rules
+firstRule T p = cond (worked T p) (nextRule T p 0) ruleCount
 
 -- ---- turns where no problem is held
 

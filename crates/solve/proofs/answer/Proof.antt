@@ -5,7 +5,7 @@ use lib.ListN.{replicate}
 use lib.Seq.{length-take-le}
 use borrow.Author.Needs.{needs}
 use Rattle.text_write.proofs.pieces.Pieces.{written-in}
-use Rattle.print_solve.specs.Solve.{solveAnswer}
+use Rattle.print_solve.specs.Solve.{solveAnswer, longestAnswer}
 use Rattle.solve.proofs.answer.Statement.{statement}
 use Rattle.solve.proofs.answer.Tie as tie
 
@@ -22,7 +22,7 @@ array-share-prefix-text : tie.Need-array-share-prefix-text
 array-share-prefix-text c =
     let W = c .before .before .before .before .solve-answer in
     let z = c .before .before .before .before .before .before .before .before .args in
-    omega (arith, written-in (solveAnswer (z .k) (z .line .now)) (replicate 131164 0) (W .ensures .0) (c .before .n .given .1), W .kept .1 .1 .0)
+    omega (arith, written-in (solveAnswer (z .k) (z .line .now)) (replicate longestAnswer 0) (W .ensures .0) (c .before .n .given .1), W .kept .1 .1 .0)
 
 slice-aggregate-put : tie.Need-slice-aggregate-put
 slice-aggregate-put c =
@@ -30,7 +30,7 @@ slice-aggregate-put c =
     let z = c .before .before .before .before .before .before .before .before .before .args in
     sym (length-take-le _ _ (omega (
       arith,
-      written-in (solveAnswer (z .k) (z .line .now)) (replicate 131164 0) (W .ensures .0) (c .before .before .n .given .1),
+      written-in (solveAnswer (z .k) (z .line .now)) (replicate longestAnswer 0) (W .ensures .0) (c .before .before .n .given .1),
       W .kept .1 .1 .0,
     )))
 

@@ -4,6 +4,7 @@ use mathlib.Core.Path.{_≡_, _∙_}
 use Prim.Native.Nat.{_-_, min}
 use native.Mathlib.Omega.{arith}
 use lib.ListN.{length, length-take}
+use Rattle.base_limits.specs.Limits.{mostTerms}
 use Rattle.text_values.specs.Values.{viewTerm}
 use Rattle.text_accepted.specs.linearity.Lists.{addTerm}
 use Rattle.base_lists.specs.Seqs.{long-mapped}
@@ -12,13 +13,13 @@ use Rattle.text_accepted.proofs.add_field.Statement.{statement}
 use Rattle.text_accepted.proofs.add_field.Tie as tie
 
 abbrev Inv-loop : tie.InvT-loop
-Inv-loop f n now₀ i₀ now i = (length (f .terms) ≡ 16) × (n ≡ min (f .n) 16) × Folded viewTerm addTerm (f .n) (f .terms) now₀ i now
+Inv-loop f n now₀ i₀ now i = (length (f .terms) ≡ mostTerms) × (n ≡ min (f .n) mostTerms) × Folded viewTerm addTerm (f .n) (f .terms) now₀ i now
 
 abbrev μ-loop : tie.MeasureT-loop
 μ-loop f n now₀ i₀ now i = n - i
 
-least-requires : tie.Need-least-requires Inv-loop μ-loop
-least-requires c κs = search needs
+at-most-requires : tie.Need-at-most-requires Inv-loop μ-loop
+at-most-requires c κs = search needs
 
 next-field-requires : tie.Need-next-field-requires Inv-loop μ-loop
 next-field-requires c κs = search needs
@@ -26,7 +27,7 @@ next-field-requires c κs = search needs
 loop-holds : tie.Need-loop-holds Inv-loop μ-loop
 loop-holds c = (
   search long-mapped,
-  c .before .least .ensures,
+  c .before .at-most .ensures,
   folded-none viewTerm addTerm (c .before .before .args .t2 .n) (c .before .before .args .t2 .terms) (c .next-field .result),
 )
 
@@ -72,7 +73,7 @@ add-field-spec =
     (tie.spec
     Inv-loop
     μ-loop
-    least-requires
+    at-most-requires
     next-field-requires
     loop-holds
     mul-add-term

@@ -3,6 +3,7 @@ use borrow.Author.Needs.{needs}
 use Prim.Native.Nat.{_-_}
 use mathlib.Core.Path.{_≡_}
 use lib.ListN.{length}
+use Rattle.base_limits.specs.Limits.{mostTerms}
 use Rattle.text_values.specs.canonical.Terms.{termOk, termBlank}
 use Rattle.base_lists.specs.Seqs.{long-mapped}
 use Rattle.text_values.proofs.canonical.Filled.{Passed, passed-none, passed-one, passed-not, passed-all, passed-over}
@@ -10,18 +11,20 @@ use Rattle.text_accepted.proofs.has_terms.Statement.{statement}
 use Rattle.text_accepted.proofs.has_terms.Tie as tie
 
 abbrev Inv-loop : tie.InvT-loop
-Inv-loop f n i₀ i = Passed termOk termBlank 16 n (f .terms) i
+Inv-loop f n i₀ i = Passed termOk termBlank mostTerms n (f .terms) i
 
 abbrev μ-loop : tie.MeasureT-loop
-μ-loop f n i₀ i = 16 - i
+μ-loop f n i₀ i = mostTerms - i
 
 returns : tie.Need-returns Inv-loop μ-loop
 returns c =
-    let h : length (c .before .args .t1 .terms) ≡ 16 = search long-mapped in passed-over termOk termBlank 16 _ (c .before .args .t1 .terms) h (c .if1 .taken)
+    let h : length (c .before .args .t1 .terms) ≡ mostTerms = search long-mapped in
+    passed-over termOk termBlank mostTerms _ (c .before .args .t1 .terms) h (c .if1 .taken)
 
 loop-holds : tie.Need-loop-holds Inv-loop μ-loop
 loop-holds c =
-    let h : length (c .before .args .t1 .terms) ≡ 16 = search long-mapped in passed-none termOk termBlank 16 _ (c .before .args .t1 .terms) h (c .if1 .left)
+    let h : length (c .before .args .t1 .terms) ≡ mostTerms = search long-mapped in
+    passed-none termOk termBlank mostTerms _ (c .before .args .t1 .terms) h (c .if1 .left)
 
 mul-is-place : tie.Need-mul-is-place Inv-loop μ-loop
 mul-is-place c = search needs
@@ -34,7 +37,7 @@ is-place-requires c κs = search needs
 
 returns-2 : tie.Need-returns-2 Inv-loop μ-loop
 returns-2 c =
-    passed-not termOk termBlank 16 _ (c .before .before .before .before .before .before .args .t1 .terms)
+    passed-not termOk termBlank mostTerms _ (c .before .before .before .before .before .before .args .t1 .terms)
     (c .before .before .before .before .loop .i) _ (c .before .is-place .result) (c .before .before .before .before .loop .inv)
     (c .before .before .before .loop-test .taken) (c .before .is-place .ensures) (c .if2 .taken)
 
@@ -46,12 +49,13 @@ loop-less c = search needs
 
 loop-again : tie.Need-loop-again Inv-loop μ-loop
 loop-again c =
-    passed-one termOk termBlank 16 _ (c .before .before .before .before .before .before .args .t1 .terms)
+    passed-one termOk termBlank mostTerms _ (c .before .before .before .before .before .before .args .t1 .terms)
     (c .before .before .before .before .loop .i) _ (c .before .is-place .result) (c .before .before .before .before .loop .inv)
     (c .before .before .before .loop-test .taken) (c .before .is-place .ensures) (c .if2 .left)
 
 returns-3 : tie.Need-returns-3 Inv-loop μ-loop
-returns-3 c = passed-all termOk termBlank 16 _ (c .before .before .before .args .t1 .terms) (c .before .loop .i) (c .before .loop .inv) (c .loop-test .left)
+returns-3 c = passed-all termOk termBlank mostTerms _ (c .before .before .before .args .t1 .terms) (c .before .loop .i) (c .before .loop .inv)
+    (c .loop-test .left)
 
 pub has-terms-spec : {M : Type 1} → statement M
 has-terms-spec =

@@ -19,8 +19,8 @@ Inv-loop r n l₀ i₀ l i = (length (r .fields) ≡ 4) × (n ≡ min (r .n) 4) 
 abbrev μ-loop : tie.MeasureT-loop
 μ-loop r n l₀ i₀ l i = n - i
 
-least-requires : tie.Need-least-requires Inv-loop μ-loop
-least-requires c κs = search needs
+at-most-requires : tie.Need-at-most-requires Inv-loop μ-loop
+at-most-requires c κs = search needs
 
 none-requires : tie.Need-none-requires Inv-loop μ-loop
 none-requires c κs = search needs
@@ -28,7 +28,7 @@ none-requires c κs = search needs
 loop-holds : tie.Need-loop-holds Inv-loop μ-loop
 loop-holds c = (
   search long-mapped,
-  c .before .least .ensures,
+  c .before .at-most .ensures,
   folded-none viewField addField (c .before .before .args .t1 .n) (c .before .before .args .t1 .fields) (c .none .result),
 )
 
@@ -76,7 +76,7 @@ is-linear-spec =
     (tie.spec
     Inv-loop
     μ-loop
-    least-requires
+    at-most-requires
     none-requires
     loop-holds
     mul-add-field

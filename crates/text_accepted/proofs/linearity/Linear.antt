@@ -9,6 +9,7 @@ use native.Mathlib.Omega.{arith}
 use native.Mathlib.Decide.{ℕ-discrete}
 use lib.ListN.{length, getD, set, length-set, getD-replicate}
 use lib.Seq.{getD-set-same, getD-set-other}
+use Rattle.base_limits.specs.Limits.{largestNumber, numbersOfSide}
 use Rattle.base_lists.specs.Seqs.{All, Any, any?, all-append, all-map}
 use Rattle.math_types.specs.Order.{basic, list}
 use Rattle.math_terms.specs.Terms.{con, var}
@@ -80,8 +81,8 @@ Numbered v o = o .1 ≡ v
 
 pub record Tracks (before : List Occ) (n : ℕ) (l : Lists) : Type 0 where
   pub here-is : (l .here ≡ true) ↔ Any (InField n) before
-  pub seen-is : (v : ℕ) → v ≤ 15 → (getD (l .seen) v false ≡ true) ↔ Any (Numbered v) before
-  pub places : length (l .seen) ≡ 16
+  pub seen-is : (v : ℕ) → v ≤ largestNumber → (getD (l .seen) v false ≡ true) ↔ Any (Numbered v) before
+  pub places : length (l .seen) ≡ numbersOfSide
   pub so-far : All (λ o. o .0 ≤ n) before
 
 -- before the first field
@@ -89,7 +90,7 @@ pub tracks-none : (n : ℕ) → Tracks [] n noLists
 tracks-none n =
     record {
       here-is = (λ e. false≢true e, λ a. absurd a);
-      seen-is = λ v h. (λ e. false≢true (sym (getD-replicate 16 v false false (omega arith)) ∙ e), λ a. absurd a);
+      seen-is = λ v h. (λ e. false≢true (sym (getD-replicate numbersOfSide v false false (omega arith)) ∙ e), λ a. absurd a);
       places = refl;
       so-far = tt;
     }
@@ -105,7 +106,7 @@ tracks-next {before} {n} {l} t =
     }
 
 -- behind the list variable of number v
-pub tracks-add : {before : List Occ} {n : ℕ} {l : Lists} (v : ℕ) → Tracks before n l → v ≤ 15 → Tracks (before ++ (n, v) ∷ []) n (addList l v)
+pub tracks-add : {before : List Occ} {n : ℕ} {l : Lists} (v : ℕ) → Tracks before n l → v ≤ largestNumber → Tracks (before ++ (n, v) ∷ []) n (addList l v)
 tracks-add {before} {n} {l} v t h =
     record {
       here-is = (λ e. any-right (InField n) before ((n, v) ∷ []) (inl refl), λ a. refl);
@@ -114,7 +115,7 @@ tracks-add {before} {n} {l} v t h =
       so-far = all-append (λ o. o .0 ≤ n) before ((n, v) ∷ []) (t .so-far) (omega arith, tt);
     }
   where
-    seen : (u : ℕ) → u ≤ 15 → Dec (u ≡ v) → (getD (set (l .seen) v true) u false ≡ true) ↔ Any (Numbered u) (before ++ (n, v) ∷ [])
+    seen : (u : ℕ) → u ≤ largestNumber → Dec (u ≡ v) → (getD (set (l .seen) v true) u false ≡ true) ↔ Any (Numbered u) (before ++ (n, v) ∷ [])
     seen u k (yes e) =
         (λ g. any-right (Numbered u) before ((n, v) ∷ []) (inl (sym e)), λ a. rw (e, getD-set-same (l .seen) v true false (omega (arith, t .places))))
     seen u k (no d) =
@@ -129,7 +130,7 @@ tracks-add {before} {n} {l} v t h =
 
 -- it stays true exactly where it was, and the list variable of number v clashes with none before
 pub tracks-still : {before : List Occ} {n : ℕ} {l : Lists} (v : ℕ) → Tracks before n l
-    → v ≤ 15 → (stillOk l v ≡ true) ↔ ((l .ok ≡ true) × (Any (Clash (n, v)) before → ⊥))
+    → v ≤ largestNumber → (stillOk l v ≡ true) ↔ ((l .ok ≡ true) × (Any (Clash (n, v)) before → ⊥))
 tracks-still {before} {n} {l} v t h = (to, from)
   where
     to : stillOk l v ≡ true → (l .ok ≡ true) × (Any (Clash (n, v)) before → ⊥)
@@ -154,7 +155,7 @@ tracks-still {before} {n} {l} v t h = (to, from)
 
 -- it turns false exactly at a clash
 pub tracks-clash : {before : List Occ} {n : ℕ} {l : Lists} (v : ℕ) → Tracks before n l
-    → v ≤ 15 → l .ok ≡ true → (stillOk l v ≡ false) ↔ Any (Clash (n, v)) before
+    → v ≤ largestNumber → l .ok ≡ true → (stillOk l v ≡ false) ↔ Any (Clash (n, v)) before
 tracks-clash {before} {n} {l} v t h k =
     (λ e. to e (any? (Clash (n, v)) (clash? (n, v)) before), λ a. false-is (stillOk l v) .1 (λ e. tracks-still v t h .0 e .1 a))
   where

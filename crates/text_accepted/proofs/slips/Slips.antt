@@ -8,9 +8,9 @@ use mathlib.Core.List.{List}
 use Prim.Native.Nat.{ℕ, _≤_}
 use lib.Dec.{eqb, ltb}
 use lib.ListN.{length}
+use Rattle.base_limits.specs.Limits.{mostFields}
 use Rattle.base_lists.specs.Seqs.{All, IsCons, all-map}
 use Rattle.base_lists.specs.Truths.{both-is}
-use Rattle.text_grammar.specs.Sizes.{mostFields}
 use Rattle.text_grammar.specs.Terms.{OurTerm}
 use Rattle.text_grammar.specs.Read.{slip, accepted, readSlip}
 use Rattle.text_grammar.specs.Limits.{TermIn, IsCon, IsSlip}

@@ -4,13 +4,14 @@ use mathlib.Core.Bool.{Bool, true, false, _&&_, not}
 use mathlib.Core.List.{List, foldl}
 use Prim.Native.Nat.{ℕ}
 use lib.ListN.{getD, set, replicate}
+use Rattle.base_limits.specs.Limits.{numbersOfSide}
 use Rattle.math_types.specs.Order.{basic, list}
 use Rattle.math_terms.specs.Terms.{con, var}
 use Rattle.text_grammar.specs.Terms.{OurTerm}
 use Rattle.text_accepted.specs.declared.linearity.Lists.{Lists}
 
 abbrev pub noLists : Lists
-noLists = record { ok = true; here = false; seen = replicate 16 false }
+noLists = record { ok = true; here = false; seen = replicate numbersOfSide false }
 
 abbrev pub nextField : Lists → Lists
 nextField l = record { ok = l .ok; here = false; seen = l .seen }

@@ -5,6 +5,7 @@ use mathlib.Core.List.{List, [], _∷_, map}
 use Prim.Native.Nat.{ℕ, suc, _+_, _*_, _≤_}
 use native.Mathlib.Omega.{arith}
 use lib.ListN.{length, length-append}
+use Rattle.base_limits.specs.Limits.{mostTerms, mostRuleBytes, longestField, longestSide, longestRule}
 use Rattle.text_grammar.specs.Grammar.{Raw, spellT, TextOk}
 use Rattle.text_grammar.specs.Leftmost.{NoneOf}
 use Rattle.text_grammar.specs.Tokens.{tokens, NotLinear}
@@ -43,7 +44,7 @@ reasons-leave t s h n =
     ) in
     (c .0, c .1, clean-to linear t s h (n .1 .1 .1 .1 .1 .0), clean-to unknown t s h (n .1 .1 .1 .1 .1 .1 .0))
 
-pub reasons-none : (t : List ℕ) (s : Sides) → SaysRule t s → length t ≤ 4096 → Clean (leftSide s) → CleanRight s → Left s → Known s
+pub reasons-none : (t : List ℕ) (s : Sides) → SaysRule t s → length t ≤ mostRuleBytes → Clean (leftSide s) → CleanRight s → Left s → Known s
     → NoReason (RefusesRule t) order
 reasons-none t s h l c d e k =
     let a = clean-sides s .1 (c, d) in (
@@ -68,7 +69,7 @@ reasons-none t s h l c d e k =
 
 -- ---- FROM THE TEXT TO THE LIMITS
 
-side-in : (x : List (List Raw)) → TextOk x → Clean x → Within 16 (fieldsOf x)
+side-in : (x : List (List Raw)) → TextOk x → Clean x → Within mostTerms (fieldsOf x)
 side-in x ok c = within-to 16 x ok (c .0) (c .1) (c .2)
 
 sides-in : (s : Sides) (t : List ℕ) → SaysRule t s → Clean (leftSide s) × CleanRight s × Left s × Known s → IsRule (bothFields s)
@@ -86,7 +87,7 @@ rule-read t w e =
 
 -- ---- FROM THE LIMITS TO THE PLAIN TEXT
 
-right-within : (f : List OurTerm) (y : OurFields) → IsRight (f ∷ y) → Within 16 (f ∷ y)
+right-within : (f : List OurTerm) (y : OurFields) → IsRight (f ∷ y) → Within mostTerms (f ∷ y)
 right-within f y h = (tt, h .0, h .1, h .2)
 
 module _ (x : OurFields) (h : IsLeft x) where
@@ -106,7 +107,7 @@ sides-back x [] = ap (λ (l : OurFields). (l, [])) (back x)
 sides-back x (f ∷ y) = ap₂ (λ (l r : OurFields). (l, r)) (back x) (back (f ∷ y))
 
 -- the longest plain text has 2,304 bytes at most
-pub rule-length : (x y : OurFields) → IsLeft x → IsRight y → length (plainSides x y) ≤ 2304
+pub rule-length : (x y : OurFields) → IsLeft x → IsRight y → length (plainSides x y) ≤ longestRule
 rule-length x [] h r = omega (arith, text.rule-length x (h .0))
 rule-length x (f ∷ y) h r =
     let a = text.rule-length x (h .0) in
@@ -141,22 +142,22 @@ rule-iff w = (λ h. rule-read (h .0) w (h .1), λ h. (plainBoth w, rule-plain w 
 
 -- ---- NO ACCEPTED TEXT is longer than 2,304 bytes
 
-pub side-short : (x : List (List Raw)) → TextOk x → Clean x → length (spellT x) ≤ 1151
+pub side-short : (x : List (List Raw)) → TextOk x → Clean x → length (spellT x) ≤ longestSide
 side-short x ok c =
     let b = raw-text 16 x ok (c .0) (c .1) (c .2) in
     let k = b .0 in
     let small : k ≤ 3 = b .1 in
-    let bound : suc (length (spellT x)) ≤ 288 + k * 288 = b .2 in
+    let bound : suc (length (spellT x)) ≤ suc longestField + k * suc longestField = b .2 in
     omega arith
 
-sides-short : (s : Sides) (t : List ℕ) → SaysRule t s → Clean (leftSide s) → CleanRight s → length t ≤ 2304
+sides-short : (s : Sides) (t : List ℕ) → SaysRule t s → Clean (leftSide s) → CleanRight s → length t ≤ longestRule
 sides-short (one x) t h c d = omega (arith, side-short x (h .0) c, ap (λ (l : List ℕ). length l) (h .1))
 sides-short (two x y) t h c d =
     let a = side-short x (h .0 .0) c in
     let b = side-short y (h .0 .1) d in
     omega (arith, ap (λ (l : List ℕ). length l) (h .1), length-append (spellT x) (61 ∷ (62 ∷ spellT y)))
 
-pub rule-bytes : (t : List ℕ) (w : OurRule) → readRule t ≡ accepted w → length t ≤ 2304
+pub rule-bytes : (t : List ℕ) (w : OurRule) → readRule t ≡ accepted w → length t ≤ longestRule
 rule-bytes t w e =
     let a = rule-accepted t w .0 e in
     let s = a .1 .0 in

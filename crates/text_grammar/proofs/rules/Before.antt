@@ -9,6 +9,7 @@ use native.Mathlib.Omega.{arith}
 use native.Mathlib.Decide.{ℕ-discrete, decLt}
 use lib.ListN.{length, take, drop, take-append-drop}
 use lib.Seq.{take-append-seam, drop-append-seam}
+use Rattle.base_limits.specs.Limits.{mostTerms, mostRuleBytes}
 use Rattle.base_lists.specs.Seqs.{All, all-right}
 use Rattle.text_grammar.specs.Grammar.{Raw, Grammar}
 use Rattle.text_grammar.specs.Leftmost.{leftmost}
@@ -72,8 +73,9 @@ module _ (t : List ℕ) (free : NoEqual t) where
       go (some x) = refl
 
 -- the first of both sides' terms is the first of the one side's
-one-first : (r : Reason) (x : List (List Raw)) → Option·map placeOfToken (leftmost (Bad 16 r) (bad? 16 r) [] (tokens x ++ [])) ≡ firstBad 16 r x
-one-first r x = ap (λ (l : List Token). Option·map placeOfToken (leftmost (Bad 16 r) (bad? 16 r) [] l)) (append-nil (tokens x))
+one-first : (r : Reason) (x : List (List Raw))
+    → Option·map placeOfToken (leftmost (Bad mostTerms r) (bad? mostTerms r) [] (tokens x ++ [])) ≡ firstBad mostTerms r x
+one-first r x = ap (λ (l : List Token). Option·map placeOfToken (leftmost (Bad mostTerms r) (bad? mostTerms r) [] l)) (append-nil (tokens x))
 
 tell-rule : (r : Reason) (o : Option ℕ) (z : Outcome) → tell r o (asRule z) ≡ asRule (tell r o z)
 tell-rule r none z = refl
@@ -166,7 +168,7 @@ no-arrow t none-cut = go (equal? t)
     go : NoEqual t ⊎ ((a w : List ℕ) × Grammar a × (t ≡ a ++ 61 ∷ w))
         → (readRule t ≡ asRule (readSide t)) ⊎ ((p : ℕ) × (readSide t ≡ refused grammar p) × (readRule t ≡ refused grammar (suc p)))
     go (inl f) = inl (read-before t f)
-    go (inr (a, w, g, s)) = at (decLt 4096 (length t)) refl
+    go (inr (a, w, g, s)) = at (decLt mostRuleBytes (length t)) refl
       where
         here : place2 t ≡ some (length a)
         here = ap place2 s ∙ stops-equal a w g
@@ -184,9 +186,10 @@ no-arrow t none-cut = go (equal? t)
             tell long f1
             (tell grammar f2 (chain (placeOf t) (fields ∷ terms ∷ limits ∷ linear ∷ unknown ∷ []) (bothFields (saidRule t))))
 
-        at : (d : Dec (4096 < length t)) → decLt 4096 (length t) ≡ d
+        at : (d : Dec (mostRuleBytes < length t)) → decLt mostRuleBytes (length t) ≡ d
             → (readRule t ≡ asRule (readSide t)) ⊎ ((p : ℕ) × (readSide t ≡ refused grammar p) × (readRule t ≡ refused grammar (suc p)))
         at (yes h) e =
-            let l = ap (λ (d : Dec (4096 < length t)). ite {C = Option ℕ} d (some 4096) none) e in
+            let l = ap (λ (d : Dec (mostRuleBytes < length t)). ite {C = Option ℕ} d (some mostRuleBytes) none) e in
             inl (ap (λ (o : Option ℕ). new o (placeRule t)) l ∙ sym (ap (λ (o : Option ℕ). asRule (old o (place2 t))) l))
-        at (no n) e = let l = ap (λ (d : Dec (4096 < length t)). ite {C = Option ℕ} d (some 4096) none) e in inr (length a, ap₂ old l here, ap₂ new l later)
+        at (no n) e = let l = ap (λ (d : Dec (mostRuleBytes < length t)). ite {C = Option ℕ} d (some mostRuleBytes) none) e in
+            inr (length a, ap₂ old l here, ap₂ new l later)

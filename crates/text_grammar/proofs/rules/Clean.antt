@@ -6,10 +6,10 @@ use mathlib.Core.List.{List, [], _∷_, append-nil, map}
 use Prim.Native.Nat.{ℕ, suc, _+_, _≤_, _<_}
 use native.Mathlib.Omega.{arith}
 use lib.ListN.{length, length-map}
+use Rattle.base_limits.specs.Limits.{mostFields, mostTerms}
 use Rattle.base_lists.specs.Seqs.{All, all-append, all-left, all-right}
 use Rattle.math_types.specs.Types.{Kind}
 use Rattle.math_terms.specs.Fillings.{Occurs}
-use Rattle.text_grammar.specs.Sizes.{mostFields}
 use Rattle.text_grammar.specs.Grammar.{Raw, raw-int, raw-str, raw-var, raw-empty, spell, spellF}
 use Rattle.text_grammar.specs.Numbers.{value}
 use Rattle.text_grammar.specs.Leftmost.{NoneOf, leftmost, LeftmostAt}
@@ -93,22 +93,22 @@ module _ (Q : ℕ → ℕ → Raw → Type 0) where
 -- ---- 3, 4 and 5 of one side
 
 abbrev pub Clean : List (List Raw) → Type 0
-Clean x = NoneOf (Bad 16 fields) [] (tokens x) × NoneOf (Bad 16 terms) [] (tokens x) × NoneOf (Bad 16 limits) [] (tokens x)
+Clean x = NoneOf (Bad mostTerms fields) [] (tokens x) × NoneOf (Bad mostTerms terms) [] (tokens x) × NoneOf (Bad mostTerms limits) [] (tokens x)
 
 abbrev pub CleanRight : Sides → Type 0
 CleanRight (one x) = Unit {0}
 CleanRight (two x y) = Clean y
 
 abbrev pub CleanAll : Sides → Type 0
-CleanAll s = NoneOf (Bad 16 fields) [] (allTokens s) × NoneOf (Bad 16 terms) [] (allTokens s) × NoneOf (Bad 16 limits) [] (allTokens s)
+CleanAll s = NoneOf (Bad mostTerms fields) [] (allTokens s) × NoneOf (Bad mostTerms terms) [] (allTokens s) × NoneOf (Bad mostTerms limits) [] (allTokens s)
 
 pub clean-sides : (s : Sides) → CleanAll s ↔ (Clean (leftSide s) × CleanRight s)
-clean-sides s = go s (none-sides (λ n i r. mostFields < n) s) (none-sides (λ n i r. 16 < i) s) (none-sides (λ n i r. Over r) s)
+clean-sides s = go s (none-sides (λ n i r. mostFields < n) s) (none-sides (λ n i r. mostTerms < i) s) (none-sides (λ n i r. Over r) s)
   where
     go : (s : Sides)
-        → (NoneOf (Bad 16 fields) [] (allTokens s) ↔ (NoneOf (Bad 16 fields) [] (tokens (leftSide s)) × NoneRight (λ n i r. mostFields < n) s))
-        → (NoneOf (Bad 16 terms) [] (allTokens s) ↔ (NoneOf (Bad 16 terms) [] (tokens (leftSide s)) × NoneRight (λ n i r. 16 < i) s))
-        → (NoneOf (Bad 16 limits) [] (allTokens s) ↔ (NoneOf (Bad 16 limits) [] (tokens (leftSide s)) × NoneRight (λ n i r. Over r) s))
+        → (NoneOf (Bad mostTerms fields) [] (allTokens s) ↔ (NoneOf (Bad mostTerms fields) [] (tokens (leftSide s)) × NoneRight (λ n i r. mostFields < n) s))
+        → (NoneOf (Bad mostTerms terms) [] (allTokens s) ↔ (NoneOf (Bad mostTerms terms) [] (tokens (leftSide s)) × NoneRight (λ n i r. mostTerms < i) s))
+        → (NoneOf (Bad mostTerms limits) [] (allTokens s) ↔ (NoneOf (Bad mostTerms limits) [] (tokens (leftSide s)) × NoneRight (λ n i r. Over r) s))
         → CleanAll s ↔ (Clean (leftSide s) × CleanRight s)
     go (one x) a b c = (
       λ h. ((a .0 (h .0) .0, b .0 (h .1) .0, c .0 (h .2) .0), tt),
@@ -120,11 +120,11 @@ clean-sides s = go s (none-sides (λ n i r. mostFields < n) s) (none-sides (λ n
     )
 
 -- the plain text of a side within the limits is clean
-pub clean-plain : (r : OurFields) → length r ≤ mostFields → All (λ f. length f ≤ 16) r → All (All TermIn) r → Clean (map rawField r)
+pub clean-plain : (r : OurFields) → length r ≤ mostFields → All (λ f. length f ≤ mostTerms) r → All (All TermIn) r → Clean (map rawField r)
 clean-plain r n w i =
     let x = map rawField r in (
       all-none FifthField (tokens x) [] (few-from x 0 1 (omega (arith, length-map r rawField))),
-      all-none (TooMany 16) (tokens x) [] (width-from 16 x 0 1 (raw-widths 15 r w)),
+      all-none (TooMany mostTerms) (tokens x) [] (width-from 16 x 0 1 (raw-widths 15 r w)),
       all-none TokenOver (tokens x) [] (each (λ u. Over u → ⊥) x 0 1 .1 (not-over-fields r i)),
     )
 

@@ -7,7 +7,7 @@ use Prim.Native.Nat.{ℕ, suc, _+_, _≤_, _<_}
 use native.Mathlib.Omega.{arith}
 use native.Mathlib.Decide.{decLt}
 use lib.ListN.{length, length-append}
-use Rattle.text_grammar.specs.Sizes.{mostFields}
+use Rattle.base_limits.specs.Limits.{mostFields, mostTerms, mostRuleBytes}
 use Rattle.text_grammar.specs.Grammar.{Raw, spell, spellF, spellT, Says}
 use Rattle.text_grammar.specs.Leftmost.{leftmost}
 use Rattle.text_grammar.specs.Tokens.{Token, tokens, tokensF, tokensT, Over, fifth?, many?, over?}
@@ -109,18 +109,18 @@ module _ (x y : List (List Raw)) where
   abbrev start : ℕ
   start = length (spellT x) + 2
 
-  pub first-fields : firstIn fields (two x y) ≡ either (firstBad 16 fields x) (Option·map (λ k. start + k) (firstBad 16 fields y))
+  pub first-fields : firstIn fields (two x y) ≡ either (firstBad mostTerms fields x) (Option·map (λ k. start + k) (firstBad mostTerms fields y))
   unfolding fifth?
   first-fields = both-first (λ n i r. mostFields < n) (λ n i r. decLt mostFields n) start x y
 
-  pub first-terms : firstIn terms (two x y) ≡ either (firstBad 16 terms x) (Option·map (λ k. start + k) (firstBad 16 terms y))
+  pub first-terms : firstIn terms (two x y) ≡ either (firstBad mostTerms terms x) (Option·map (λ k. start + k) (firstBad mostTerms terms y))
   unfolding many?
-  first-terms = both-first (λ n i r. 16 < i) (λ n i r. decLt 16 i) start x y
+  first-terms = both-first (λ n i r. mostTerms < i) (λ n i r. decLt 16 i) start x y
 
-  pub first-limits : firstIn limits (two x y) ≡ either (firstBad 16 limits x) (Option·map (λ k. start + k) (firstBad 16 limits y))
+  pub first-limits : firstIn limits (two x y) ≡ either (firstBad mostTerms limits x) (Option·map (λ k. start + k) (firstBad mostTerms limits y))
   first-limits = both-first (λ n i r. Over r) (λ n i r. over? r) start x y
 
-  pub first-linear : firstIn linear (two x y) ≡ firstBad 16 linear x
+  pub first-linear : firstIn linear (two x y) ≡ firstBad mostTerms linear x
   first-linear = refl
 
   pub first-unknown : firstIn unknown (two x y) ≡ Option·map (λ k. start + k) (lackingAt (fieldsOf x) y)
@@ -171,11 +171,11 @@ not-longer n m h = go (decLt n m)
     go (no k) = refl
 
 abbrev side : List (List Raw) → Outcome
-side z = chain (λ r. firstBad 16 r z) (fields ∷ terms ∷ limits ∷ linear ∷ []) (fieldsOf z)
+side z = chain (λ r. firstBad mostTerms r z) (fields ∷ terms ∷ limits ∷ linear ∷ []) (fieldsOf z)
 
-side-chain : (a : List ℕ) (x : List (List Raw)) → Says a x → length a ≤ 4096 → readSide a ≡ side x
+side-chain : (a : List ℕ) (x : List (List Raw)) → Says a x → length a ≤ mostRuleBytes → readSide a ≡ side x
 side-chain a x h l =
-    ap (λ (o : Option ℕ). tell long o (tell grammar (place2 a) (side (said a)))) (not-longer 4096 (length a) l)
+    ap (λ (o : Option ℕ). tell long o (tell grammar (place2 a) (side (said a)))) (not-longer mostRuleBytes (length a) l)
     ∙ ap (λ (o : Option ℕ). tell grammar o (side (said a))) (place2-none a .0 (x, h))
     ∙ ap side (said-is a x h)
 
@@ -184,12 +184,12 @@ later s = chain (λ r. firstIn r s) (fields ∷ terms ∷ limits ∷ linear ∷ 
 
 -- what both sides say of a reason
 abbrev bothAt : List (List Raw) → List (List Raw) → Reason → Option ℕ
-bothAt x y r = either (firstBad 16 r x) (Option·map (λ k. length (spellT x) + 2 + k) (firstBad 16 r y))
+bothAt x y r = either (firstBad mostTerms r x) (Option·map (λ k. length (spellT x) + 2 + k) (firstBad mostTerms r y))
 
 later-both : (x y : List (List Raw)) → later (two x y)
     ≡ tell fields (bothAt x y fields)
     (tell terms (bothAt x y terms)
-    (tell limits (bothAt x y limits) (tell linear (firstBad 16 linear x) (known (length (spellT x) + 2) x y))))
+    (tell limits (bothAt x y limits) (tell linear (firstBad mostTerms linear x) (known (length (spellT x) + 2) x y))))
 later-both x y =
     ap₂ (λ (p q : Option ℕ). five p q (firstIn limits (two x y)) (firstIn unknown (two x y))) (first-fields x y) (first-terms x y)
     ∙ ap₂ (five (bothAt x y fields) (bothAt x y terms)) (first-limits x y) (first-unknown x y)
@@ -198,13 +198,14 @@ later-both x y =
     five f3 f4 f5 f10 =
         tell fields f3
         (tell terms f4
-        (tell limits f5 (tell linear (firstBad 16 linear x) (tell unknown f10 (accepted (fieldsOf x, fieldsOf y))))))
+        (tell limits f5 (tell linear (firstBad mostTerms linear x) (tell unknown f10 (accepted (fieldsOf x, fieldsOf y))))))
 
-judge-sides : (x y : List (List Raw)) (a u : List ℕ) → Says a x → Says u y → length a ≤ 4096 → length u ≤ 4096 → later (two x y) ≡ judgeTwo a u
+judge-sides : (x y : List (List Raw)) (a u : List ℕ) → Says a x → Says u y → length a ≤ mostRuleBytes → length u ≤ mostRuleBytes
+    → later (two x y) ≡ judgeTwo a u
 judge-sides x y a u h k l m =
     later-both x y
-    ∙ two-chain (length (spellT x) + 2) (firstBad 16 fields x) (firstBad 16 terms x) (firstBad 16 limits x) (firstBad 16 linear x)
-    (firstBad 16 fields y) (firstBad 16 terms y) (firstBad 16 limits y) (firstBad 16 linear y)
+    ∙ two-chain (length (spellT x) + 2) (firstBad mostTerms fields x) (firstBad mostTerms terms x) (firstBad mostTerms limits x) (firstBad mostTerms linear x)
+    (firstBad mostTerms fields y) (firstBad mostTerms terms y) (firstBad mostTerms limits y) (firstBad mostTerms linear y)
     (known (length (spellT x) + 2) x y) (fieldsOf x) (fieldsOf y)
     ∙ ap (λ (n : ℕ). judged n (side x) (side y) x y) (ap (λ (t : List ℕ). length t) (sym (h .1)))
     ∙ ap₂ (λ (p q : Outcome). judged (length a) p q x y) (sym (side-chain a x h l)) (sym (side-chain u y k m))
@@ -216,12 +217,12 @@ judge-sides x y a u h k l m =
 -- ---- JUDGING IS READING
 
 pub judge-is : (t : List ℕ) → readRule t ≡ judge t
-judge-is t = on (decLt 4096 (length t))
+judge-is t = on (decLt mostRuleBytes (length t))
   where
-    short : (s : Sides) → SaysRule t s → length t ≤ 4096 → placeRule t ≡ none → later (saidRule t) ≡ judgeParts t (cut t)
+    short : (s : Sides) → SaysRule t s → length t ≤ mostRuleBytes → placeRule t ≡ none → later (saidRule t) ≡ judgeParts t (cut t)
     short (one x) h l e =
         ap (λ (o : Option ℕ). tell grammar o (later (saidRule t))) (sym e)
-        ∙ ap (λ (o : Option ℕ). tell long o (tell grammar (placeRule t) (later (saidRule t)))) (sym (not-longer 4096 (length t) l))
+        ∙ ap (λ (o : Option ℕ). tell long o (tell grammar (placeRule t) (later (saidRule t)))) (sym (not-longer mostRuleBytes (length t) l))
         ∙ read-before t (grammar-no-equal t (x, h))
         ∙ ap (judgeParts t) (sym (cut-one t (x, h)))
     short (two x y) h l e =
@@ -231,19 +232,19 @@ judge-is t = on (decLt 4096 (length t))
         ∙ judge-sides x y (spellT x) (spellT y) (h .0 .0, refl) (h .0 .1, refl) (omega arith) (omega arith)
         ∙ ap (judgeParts t) (sym (cut-iff t (spellT x) (spellT y) .1 ((x, (h .0 .0, refl)), h .1)))
 
-    at : (o : Option ℕ) → placeRule t ≡ o → length t ≤ 4096 → tell grammar o (later (saidRule t)) ≡ tell grammar o (judgeParts t (cut t))
+    at : (o : Option ℕ) → placeRule t ≡ o → length t ≤ mostRuleBytes → tell grammar o (later (saidRule t)) ≡ tell grammar o (judgeParts t (cut t))
     at (some p) e l = refl
     at none e l = let g = place-rule-none t .1 e in short (g .0) (g .1) l e
 
-    on : (d : Dec (4096 < length t))
-        → tell long (ite d (some 4096) none) (tell grammar (placeRule t) (later (saidRule t)))
-        ≡ tell long (ite d (some 4096) none) (tell grammar (placeRule t) (judgeParts t (cut t)))
+    on : (d : Dec (mostRuleBytes < length t))
+        → tell long (ite d (some mostRuleBytes) none) (tell grammar (placeRule t) (later (saidRule t)))
+        ≡ tell long (ite d (some mostRuleBytes) none) (tell grammar (placeRule t) (judgeParts t (cut t)))
     on (yes h) = refl
     on (no h) = at (placeRule t) refl (omega arith)
 
 -- ---- WHERE 1 AND 2 DO NOT APPLY: without a cut the text is one side, with one each side is read by itself
 
-module _ (t : List ℕ) (short : longer 4096 (length t) ≡ none) (parses : placeRule t ≡ none) where
+module _ (t : List ℕ) (short : longer mostRuleBytes (length t) ≡ none) (parses : placeRule t ≡ none) where
   judge-past : readRule t ≡ judgeParts t (cut t)
   judge-past = judge-is t ∙ ap₂ (λ (o p : Option ℕ). tell long o (tell grammar p (judgeParts t (cut t)))) short parses
 

@@ -7,6 +7,7 @@ use Prim.Native.Nat.{ℕ, suc, _+_, _≤_, _<_}
 use native.Mathlib.Omega.{arith}
 use native.Mathlib.Decide.{decLt}
 use lib.ListN.{length, length-append}
+use Rattle.base_limits.specs.Limits.{mostTerms, mostRuleBytes}
 use Rattle.base_lists.specs.Seqs.{All, all-append, all-map}
 use Rattle.math_types.specs.Types.{Kind}
 use Rattle.text_grammar.specs.Bytes.{letter}
@@ -132,18 +133,18 @@ reason-in t [] o p h = absurd h
 reason-in t (v ∷ os) o p (inl h) = place-in t v p (h .1)
 reason-in t (v ∷ os) o p (inr h) = reason-in t os o p (h .1)
 
-pub rule-place : (t : List ℕ) (o : Reason) (p : ℕ) → readRule t ≡ refused o p → (p ≤ length t) × (p ≤ 4096)
+pub rule-place : (t : List ℕ) (o : Reason) (p : ℕ) → readRule t ≡ refused o p → (p ≤ length t) × (p ≤ mostRuleBytes)
 rule-place t o p e =
     let h = read-first t o p .0 e in
     let l = reason-in t order o p h in
     (l, go h l)
   where
-    go : FirstReason (RefusesRule t) order o p → p ≤ length t → p ≤ 4096
+    go : FirstReason (RefusesRule t) order o p → p ≤ length t → p ≤ mostRuleBytes
     go (inl h) l = omega (arith, h .1 .1)
-    go (inr h) l = short (decLt 4096 (length t))
+    go (inr h) l = short (decLt mostRuleBytes (length t))
       where
-        short : Dec (4096 < length t) → p ≤ 4096
-        short (yes k) = absurd (h .0 4096 (k, refl))
+        short : Dec (mostRuleBytes < length t) → p ≤ mostRuleBytes
+        short (yes k) = absurd (h .0 mostRuleBytes (k, refl))
         short (no k) = omega arith
 
 -- ---- the first of two lists is in the first of them, or there is none there and it is in the second
@@ -200,23 +201,23 @@ module _ (s : Sides) (ok : SidesOk s) (m : Token) where
       on (inl g) = side [] (leftTokens s) (steps-left s ok) g
       on (inr g) = side (leftTokens s) (rightTokens s) (steps-right s ok) g
 
-  pub first-past : FirstOf (λ b k. TooMany 16 k) [] (allTokens s) m → m .index ≡ 17
+  pub first-past : FirstOf (λ b k. TooMany mostTerms k) [] (allTokens s) m → m .index ≡ suc mostTerms
   first-past f = on (first-append P (leftTokens s) (rightTokens s) [] m f)
     where
       P : List Token → Token → Type 0
-      P b k = TooMany 16 k
+      P b k = TooMany mostTerms k
 
-      side : (before ms : List Token) → Steps 0 0 ms → FirstOf P before ms m → m .index ≡ 17
+      side : (before ms : List Token) → Steps 0 0 ms → FirstOf P before ms m → m .index ≡ suc mostTerms
       side before ms k g = past 16 (g .0) (g .1) before 0 0 m (omega arith) (subst (Steps 0 0) (g .2) k) (g .4) (g .3)
 
-      on : FirstOf P [] (leftTokens s) m ⊎ FirstOf P (leftTokens s) (rightTokens s) m → m .index ≡ 17
+      on : FirstOf P [] (leftTokens s) m ⊎ FirstOf P (leftTokens s) (rightTokens s) m → m .index ≡ suc mostTerms
       on (inl g) = side [] (leftTokens s) (steps-left s ok) g
       on (inr g) = side (leftTokens s) (rightTokens s) (steps-right s ok) g
 
 pub fifth-field : (t : List ℕ) (p : ℕ) → FirstIn fields t p → (m : Token) × (p ≡ m .place) × (m .inField ≡ 5) × (m .index ≡ 1)
 fifth-field t p f = let r = first-fifth (f .0) (f .1 .0) (f .2 .0) (f .2 .1) in (f .2 .0, f .2 .2, r .0, r .1)
 
-pub term-past : (t : List ℕ) (p : ℕ) → FirstIn terms t p → (m : Token) × (p ≡ m .place) × (m .index ≡ 17)
+pub term-past : (t : List ℕ) (p : ℕ) → FirstIn terms t p → (m : Token) × (p ≡ m .place) × (m .index ≡ suc mostTerms)
 term-past t p f = (f .2 .0, f .2 .2, first-past (f .0) (f .1 .0) (f .2 .0) (f .2 .1))
 
 -- ---- 10 IS A RIGHT SIDE'S VARIABLE that the left lacks, by letter and number, at its first byte

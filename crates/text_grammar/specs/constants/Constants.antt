@@ -6,7 +6,7 @@ use Prim.Native.Nat.{ℕ}
 use native.Mathlib.Omega.{arith}
 use native.Mathlib.Decide.{ℕ-discrete}
 use Rattle.base_lists.specs.Equality.{list-eq}
-use Rattle.math_types.specs.Types.{Basic, integer, string, atom, basics}
+use Rattle.math_types.specs.Types.{leaf, Basic, integer, string, atom, basics}
 use Rattle.math_terms.specs.Constants.{Consts}
 use Rattle.text_grammar.specs.Terms.{Con, int, str}
 
@@ -42,18 +42,18 @@ con-eq (str s) (str t) = str-eq (list-eq ℕ-discrete s t)
 -- ---- kinds
 
 abbrev pub kind-of : Con → Basic
-kind-of (int n) = integer
-kind-of (str s) = string
+kind-of (int n) = leaf integer
+kind-of (str s) = leaf string
 
 -- a constant of each kind: `0`, `""`, `0`
 abbrev pub some-of : Basic → Con
-some-of integer = int 0
-some-of string = str []
+some-of (leaf integer) = int 0
+some-of (leaf string) = str []
 some-of atom = int 0
 
 pub some-of-le : (k : Basic) → basics .le (kind-of (some-of k)) k ≡ true
-some-of-le integer = refl
-some-of-le string = refl
+some-of-le (leaf integer) = refl
+some-of-le (leaf string) = refl
 some-of-le atom = refl
 
 abbrev pub consts : Consts basics

@@ -1,9 +1,9 @@
 -- Which rules are within document 02's limits. `rule-iff` of proofs/ says that reading returns exactly these.
 use Prim.Native.Nat.{ℕ, _≤_}
 use lib.ListN.{length}
+use Rattle.base_limits.specs.Limits.{mostFields}
 use Rattle.base_lists.specs.Seqs.{All}
 use Rattle.math_types.specs.Types.{Kind}
-use Rattle.text_grammar.specs.Sizes.{mostFields}
 use Rattle.text_grammar.specs.Limits.{TermIn, IsLeft}
 use Rattle.text_grammar.specs.Read.{rule, OurFields}
 use Rattle.text_grammar.specs.rules.Tokens.{Has}

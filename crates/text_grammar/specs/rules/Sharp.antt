@@ -3,7 +3,8 @@
 use mathlib.Core.Path.{_≡_}
 use mathlib.Core.Logic.{_⊎_}
 use mathlib.Core.List.{List, [], _∷_, _++_}
-use Prim.Native.Nat.{ℕ, _≤_, _<_}
+use Prim.Native.Nat.{ℕ, suc, _≤_, _<_}
+use Rattle.base_limits.specs.Limits.{mostFields, mostTerms}
 use Rattle.math_types.specs.Types.{Kind}
 use Rattle.text_grammar.specs.Grammar.{raw-var}
 use Rattle.text_grammar.specs.Numbers.{value}
@@ -26,9 +27,9 @@ abbrev pub StatedIn : Reason → Sides → List Token → Token → Type 0
 StatedIn long s b m = ⊥
 StatedIn grammar s b m = ⊥
 -- 3: "a fifth field, at its first byte": term 1 of field 5 of its side
-StatedIn fields s b m = (m .inField ≡ 5) × (m .index ≡ 1)
+StatedIn fields s b m = (m .inField ≡ suc mostFields) × (m .index ≡ 1)
 -- 4: "a seventeenth term in a field"
-StatedIn terms s b m = m .index ≡ 17
+StatedIn terms s b m = m .index ≡ suc mostTerms
 -- 5: "a value, digit count, variable number or string length over its limit"
 StatedIn limits s b m = Over (m .raw)
 -- 6: "a list variable that occurs earlier in the rule, or that follows another in its field"

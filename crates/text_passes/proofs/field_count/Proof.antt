@@ -5,6 +5,7 @@ use Prim.Native.Nat.{_-_, _≤_}
 use native.Mathlib.Omega.{arith}
 use borrow.Author.Needs.{needs}
 use lib.ListN.{length}
+use Rattle.base_limits.specs.Limits.{mostSlipBytes}
 use Rattle.text_grammar.specs.Walk.{walked}
 use Rattle.text_refusals.specs.declared.At.{At}
 use Rattle.text_passes.specs.Fields.{lastField}
@@ -14,7 +15,7 @@ use Rattle.text_passes.proofs.field_count.Statement.{statement}
 use Rattle.text_passes.proofs.field_count.Tie as tie
 
 abbrev Inv-loop : tie.InvT-loop
-Inv-loop text n₀ a₀ n a = (length text ≤ 8192) × Walked lastField text 0 a n
+Inv-loop text n₀ a₀ n a = (length text ≤ mostSlipBytes) × Walked lastField text 0 a n
 
 abbrev μ-loop : tie.MeasureT-loop
 μ-loop text n₀ a₀ n a = length text - a .place

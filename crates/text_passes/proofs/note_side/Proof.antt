@@ -4,6 +4,7 @@ use mathlib.Core.List.{List, foldl}
 use Prim.Native.Nat.{ℕ, _-_, _≤_}
 use native.Mathlib.Omega.{arith}
 use lib.ListN.{length}
+use Rattle.base_limits.specs.Limits.{mostSlipBytes}
 use Rattle.text_grammar.specs.Walk.{walked}
 use Rattle.text_scan.specs.declared.Lexeme.{Lexeme}
 use Rattle.text_refusals.specs.declared.At.{At}
@@ -21,7 +22,7 @@ Rows = List ℕ × List ℕ
 
 abbrev Inv-loop : tie.InvT-loop
 Inv-loop text right row₀ texts₀ n₀ a₀ row texts n a =
-    (length text ≤ 8192)
+    (length text ≤ mostSlipBytes)
     × (length row ≡ length row₀)
     × (length texts ≡ length texts₀)
     × Walked lastField text 0 a n

@@ -31,6 +31,7 @@ use denote.Triple.Spec.{tripleOf}
 use denote.Triple.Table.{entered, cited}
 use denote.Triple.Walked.{says, needs, Stays, stay-none, walkOf, goes-none, ends-at, walked, walk-meets}
 use denote.Exit.{yes}
+use Rattle.base_limits.specs.Limits.{mostSlipBytes}
 use Rattle.text_scan.specs.declared.Lexeme.{Lexeme}
 use Rattle.text_scan.proofs.Lexeme as O
 use Rattle.text_scan.proofs.Lexeme.Laws as O′
@@ -84,7 +85,7 @@ module _ {M : Type 1} (𝓤 : URA M) (H : Heap 𝓤) (A : Atoms 𝓤) (W : Given
         fjoin ! $ move ! (1 ∷ 0 ∷ []) $ fjoin ! $ frame ! $ by ! (held 𝓤 H A W κ (r .text) a ga)
 
     -- what it asks
-    gives : (r .at .place ≤ 8192) × (r .at .field ≤ r .at .place + 1) × (r .at .index ≤ r .at .place + 1) × (p .size ≤ 8192)
+    gives : (r .at .place ≤ mostSlipBytes) × (r .at .field ≤ r .at .place + 1) × (r .at .index ≤ r .at .place + 1) × (p .size ≤ mostSlipBytes)
         → ent 𝓤 (⋆ 𝓤 H A (‵ (Text κ (r .text)) ∷ LifeToken 𝓤 κ q ∷ [])) (Met 𝓤 H A behind′.ended (behind′.clauses 𝓤 H A mem run) .pre to)
     gives low =
         qed W (‵ (Text κ (r .text)) ∷ LifeToken 𝓤 κ q ∷ []) ∵ says ! low $ nothing ! $
@@ -97,7 +98,7 @@ module _ {M : Type 1} (𝓤 : URA M) (H : Heap 𝓤) (A : Atoms 𝓤) (W : Given
     L k = pos 2 7 k
 
     walk : Holds (hasTy (R′.mir (named 0)) (mach r)) × WT (mach r)
-        → (r .at .place ≤ 8192) × (r .at .field ≤ r .at .place + 1) × (r .at .index ≤ r .at .place + 1) × (p .size ≤ 8192)
+        → (r .at .place ≤ mostSlipBytes) × (r .at .field ≤ r .at .place + 1) × (r .at .index ≤ r .at .place + 1) × (p .size ≤ mostSlipBytes)
         → (𝓣 : Tables 𝓤 H) → Triple 𝓤 (𝓣 .C #text-passes·behind) (Met 𝓤 H A behind′.ended (behind′.clauses 𝓤 H A mem run))
         → ent 𝓤 (onEntry 𝓤 H A passed′.signature (κ, tt) (q, tt) (r, (p, tt)) (mach r ∷ [], (mach-lexeme p ∷ [], tt)))
         (WpFn 𝓤 H (𝓣 .C) (𝓣 .Λ) code.function (mach r ∷ mach-lexeme p ∷ []) Post)

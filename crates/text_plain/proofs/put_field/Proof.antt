@@ -4,6 +4,7 @@ use Prim.Native.Nat.{_-_}
 use native.Mathlib.Omega.{arith}
 use lib.ListN.{length}
 use borrow.Author.Needs.{needs}
+use Rattle.base_limits.specs.Limits.{mostTerms}
 use Rattle.base_lists.specs.Seqs.{long-mapped}
 use Rattle.text_write.proofs.Rows.{terms}
 use Rattle.text_write.proofs.pieces.Pieces.{placed-as}
@@ -18,7 +19,7 @@ abbrev μ-loop : tie.MeasureT-loop
 μ-loop out₀ at f n p₀ i₀ t out p i = n - i
 
 -- the array has its length
-long : (c : tie.Start Inv-loop μ-loop) → length (c .args .t1 .terms) ≡ 16
+long : (c : tie.Start Inv-loop μ-loop) → length (c .args .t1 .terms) ≡ mostTerms
 long c = search long-mapped
 
 at-most-requires : tie.Need-at-most-requires Inv-loop μ-loop

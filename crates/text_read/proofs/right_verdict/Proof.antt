@@ -1,6 +1,7 @@
 -- `text_read::right_verdict` meets its contract.
 use mathlib.Core.Path.{subst}
 use Prim.Native.Nat.{_≤_}
+use Rattle.base_limits.specs.Limits.{mostSlipBytes}
 use Rattle.text_read.specs.Sides.{PlacedIn}
 use Rattle.text_read.proofs.Rules.{right-six, right-other}
 use borrow.Author.Needs.{needs}
@@ -26,7 +27,7 @@ add-t8 : tie.Need-add-t8
 add-t8 c =
     let n = c .before in
     let r = n .before .before in
-    let h : r .v .given .0 .1 .0 ≤ 8192 = subst (PlacedIn 8192) (r .v .given .1) (r .before .before .pre .1) in
+    let h : r .v .given .0 .1 .0 ≤ mostSlipBytes = subst (PlacedIn mostSlipBytes) (r .v .given .1) (r .before .before .pre .1) in
     search needs
 
 returns-2 : tie.Need-returns-2

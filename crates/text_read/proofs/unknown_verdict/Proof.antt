@@ -1,6 +1,7 @@
 -- `text_read::unknown_verdict` meets its contract.
 use mathlib.Core.Path.{subst}
 use Prim.Native.Nat.{_≤_}
+use Rattle.base_limits.specs.Limits.{mostSlipBytes}
 use Rattle.text_read.specs.Sides.{FoundIn}
 use borrow.Author.Needs.{needs}
 use Rattle.text_read.proofs.unknown_verdict.Statement.{statement}
@@ -12,7 +13,7 @@ enum-known-f c = search needs
 add-t6 : tie.Need-add-t6
 add-t6 c =
     let r = c .before .before .before in
-    let h : c .before .f .given .0 .0 ≤ 8192 = subst (FoundIn 8192) (c .before .f .given .1) (r .pre .1) in
+    let h : c .before .f .given .0 .0 ≤ mostSlipBytes = subst (FoundIn mostSlipBytes) (c .before .f .given .1) (r .pre .1) in
     search needs
 
 enum-told : tie.Need-enum-told

@@ -2,7 +2,7 @@
 use mathlib.Core.Path.{sym, _∙_}
 use borrow.Author.Needs.{needs}
 use Rattle.math_types.specs.Order.{basic, list}
-use Rattle.math_types.specs.Types.{integer, string, atom}
+use Rattle.math_types.specs.Types.{leaf, integer, string, atom}
 use Rattle.text_scan.proofs.Bytes.{starts-int, starts-str, starts-var, starts-empty}
 use Rattle.text_scan.proofs.begun_by.Statement.{statement}
 use Rattle.text_scan.proofs.begun_by.Tie as tie
@@ -17,10 +17,10 @@ returns-2 : tie.Need-returns-2
 returns-2 c = starts-str (c .before .before .before .args .b) (c .match .keys1)
 
 returns-3 : tie.Need-returns-3
-returns-3 c = starts-var (c .before .before .before .args .b) (basic integer) (c .match .keys2)
+returns-3 c = starts-var (c .before .before .before .args .b) (basic (leaf integer)) (c .match .keys2)
 
 returns-4 : tie.Need-returns-4
-returns-4 c = starts-var (c .before .before .before .args .b) (basic string) (c .match .keys3)
+returns-4 c = starts-var (c .before .before .before .args .b) (basic (leaf string)) (c .match .keys3)
 
 returns-5 : tie.Need-returns-5
 returns-5 c = starts-var (c .before .before .before .args .b) (basic atom) (c .match .keys4)

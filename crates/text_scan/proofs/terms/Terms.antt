@@ -7,9 +7,9 @@ use native.Mathlib.Omega.{arith}
 use native.Mathlib.Decide.{ℕ-discrete}
 use lib.ListN.{length, getD, take, drop, replicate, drop-of-length-le}
 use lib.Seq.{drop-cons, take-all}
+use Rattle.base_limits.specs.Limits.{longestString}
 use Rattle.math_types.specs.declared.Kind.{Kind}
 use Rattle.math_types.specs.Values.{kindFrom}
-use Rattle.text_grammar.specs.Sizes.{longestString}
 use Rattle.text_grammar.specs.Bytes.{Begins, b-digit, b-quote, b-letter, b-e, b-none, begins}
 use Rattle.text_grammar.specs.Grammar.{Raw, raw-int, raw-str, raw-var, raw-empty}
 use Rattle.text_grammar.specs.Walk.{leadingDigits, quote1, untilQuote, frontB, front}

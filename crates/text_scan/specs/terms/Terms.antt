@@ -1,8 +1,8 @@
 -- A written term as a value.
 use Prim.Native.Nat.{_%_, min}
 use lib.ListN.{length, take, replicate}
+use Rattle.base_limits.specs.Limits.{longestString}
 use Rattle.math_types.specs.Values.{kindFrom}
-use Rattle.text_grammar.specs.Sizes.{longestString}
 use Rattle.text_grammar.specs.Grammar.{Raw, raw-int, raw-str, raw-var, raw-empty}
 use Rattle.text_grammar.specs.Numbers.{value}
 use Rattle.text_values.specs.declared.Form.the-variants.{Int, Str, Var}

@@ -8,10 +8,10 @@ use native.Mathlib.Omega.{arith}
 use borrow.Author.Tests.{leb-true, le-leb, eqb-true, eq-eqb}
 use lib.Dec.{eqb, leb}
 use lib.ListN.{length, take, replicate}
+use Rattle.base_limits.specs.Limits.{largestInteger, longestString, largestNumber}
 use Rattle.base_lists.specs.Seqs.{All}
 use Rattle.math_types.specs.Values.{kindOf-from, kind-from-of}
 use Rattle.math_terms.specs.Terms.{con, var}
-use Rattle.text_grammar.specs.Sizes.{largestInteger, longestString, largestNumber}
 use Rattle.text_grammar.specs.Bytes.{Inside}
 use Rattle.text_grammar.specs.Terms.{OurTerm, int, str}
 use Rattle.text_grammar.specs.Limits.{TermIn, IsCon}

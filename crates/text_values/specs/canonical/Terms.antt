@@ -4,7 +4,7 @@ use mathlib.Core.Bool.{Bool, true, false, _&&_, not}
 use mathlib.Core.List.{List}
 use Prim.Native.Nat.{ℕ}
 use lib.Dec.{eqb, leb}
-use Rattle.text_grammar.specs.Sizes.{largestInteger, longestString, largestNumber}
+use Rattle.base_limits.specs.Limits.{largestInteger, longestString, largestNumber}
 use Rattle.text_values.specs.declared.Form.{Form}
 use Rattle.text_values.specs.declared.Form.the-variants.{Int, Str, Var}
 use Rattle.text_values.specs.declared.Term.{Term}

@@ -4,13 +4,14 @@ use mathlib.Core.Path.{_≡_}
 use Prim.Native.Nat.{_+_, _≤_}
 use native.Mathlib.Omega.{arith}
 use lib.ListN.{length}
+use Rattle.text_write.specs.Sizes.{longestNumber}
 use Rattle.text_grammar.specs.Numbers.{digitsOf}
 use Rattle.text_write.proofs.Digits.{digits-some, digits-64, one-digit, one-more}
 use Rattle.text_write.proofs.digits_size.Statement.{statement}
 use Rattle.text_write.proofs.digits_size.Tie as tie
 
 abbrev Inv-loop : tie.InvT-loop
-Inv-loop n size₀ m₀ size m = (size + length (digitsOf m) ≡ length (digitsOf n) + 1) × (length (digitsOf n) ≤ 20)
+Inv-loop n size₀ m₀ size m = (size + length (digitsOf m) ≡ length (digitsOf n) + 1) × (length (digitsOf n) ≤ longestNumber)
 
 abbrev μ-loop : tie.MeasureT-loop
 μ-loop n size₀ m₀ size m = m

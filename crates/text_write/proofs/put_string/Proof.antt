@@ -4,12 +4,13 @@ use Prim.Native.Nat.{_<_}
 use native.Mathlib.Omega.{arith}
 use lib.ListN.{length, length-set, length-take}
 use borrow.Author.Needs.{needs}
+use Rattle.base_limits.specs.Limits.{longestString}
 use Rattle.text_write.proofs.Terms.{quoted-length, put-quoted}
 use Rattle.text_write.proofs.put_string.Statement.{statement}
 use Rattle.text_write.proofs.put_string.Tie as tie
 
 -- the array has its length
-long : (c : tie.Start) → length (c .args .t1) ≡ 15
+long : (c : tie.Start) → length (c .args .t1) ≡ longestString
 long c = search needs
 
 -- the last quote has room

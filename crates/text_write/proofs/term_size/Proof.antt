@@ -3,6 +3,7 @@ use mathlib.Core.Path.{_≡_, ap}
 use native.Mathlib.Omega.{arith}
 use lib.ListN.{length}
 use borrow.Author.Needs.{needs}
+use Rattle.base_limits.specs.Limits.{longestString}
 use Rattle.text_write.proofs.Digits.{digits-32}
 use Rattle.text_write.proofs.Terms.{int-text, str-text, var-text, quoted-length}
 use Rattle.text_write.proofs.term_size.Statement.{statement}
@@ -51,7 +52,7 @@ returns c =
 returns-2 : tie.Need-returns-2
 returns-2 c =
     let z = c .before .before .before .before .args .t in
-    let h : length (z .text) ≡ 15 = search needs in
+    let h : length (z .text) ≡ longestString = search needs in
     let e = str-text (z .form) (z .text) _ (c .before .before .form2 .given .1) in
     (omega (arith, ap length e, quoted-length (c .before .before .form2 .given .0 .0) (z .text) h), omega arith)
 

@@ -4,6 +4,7 @@ use mathlib.Core.List.{foldl}
 use Prim.Native.Nat.{_-_, min}
 use native.Mathlib.Omega.{arith}
 use borrow.Author.Needs.{needs}
+use Rattle.base_limits.specs.Limits.{mostTerms}
 use Rattle.base_lists.specs.Seqs.{long-mapped}
 use Rattle.text_values.specs.declared.SlipField.{SlipField}
 use Rattle.apply_rules.specs.filling.Filled.{filledTerm, filledField}
@@ -13,7 +14,7 @@ use Rattle.apply_rules.proofs.filling.fill_field.Statement.{statement}
 use Rattle.apply_rules.proofs.filling.fill_field.Tie as tie
 
 abbrev Inv-loop : tie.InvT-loop
-Inv-loop x s f n y₀ i₀ y i = (n ≡ min (f .n) 16) × Pushing (collected (filledField x s f)) (filledTerm x s) (f .n) (f .terms) i y
+Inv-loop x s f n y₀ i₀ y i = (n ≡ min (f .n) mostTerms) × Pushing (collected (filledField x s f)) (filledTerm x s) (f .n) (f .terms) i y
 
 abbrev μ-loop : tie.MeasureT-loop
 μ-loop x s f n y₀ i₀ y i = n - i

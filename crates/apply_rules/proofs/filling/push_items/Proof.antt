@@ -4,6 +4,7 @@ use mathlib.Core.List.{foldl}
 use Prim.Native.Nat.{_-_, min}
 use native.Mathlib.Omega.{arith}
 use borrow.Author.Needs.{needs}
+use Rattle.base_limits.specs.Limits.{mostItems}
 use Rattle.base_lists.specs.Seqs.{long-mapped}
 use Rattle.apply_rules.specs.filling.Filled.{someItems}
 use Rattle.apply_rules.specs.filling.Pushes.{pushed}
@@ -12,7 +13,7 @@ use Rattle.apply_rules.proofs.filling.push_items.Statement.{statement}
 use Rattle.apply_rules.proofs.filling.push_items.Tie as tie
 
 abbrev Inv-loop : tie.InvT-loop
-Inv-loop start count f n y₀ i₀ left₀ y i left = (n ≡ min (f .n) 64) × Copying (foldl pushed y₀ (someItems f start count)) f i left y
+Inv-loop start count f n y₀ i₀ left₀ y i left = (n ≡ min (f .n) mostItems) × Copying (foldl pushed y₀ (someItems f start count)) f i left y
 
 abbrev μ-loop : tie.MeasureT-loop
 μ-loop start count f n y₀ i₀ left₀ y i left = n - i

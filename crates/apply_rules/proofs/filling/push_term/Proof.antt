@@ -25,8 +25,8 @@ push-requires-2 c κs = search needs
 enum-known-form : tie.Need-enum-known-form
 enum-known-form c = search needs
 
-same-kind-requires : tie.Need-same-kind-requires
-same-kind-requires c κs = search needs
+is-list-requires : tie.Need-is-list-requires
+is-list-requires c κs = search needs
 
 run-of-requires : tie.Need-run-of-requires
 run-of-requires c κs = search needs
@@ -38,7 +38,7 @@ returns : tie.Need-returns
 returns c =
     let z = c .before .before .before .before .before .before .before .args in
     let f = c .before .before .before .before .before .form in
-    let b = c .before .before .before .same-kind in
+    let b = c .before .before .before .is-list in
     c .push-run .ensures
     ∙ ap (λ (r : Run). foldl pushed (z .w) (runItems (z .s) r)) (c .before .run-of .ensures)
     ∙ ap (foldl pushed (z .w))
@@ -64,7 +64,7 @@ returns-4 : tie.Need-returns-4
 returns-4 c =
     let z = c .before .before .before .before .before .before .before .args in
     let f = c .before .before .before .before .before .form in
-    let b = c .before .before .before .same-kind in
+    let b = c .before .before .before .is-list in
     c .push3 .ensures
     ∙ ap (pushed (z .w)) (c .before .value-of .ensures)
     ∙ ap (foldl pushed (z .w))
@@ -79,7 +79,7 @@ push-term-spec =
     enum-told-2
     push-requires-2
     enum-known-form
-    same-kind-requires
+    is-list-requires
     run-of-requires
     push-run-requires
     returns

@@ -1,6 +1,7 @@
 -- `match_fields::bindings::run_of` meets its contract. Assumes nothing.
 use mathlib.Core.Path.{_≡_, sym}
 use native.Mathlib.Omega.{arith}
+use Rattle.base_limits.specs.Limits.{numbersOfSide}
 use Rattle.base_lists.specs.Seqs.{long-mapped}
 use lib.ListN.{length, List·getD-eq-default}
 use borrow.Author.Needs.{needs}
@@ -10,7 +11,7 @@ use Rattle.match_fields.proofs.bindings.run_of.Tie as tie
 
 returns : tie.Need-returns
 returns c =
-    let hr : length (c .before .args .t1 .runs) ≡ 16 = search long-mapped in
+    let hr : length (c .before .args .t1 .runs) ≡ numbersOfSide = search long-mapped in
     let h = c .if1 .taken in
     sym (List·getD-eq-default (c .before .args .t1 .runs) blankRun {n = c .before .args .n} (omega arith))
 

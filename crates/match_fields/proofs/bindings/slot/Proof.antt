@@ -1,6 +1,6 @@
 -- `match_fields::bindings::slot` meets its contract. Assumes nothing.
 use native.Mathlib.Omega.{arith}
-use Rattle.math_types.specs.Types.{rank-below}
+use Rattle.math_types.specs.Types.{rank-kinds}
 use Rattle.math_types.specs.Values.{kindOf}
 use borrow.Author.Needs.{needs}
 use Rattle.match_fields.proofs.bindings.slot.Statement.{statement}
@@ -10,10 +10,10 @@ rank-requires : tie.Need-rank-requires
 rank-requires c κs = search needs
 
 mul-result : tie.Need-mul-result
-mul-result c = let h = rank-below (kindOf (c .before .args .k)) in let e = c .rank .ensures in omega arith
+mul-result c = let h = rank-kinds (kindOf (c .before .args .k)) in let e = c .rank .ensures in omega arith
 
 add-result : tie.Need-add-result
-add-result c = let h = rank-below (kindOf (c .before .args .k)) in let e = c .rank .ensures in omega arith
+add-result c = let h = rank-kinds (kindOf (c .before .args .k)) in let e = c .rank .ensures in omega arith
 
 returns : tie.Need-returns
 returns c = search needs

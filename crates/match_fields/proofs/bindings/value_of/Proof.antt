@@ -2,6 +2,7 @@
 use mathlib.Core.Path.{_≡_, sym, _∙_, ap}
 use Prim.Native.Nat.{ℕ}
 use native.Mathlib.Omega.{arith}
+use Rattle.base_limits.specs.Limits.{atomPlaces}
 use Rattle.base_lists.specs.Seqs.{long-mapped}
 use lib.ListN.{length, getD, List·getD-eq-default}
 use Rattle.text_values.specs.Values.{blankTerm}
@@ -20,7 +21,7 @@ returns : tie.Need-returns
 returns c =
     let v = c .before .before .before .args .t1 in
     let s = c .before .before .slot in
-    let long : length (v .terms) ≡ 48 = search long-mapped in
+    let long : length (v .terms) ≡ atomPlaces = search long-mapped in
     let h = c .before .if1 .taken in
     c .blank-term .ensures
     ∙ sym (List·getD-eq-default (v .terms) _ {n = s .result} (omega arith))
@@ -36,7 +37,7 @@ returns-2 : tie.Need-returns-2
 returns-2 c =
     let v = c .before .before .before .args .t1 in
     let s = c .before .before .slot in
-    let long : length (v .terms) ≡ 48 = search long-mapped in
+    let long : length (v .terms) ≡ atomPlaces = search long-mapped in
     let h = c .before .if1 .left in
     entry-any (v .terms) (s .result) _ _ (omega arith) ∙ ap (λ (i : ℕ). getD (v .terms) i blankTerm) (s .ensures)
 

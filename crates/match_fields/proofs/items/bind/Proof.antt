@@ -1,6 +1,7 @@
 -- `match_fields::items::bind` meets its contract. Assumes nothing.
 use mathlib.Core.Path.{_≡_}
 use native.Mathlib.Omega.{arith}
+use Rattle.base_limits.specs.Limits.{atomPlaces}
 use Rattle.base_lists.specs.Seqs.{long-mapped}
 use lib.ListN.{length}
 use lib.Seq.{set-out}
@@ -9,8 +10,8 @@ use Rattle.match_fields.proofs.items.bind.Statement.{statement}
 use Rattle.match_fields.proofs.items.bind.Tie as tie
 
 returns : tie.Need-returns
-returns c = let hk : length (c .before .args .v .known) ≡ 48 = search needs in
-    let ht : length (c .before .args .v .terms) ≡ 48 = search long-mapped in
+returns c = let hk : length (c .before .args .v .known) ≡ atomPlaces = search needs in
+    let ht : length (c .before .args .v .terms) ≡ atomPlaces = search long-mapped in
     let h = c .if1 .taken in
     rw (set-out (c .before .args .v .known) (c .before .args .i) _ (omega arith), set-out (c .before .args .v .terms) (c .before .args .i) _ (omega arith))
 

@@ -3,12 +3,13 @@ use mathlib.Core.Path.{_≡_, sym}
 use native.Mathlib.Omega.{arith}
 use lib.ListN.{length, List·getD-eq-default}
 use borrow.Author.Needs.{needs}
+use Rattle.base_limits.specs.Limits.{atomPlaces}
 use Rattle.match_fields.proofs.items.is_known.Statement.{statement}
 use Rattle.match_fields.proofs.items.is_known.Tie as tie
 
 returns : tie.Need-returns
 returns c =
-    let hk : length (c .before .args .t1 .known) ≡ 48 = search needs in
+    let hk : length (c .before .args .t1 .known) ≡ atomPlaces = search needs in
     let h = c .if1 .taken in
     sym (List·getD-eq-default (c .before .args .t1 .known) _ {n = c .before .args .i} (omega arith))
 

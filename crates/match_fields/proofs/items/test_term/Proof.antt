@@ -4,7 +4,7 @@ use Rattle.text_values.specs.declared.Form.{Form}
 use Rattle.match_fields.specs.items.Tests.{testBy}
 use mathlib.Core.Path.{sym, _∙_, ap}
 use Rattle.math_types.specs.Values.{kindOf}
-use Rattle.match_fields.proofs.items.Tests.{list-kind, test-list, test-basic}
+use Rattle.match_fields.proofs.items.Tests.{test-list, test-basic}
 use borrow.Author.Needs.{needs}
 use Rattle.match_fields.proofs.items.test_term.Statement.{statement}
 use Rattle.match_fields.proofs.items.test_term.Tie as tie
@@ -24,15 +24,15 @@ same-term-requires-2 c κs = search needs
 enum-known-form : tie.Need-enum-known-form
 enum-known-form c = search needs
 
-same-kind-requires : tie.Need-same-kind-requires
-same-kind-requires c κs = search needs
+is-list-requires : tie.Need-is-list-requires
+is-list-requires c κs = search needs
 
 returns : tie.Need-returns
 returns c =
     let z = c .before .before .before .before .before .args in
     let x = c .before .before .before .form .given in
     rw (x .1)
-    (test-list (kindOf (x .0 .0)) (x .0 .1 .0) (z .item) (z .v) (sym (list-kind (kindOf (x .0 .0))) ∙ sym (c .before .same-kind .ensures) ∙ c .if1 .taken))
+    (test-list (kindOf (x .0 .0)) (x .0 .1 .0) (z .item) (z .v) (sym (c .before .is-list .ensures) ∙ c .if1 .taken))
 
 test-atom-requires : tie.Need-test-atom-requires
 test-atom-requires c κs = search needs
@@ -56,7 +56,7 @@ returns-4 c =
     rw (x .1)
     (c .test-atom .ensures
     ∙ test-basic (kindOf (x .0 .0)) (x .0 .1 .0) (z .item) (z .v)
-    (sym (list-kind (kindOf (x .0 .0))) ∙ sym (c .before .before .same-kind .ensures) ∙ c .before .if1 .left))
+    (sym (c .before .before .is-list .ensures) ∙ c .before .if1 .left))
 
 pub test-term-spec : {M : Type 1} → statement M
 test-term-spec =
@@ -67,7 +67,7 @@ test-term-spec =
     enum-told-2
     same-term-requires-2
     enum-known-form
-    same-kind-requires
+    is-list-requires
     returns
     test-atom-requires
     returns-2

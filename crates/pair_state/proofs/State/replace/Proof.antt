@@ -3,6 +3,7 @@ use mathlib.Core.Path.{refl}
 use mathlib.Core.Logic.{⊎-elim}
 use Prim.Native.Nat.{_-_}
 use borrow.Author.Needs.{needs}
+use Rattle.base_limits.specs.Limits.{pairPlaces}
 use Rattle.math_codes.specs.States.{swap}
 use Rattle.pair_state.proofs.Arrays.{Passed, passed-all}
 use Rattle.pair_state.proofs.Cases.{written-here, kept-here}
@@ -10,10 +11,10 @@ use Rattle.pair_state.proofs.State.replace.Statement.{statement}
 use Rattle.pair_state.proofs.State.replace.Tie as tie
 
 abbrev Inv-loop : tie.InvT-loop
-Inv-loop x w st₀ i₀ st i = Passed (swap x w) 128 (st₀ .atoms) i (st .atoms)
+Inv-loop x w st₀ i₀ st i = Passed (swap x w) pairPlaces (st₀ .atoms) i (st .atoms)
 
 abbrev μ-loop : tie.MeasureT-loop
-μ-loop x w st₀ i₀ st i = 128 - i
+μ-loop x w st₀ i₀ st i = pairPlaces - i
 
 loop-holds : tie.Need-loop-holds Inv-loop μ-loop
 loop-holds c = (search needs, refl)
@@ -44,7 +45,7 @@ returns : tie.Need-returns Inv-loop μ-loop
 returns c =
     let z = c .before .before .args in
     let l = c .before .loop in
-    passed-all (swap (z .x) (z .w)) 128 (z .self .atoms) (l .i) (l .st .atoms) (l .inv) (c .loop-test .left)
+    passed-all (swap (z .x) (z .w)) pairPlaces (z .self .atoms) (l .i) (l .st .atoms) (l .inv) (c .loop-test .left)
 
 pub replace-spec : {M : Type 1} → statement M
 replace-spec =

@@ -3,6 +3,7 @@ use mathlib.Core.Path.{_≡_}
 use Prim.Native.Nat.{_-_, _<_, _≤_, min}
 use native.Mathlib.Omega.{arith}
 use lib.ListN.{length, drop, take}
+use Rattle.base_limits.specs.Limits.{mostTerms}
 use Rattle.base_lists.specs.Seqs.{long-mapped}
 use Rattle.match_fields.proofs.Walks.{absent}
 use Rattle.text_accepted.proofs.variables.Loops.{here, no-more}
@@ -13,7 +14,7 @@ use Rattle.print_matches.proofs.answers.note_field.Tie as tie
 
 abbrev Inv-loop : tie.InvT-loop
 Inv-loop f terms w₀ i₀ w i =
-    (length (f .terms) ≡ 16) × Open isTerm (w₀ .has) (take (f .n) (f .terms)) (drop i (take (f .n) (f .terms))) (w .has)
+    (length (f .terms) ≡ mostTerms) × Open isTerm (w₀ .has) (take (f .n) (f .terms)) (drop i (take (f .n) (f .terms))) (w .has)
 
 abbrev μ-loop : tie.MeasureT-loop
 μ-loop f terms w₀ i₀ w i = terms - i
@@ -24,7 +25,7 @@ at-most-requires c κs = search needs
 loop-holds : tie.Need-loop-holds Inv-loop μ-loop
 loop-holds c =
     let z = c .before .args in
-    let long : length (z .t2 .terms) ≡ 16 = search long-mapped in
+    let long : length (z .t2 .terms) ≡ mostTerms = search long-mapped in
     (long, open-all isTerm (c .before .args .v .has) (take (z .t2 .n) (z .t2 .terms)))
 
 mul-note-term : tie.Need-mul-note-term Inv-loop μ-loop
@@ -47,10 +48,10 @@ loop-again c =
     let z = c .before .before .before .before .before .args in
     let L = c .before .before .before .loop in
     let m = c .before .before .before .before .at-most .ensures in
-    let h : L .i < min (z .t2 .n) 16 = omega (arith, m, c .before .before .loop-test .taken) in (
+    let h : L .i < min (z .t2 .n) mostTerms = omega (arith, m, c .before .before .loop-test .taken) in (
       L .inv .0,
       open-next isTerm (z .v .has) (take (z .t2 .n) (z .t2 .terms)) _ _ _ (L .w .has) (c .note-term .result .has)
-          (here (z .t2 .n) (z .t2 .terms) 16 (L .i) (L .inv .0) absent h) (L .inv .1) (c .note-term .ensures),
+          (here (z .t2 .n) (z .t2 .terms) mostTerms (L .i) (L .inv .0) absent h) (L .inv .1) (c .note-term .ensures),
     )
 
 returns : tie.Need-returns Inv-loop μ-loop
@@ -58,8 +59,9 @@ returns c =
     let z = c .before .before .before .args in
     let L = c .before .loop in
     let s = take (z .t2 .n) (z .t2 .terms) in
-    let h : min (z .t2 .n) 16 ≤ L .i = omega (arith, c .before .before .at-most .ensures, c .loop-test .left) in
-    field-noted (z .v .has) (L .w .has) s (open-none isTerm (z .v .has) s _ (L .w .has) (no-more (z .t2 .n) (z .t2 .terms) 16 (L .i) (L .inv .0) h) (L .inv .1))
+    let h : min (z .t2 .n) mostTerms ≤ L .i = omega (arith, c .before .before .at-most .ensures, c .loop-test .left) in
+    field-noted (z .v .has) (L .w .has) s
+    (open-none isTerm (z .v .has) s _ (L .w .has) (no-more (z .t2 .n) (z .t2 .terms) mostTerms (L .i) (L .inv .0) h) (L .inv .1))
 
 pub note-field-spec : {M : Type 1} → statement M
 note-field-spec =

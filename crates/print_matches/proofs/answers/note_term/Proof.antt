@@ -2,6 +2,7 @@
 use mathlib.Core.Path.{_≡_, ap}
 use native.Mathlib.Omega.{arith}
 use lib.ListN.{length}
+use Rattle.base_limits.specs.Limits.{variablePlaces}
 use Rattle.text_values.specs.declared.Form.{Form}
 use Rattle.text_values.specs.Values.{viewForm}
 use Rattle.print_matches.proofs.answers.Noted.{with-con, with-high, place-below, with-variable}
@@ -45,7 +46,7 @@ returns-3 c =
 returns-4 : tie.Need-returns-4
 returns-4 c =
     let z = c .before .before .before .before .before .args in
-    let long : length (z .v .has) ≡ 64 = search needs in
+    let long : length (z .v .has) ≡ variablePlaces = search needs in
     with-variable (z .v .has) (z .t .form) (z .t .text) _ _ (c .before .before .before .form .given .1)
     (omega (arith, c .before .if1 .left)) (c .slot .result) (c .slot .ensures) long
 

@@ -4,8 +4,9 @@ use mathlib.Core.Logic.{⊎-elim}
 use Prim.Native.Nat.{_+_, _-_, _<_}
 use native.Mathlib.Omega.{arith}
 use lib.ListN.{length}
+use Rattle.base_limits.specs.Limits.{numbersOfSide, variablePlaces}
 use Rattle.base_lists.specs.Seqs.{long-mapped}
-use Rattle.math_types.specs.Types.{rank-below}
+use Rattle.math_types.specs.Types.{rank-kinds}
 use Rattle.math_types.specs.Values.{kindOf}
 use Rattle.match_fields.specs.bindings.Values.{slot}
 use Rattle.match_fields.proofs.Walks.{absent}
@@ -20,7 +21,7 @@ abbrev Inv-loop : tie.InvT-loop
 Inv-loop k out₀ at rule v first p₀ n₀ out p n = (length (v .terms) ≡ 48) × From (rule .has) (kindOf k) (atomText v (kindOf k)) p₀ out₀ n p out
 
 abbrev μ-loop : tie.MeasureT-loop
-μ-loop k out₀ at rule v first p₀ n₀ out p n = 16 - n
+μ-loop k out₀ at rule v first p₀ n₀ out p n = numbersOfSide - n
 
 slot-requires : tie.Need-slot-requires Inv-loop μ-loop
 slot-requires c κs = search needs
@@ -28,7 +29,7 @@ slot-requires c κs = search needs
 loop-holds : tie.Need-loop-holds Inv-loop μ-loop
 loop-holds c =
     let z = c .before .before .args in
-    let long : length (z .t2 .has) ≡ 64 = search needs in
+    let long : length (z .t2 .has) ≡ variablePlaces = search needs in
     let full : length (z .t3 .terms) ≡ 48 = search long-mapped in
     (full, from-none (z .t2 .has) (kindOf (z .k)) (atomText (z .t3) (kindOf (z .k))) (z .at) (z .out .now) long)
 
@@ -36,10 +37,10 @@ cast-i : tie.Need-cast-i Inv-loop μ-loop
 cast-i c = search needs
 
 add-i : tie.Need-add-i Inv-loop μ-loop
-add-i c = omega (arith, c .before .before .slot .ensures, rank-below (kindOf (c .before .before .before .before .args .k)), c .loop-test .taken)
+add-i c = omega (arith, c .before .before .slot .ensures, rank-kinds (kindOf (c .before .before .before .before .args .k)), c .loop-test .taken)
 
 element-copy-out-if1 : tie.Need-element-copy-out-if1 Inv-loop μ-loop
-element-copy-out-if1 c = omega (arith, c .before .before .slot .ensures, rank-below (kindOf (c .before .before .before .before .args .k)), c .loop-test .taken)
+element-copy-out-if1 c = omega (arith, c .before .before .slot .ensures, rank-kinds (kindOf (c .before .before .before .before .args .k)), c .loop-test .taken)
 
 put-name-requires : tie.Need-put-name-requires Inv-loop μ-loop
 put-name-requires c κs = search needs

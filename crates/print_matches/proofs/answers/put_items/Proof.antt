@@ -5,6 +5,7 @@ use Prim.Native.Nat.{_+_, _-_, _≤_}
 use native.Mathlib.Omega.{arith}
 use lib.ListN.{length, getD, drop, take}
 use borrow.Author.Needs.{needs}
+use Rattle.base_limits.specs.Limits.{mostItems}
 use Rattle.base_lists.specs.Seqs.{long-mapped}
 use Rattle.text_grammar.specs.Plain.{termText}
 use Rattle.text_values.specs.Values.{viewTerm}
@@ -16,7 +17,8 @@ use Rattle.print_matches.proofs.answers.put_items.Tie as tie
 
 abbrev Inv-loop : tie.InvT-loop
 Inv-loop start count out₀ at f n from end p₀ i₀ t14 out p i =
-    (length (f .terms) ≡ 64) × (end ≤ 64) × (i ≤ 64) × Left (rowText (drop i₀ (take end (f .terms)))) p₀ out₀ (rowText (drop i (take end (f .terms)))) p out
+    (length (f .terms) ≡ mostItems) × (end ≤ mostItems) × (i ≤ mostItems)
+    × Left (rowText (drop i₀ (take end (f .terms)))) p₀ out₀ (rowText (drop i (take end (f .terms)))) p out
 
 abbrev μ-loop : tie.MeasureT-loop
 μ-loop start count out₀ at f n from end p₀ i₀ t14 out p i = end - i
@@ -48,7 +50,7 @@ same-length c = search needs
 returns : tie.Need-returns Inv-loop μ-loop
 returns c =
     let z = c .before .before .before .before .before .before .before .before .before .before .args in
-    let long : length (z .t1 .terms) ≡ 64 = search long-mapped in
+    let long : length (z .t1 .terms) ≡ mostItems = search long-mapped in
     placed-as (z .at) (z .out .now) (no-items (z .t1) (z .start) (z .count) (c .before .before .before .before .before .before .before .before .at-most .result)
     (c .before .before .before .before .before .before .before .at-most2 .result) _ long
     (c .before .before .before .before .before .before .before .before .at-most .ensures)
@@ -72,7 +74,7 @@ add-i c = search needs
 loop-holds : tie.Need-loop-holds Inv-loop μ-loop
 loop-holds c =
     let z = c .before .before .before .before .before .before .before .before .before .before .args in
-    let long : length (z .t1 .terms) ≡ 64 = search long-mapped in (
+    let long : length (z .t1 .terms) ≡ mostItems = search long-mapped in (
       long,
       omega (
         arith,

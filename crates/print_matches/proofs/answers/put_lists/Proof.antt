@@ -4,6 +4,7 @@ use mathlib.Core.Logic.{⊎-elim}
 use Prim.Native.Nat.{_+_, _-_}
 use native.Mathlib.Omega.{arith}
 use lib.ListN.{length}
+use Rattle.base_limits.specs.Limits.{numbersOfSide, variablePlaces}
 use Rattle.base_lists.specs.Seqs.{long-mapped}
 use Rattle.math_types.specs.Order.{list}
 use Rattle.match_rules.specs.texts.Texts.{slipFields}
@@ -16,10 +17,10 @@ use Rattle.print_matches.proofs.answers.put_lists.Statement.{statement}
 use Rattle.print_matches.proofs.answers.put_lists.Tie as tie
 
 abbrev Inv-loop : tie.InvT-loop
-Inv-loop slip out₀ at rule x fields p₀ n₀ out p n = (length (x .runs) ≡ 16) × From (rule .has) list (listText (slipFields slip) x) p₀ out₀ n p out
+Inv-loop slip out₀ at rule x fields p₀ n₀ out p n = (length (x .runs) ≡ numbersOfSide) × From (rule .has) list (listText (slipFields slip) x) p₀ out₀ n p out
 
 abbrev μ-loop : tie.MeasureT-loop
-μ-loop slip out₀ at rule x fields p₀ n₀ out p n = 16 - n
+μ-loop slip out₀ at rule x fields p₀ n₀ out p n = numbersOfSide - n
 
 field-count-requires : tie.Need-field-count-requires Inv-loop μ-loop
 field-count-requires c κs = search needs
@@ -27,8 +28,8 @@ field-count-requires c κs = search needs
 loop-holds : tie.Need-loop-holds Inv-loop μ-loop
 loop-holds c =
     let z = c .before .before .before .args in
-    let long : length (z .t1 .has) ≡ 64 = search needs in
-    let full : length (z .t3 .runs) ≡ 16 = search long-mapped in
+    let long : length (z .t1 .has) ≡ variablePlaces = search needs in
+    let full : length (z .t3 .runs) ≡ numbersOfSide = search long-mapped in
     (full, from-none (z .t1 .has) list (listText (slipFields (z .slip .now)) (z .t3)) (z .at) (z .out .now) long)
 
 cast-i : tie.Need-cast-i Inv-loop μ-loop

@@ -1,6 +1,7 @@
 -- `print_pairs::overlaps::put_read` meets its contract: by how the texts are read and by the lister's answer. Assumes nothing.
 use Prim.Native.Nat.{_+_, _-_, _<_}
 use native.Mathlib.Omega.{arith}
+use Rattle.base_limits.specs.Limits.{mostListBytes}
 use Rattle.print_pairs.proofs.overlaps.Texts.{left-refused, right-refused, texts-in, texts-put, texts-long}
 use borrow.Author.Needs.{needs}
 use Rattle.print_pairs.proofs.overlaps.put_read.Statement.{statement}
@@ -37,7 +38,7 @@ returns : tie.Need-returns
 returns c =
     let z = c .before .before .before .before .before .before .before .before .before .before .before .before .before .before .before in
     let a = z .args in
-    let n = a .at + 65536 - a .at in
+    let n = a .at + mostListBytes - a .at in
     let L = c .before .before .before .before .before .before .before .before .before .before .list-texts in
     let v = c .before .before .before .before .before .before .l .given in
     left-refused (a .left .now) (a .right .now) (a .out .now) (a .at) n (omega arith) (z .pre)
@@ -62,7 +63,7 @@ returns-2 : tie.Need-returns-2
 returns-2 c =
     let z = c .before .before .before .before .before .before .before .before .before .before .before .before .before .before .before .before .before in
     let a = z .args in
-    let n = a .at + 65536 - a .at in
+    let n = a .at + mostListBytes - a .at in
     let L = c .before .before .before .before .before .before .before .before .before .before .before .before .list-texts in
     let v = c .before .before .before .before .before .before .r .given in
     let e = c .before .before .before .before .before .before .before .before .enum-told .given .1 in
@@ -79,7 +80,7 @@ add-result : tie.Need-add-result
 add-result c =
     let z = c .before .before .before .before .before .before .before .before .before .before .before .before .before .before in
     let a = z .args in
-    let n = a .at + 65536 - a .at in
+    let n = a .at + mostListBytes - a .at in
     let L = c .before .before .before .before .before .before .before .before .before .list-texts in
     let v = c .before .listed .given in
     omega (arith, texts-in (a .left .now) (a .right .now) (a .out .now) (a .at) n (omega arith) (z .pre) (L .ensures) _ _ (v .1))
@@ -100,7 +101,7 @@ returns-3 : tie.Need-returns-3
 returns-3 c =
     let z = c .before .before .before .before .before .before .before .before .before .before .before .before .before .before in
     let a = z .args in
-    let n = a .at + 65536 - a .at in
+    let n = a .at + mostListBytes - a .at in
     let L = c .before .before .before .before .before .before .before .before .before .list-texts in
     let v = c .before .listed .given in
     let e = c .before .before .before .before .before .enum-told .given .1 in
@@ -116,7 +117,7 @@ returns-4 c =
     let s = c .before .before .before .before .before .before .before .before .before .before .before .before .before .before in
     let z = s .before .before .before .before .before in
     let a = z .args in
-    let n = a .at + 65536 - a .at in
+    let n = a .at + mostListBytes - a .at in
     let L = s .list-texts in
     let v = c .before .before .before .before .before .before .listed2 .given in
     let e = c .before .before .before .before .before .before .before .before .before .before .enum-told .given .1 in

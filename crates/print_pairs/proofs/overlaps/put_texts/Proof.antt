@@ -2,25 +2,25 @@
 use Prim.Native.Nat.{_-_, _≤_, _<_}
 use native.Mathlib.Omega.{arith}
 use lib.ListN.{length}
+use Rattle.base_limits.specs.Limits.{mostListBytes}
 use Rattle.text_grammar.specs.rules.Read.{readRule}
 use Rattle.text_write.proofs.pieces.Pieces.{placed-none}
 use Rattle.text_write.proofs.pieces.Bounds.{piece-as}
-use Rattle.print_pairs.specs.overlaps.Texts.{mostBytes}
 use Rattle.print_pairs.proofs.overlaps.Said.{in-room, no-room}
 use borrow.Author.Needs.{needs}
 use Rattle.print_pairs.proofs.overlaps.put_texts.Statement.{statement}
 use Rattle.print_pairs.proofs.overlaps.put_texts.Tie as tie
 
-bytes-behind-requires : tie.Need-bytes-behind-requires
-bytes-behind-requires c κs = search needs
+left-over-requires : tie.Need-left-over-requires
+left-over-requires c κs = search needs
 
 returns : tie.Need-returns
 returns c =
     let a = c .before .before .before .before .before .args in
     let k = length (a .out .now) - a .at in
-    let few : k < mostBytes = omega (arith, c .if1 .taken, c .before .bytes-behind .ensures) in
+    let few : k < mostListBytes = omega (arith, c .if1 .taken, c .before .left-over .ensures) in
     let none = no-room k (readRule (a .left .now)) (readRule (a .right .now)) few in
-    piece-as mostBytes (a .at) (a .out .now) none (placed-none (a .at) (a .out .now), omega arith)
+    piece-as mostListBytes (a .at) (a .out .now) none (placed-none (a .at) (a .out .now), omega arith)
 
 put-read-requires : tie.Need-put-read-requires
 put-read-requires c κs = search needs
@@ -33,9 +33,9 @@ returns-2 c =
     let b = c .before .before .before .before in
     let a = b .before .before .before .before .before .args in
     let k = length (a .out .now) - a .at in
-    let enough : mostBytes ≤ k = omega (arith, b .if1 .left, b .before .bytes-behind .ensures) in
-    piece-as mostBytes (a .at) (a .out .now) (in-room k (readRule (a .left .now)) (readRule (a .right .now)) enough) (c .before .before .put-read .ensures)
+    let enough : mostListBytes ≤ k = omega (arith, b .if1 .left, b .before .left-over .ensures) in
+    piece-as mostListBytes (a .at) (a .out .now) (in-room k (readRule (a .left .now)) (readRule (a .right .now)) enough) (c .before .before .put-read .ensures)
 
 pub put-texts-spec : {M : Type 1} → statement M
 put-texts-spec =
-    tie.close (tie.spec bytes-behind-requires returns put-read-requires same-length returns-2)
+    tie.close (tie.spec left-over-requires returns put-read-requires same-length returns-2)

@@ -3,7 +3,7 @@ use mathlib.Core.Path.{sym}
 use Prim.Native.Nat.{min}
 use native.Mathlib.Omega.{arith}
 use lib.Seq.{length-take-le}
-use Rattle.print_solve.specs.search.Found.{mostRecords}
+use Rattle.search_row.specs.own.Sizes.{mostRecords}
 use Rattle.print_solve.proofs.search.Searches.{lines-count, lines-in, lines-put, few-put, full-put}
 use borrow.Author.Needs.{needs}
 use Rattle.print_solve.proofs.search.put_search.Statement.{statement}

@@ -39,6 +39,7 @@ use denote.Triple.Statement.{Triple}
 use denote.Triple.Table.{entered, cited}
 use denote.Triple.Walked.{says, Stays, stay-slice, stay-none, walkOf, goes-slice, goes-none, ends-at, walked, walk-meets}
 use denote.Exit.{yes}
+use Rattle.search_row.specs.own.Sizes.{mostRecords}
 use Rattle.text_values.specs.declared.Field.{Field}
 use Rattle.text_values.proofs.Field as F
 use Rattle.text_values.proofs.Field.Laws as F′
@@ -60,9 +61,9 @@ use Rattle.search_row.proofs.Searched.Laws as N′
 use Rattle.search_row.proofs.Calls.{mach-field, mach-answer}
 use Rattle.search_row.proofs.own.Calls.{AtMost, Search, calls-at-most, calls-search}
 use Rattle.search_row.proofs.own.Local.{lends-front, front-back}
-use Rattle.search_row.proofs.own.at_most.Symbol as at-most-def
-use Rattle.search_row.proofs.own.at_most.Symbol.{name as #search-run·at-most}
-use Rattle.search_row.proofs.own.at_most.Met as at-most-thm
+use Rattle.base_numbers.proofs.at_most.Symbol as at-most-def
+use Rattle.base_numbers.proofs.at_most.Symbol.{name as #base-numbers·at-most}
+use Rattle.base_numbers.proofs.at_most.Met as at-most-thm
 use Rattle.search_row.proofs.search.Symbol as search-def
 use Rattle.search_row.proofs.search.Symbol.{name as #search-row·search}
 use Rattle.search_row.proofs.search.Met as search-thm
@@ -90,7 +91,7 @@ module _ {M : Type 1} (𝓤 : URA M) (H : Heap 𝓤) (A : Atoms 𝓤) (W : Given
   o₀ = sliceVal (b, o) (length os)
 
   abbrev a₀ : Val
-  a₀ = arrayVal (replicate 640 (mach blankProblem))
+  a₀ = arrayVal (replicate mostRecords (mach blankProblem))
 
   abbrev bound : walkOf 𝓤 H A search-in.ended stayed (search-in.clauses 𝓤 H A mem run) .Ghost
   bound = (((κ, tt), (q, tt), tt, (f, (g, (m, (x b o γ os, tt)))), (mach-field f ∷ [], (mach-field g ∷ [], (vint w64 m ∷ [], (o₀ ∷ [], tt))))), tt)
@@ -100,7 +101,7 @@ module _ {M : Type 1} (𝓤 : URA M) (H : Heap 𝓤) (A : Atoms 𝓤) (W : Given
 
   -- how many records are lent
   abbrev k : ℕ
-  k = min m 640
+  k = min m mostRecords
 
   -- `out`, with its token
   abbrev Lists : List ℕ → List (Item 𝓤)
@@ -131,17 +132,17 @@ module _ {M : Type 1} (𝓤 : URA M) (H : Heap 𝓤) (A : Atoms 𝓤) (W : Given
     k-fits : k < 2 ^ 64
     k-fits = omega arith
 
-    k-most : k ≤ 640
+    k-most : k ≤ mostRecords
     k-most = omega arith
 
     row-fits : Room T.the-row (length (blanks k))
     row-fits = let e : length (blanks k) ≡ k = length-replicate k blankProblem in (omega (arith, e), omega (arith, e))
 
-    both : length (blanks k) + length (blanks (640 - k)) ≡ 640
-    both = omega (arith, length-replicate k blankProblem, length-replicate (640 - k) blankProblem, k-most)
+    both : length (blanks k) + length (blanks (mostRecords - k)) ≡ mostRecords
+    both = omega (arith, length-replicate k blankProblem, length-replicate (mostRecords - k) blankProblem, k-most)
 
     walk : Room u8 (length os) → (𝓣 : Tables 𝓤 H) → Triple 𝓤 (𝓣 .C #search-problems·blank-problem) (Blank 𝓤 H A mem run)
-        → Triple 𝓤 (𝓣 .C #search-run·at-most) (AtMost 𝓤 H A mem run) → Triple 𝓤 (𝓣 .C #search-row·search) (Search 𝓤 H A mem run)
+        → Triple 𝓤 (𝓣 .C #base-numbers·at-most) (AtMost 𝓤 H A mem run) → Triple 𝓤 (𝓣 .C #search-row·search) (Search 𝓤 H A mem run)
         → ent 𝓤 (onEntry 𝓤 H A search-in.signature (κ, tt) (q, tt) (bound .0 .3) (bound .0 .4))
         (WpFn 𝓤 H (𝓣 .C) (𝓣 .Λ) code.function (mach-field f ∷ mach-field g ∷ vint w64 m ∷ o₀ ∷ []) Post)
     walk fits 𝓣 kb km ks =
@@ -157,29 +158,32 @@ module _ {M : Type 1} (𝓤 : URA M) (H : Heap 𝓤) (A : Atoms 𝓤) (W : Given
         calls-blank-problem ! mem run (fmOf 𝓤 H (W .laws) 𝓣) kb (λ P. no-more !)
         (λ gb. land ! (from ! (stop !)) (init ! (L 5) refl (LL.lawful T.the-type T′.the-laws 𝓤 H A W .typed blankProblem _ gb .0)) $
         owned ! T.the-row (Is T.the-row) (LL.makes T.the-type T′.the-plain 𝓤 H A) blankProblem _ gb $
-        use1 W (‵ (Array T.the-row 640 .own (replicate 640 blankProblem) (a₀ ∷ [])))
-        (array-repeat 𝓤 H A W T.the-row (LL.copy T.the-type T′.the-copy 𝓤 H A W) 640 blankProblem (mach blankProblem)) $
-        peeks ! (Array T.the-row 640) (Is (Array T.the-row 640)) (shows 𝓤 H A (Array T.the-row 640)) (replicate 640 blankProblem) (a₀ ∷ []) (λ ga.
+        use1 W (‵ (Array T.the-row mostRecords .own (replicate mostRecords blankProblem) (a₀ ∷ [])))
+        (array-repeat 𝓤 H A W T.the-row (LL.copy T.the-type T′.the-copy 𝓤 H A W) mostRecords blankProblem (mach blankProblem)) $
+        peeks ! (Array T.the-row mostRecords) (Is (Array T.the-row mostRecords)) (shows 𝓤 H A (Array T.the-row mostRecords))
+        (replicate mostRecords blankProblem) (a₀ ∷ []) (λ ga.
         -- [what the array owns; out; its token; _11; …; _0; …]
-        sets ! (rep ! 640 (var ! (L₁ 5) refl)) (init ! (L₁ 6) refl
-        (array-lawful 𝓤 H A W T.the-row (LL.lawful T.the-type T′.the-laws 𝓤 H A W) 640 .typed (replicate 640 blankProblem) (a₀ ∷ []) ga .0)) $
+        sets ! (rep ! mostRecords (var ! (L₁ 5) refl)) (init ! (L₁ 6) refl
+        (array-lawful 𝓤 H A W T.the-row (LL.lawful T.the-type T′.the-laws 𝓤 H A W) mostRecords .typed (replicate mostRecords blankProblem) (a₀ ∷ []) ga .0)) $
         -- at_most(room, 640)
-        calls-at-most ! mem run (fmOf 𝓤 H (W .laws) 𝓣) km m 640 m-fits (lit< tt) (λ P. and-then ! (var ! (L₂ 3) refl) (and-then ! (lit ! tt) (no-more !)))
+        calls-at-most ! mem run (fmOf 𝓤 H (W .laws) 𝓣) km m mostRecords m-fits (lit< tt)
+        (λ P. and-then ! (var ! (L₂ 3) refl) (and-then ! (lit ! tt) (no-more !)))
         (land ! (from ! (stop !)) (init ! (L₁ 7) refl (tt, record { fits = k-fits })) $
         -- &mut row[..n], and `out` again
         sets ! (addr ! (from ! (stop !))) (init ! (L₁ 8) refl (tt, tt)) $
         sets ! (agg ! (and-then ! (var ! (L₁ 8) refl) (and-then ! (var ! (L₁ 7) refl) (no-more !))))
         (init ! (L₁ 9) refl (tt, (tt, (record { fits = k-fits }, tt)))) $
         reborrows ! (L₁ 4) (L₁ 10) (L₁ 11) (fits .0) refl refl refl refl refl refl refl refl $
-        move ! (L₁ 6 ∷ 0 ∷ []) $ rewrite ! 1 (λ (zs : List Problem). ‵ (Array T.the-row 640 .own zs (a₀ ∷ []))) (cut-at 640 k k-most) refl $
+        move ! (L₁ 6 ∷ 0 ∷ []) $ rewrite ! 1 (λ (zs : List Problem). ‵ (Array T.the-row mostRecords .own zs (a₀ ∷ []))) (cut-at mostRecords k k-most) refl $
         -- [_6; what it owns; out; its token; _11; …; _7; …; _5; …; _0; …]
-        lft-new ! tt (λ ν. move ! (1 ∷ 2 ∷ []) $ lends-front T.the-row 640 (spot l) 0 (blanks k) (blanks (640 - k)) ! tt tt row-fits (ν ∷ []) (λ γ₁.
+        lft-new ! tt (λ ν. move ! (1 ∷ 2 ∷ []) $ lends-front T.the-row mostRecords (spot l) 0 (blanks k) (blanks (mostRecords - k)) ! tt tt row-fits (ν ∷ [])
+        (λ γ₁.
         rewrite ! 0 (λ (j : ℕ). Own 𝓤 T.the-row (ν ∷ []) γ₁ (spot l) 0 j (blanks k)) (length-replicate k blankProblem) refl $ move ! (3 ∷ 0 ∷ 4 ∷ 5 ∷ []) $
         -- search(left, right, row, out). [the row's token; the row; out; its token; the row's loan; the records that are not lent; _11; …; _7; …; _5; …; _0; …]
         calls-search ! mem run (fmOf 𝓤 H (W .laws) 𝓣) ks f g (blanks k) os gf gg fits refl
         (λ P δ ν′. and-then ! (var ! (L₂ 1 - 1) refl)
         (and-then ! (var ! (L₂ 2 - 1) refl) (and-then ! (var ! (L₂ 9) refl) (and-then ! (var ! (L₂ 11) refl) (no-more !))))) (λ r zs us is e gr.
-        lft-end ! tt $ move ! (0 ∷ 4 ∷ 1 ∷ 5 ∷ []) $ front-back T.the-row 640 (spot l) 0 (blanks k) (blanks (640 - k)) ! tt zs both $
+        lft-end ! tt $ move ! (0 ∷ 4 ∷ 1 ∷ 5 ∷ []) $ front-back T.the-row mostRecords (spot l) 0 (blanks k) (blanks (mostRecords - k)) ! tt zs both $
         move ! (1 ∷ 2 ∷ 3 ∷ 4 ∷ 5 ∷ 6 ∷ 7 ∷ 8 ∷ 9 ∷ 10 ∷ 11 ∷ 12 ∷ 0 ∷ []) $
         land ! (from ! (stop !)) (init ! (L 0) refl (EL.lawful N.the-type N′.the-laws 𝓤 H A W tt .typed r _ gr .0)) $
         returns ! (look ! (L 0) refl) $ frees-all W ! (Lists us) (envOf 𝓤 H A (code.function .locals) l)
@@ -217,5 +221,6 @@ search-in-spec 𝓤 H 𝓜 𝓖 𝓡 =
     (a .1 .1 .1 .0 .now) (are .0) (are .1 .0) (are .1 .1 .0 .1) (are .1 .1 .1 .0 .0 .1) 𝓣
     (cited 𝓤 H (Blank 𝓤 H A (𝓜 .mem) (𝓡 .run)) 𝓜 𝓡 code.env #search-problems·blank-problem blank-problem-def.routine code.calls-search-problems·blank-problem
     (blank-problem-thm.met 𝓤 H 𝓜 𝓖 𝓡))
-    (cited 𝓤 H (AtMost 𝓤 H A (𝓜 .mem) (𝓡 .run)) 𝓜 𝓡 code.env #search-run·at-most at-most-def.routine code.calls-search-run·at-most (at-most-thm.met 𝓤 H 𝓜 𝓖 𝓡))
+    (cited 𝓤 H (AtMost 𝓤 H A (𝓜 .mem) (𝓡 .run)) 𝓜 𝓡 code.env #base-numbers·at-most at-most-def.routine code.calls-base-numbers·at-most
+    (at-most-thm.met 𝓤 H 𝓜 𝓖 𝓡))
     (cited 𝓤 H (Search 𝓤 H A (𝓜 .mem) (𝓡 .run)) 𝓜 𝓡 code.env #search-row·search search-def.routine code.calls-search-row·search (search-thm.met 𝓤 H 𝓜 𝓖 𝓡))))))

@@ -3,6 +3,7 @@ use mathlib.Core.Path.{_≡_, _∙_, ap}
 use mathlib.Core.List.{List}
 use Prim.Native.Nat.{ℕ}
 use lib.ListN.{replicate}
+use Rattle.base_limits.specs.Limits.{longestSide}
 use Rattle.text_grammar.specs.Plain.{plain}
 use Rattle.text_accepted.specs.Accepted.{countedLeft}
 use Rattle.text_values.specs.declared.RuleSide.{RuleSide}
@@ -28,12 +29,13 @@ size-of-requires c κs = search needs
 array-share-prefix-text : tie.Need-array-share-prefix-text
 array-share-prefix-text c =
     let v = c .before .before .before .before .one-field .result in
-    written-long (plain (countedLeft v)) (replicate 1151 0) (plain-short v) (c .size-of .ensures) (c .before .before .write-side .ensures)
+    written-long (plain (countedLeft v)) (replicate longestSide 0) (plain-short v) (c .size-of .ensures) (c .before .before .write-side .ensures)
 
 slice-aggregate-note-side : tie.Need-slice-aggregate-note-side
 slice-aggregate-note-side c =
     let v = c .before .before .before .before .before .one-field .result in
-    written-count (plain (countedLeft v)) (replicate 1151 0) (plain-short v) (c .before .size-of .ensures) (c .before .before .before .write-side .ensures)
+    written-count (plain (countedLeft v)) (replicate longestSide 0) (plain-short v) (c .before .size-of .ensures)
+    (c .before .before .before .write-side .ensures)
 
 note-side-requires : tie.Need-note-side-requires
 note-side-requires c κs = search needs
@@ -51,7 +53,7 @@ returns c =
     let z = c .before .before .before .before .before .before .before .before .before .before .before .before .before .before .before .args in
     let v = e .before .before .before .before .one-field in
     let text : _ ≡ _ =
-    written-front (plain (countedLeft (v .result))) (replicate 1151 0) (plain-short (v .result)) (e .size-of .ensures)
+    written-front (plain (countedLeft (v .result))) (replicate longestSide 0) (plain-short (v .result)) (e .size-of .ensures)
     (e .before .before .write-side .ensures)
     ∙ ap (λ (w : RuleSide). plain (countedLeft w)) (v .ensures) in (
       d .note-side .ensures .1 .0 ∙ ap (λ (t : List ℕ). notedIn (z .right) t (z .row .now) (z .texts .now) .0) text,

@@ -3,6 +3,7 @@ use mathlib.Core.Path.{_≡_, sym, _∙_}
 use Prim.Native.Nat.{_-_, _<_, _≤_, min}
 use native.Mathlib.Omega.{arith}
 use lib.ListN.{length, take}
+use Rattle.base_limits.specs.Limits.{mostTerms}
 use Rattle.base_lists.specs.Seqs.{long-mapped}
 use Rattle.math_types.specs.Values.{kindOf}
 use Rattle.text_values.specs.declared.Term.{Term}
@@ -14,7 +15,7 @@ use Rattle.text_accepted.proofs.variables.in_field.Statement.{statement
 use Rattle.text_accepted.proofs.variables.in_field.Tie as tie
 
 abbrev Inv-loop : tie.InvT-loop
-Inv-loop k n f terms i₀ i = Unmet (λ (t : Term). isVariable (kindOf k) n (viewTerm t)) (f .n) (f .terms) 16 i
+Inv-loop k n f terms i₀ i = Unmet (λ (t : Term). isVariable (kindOf k) n (viewTerm t)) (f .n) (f .terms) mostTerms i
 
 abbrev μ-loop : tie.MeasureT-loop
 μ-loop k n f terms i₀ i = terms - i
@@ -25,8 +26,8 @@ at-most-requires c κs = search needs
 loop-holds : tie.Need-loop-holds Inv-loop μ-loop
 loop-holds c =
     let z = c .before .args in
-    let h : length (z .t1 .terms) ≡ 16 = search long-mapped in
-    unmet-none (λ (t : Term). isVariable (kindOf (z .k)) (z .n) (viewTerm t)) (z .t1 .n) (z .t1 .terms) 16 h
+    let h : length (z .t1 .terms) ≡ mostTerms = search long-mapped in
+    unmet-none (λ (t : Term). isVariable (kindOf (z .k)) (z .n) (viewTerm t)) (z .t1 .n) (z .t1 .terms) mostTerms h
 
 mul-is-variable : tie.Need-mul-is-variable Inv-loop μ-loop
 mul-is-variable c = search needs
@@ -43,8 +44,9 @@ returns c =
     let L = c .before .before .before .before .loop in
     let T = c .before .is-variable in
     let m = c .before .before .before .before .before .at-most .ensures in
-    let h : L .i < min (z .t1 .n) 16 = omega (arith, m, c .before .before .before .loop-test .taken) in
-    met (λ (t : Term). isVariable (kindOf (z .k)) (z .n) (viewTerm t)) (z .t1 .n) (z .t1 .terms) 16 (L .i) _ (T .result) (L .inv) h (T .ensures) (c .if1 .taken)
+    let h : L .i < min (z .t1 .n) mostTerms = omega (arith, m, c .before .before .before .loop-test .taken) in
+    met (λ (t : Term). isVariable (kindOf (z .k)) (z .n) (viewTerm t)) (z .t1 .n) (z .t1 .terms) mostTerms (L .i) _ (T .result) (L .inv) h (T .ensures)
+    (c .if1 .taken)
     ∙ sym (some-term (kindOf (z .k)) (z .n) (take (z .t1 .n) (z .t1 .terms)))
 
 add-i : tie.Need-add-i Inv-loop μ-loop
@@ -60,15 +62,16 @@ loop-again c =
     let L = c .before .before .before .before .loop in
     let T = c .before .is-variable in
     let m = c .before .before .before .before .before .at-most .ensures in
-    let h : L .i < min (z .t1 .n) 16 = omega (arith, m, c .before .before .before .loop-test .taken) in
-    unmet-one (λ (t : Term). isVariable (kindOf (z .k)) (z .n) (viewTerm t)) (s .n) (s .terms) 16 (L .i) _ (T .result) (L .inv) h (T .ensures) (c .if1 .left)
+    let h : L .i < min (z .t1 .n) mostTerms = omega (arith, m, c .before .before .before .loop-test .taken) in
+    unmet-one (λ (t : Term). isVariable (kindOf (z .k)) (z .n) (viewTerm t)) (s .n) (s .terms) mostTerms (L .i) _ (T .result) (L .inv) h (T .ensures)
+    (c .if1 .left)
 
 returns-2 : tie.Need-returns-2 Inv-loop μ-loop
 returns-2 c =
     let z = c .before .before .before .args in
     let L = c .before .loop in
-    let h : min (z .t1 .n) 16 ≤ L .i = omega (arith, c .before .before .at-most .ensures, c .loop-test .left) in
-    unmet-all (λ (t : Term). isVariable (kindOf (z .k)) (z .n) (viewTerm t)) (z .t1 .n) (z .t1 .terms) 16 (L .i) (L .inv) h
+    let h : min (z .t1 .n) mostTerms ≤ L .i = omega (arith, c .before .before .at-most .ensures, c .loop-test .left) in
+    unmet-all (λ (t : Term). isVariable (kindOf (z .k)) (z .n) (viewTerm t)) (z .t1 .n) (z .t1 .terms) mostTerms (L .i) (L .inv) h
     ∙ sym (some-term (kindOf (z .k)) (z .n) (take (z .t1 .n) (z .t1 .terms)))
 
 pub in-field-spec : {M : Type 1} → statement M

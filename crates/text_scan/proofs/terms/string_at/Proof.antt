@@ -5,12 +5,13 @@ use mathlib.Core.Logic.{inl, inr}
 use Prim.Native.Nat.{_-_, _≤_}
 use native.Mathlib.Omega.{arith}
 use lib.ListN.{length}
+use Rattle.base_limits.specs.Limits.{longestString}
 use Rattle.text_scan.proofs.terms.Copies.{Copied, copied-one, copied-all}
 use Rattle.text_scan.proofs.terms.string_at.Statement.{statement}
 use Rattle.text_scan.proofs.terms.string_at.Tie as tie
 
 abbrev Inv-loop : tie.InvT-loop
-Inv-loop text from n bytes₀ i₀ bytes i = (from ≤ length text) × (n ≤ 15) × (i ≤ n) × Copied 15 text from i bytes
+Inv-loop text from n bytes₀ i₀ bytes i = (from ≤ length text) × (n ≤ longestString) × (i ≤ n) × Copied longestString text from i bytes
 
 abbrev μ-loop : tie.MeasureT-loop
 μ-loop text from n bytes₀ i₀ bytes i = n - i
@@ -23,7 +24,7 @@ sub-if1 c = c .before .loop .inv .0
 
 returns : tie.Need-returns Inv-loop μ-loop
 returns c =
-    copied-all 15 (c .before .before .before .args .text .now) (c .before .before .before .args .from) (c .before .before .loop .i)
+    copied-all longestString (c .before .before .before .args .text .now) (c .before .before .before .args .from) (c .before .before .loop .i)
     (c .before .before .before .args .n) (c .before .before .loop .bytes) (c .before .before .loop .inv .3)
     (c .before .before .loop .inv .2) (inr (c .if1 .taken))
 
@@ -50,13 +51,14 @@ loop-again c =
       v .0,
       v .1,
       omega arith,
-      copied-one 15 (c .before .before .before .before .args .text .now) (c .before .before .before .before .args .from) (c .before .before .before .loop .i)
+      copied-one longestString (c .before .before .before .before .args .text .now) (c .before .before .before .before .args .from)
+          (c .before .before .before .loop .i)
           (c .before .before .before .loop .bytes) (v .3) (omega arith) (omega arith),
     )
 
 returns-2 : tie.Need-returns-2 Inv-loop μ-loop
 returns-2 c =
-    copied-all 15 (c .before .before .args .text .now) (c .before .before .args .from) (c .before .loop .i) (c .before .before .args .n)
+    copied-all longestString (c .before .before .args .text .now) (c .before .before .args .from) (c .before .loop .i) (c .before .before .args .n)
     (c .before .loop .bytes) (c .before .loop .inv .3) (c .before .loop .inv .2) (inl (c .loop-test .left))
 
 pub string-at-spec : {M : Type 1} → statement M

@@ -3,22 +3,25 @@ use borrow.Author.Needs.{needs}
 use mathlib.Core.Path.{_≡_}
 use Prim.Native.Nat.{_-_}
 use lib.ListN.{length}
+use Rattle.base_limits.specs.Limits.{longestString}
 use Rattle.text_values.specs.canonical.Terms.{isInside, isZero}
 use Rattle.text_values.proofs.canonical.Filled.{Passed, passed-none, passed-one, passed-not, passed-all, passed-over}
 use Rattle.text_values.proofs.canonical.is_text.Statement.{statement}
 use Rattle.text_values.proofs.canonical.is_text.Tie as tie
 
 abbrev Inv-loop : tie.InvT-loop
-Inv-loop n text i₀ i = Passed isInside isZero 15 n text i
+Inv-loop n text i₀ i = Passed isInside isZero longestString n text i
 
 abbrev μ-loop : tie.MeasureT-loop
-μ-loop n text i₀ i = 15 - i
+μ-loop n text i₀ i = longestString - i
 
 returns : tie.Need-returns Inv-loop μ-loop
-returns c = let h : length (c .before .args .t1) ≡ 15 = search needs in passed-over isInside isZero 15 _ (c .before .args .t1) h (c .if1 .taken)
+returns c = let h : length (c .before .args .t1) ≡ longestString = search needs in
+    passed-over isInside isZero longestString _ (c .before .args .t1) h (c .if1 .taken)
 
 loop-holds : tie.Need-loop-holds Inv-loop μ-loop
-loop-holds c = let h : length (c .before .args .t1) ≡ 15 = search needs in passed-none isInside isZero 15 _ (c .before .args .t1) h (c .if1 .left)
+loop-holds c = let h : length (c .before .args .t1) ≡ longestString = search needs in
+    passed-none isInside isZero longestString _ (c .before .args .t1) h (c .if1 .left)
 
 array-read-is-byte : tie.Need-array-read-is-byte Inv-loop μ-loop
 array-read-is-byte c = search needs
@@ -28,7 +31,8 @@ is-byte-requires c κs = search needs
 
 returns-2 : tie.Need-returns-2 Inv-loop μ-loop
 returns-2 c =
-    passed-not isInside isZero 15 _ (c .before .before .before .before .before .args .t1) (c .before .before .before .loop .i) 0 (c .before .is-byte .result)
+    passed-not isInside isZero longestString _ (c .before .before .before .before .before .args .t1) (c .before .before .before .loop .i) 0
+    (c .before .is-byte .result)
     (c .before .before .before .loop .inv) (c .before .before .loop-test .taken) (c .before .is-byte .ensures) (c .if2 .taken)
 
 add-i : tie.Need-add-i Inv-loop μ-loop
@@ -39,11 +43,12 @@ loop-less c = search needs
 
 loop-again : tie.Need-loop-again Inv-loop μ-loop
 loop-again c =
-    passed-one isInside isZero 15 _ (c .before .before .before .before .before .args .t1) (c .before .before .before .loop .i) 0 (c .before .is-byte .result)
+    passed-one isInside isZero longestString _ (c .before .before .before .before .before .args .t1) (c .before .before .before .loop .i) 0
+    (c .before .is-byte .result)
     (c .before .before .before .loop .inv) (c .before .before .loop-test .taken) (c .before .is-byte .ensures) (c .if2 .left)
 
 returns-3 : tie.Need-returns-3 Inv-loop μ-loop
-returns-3 c = passed-all isInside isZero 15 _ (c .before .before .before .args .t1) (c .before .loop .i) (c .before .loop .inv) (c .loop-test .left)
+returns-3 c = passed-all isInside isZero longestString _ (c .before .before .before .args .t1) (c .before .loop .i) (c .before .loop .inv) (c .loop-test .left)
 
 pub is-text-spec : {M : Type 1} → statement M
 is-text-spec =

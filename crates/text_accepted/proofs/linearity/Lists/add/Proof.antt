@@ -4,6 +4,7 @@ use lib.ListN.{length}
 use lib.Seq.{set-out}
 use native.Mathlib.Omega.{arith}
 use borrow.Author.Needs.{needs}
+use Rattle.base_limits.specs.Limits.{numbersOfSide}
 use Rattle.text_accepted.proofs.linearity.Lists.add.Statement.{statement}
 use Rattle.text_accepted.proofs.linearity.Lists.add.Tie as tie
 
@@ -12,7 +13,7 @@ stays-ok-requires c κs = search needs
 
 returns : tie.Need-returns
 returns c =
-    let h : length (c .before .before .args .self .seen) ≡ 16 = search needs in
+    let h : length (c .before .before .args .self .seen) ≡ numbersOfSide = search needs in
     rw (c .before .stays-ok .ensures, set-out (c .before .before .args .self .seen) (c .before .before .args .v) _ (omega arith))
 
 element-write-l : tie.Need-element-write-l

@@ -4,6 +4,7 @@ use lib.ListN.{length, List·getD-eq-default}
 use native.Mathlib.Omega.{arith}
 use borrow.Author.Tests.{not-true, not-false}
 use borrow.Author.Needs.{needs}
+use Rattle.base_limits.specs.Limits.{numbersOfSide}
 use Rattle.text_accepted.proofs.linearity.Lists.stays_ok.Statement.{statement}
 use Rattle.text_accepted.proofs.linearity.Lists.stays_ok.Tie as tie
 
@@ -15,7 +16,7 @@ returns-2 c = rw (not-false (c .before .before .args .t1 .ok) (c .before .if1 .l
 
 returns-3 : tie.Need-returns-3
 returns-3 c =
-    let h : length (c .before .before .before .args .t1 .seen) ≡ 16 = search needs in
+    let h : length (c .before .before .before .args .t1 .seen) ≡ numbersOfSide = search needs in
     rw (
       not-false (c .before .before .before .args .t1 .ok) (c .before .before .if1 .left),
       c .before .if2 .left,

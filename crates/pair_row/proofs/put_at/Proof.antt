@@ -1,9 +1,9 @@
--- `pair_lines::put_at` meets its contract. Assumes nothing.
+-- `pair_row::put_at` meets its contract. Assumes nothing.
 use mathlib.Core.Path.{sym}
 use lib.Seq.{set-out}
 use borrow.Author.Needs.{needs}
-use Rattle.pair_lines.proofs.put_at.Statement.{statement}
-use Rattle.pair_lines.proofs.put_at.Tie as tie
+use Rattle.pair_row.proofs.put_at.Statement.{statement}
+use Rattle.pair_row.proofs.put_at.Tie as tie
 
 slice-write-row : tie.Need-slice-write-row
 slice-write-row c = search needs
