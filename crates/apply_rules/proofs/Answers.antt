@@ -31,7 +31,7 @@ use Rattle.text_accepted.proofs.Accepted.{rule-is}
 use Rattle.text_accepted.specs.rules.Rules.{acceptedRule}
 use Rattle.text_accepted.proofs.rules.Rules.{accepted-is, accepted-rule, counted-yes, counted-no}
 use Rattle.text_accepted.specs.slips.Slips.{acceptedSlip, countedSlip}
-use Rattle.text_accepted.proofs.slips.Slips.{accepted-slip}
+use Rattle.text_accepted.proofs.slips.Slips.{accepted-slip, counted-accepted}
 use Rattle.match_fields.specs.declared.bindings.Filling.{Filling as FillingValue}
 use Rattle.match_rules.specs.declared.Match.{Match}
 use Rattle.match_rules.specs.Answers.{encodeValues, runsOf, found, matchOf}
@@ -176,7 +176,7 @@ module _ (r : Rule) (s : Slip) where
           read = slip-read s (matched .0)
 
           slip-counted : countedSlip s ≡ viewSlip s
-          slip-counted = ap (λ (b : Bool). cond b (viewSlip s) []) read
+          slip-counted = counted-accepted s read
 
           the-filling : Found x (viewSlip s) (m .filling)
           the-filling =

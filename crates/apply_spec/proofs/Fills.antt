@@ -5,17 +5,12 @@ use mathlib.Core.List.{List, [], _∷_, map}
 use Prim.Native.Nat.{ℕ, _≤_}
 use native.Mathlib.Omega.{arith}
 use lib.ListN.{length, length-append}
-use Rattle.base_lists.specs.Seqs.{All, Any, IsCons, all-append, all-left, all-right}
+use Rattle.base_lists.specs.Seqs.{All, Any, all-append, all-left, all-right}
 use Rattle.math_terms.specs.Terms.{Term, con, var}
 use Rattle.math_terms.specs.Fillings.{Filling, fill, Occurs}
 use Rattle.math_overlaps.specs.Substitutions.{Subst, substitute}
 use Rattle.math_overlaps.specs.Constants.{ConstantIn}
 use Rattle.apply_spec.specs.Carrying.{Short}
-
-module _ {X Y : Type 0} (f : X → Y) where
-  pub cons-map : (l : List X) → IsCons l → IsCons (map f l)
-  cons-map [] h = h
-  cons-map (x ∷ l) h = tt
 
 -- ---- constants
 

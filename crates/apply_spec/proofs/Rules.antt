@@ -8,7 +8,7 @@ use native.Mathlib.Omega.{arith}
 use native.Mathlib.Decide.{ℕ-discrete}
 use lib.ListN.{length-map}
 use Rattle.base_limits.specs.Limits.{mostItems}
-use Rattle.base_lists.specs.Seqs.{All, IsCons}
+use Rattle.base_lists.specs.Seqs.{All, IsCons, cons-map}
 use Rattle.math_types.specs.Types.{Kind, basics}
 use Rattle.math_terms.specs.Fillings.{Filling, Typed, fill}
 use Rattle.math_terms.specs.Linear.{LeftLinear}
@@ -21,7 +21,7 @@ use Rattle.text_grammar.specs.rules.Read.{OurRule}
 use Rattle.text_grammar.specs.rules.Limits.{IsRule}
 use Rattle.apply_spec.specs.Carrying.{Short, Over, result, unmatched, tooLong, limited}
 use Rattle.apply_spec.specs.Rules.{OurSlip, Readable, carried}
-use Rattle.apply_spec.proofs.Fills.{cons-map, values-in, fills-in}
+use Rattle.apply_spec.proofs.Fills.{values-in, fills-in}
 use Rattle.apply_spec.proofs.Slips.{readable, readable-ours, terms-ours}
 use Rattle.apply_spec.proofs.Carrying as theory
 
@@ -36,21 +36,21 @@ pub carried-no : (r : OurRule) (w : OurSlip) → matcher (r .0) w ≡ none → c
 carried-no r w e = theory.carried-no basics consts ℕ-discrete mostItems (r .0) w (r .1) e
 
 module _ (r : OurRule) (w : OurSlip) where
-  -- a yes tells that there is a right side
-  pub yes-right : (s : OurSlip) → carried r w ≡ result s → IsCons (r .1)
-  yes-right s e = go (r .1) (no-right r w)
+  -- what is no no tells that there is a right side
+  right-there : (carried r w ≡ unmatched → ⊥) → IsCons (r .1)
+  right-there h = go (r .1) (no-right r w)
     where
       go : (y : List (List OurTerm)) → ((IsCons y → ⊥) → carried r w ≡ unmatched) → IsCons y
-      go [] n = absurd (theory.unmatched≢result (sym (n (λ h. h)) ∙ e))
+      go [] n = absurd (h (n (λ i. i)))
       go (f ∷ y) n = tt
+
+  -- a yes does
+  pub yes-right : (s : OurSlip) → carried r w ≡ result s → IsCons (r .1)
+  yes-right s e = right-there (λ n. theory.unmatched≢result (sym n ∙ e))
 
   -- so does an 11
   pub over-right : carried r w ≡ tooLong → IsCons (r .1)
-  over-right e = go (r .1) (no-right r w)
-    where
-      go : (y : List (List OurTerm)) → ((IsCons y → ⊥) → carried r w ≡ unmatched) → IsCons y
-      go [] n = absurd (theory.unmatched≢over (sym (n (λ h. h)) ∙ e))
-      go (f ∷ y) n = tt
+  over-right e = right-there (λ n. theory.unmatched≢over (sym n ∙ e))
 
 -- ---- of a rule that reading returns
 

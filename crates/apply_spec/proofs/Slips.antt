@@ -5,7 +5,7 @@ use Prim.Native.Nat.{_≤_}
 use native.Mathlib.Omega.{arith}
 use lib.ListN.{length, length-map}
 use Rattle.base_limits.specs.Limits.{mostFields, mostItems}
-use Rattle.base_lists.specs.Seqs.{All, IsCons, all-map}
+use Rattle.base_lists.specs.Seqs.{All, IsCons, all-map, cons-map}
 use Rattle.math_terms.specs.Terms.{con, var}
 use Rattle.text_grammar.specs.Terms.{Con, OurTerm}
 use Rattle.text_grammar.specs.Limits.{TermIn, IsCon}
@@ -14,7 +14,6 @@ use Rattle.math_overlaps.specs.Constants.{ConstantIn}
 use Rattle.overlap_spec.specs.Fits.{OurCon}
 use Rattle.apply_spec.specs.Carrying.{Short}
 use Rattle.apply_spec.specs.Rules.{OurSlip, Readable}
-use Rattle.apply_spec.proofs.Fills.{cons-map}
 
 -- the limit of results is the limit of reading
 widths-con : (s : OurSlip) → Short mostItems s ↔ All (λ f. length f ≤ slip .width) (map (map {B = OurTerm} con) s)

@@ -1,3 +1,4 @@
+pub mod Arrays
 pub mod Equality
 pub mod Seqs
 pub mod Tables

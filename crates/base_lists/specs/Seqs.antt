@@ -1,7 +1,7 @@
 -- Every member, some member, none: predicates on lists that compute, and their decisions; the list of a function's values.
 use mathlib.Core.Path.{_≡_, refl, sym, _∙_, ap₂}
-use mathlib.Core.Logic.{_⊎_, inl, inr}
-use mathlib.Core.List.{List, [], _∷_, _++_, map}
+use mathlib.Core.Logic.{_↔_, _⊎_, inl, inr}
+use mathlib.Core.List.{List, [], _∷_, _++_, map, List·Memᴰ, List·Memᴰ·head, List·Memᴰ·tail, List·Memᴰ·not-nil, List·Memᴰ·cases-cons}
 use Prim.Native.Nat.{ℕ, zero, suc, _<_}
 use native.Mathlib.Omega.{arith}
 use lib.ListN.{length, getD, length-map}
@@ -42,6 +42,23 @@ module _ {A : Type 0} where
   all-map P Q f [] p = tt
   all-map P Q f (x ∷ s) p = (f x (p .0), all-map P Q f s (p .1))
 
+  -- what every member has, each has
+  pub all-mem : (P : A → Type 0) (s : List A) → All P s → (x : A) → List·Memᴰ x s → P x
+  all-mem P (y ∷ s) h x (List·Memᴰ·head e) = rw e (h .0)
+  all-mem P (y ∷ s) h x (List·Memᴰ·tail m) = all-mem P s (h .1) x m
+
+  pub any-left : (P : A → Type 0) (s t : List A) → Any P s → Any P (s ++ t)
+  any-left P (x ∷ s) t (inl p) = inl p
+  any-left P (x ∷ s) t (inr a) = inr (any-left P s t a)
+
+  pub any-right : (P : A → Type 0) (s t : List A) → Any P t → Any P (s ++ t)
+  any-right P [] t a = a
+  any-right P (x ∷ s) t a = inr (any-right P s t a)
+
+  pub any-map : (P Q : A → Type 0) → ((x : A) → P x → Q x) → (s : List A) → Any P s → Any Q s
+  any-map P Q f (x ∷ s) (inl p) = inl (f x p)
+  any-map P Q f (x ∷ s) (inr a) = inr (any-map P Q f s a)
+
   unfoldable pub all? : (P : A → Type 0) → ((x : A) → Dec (P x)) → (s : List A) → Dec (All P s)
   all? P d [] = yes tt
   all? P d (x ∷ s) = go (d x) (all? P d s)
@@ -64,10 +81,39 @@ module _ {A : Type 0} where
       go (no n) (yes p) = yes (inr p)
       go (no n) (no k) = no (neither n k)
 
+module _ {A : Type 0} (eq : Discrete A) where
+  -- whether x is a member
+  abbrev pub mem? : (x : A) (u : List A) → Dec (List·Memᴰ x u)
+  mem? x [] = no (λ i. List·Memᴰ·not-nil i)
+  mem? x (y ∷ u) = join (eq x y) (mem? x u)
+    where
+      neither : (x ≡ y → ⊥) → (List·Memᴰ x u → ⊥) → (x ≡ y) ⊎ List·Memᴰ x u → ⊥
+      neither a b (inl e) = a e
+      neither a b (inr i) = b i
+
+      join : Dec (x ≡ y) → Dec (List·Memᴰ x u) → Dec (List·Memᴰ x (y ∷ u))
+      join (yes e) d = yes (List·Memᴰ·head e)
+      join (no a) (yes i) = yes (List·Memᴰ·tail i)
+      join (no a) (no b) = no (λ i. neither a b (List·Memᴰ·cases-cons i))
+
 abbrev pub both? : {A B : Type 0} → Dec A → Dec B → Dec (A × B)
 both? (yes a) (yes b) = yes (a, b)
 both? (yes a) (no n) = no (λ h. n (h .1))
 both? (no n) d = no (λ h. n (h .0))
+
+module _ {A : Type 0} where
+  pub cons-is : (xs : List A) → (0 < length xs) ↔ IsCons xs
+  cons-is [] = (λ h. omega arith, λ h. absurd h)
+  cons-is (x ∷ xs) = (λ h. tt, λ h. omega arith)
+
+module _ {A B : Type 0} where
+  pub all-mapped : (P : B → Type 0) (g : A → B) (s : List A) → All (λ x. P (g x)) s → All P (map g s)
+  all-mapped P g [] h = tt
+  all-mapped P g (x ∷ s) h = (h .0, all-mapped P g s (h .1))
+
+  pub cons-map : (f : A → B) (l : List A) → IsCons l → IsCons (map f l)
+  cons-map f [] h = h
+  cons-map f (x ∷ l) h = tt
 
 -- what owning an array of structs tells: its length is that of the list under a map
 pub long-mapped : {A B : Type 0} (g : A → B) (l : List A) (n : ℕ) → length (map g l) ≡ n → length l ≡ n

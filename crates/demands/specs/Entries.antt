@@ -4,34 +4,33 @@ use mathlib.Core.Logic.{inl, inr}
 use mathlib.Core.Bool.{Bool, true, false, cond}
 use mathlib.Core.Option.{some}
 use mathlib.Core.List.{List, [], _∷_, _++_, map, List·Memᴰ, Memᴰ·map, Memᴰ·of-map}
-use Prim.Native.Nat.{ℕ, suc, _≤_, _<_}
+use Prim.Native.Nat.{ℕ, suc, _≤_}
 use native.Mathlib.Omega.{arith}
 use native.Mathlib.Decide.{ℕ-discrete}
 use lib.ListN.{length, getElem?}
 use Rattle.base_limits.specs.Limits.{largestNumber, largestEntryNumber, entryTerms}
-use Rattle.base_lists.specs.Seqs.{All, Any, IsCons}
-use Rattle.math_types.specs.Order.{Full, basic, list}
+use Rattle.base_lists.specs.Seqs.{All, Any}
+use Rattle.math_types.specs.Order.{basic, list}
 use Rattle.math_types.specs.Types.{Kind, basics}
 use Rattle.math_terms.specs.Terms.{Term, con, var}
 use Rattle.math_terms.specs.Fillings.{Filling, Typed, fill, Occurs}
 use Rattle.math_terms.specs.Linear.{LeftLinear}
 use Rattle.math_terms.proofs.Fillings.{fills-agree}
 use Rattle.text_grammar.specs.Terms.{Con, OurTerm}
-use Rattle.text_grammar.specs.Limits.{TermIn, IsLeft}
+use Rattle.text_grammar.specs.Limits.{IsLeft}
 use Rattle.text_grammar.specs.constants.Constants.{consts, some-of, some-of-le}
 use Rattle.text_grammar.proofs.constants.Linear.{left-linear}
 use Rattle.math_overlaps.specs.Substitutions.{Subst, substitute, TermsOf, TypedSubst}
 use Rattle.math_overlaps.specs.Overlaps.{overlaps}
 use Rattle.math_overlaps.specs.Solutions as theory
-use Rattle.math_overlaps.proofs.Seqs.{at-in}
 use Rattle.math_overlaps.proofs.Overlaps as entries
 use Rattle.overlap_spec.specs.Lines.{Binding, Line}
 use Rattle.overlap_spec.specs.Variables.{Variable, numbers, every, occurs, variables}
-use Rattle.overlap_spec.specs.Overlaps.{OurEntry, entriesOf, bindingsOf, lineOf, linesOf}
+use Rattle.overlap_spec.specs.Overlaps.{OurEntry, bindingsOf, lineOf, linesOf}
 use Rattle.overlap_spec.specs.Fits.{Solution}
 use Rattle.overlap_spec.proofs.Variables.{numbers-mem, every-mem, occurs-is, in-variables}
 use Rattle.overlap_spec.proofs.Rising.{keep-mem}
-use Rattle.overlap_spec.proofs.Exact.{entries-are}
+use Rattle.overlap_spec.proofs.Exact.{entry-of, entry-fills}
 
 -- ---- the fillings that an entry shows
 
@@ -77,30 +76,14 @@ module _ (r₁ r₂ : List (List OurTerm)) (is₁ : IsLeft r₁) (is₂ : IsLeft
   lin₂ = left-linear r₂ (is₂ .1)
 
   -- the line at a place is that of an entry
-  entry-of : (i : ℕ) (l : Line) → getElem? (linesOf r₁ r₂) i ≡ some l
-      → (e : OurEntry) × List·Memᴰ e (overlaps basics consts ℕ-discrete r₁ r₂) × (lineOf r₁ r₂ e ≡ l)
-  entry-of i l h =
-      let m = Memᴰ·of-map (lineOf r₁ r₂) (entriesOf r₁ r₂) (at-in (linesOf r₁ r₂) i l h) in
-      (m .0, subst (λ (es : List OurEntry). List·Memᴰ (m .0) es) (entries-are r₁ r₂ (is₁ .0 .0)) (m .1), m .2)
-
   pub lines-filled : (i : ℕ) (l : Line) → getElem? (linesOf r₁ r₂) i ≡ some l → (w : List (List Con)) (ψ : Filling Con Kind ℕ)
       → Typed basics consts ψ → map (fill ψ) (l .fields) ≡ w → Filled r₁ (l .left) ψ w × Filled r₂ (l .right) ψ w
-  lines-filled i l p w ψ t h = subst (λ (x : Line). Filled r₁ (x .left) ψ w × Filled r₂ (x .right) ψ w) (e .2) (
-    filled-by r₁ is₁ (e .0 .left) ψ w (a .0) (a .1),
-    filled-by r₂ is₂ (e .0 .right) ψ w (b .0) (b .1),
-  )
-    where
-      e : (e : OurEntry) × List·Memᴰ e (overlaps basics consts ℕ-discrete r₁ r₂) × (lineOf r₁ r₂ e ≡ l)
-      e = entry-of i l p
-
-      fills : map (fill ψ) (e .0 .fields) ≡ w
-      fills = subst (λ (x : Line). map (fill ψ) (x .fields) ≡ w) (sym (e .2)) h
-
-      a : Typed basics consts (λ k n. fill ψ (e .0 .left k n)) × (map (fill (λ k n. fill ψ (e .0 .left k n))) r₁ ≡ w)
-      a = entries.fillings-left basics consts ℕ-discrete r₁ r₂ lin₁ lin₂ (e .0) (e .1) w ψ t fills
-
-      b : Typed basics consts (λ k n. fill ψ (e .0 .right k n)) × (map (fill (λ k n. fill ψ (e .0 .right k n))) r₂ ≡ w)
-      b = entries.fillings-right basics consts ℕ-discrete r₁ r₂ lin₁ lin₂ (e .0) (e .1) w ψ t fills
+  lines-filled i l p w ψ t h =
+      let e = entry-fills r₁ r₂ is₁ is₂ i l p w ψ t h in
+      subst (λ (x : Line). Filled r₁ (x .left) ψ w × Filled r₂ (x .right) ψ w) (e .1) (
+        filled-by r₁ is₁ (e .0 .left) ψ w (e .2 .0) (e .2 .1),
+        filled-by r₂ is₂ (e .0 .right) ψ w (e .3 .0) (e .3 .1),
+      )
 
   -- a rule's variables have the numbers 0 to 15
   number-in : (r : List (List OurTerm)) → IsLeft r → (k : Kind) (n : ℕ) → Any (Occurs k n) r → List·Memᴰ n numbers
@@ -113,7 +96,7 @@ module _ (r₁ r₂ : List (List OurTerm)) (is₁ : IsLeft r₁) (is₂ : IsLeft
   lines-sized i l p = subst Sized (e .2) (record { short = short; small = small })
     where
       e : (e : OurEntry) × List·Memᴰ e (overlaps basics consts ℕ-discrete r₁ r₂) × (lineOf r₁ r₂ e ≡ l)
-      e = entry-of i l p
+      e = entry-of r₁ r₂ is₁ is₂ i l p
 
       short : All (λ f. length f ≤ entryTerms) (e .0 .fields)
       short = entries.fields-short basics consts ℕ-discrete r₁ r₂ lin₁ lin₂ (is₁ .0 .2) (is₂ .0 .2) (e .0) (e .1)

@@ -5,7 +5,7 @@
 --     match_rules::match_side   answers `matchOf (countedLeft x) (countedSlip w)`
 -- A rule matches as its left side does; so the theorem is first had of one side, and then of the rule's left side.
 use mathlib.Core.Path.{_≡_, refl, sym, _∙_, ap, ap₂, subst}
-use mathlib.Core.Logic.{_↔_, Iff·trans, inl, inr}
+use mathlib.Core.Logic.{_↔_, Iff·trans}
 use mathlib.Core.Bool.{Bool, true, false, cond, false≢true}
 use mathlib.Core.Option.{Option, none, some, IsSome}
 use mathlib.Core.List.{List, [], _∷_, map}
@@ -16,14 +16,14 @@ use Rattle.base_limits.specs.Limits.{largestNumber}
 use Rattle.base_lists.specs.Seqs.{All, Any}
 use Rattle.math_types.specs.Order.{basic, list}
 use Rattle.math_types.specs.Types.{Basic, Kind, basics}
-use Rattle.math_terms.specs.Terms.{con, var}
+use Rattle.math_terms.specs.Terms.{con}
 use Rattle.math_terms.specs.Fillings.{Filling, Typed, fill, Occurs}
 use Rattle.math_terms.specs.Laws.{expr}
 use Rattle.math_terms.specs.Matching.{MatchesByLaws}
 use Rattle.math_terms.specs.Matcher.{complete}
 use Rattle.text_grammar.specs.Grammar.{Raw, Says}
 use Rattle.text_grammar.specs.Terms.{Con, OurTerm, fieldsOf}
-use Rattle.text_grammar.specs.Limits.{TermIn, IsCon, IsLeft, IsSlip}
+use Rattle.text_grammar.specs.Limits.{IsCon, IsLeft, IsSlip}
 use Rattle.text_grammar.specs.Read.{OutcomeOf, Outcome, refused, accepted, readSide, readSlip}
 use Rattle.text_grammar.proofs.Parse.{says-one}
 use Rattle.text_grammar.proofs.Accepted.{rule-read, slip-read}
@@ -39,6 +39,7 @@ use Rattle.text_grammar.specs.constants.Matching.{constants, Matches, matcher}
 use Rattle.text_grammar.specs.constants.Written.{writtenField}
 use Rattle.text_grammar.proofs.constants.Written.{written-matches, terms-matches}
 use Rattle.text_grammar.proofs.constants.Matching.{match-iff, match-is, match-yes, match-blank}
+use Rattle.text_grammar.proofs.Limited.{number-rule}
 use Rattle.text_values.specs.declared.RuleSide.{RuleSide}
 use Rattle.text_values.specs.declared.Rule.{Rule}
 use Rattle.text_values.specs.declared.Slip.{Slip}
@@ -85,29 +86,14 @@ pub record Shows (rule : List (List OurTerm)) (slip : List (List Con)) (value : 
   -- so the value is that of φ
   pub settled : value ≡ record { values = encodeValues φ; runs = runsOf rule slip }
 
--- a variable of a rule has a number from 0 to 15
-occurs-in : (k : Kind) (n : ℕ) (f : List OurTerm) → All TermIn f → Occurs k n f → n ≤ largestNumber
-occurs-in k n [] i o = absurd o
-occurs-in k n (con c ∷ f) i o = occurs-in k n f (i .1) o
-occurs-in k n (var j m ∷ f) i (inl p) = omega (arith, i .0, p .1)
-occurs-in k n (var j m ∷ f) i (inr o) = occurs-in k n f (i .1) o
-
-number-in : (k : Kind) (n : ℕ) (r : List (List OurTerm)) → All (All TermIn) r → Any (Occurs k n) r → n ≤ largestNumber
-number-in k n [] i o = absurd o
-number-in k n (f ∷ r) i (inl o) = occurs-in k n f (i .0) o
-number-in k n (f ∷ r) i (inr o) = number-in k n r (i .1) o
-
 module _ (rule : List (List OurTerm)) (is-rule : IsLeft rule) (slip : List (List Con)) (φ : Filling Con Kind ℕ)
     (yes-φ : matcher rule slip ≡ some φ)
   where
     abbrev shown : FillingValue
     shown = record { values = encodeValues φ; runs = runsOf rule slip }
 
-    blank-of : (k : Kind) (n : ℕ) → (Any (Occurs k n) rule → ⊥) → φ k n ≡ []
-    blank-of = match-blank rule (is-rule .1) slip φ yes-φ
-
     number-of : (k : Kind) (n : ℕ) → Any (Occurs k n) rule → n ≤ largestNumber
-    number-of k n o = number-in k n rule (is-rule .0 .3) o
+    number-of k n o = number-rule k n rule (is-rule .0 .3) o
 
     shows : Shows rule slip shown φ
     shows = record {
@@ -124,10 +110,10 @@ module _ (rule : List (List OurTerm)) (is-rule : IsLeft rule) (slip : List (List
         run-items rule (is-rule .1) slip φ yes-φ n (number-of list n o) o,
         run-lies rule (is-rule .1) slip φ yes-φ n (number-of list n o) o,
       );
-      lacking = blank-of;
+      lacking = match-blank rule (is-rule .1) slip φ yes-φ;
       blank-atoms = λ k n h o. (
-        known-at φ k n h ∙ ap isKnown (blank-of (basic k) n o),
-        atom-at φ k n h ∙ ap valueTerm (blank-of (basic k) n o),
+        known-at φ k n h ∙ ap isKnown (match-blank rule (is-rule .1) slip φ yes-φ (basic k) n o),
+        atom-at φ k n h ∙ ap valueTerm (match-blank rule (is-rule .1) slip φ yes-φ (basic k) n o),
       );
       blank-runs = λ n o. run-blank rule slip n o;
       settled = refl;

@@ -1,13 +1,12 @@
 -- DEMAND 3 OF `pairs`: what it prints for one line is the list of demand 3 under its title, or one line in the list's place.
 -- Over the relation that the contract of `print_pairs::pair_answer` cites, for line number k, the line t and the lent bytes `old`:
 -- `Writes (pairAnswer k t) old r new`.
-use mathlib.Core.Path.{_≡_, refl, sym, _∙_, ap, ap₂, subst}
+use mathlib.Core.Path.{_≡_, refl, _∙_, ap, ap₂, subst}
 use mathlib.Core.Bool.{Bool, true, cond}
 use mathlib.Core.Option.{none, some}
 use mathlib.Core.List.{List, [], _∷_, _++_}
 use Prim.Native.Nat.{ℕ, suc, _≤_, _<_}
-use native.Mathlib.Omega.{arith}
-use native.Mathlib.Decide.{decLt}
+use native.Mathlib.Omega.{arith, by-contra}
 use lib.Dec.{leb}
 use lib.ListN.{length, take, drop, length-take, length-drop}
 use lib.Seq.{take-at, drop-at}
@@ -55,11 +54,7 @@ prints {text} {old} {r} {new} is room =
 
 -- a text that is read as a rule has at most 4,096 bytes
 read-short : (t : List ℕ) (x : OurRule) → readRule t ≡ accepted x → length t ≤ rule .bytes
-read-short t x e = go (decLt (rule .bytes) (length t))
-  where
-    go : Dec (rule .bytes < length t) → length t ≤ rule .bytes
-    go (yes h) = absurd (rule-accepted t x .0 e .0 .0 (rule .bytes) (h, refl))
-    go (no h) = omega arith
+read-short t x e = by-contra (length t) (rule .bytes) (λ h. rule-accepted t x .0 e .0 .0 (rule .bytes) (h, refl))
 
 -- so a line of two of them is not too long
 both-short : (t : List ℕ) (x y : OurRule) → readRule (leftPart t) ≡ accepted x → readRule (rightPart t) ≡ accepted y

@@ -10,7 +10,7 @@ use mathlib.Core.Path.{_≡_, refl, sym, _∙_, ap, ap₂, subst}
 use mathlib.Core.Logic.{_≢_, _↔_, _⊎_, inl, inr}
 use mathlib.Core.Bool.{Bool, true, false, cond}
 use mathlib.Core.Option.{Option, none, some, Option·none-ne-some, Option·some-injective}
-use mathlib.Core.List.{List, [], _∷_, _++_, map, map-append, head-eq-of-cons-eq, tail-eq-of-cons-eq, nil≢cons, cons≢nil}
+use mathlib.Core.List.{List, [], _∷_, _++_, map, head-eq-of-cons-eq}
 use mathlib.Core.List.{List·Memᴰ, List·Memᴰ·not-nil}
 use Prim.Native.Nat.{ℕ, suc, _≤_, _<_}
 use native.Mathlib.Omega.{arith}
@@ -26,7 +26,7 @@ use Rattle.math_terms.specs.Terms.{con}
 use Rattle.math_terms.specs.Seqs.{concat-map}
 use Rattle.math_terms.specs.Fillings.{Filling, Typed, value, fill}
 use Rattle.math_terms.specs.Laws.{_≈_, flat, replace}
-use Rattle.math_terms.proofs.Laws.{laws, flat-replace}
+use Rattle.math_terms.proofs.Laws.{laws, flat-replace, filled-terms, cons-once}
 use Rattle.text_grammar.specs.Told.{Told}
 use Rattle.text_grammar.specs.Grammar.{Raw, Says}
 use Rattle.text_grammar.specs.Terms.{Con, OurTerm, fieldsOf}
@@ -417,20 +417,6 @@ module _ (v w : Field) (records : List Problem) (old : List ℕ) (r : Searched) 
 -- what a filling gives a term, as terms
 abbrev pub filledTerm : Filling Con Kind ℕ → OurTerm → List OurTerm
 filledTerm φ t = map con (value φ t)
-
-filled-terms : (φ : Filling Con Kind ℕ) (f : List OurTerm) → concat-map (filledTerm φ) f ≡ map con (fill φ f)
-filled-terms φ [] = refl
-filled-terms φ (t ∷ f) = ap (λ (l : List OurTerm). filledTerm φ t ++ l) (filled-terms φ f) ∙ sym (map-append con (value φ t) (fill φ f))
-
-con-once : {c d : Con} → _≡_ {A = OurTerm} (con c) (con d) → c ≡ d
-con-once e = cc
-
-cons-once : (a b : List Con) → _≡_ {A = List OurTerm} (map con a) (map con b) → a ≡ b
-cons-once [] [] e = refl
-cons-once [] (d ∷ b) e = absurd (nil≢cons e)
-cons-once (c ∷ a) [] e = absurd (cons≢nil e)
-cons-once (c ∷ a) (d ∷ b) e = ap₂ (λ (x : Con) (l : List Con). x ∷ l) (con-once (head-eq-of-cons-eq e))
-    (cons-once a b (tail-eq-of-cons-eq e))
 
 -- texts t and u that say one field each, x and y, and are read as rules with the fields f and g and without right side
 module _ (t u : List ℕ) (f g : List OurTerm) (reads-t : readRule t ≡ accepted (f ∷ [], [])) (reads-u : readRule u ≡ accepted (g ∷ [], []))

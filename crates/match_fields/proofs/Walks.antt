@@ -3,13 +3,13 @@ use mathlib.Core.Path.{_≡_, refl, sym, _∙_, ap, ap₂, subst}
 use mathlib.Core.Bool.{Bool, true, false, cond, not, false≢true}
 use mathlib.Core.List.{List, [], _∷_, foldl}
 use Prim.Native.Nat.{ℕ, _+_, _-_, _*_, _<_, _≤_, min}
-use native.Mathlib.Numerals.{add-one}
 use native.Mathlib.Omega.{arith}
 use borrow.Author.Tests.{not-true, not-false, eqb-true, leb-true}
 use lib.Dec.{eqb, leb}
-use lib.ListN.{length, getD, take, drop, length-take, drop-of-length-le, List·getD-eq-default}
-use lib.Seq.{drop-cons, getD-take}
+use lib.ListN.{length, getD, take, drop, length-take, List·getD-eq-default}
+use lib.Seq.{getD-take}
 use Rattle.base_limits.specs.Limits.{mostItems}
+use Rattle.base_lists.specs.Arrays.{entry-any, here, no-more}
 use Rattle.math_types.specs.Order.{basic, list}
 use Rattle.math_types.specs.Types.{Kind, isList}
 use Rattle.math_types.specs.Values.{kindOf}
@@ -18,7 +18,6 @@ use Rattle.text_values.specs.declared.Form.the-variants.{Int, Str, Var}
 use Rattle.text_values.specs.declared.Term.{Term}
 use Rattle.text_values.specs.Values.{blankTerm}
 use Rattle.match_fields.specs.declared.bindings.Values.{Values}
-use Rattle.match_fields.proofs.bindings.Entries.{entry-any}
 use Rattle.match_fields.specs.declared.items.Tested.{Tested}
 use Rattle.match_fields.specs.items.Tests.{testVar, testBy, tested}
 use Rattle.match_fields.specs.declared.Shape.{Shape}
@@ -39,16 +38,6 @@ item-past n s p w e h = List·getD-eq-default (take n s) blankTerm {n = p} (omeg
 
 pub item-is : (n : ℕ) (s : List Term) (p w : ℕ) (d : Term) → length s ≡ w → p < n → p < w → getD s p d ≡ getD (take n s) p blankTerm
 item-is n s p w d e h k = entry-any s p d blankTerm (omega arith) ∙ sym (getD-take n s p blankTerm h)
-
--- the member at i of the first n of s, and those behind it
-module _ {A : Type 0} (n : ℕ) (s : List A) (i : ℕ) (d : A) (h : i < n) (k : i < length s) where
-  pub here : drop i (take n s) ≡ getD s i d ∷ drop (i + 1) (take n s)
-  here =
-      let l : i < length (take n s) = omega (arith, length-take n s) in
-      rw (add-one, drop-cons (take n s) i d l, getD-take n s i d h)
-
-pub no-more : (n : ℕ) (s : List Term) (w : ℕ) → length s ≡ w → (i : ℕ) → min n w ≤ i → drop i (take n s) ≡ []
-no-more n s w e i h = drop-of-length-le (take n s) {i = i} (omega (arith, length-take n s))
 
 -- ---- counting the atoms
 
@@ -71,7 +60,7 @@ module _ (n : ℕ) (s : List Term) (w : ℕ) where
       (v .0, omega (arith, b .0, v .1), omega (arith, b .1, v .2), v .3 ∙ ap (foldl shapeWith x) (here n s i d (omega arith) (omega (arith, v .0))))
 
   pub counted-all : (i : ℕ) (x : Shape) → Counted i x → min n w ≤ i → x ≡ shapeOf (take n s)
-  counted-all i x v h = sym (v .3 ∙ ap (foldl shapeWith x) (no-more n s w (v .0) i h))
+  counted-all i x v h = sym (v .3 ∙ ap (foldl shapeWith x) (no-more n s w i (v .0) h))
 
 -- ---- testing the terms
 
@@ -160,7 +149,7 @@ module _ (gap : ℕ) (items : List Term) (n : ℕ) (s : List Term) (w : ℕ) (v�
   pub reached-all : (i p c : ℕ) (v : Values) → Reached i p c v → min n w ≤ i
       → record { tested = record { ok = true; values = v }; compared = c } ≡ walkProgress gap items (take n s) v₀
   reached-all i p c v r h =
-      let z = no-more n s w (r .0) i h in
+      let z = no-more n s w i (r .0) h in
       ap₂ (λ (y : Tested) (k : ℕ). record { tested = y; compared = k })
       (sym (r .3 ∙ ap (λ (f : List Term). walked gap items f p v) z))
       (sym (r .4 ∙ ap (λ (f : List Term). c + walkCompared gap items f p v) z ∙ omega arith))

@@ -21,13 +21,14 @@ use Rattle.text_values.specs.declared.SlipField.{SlipField}
 use Rattle.text_values.specs.declared.RuleSide.{RuleSide}
 use Rattle.text_values.specs.declared.Slip.{Slip}
 use Rattle.text_values.specs.Values.{blankField, blankSlipField, encodeField, encodeSlipField, encodeSide, encodeSlip, viewSide, viewSlip}
+use Rattle.text_values.proofs.Pads.{unpadded}
 use Rattle.text_accepted.specs.Accepted.{acceptedLeft, countedLeft}
 use Rattle.text_accepted.specs.slips.Slips.{acceptedSlip, countedSlip}
 use Rattle.text_accepted.proofs.Accepted.{FieldIn, rule-is, accepted-rule}
 use Rattle.text_accepted.proofs.slips.Slips.{slip-is, accepted-slip}
 use Rattle.match_rules.specs.declared.Match.{Match}
 use Rattle.match_rules.specs.Answers.{noMatch, found, matchOf, comparison, noComparison, comparisonBy, comparisonOn}
-use Rattle.match_rules.proofs.Agree.{unpadded, encodeItems}
+use Rattle.match_rules.proofs.Agree.{encodeItems}
 use Rattle.match_rules.proofs.Found.{comparison-on}
 
 -- ---- the fields of a value

@@ -4,7 +4,7 @@ use mathlib.Core.Logic.{_≢_, ite}
 use mathlib.Core.Bool.{Bool, true, false, cond, _&&_, false≢true}
 use mathlib.Core.Option.{Option, none, some}
 use mathlib.Core.List.{List, [], _∷_, map, map-map}
-use Prim.Native.Nat.{ℕ, zero, suc, _+_, _-_, _<_, _≤_}
+use Prim.Native.Nat.{ℕ, _+_, _-_, _<_, _≤_}
 use native.Mathlib.Omega.{arith}
 use native.Mathlib.Decide.{ℕ-discrete}
 use borrow.Author.Tests.{eq-eqb, ne-eqb, eqb-true}
@@ -13,6 +13,7 @@ use lib.ListN.{length, getD, set, take, drop, replicate, length-set, length-map,
 use lib.Seq.{getD-set-same, getD-set-other, take-at}
 use Rattle.base_limits.specs.Limits.{mostTerms, longestString, largestNumber, mostItems, atomPlaces}
 use Rattle.base_lists.specs.Seqs.{All, both?}
+use Rattle.base_lists.specs.Arrays.{mapped-at}
 use Rattle.math_types.specs.Order.{basic, list, full-eq}
 use Rattle.math_types.specs.Types.{Basic, basic-eq, Kind, rank, rank-basic, rank-once, le, basics}
 use Rattle.math_types.specs.Values.{kindOf, kindFrom, kindOf-from}
@@ -28,6 +29,7 @@ use Rattle.text_grammar.specs.constants.Constants.{con-eq, kind-of, consts}
 use Rattle.text_values.specs.declared.SlipField.{SlipField}
 use Rattle.text_values.specs.Values.{pad, blankTerm, encodeTerm, encodeField, encodeSlipField}
 use Rattle.text_values.specs.declared.Term.{Term as TermValue}
+use Rattle.text_values.proofs.Pads.{unpadded}
 use Rattle.match_fields.specs.declared.bindings.Values.{Values}
 use Rattle.match_fields.specs.bindings.Values.{slot}
 use Rattle.match_fields.specs.declared.items.Tested.{Tested}
@@ -194,11 +196,6 @@ go-on : (r : Tested) (o : Option (Filling Con Kind ℕ)) (k : Values → Tested)
 go-on r none k g a f = subst (λ (b : Bool). (pick b (k (r .values)) r) .ok ≡ false) (sym a) a
 go-on r (some ψ) k g a f = subst (λ (b : Bool). Agrees (pick b (k (r .values)) r) (g ψ)) (sym (a .0)) (f (r .values) ψ (a .1))
 
-item-enc : (w : List Con) (p : ℕ) (d : Con) → p < length w → getD (map enc w) p blankTerm ≡ enc (getD w p d)
-item-enc [] p d h = absurd (omega arith)
-item-enc (c ∷ w) zero d h = refl
-item-enc (c ∷ w) (suc p) d h = item-enc w p d (omega arith)
-
 pub width-enc : (gap : ℕ) (u : OurTerm) → widthOf gap (encodeTerm u) ≡ width gap u
 width-enc gap (con (int n)) = refl
 width-enc gap (con (str s)) = refl
@@ -212,19 +209,19 @@ zero-con = int 0
 pub test-agrees : (gap : ℕ) (w : List Con) (p : ℕ) (u : OurTerm) (v : Values) (φ : Filling Con Kind ℕ) → TermIn u → Holds v φ → p + width gap u ≤ length w
     → Agrees (tested (encodeTerm u) (getD (map enc w) p blankTerm) v) (test basics consts ℕ-discrete gap w p u φ)
 test-agrees gap w p (con (int m)) v φ i h l =
-    let e = item-enc w p (int 0) (omega arith) in
+    let e = mapped-at enc w p (int 0) blankTerm (omega arith) in
     let q = item-at w p (int 0) (omega arith) in
     subst (λ (o : Option Con). Agrees (record { ok = sameTerm (enc (int m)) (getD (map enc w) p blankTerm); values = v })
     (andThen o (λ c. same basics consts ℕ-discrete (int m) c φ))) (sym q)
     (same-agrees v φ (int m) (getD w p (int 0)) (con-eq (getD w p (int 0)) (int m)) _ (ap (sameTerm (enc (int m))) e) h)
 test-agrees gap w p (con (str s)) v φ i h l =
-    let e = item-enc w p (int 0) (omega arith) in
+    let e = mapped-at enc w p (int 0) blankTerm (omega arith) in
     let q = item-at w p (int 0) (omega arith) in
     subst (λ (o : Option Con). Agrees (record { ok = sameTerm (enc (str s)) (getD (map enc w) p blankTerm); values = v })
     (andThen o (λ c. same basics consts ℕ-discrete (str s) c φ))) (sym q)
     (same-agrees v φ (str s) (getD w p (int 0)) (con-eq (getD w p (int 0)) (str s)) _ (ap (sameTerm (enc (str s))) e) h)
 test-agrees gap w p (var (basic k) n) v φ i h l =
-    let e = item-enc w p (int 0) (omega arith) in
+    let e = mapped-at enc w p (int 0) blankTerm (omega arith) in
     let q = item-at w p (int 0) (omega arith) in
     subst (λ (o : Option Con). Agrees (testVar (kindOf (kindFrom (basic k))) n (getD (map enc w) p blankTerm) v)
     (andThen o (λ c. meets basics consts ℕ-discrete k n (φ (basic k) n) c φ))) (sym q)
@@ -266,10 +263,6 @@ field-agrees f w v φ i o h =
     go false e = refl
 
 -- ---- the fields
-
--- the used places of a padded array
-pub unpadded : {A B : Type 0} (w : ℕ) (d : B) (g : A → B) (s : List A) → take (length s) (pad w d (map g s)) ≡ map g s
-unpadded w d g s = take-at (map g s) (replicate (w - length (map g s)) d) (length s) (length-map s g)
 
 pub terms-of : (u : List OurTerm) → termsOf (encodeField u) ≡ map encodeTerm u
 terms-of u = unpadded mostTerms blankTerm encodeTerm u

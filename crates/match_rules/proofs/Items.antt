@@ -5,6 +5,7 @@ use Prim.Native.Nat.{ℕ, zero, suc, _-_}
 use lib.ListN.{length, getD, take, drop, replicate}
 use Rattle.base_limits.specs.Limits.{mostItems}
 use Rattle.base_lists.specs.Seqs.{All}
+use Rattle.base_lists.specs.Arrays.{map-take, map-drop, getD-blank}
 use Rattle.math_terms.specs.Terms.{con}
 use Rattle.text_grammar.specs.Terms.{OurTerm}
 use Rattle.text_grammar.specs.Limits.{IsCon}
@@ -13,28 +14,13 @@ use Rattle.text_grammar.proofs.constants.Matching.{constants-are}
 use Rattle.text_values.specs.declared.Term.{Term}
 use Rattle.text_values.specs.declared.SlipField.{SlipField}
 use Rattle.text_values.specs.Values.{blankTerm, blankSlipField, encodeTerm, encodeSlipField, encodeSlip}
+use Rattle.text_values.proofs.Pads.{unpadded}
 use Rattle.match_fields.specs.declared.bindings.Run.{Run}
 use Rattle.match_fields.specs.Fields.{itemsOf}
 use Rattle.match_rules.specs.Answers.{itemsAt}
-use Rattle.match_rules.proofs.Agree.{enc, unpadded}
+use Rattle.match_rules.proofs.Agree.{enc}
 
 -- ---- lists
-
-part-map : {A B : Type 0} (g : A → B) (n i : ℕ) (l : List A) → take n (drop i (map g l)) ≡ map g (take n (drop i l))
-part-map g n zero l = front n l
-  where
-    front : (n : ℕ) (l : List _) → take n (map g l) ≡ map g (take n l)
-    front zero l = refl
-    front (suc n) [] = refl
-    front (suc n) (x ∷ l) = ap (λ (t : List _). g x ∷ t) (front n l)
-part-map g zero (suc i) [] = refl
-part-map g (suc n) (suc i) [] = refl
-part-map g n (suc i) (x ∷ l) = part-map g n i l
-
-getD-blank : {A : Type 0} (n i : ℕ) (a : A) → getD (replicate n a) i a ≡ a
-getD-blank zero i a = refl
-getD-blank (suc n) zero a = refl
-getD-blank (suc n) (suc i) a = getD-blank n i a
 
 -- a member of a padded array
 padded-at : {A B : Type 0} (g : A → B) (d : A) (n : ℕ) (l : List A) (i : ℕ) → getD (map g l ++ replicate n (g d)) i (g d) ≡ g (getD l i d)
@@ -71,7 +57,9 @@ module _ (y : List (List OurTerm)) (all-con : All (All IsCon) y) where
   module _ (r : Run) where
     named : (l : List Term) → l ≡ map enc (getD (map constants y) (r .field) []) → take (r .count) (drop (r .start) l) ≡ map enc (itemsAt (map constants y) r)
     named l e =
-        ap (λ (l : List Term). take (r .count) (drop (r .start) l)) e ∙ part-map enc (r .count) (r .start) (getD (map constants y) (r .field) [])
+        let w = getD (map constants y) (r .field) [] in
+        ap (λ (l : List Term). take (r .count) (drop (r .start) l)) e
+        ∙ sym (map-take enc (r .count) (drop (r .start) w) ∙ ap (take (r .count)) (map-drop enc (r .start) w))
 
     pub run-terms : take (r .count) (drop (r .start) (itemsOf (getD ((encodeSlip y) .fields) (r .field) blankSlipField))) ≡ map enc
         (itemsAt (map constants y) r)

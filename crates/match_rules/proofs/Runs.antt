@@ -12,7 +12,7 @@ use borrow.Author.Tests.{leb-true, eqb-true}
 use lib.Seq.{getD-set-same, getD-set-other, getD-drop, drop-drop}
 use Rattle.base_limits.specs.Limits.{largestNumber, numbersOfSide, atomPlaces}
 use Rattle.base_lists.specs.Seqs.{All, Any, all-left, all-right, tabulate, tabulate-at}
-use Rattle.math_types.specs.Order.{basic, list}
+use Rattle.math_types.specs.Order.{basic, list, list≢basic}
 use Rattle.math_types.specs.Types.{Basic, Kind, basics, rank, rank-basic, kindAt, kind-at-rank}
 use Rattle.math_terms.specs.Terms.{con, var}
 use Rattle.math_terms.specs.Fillings.{Filling, Typed, fill, Occurs}
@@ -33,13 +33,10 @@ use Rattle.match_rules.proofs.Found.{none-set}
 
 -- ---- runs of a field
 
-list≢basic : (k : Basic) → list ≡ basic k → ⊥
-list≢basic k e = let o : _≡_ {A = ℕ} 0 1 = cc in omega arith
-
 none-occurs : (n : ℕ) (f : List OurTerm) → lists f ≡ [] → Occurs list n f → ⊥
 none-occurs n [] e o = o
 none-occurs n (con c ∷ f) e o = none-occurs n f e o
-none-occurs n (var (basic k) m ∷ f) e (inl p) = list≢basic k (p .0)
+none-occurs n (var (basic k) m ∷ f) e (inl p) = list≢basic (p .0)
 none-occurs n (var (basic k) m ∷ f) e (inr o) = none-occurs n f e o
 none-occurs n (var list m ∷ f) e o = cons≢nil e
 
@@ -74,7 +71,7 @@ module _ (slip : List (List Con)) (ψ : Filling Con Kind ℕ) (n : ℕ) where
   field-good j gap i w [] rs e b l o m s (inr x) = absurd x
   field-good j gap i w (con c ∷ f) rs e b l o m s g = field-good j gap (i + 1) w f rs e b l o (omega arith) (s .1) g
   field-good j gap i w (var (basic k) a ∷ f) rs e b l o m s (inl g) = field-good j gap (i + 1) w f rs e b l o (omega arith) (s .1) (inl g)
-  field-good j gap i w (var (basic k) a ∷ f) rs e b l o m s (inr (inl p)) = absurd (list≢basic k (p .0))
+  field-good j gap i w (var (basic k) a ∷ f) rs e b l o m s (inr (inl p)) = absurd (list≢basic (p .0))
   field-good j gap i w (var (basic k) a ∷ f) rs e b l o m s (inr (inr x)) = field-good j gap (i + 1) w f rs e b l o (omega arith) (s .1) (inr x)
   field-good j gap i w (var list a ∷ f) rs e b l o m s g =
       subst Good (sym (none-set j gap (i + 1) f (set rs a run) (no-more a (lists f) o))) (go (ℕ-discrete n a))

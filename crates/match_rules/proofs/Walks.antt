@@ -7,6 +7,7 @@ use native.Mathlib.Omega.{arith}
 use borrow.Author.Tests.{not-true, not-false}
 use lib.ListN.{length, getD, set, take, drop, length-take, drop-of-length-le}
 use Rattle.base_limits.specs.Limits.{mostTerms, numbersOfSide}
+use Rattle.base_lists.specs.Arrays.{here, no-more}
 use Rattle.text_values.specs.declared.Form.{Form}
 use Rattle.text_values.specs.declared.Form.the-variants.{Int, Str, Var}
 use Rattle.text_values.specs.declared.Term.{Term}
@@ -18,7 +19,6 @@ use Rattle.match_fields.specs.declared.bindings.Filling.{Filling}
 use Rattle.match_fields.specs.declared.items.Tested.{Tested}
 use Rattle.match_fields.specs.declared.Progress.{Progress}
 use Rattle.match_fields.specs.Fields.{isListForm, isListTerm, pick, goOn, countOn, fieldProgress, termsOf, itemsOf}
-use Rattle.match_fields.proofs.Walks.{here, no-more}
 use Rattle.match_rules.specs.declared.Match.{Match}
 use Rattle.match_rules.specs.Answers.{noMatch, fillingOf, foundBy}
 use Rattle.match_rules.specs.Tests.{fieldsTested, fieldsCompared, fieldsProgress, runBy, withRun, runsOver, runsIn, runsAll}
@@ -126,7 +126,7 @@ module _ (j gap n : ℕ) (s : List Term) (w : ℕ) (x₀ : Filling) where
       (no-run (getD s i d .form) (record { field = j; start = i; count = gap }) (x .runs) (sym is ∙ e)))
 
   pub put-all : (i : ℕ) (x : Filling) → Put i x → min n w ≤ i → x ≡ runsOver j gap 0 (take n s) x₀
-  put-all i x p h = sym (p .1 ∙ ap (λ (f : List Term). runsOver j gap i f x) (no-more n s w (p .0) i h))
+  put-all i x p h = sym (p .1 ∙ ap (λ (f : List Term). runsOver j gap i f x) (no-more n s w i (p .0) h))
 
 module _ (fs : List Field) (ws : List SlipField) (n : ℕ) (x₀ : Filling) where
   abbrev pub PutAll : ℕ → Filling → Type 0

@@ -11,7 +11,7 @@ use Rattle.base_lists.specs.Seqs.{All}
 use Rattle.math_types.specs.Order.{basic, list}
 use Rattle.math_types.specs.Types.{Kind, kinds, basics, entry, rank, rank-basic, rank-kinds, kindAt, atomKinds, kind-at-rank}
 use Rattle.math_terms.specs.Seqs.{concat-map}
-use Rattle.math_terms.proofs.Seqs.{concat-map-append}
+use Rattle.math_terms.proofs.Seqs.{concat-mapped, concat-map-twice}
 use Rattle.text_grammar.specs.Limits.{TermIn, IsLeft}
 use Rattle.text_grammar.specs.Terms.{OurTerm}
 use Rattle.text_grammar.specs.constants.Constants.{consts}
@@ -30,7 +30,6 @@ use Rattle.math_codes.specs.Walks.{walkOn}
 use Rattle.math_codes.specs.Whole.{spotsOf, itemsFrom, runOn, valueOn, lineItems, lineSpots}
 use Rattle.math_codes.specs.Index.{slot, Right, Indexes, Tops, isThere, has, indexedValue, everyValue, hasAt, valueAt, boundText}
 use Rattle.math_codes.specs.Index.{indexedValues, listedValues, indexedItems, indexedLine, indexedList, codeIn, indexAt, ourIndex, ourTops}
-use Rattle.math_codes.proofs.Walks.{concat-mapped}
 use Rattle.math_codes.proofs.Lists.{our-tables}
 use Rattle.math_codes.proofs.Whole.{concat-same, concat-single, walk-same, spots-agree}
 
@@ -47,11 +46,6 @@ module _ {A B : Type 0} (p : A → Bool) (f g : A → List B) where
 
 -- ---- loops within loops
 
-module _ {A B C : Type 0} (f : B → List C) (g : A → List B) where
-  concat-twice : (l : List A) → concat-map f (concat-map g l) ≡ concat-map (λ x. concat-map f (g x)) l
-  concat-twice [] = refl
-  concat-twice (x ∷ l) = concat-map-append f (g x) (concat-map g l) ∙ ap (λ (s : List C). concat-map f (g x) ++ s) (concat-twice l)
-
 module _ {B : Type 0} (f : ℕ → List B) where
   -- numbers from the top on that give nothing
   below-top : (m t a : ℕ) → t ≤ m → ((n : ℕ) → a + t ≤ n → n < a + m → f n ≡ []) → concat-map f (numbersFrom m a) ≡ concat-map f (range a t)
@@ -63,15 +57,15 @@ module _ {B : Type 0} (f : ℕ → List B) where
 
 -- ---- the values of a rule's variables in their order, by an index
 
+pub there : (v : ℕ) → (v ≡ 0 → ⊥) → isThere v ≡ true
+there zero h = absurd (h refl)
+there (suc v) h = refl
+
 module _ (r₁ r₂ : List (List OurTerm)) (d : Side) (r : List (List OurTerm)) (x : ℕ → ℕ) (ix : Indexes r₁ r₂ d r x) (atoms : List ℕ)
     (runs : ℕ → List ℕ) where
-  there : (v : ℕ) → 0 < v → isThere v ≡ true
-  there zero h = absurd (omega arith)
-  there (suc c) h = refl
-
   right-there : (k : Kind) (n v : ℕ) → Right r₁ r₂ d k n v → isThere v ≡ true
   right-there (basic k) n v e = ap isThere e
-  right-there list n v h = there v h
+  right-there list n v h = there v (λ e. omega arith)
 
   value-there : (k : Kind) (n : ℕ) → Right r₁ r₂ d k n (x (slot k n)) → valueOn r₁ r₂ d atoms runs k n ≡ indexedValue x atoms runs k n
   value-there (basic k) n e =
@@ -130,7 +124,7 @@ module _ (r₁ r₂ : List (List OurTerm)) (d : Side) (r : List (List OurTerm)) 
 
       by-rank : concat-map shownBy every ≡ concat-map (λ k. concat-map (shownAt k) (range 0 (tops k))) (range 0 4)
       by-rank =
-          concat-twice shownBy ofKind kinds
+          concat-map-twice shownBy ofKind kinds
           ∙ concat-same (λ k. concat-map shownBy (ofKind k)) (λ k. concat-map (shownAt (rank k)) (range 0 (tops (rank k)))) kinds (λ k i. kind-loop k)
 
   -- THE VALUES in a line

@@ -1,5 +1,5 @@
 -- Items stand for the terms of an entry's fields and of the values, before the renumbering.
-use mathlib.Core.Path.{_≡_, refl, sym, ap, ap₂, _∙_}
+use mathlib.Core.Path.{_≡_, refl, sym, ap, _∙_}
 use mathlib.Core.Logic.{inl, inr, ite}
 use mathlib.Core.Option.{Option, none, some, Option·none-ne-some, Option·some-injective}
 use mathlib.Core.List.{List, [], _∷_, map}
@@ -10,7 +10,7 @@ use lib.ListN.{length, getD, take, drop, length-map, List·getD-map, List·getD-
 use lib.Seq.{getD-append-add}
 use Rattle.base_lists.specs.Seqs.{All, Any}
 use Rattle.math_types.specs.Order.{Order, Full, basic, list}
-use Rattle.math_terms.specs.Terms.{Term, con, var}
+use Rattle.math_terms.specs.Terms.{Term, con, var, con-once, con≢var, kind-once}
 use Rattle.math_terms.specs.Constants.{Consts, TermOver}
 use Rattle.math_terms.specs.Fillings.{Occurs}
 use Rattle.math_overlaps.specs.Shapes.{Atom, fixed, free, Side, Variable, of, Vars, pairVars, Shape, closed, gapped}
@@ -26,37 +26,6 @@ use Rattle.math_codes.proofs.Seqs.{Each, OnShape, each-length, each-app
 use Rattle.math_codes.proofs.Joins.{Codes, Represents}
 use Rattle.math_codes.proofs.Entries.{At-place, fields-agree}
 use Rattle.math_codes.proofs.Places.{Stands, StandAll}
-
--- ---- equality of terms
-
-module _ {C K B : Type 0} where
-  pub con-once : {c d : C} → _≡_ {A = Term C K B} (con c) (con d) → c ≡ d
-  con-once e = cc
-
-  pub con≢var : {c : C} {k : K} {b : B} → _≡_ {A = Term C K B} (con c) (var k b) → ⊥
-  con≢var {c} {k} {b} e = let o : _≡_ {A = ℕ} 0 1 = cc in omega arith
-
-  pub kind-once : {j k : K} {a b : B} → _≡_ {A = Term C K B} (var j a) (var k b) → j ≡ k
-  kind-once e = cc
-
-  pub name-once : {j k : K} {a b : B} → _≡_ {A = Term C K B} (var j a) (var k b) → a ≡ b
-  name-once e = cc
-
-  con-dec : {c d : C} → Dec (c ≡ d) → Dec (_≡_ {A = Term C K B} (con c) (con d))
-  con-dec (yes e) = yes (ap con e)
-  con-dec (no n) = no (λ e. n (con-once e))
-
-  var-dec : {j k : K} {a b : B} → Dec (j ≡ k) → Dec (a ≡ b) → Dec (_≡_ {A = Term C K B} (var j a) (var k b))
-  var-dec (yes e) (yes f) = yes (ap₂ (λ (k : K) (b : B). var k b) e f)
-  var-dec (yes e) (no n) = no (λ e. n (name-once e))
-  var-dec (no n) f = no (λ e. n (kind-once e))
-
-  module _ (con-eq : Discrete C) (kind-eq : Discrete K) (name-eq : Discrete B) where
-    pub term-eq : Discrete (Term C K B)
-    term-eq (con c) (con d) = con-dec (con-eq c d)
-    term-eq (con c) (var k b) = no (λ e. con≢var e)
-    term-eq (var k b) (con d) = no (λ e. con≢var (sym e))
-    term-eq (var j a) (var k b) = var-dec (kind-eq j k) (name-eq a b)
 
 pub range-at : {X : Type 0} (f : ℕ → X) (a k i : ℕ) (d : X) → i < k → getD (map f (range a k)) i d ≡ f (a + i)
 range-at f a zero i d h = absurd (omega arith)
@@ -77,7 +46,7 @@ module _ {C K A : Type 0} where
   term-atom (fixed c) x e = con≢var e
   term-atom (free (of s k m)) x e = let q = kind-once e in let o : _≡_ {A = ℕ} 0 1 = cc in omega arith
 
-  shown-some : (o : Option (Atom C (Variable K A))) (u : Term C (Full K) (Origin A)) → shownAt o ≡ some u
+  pub shown-some : (o : Option (Atom C (Variable K A))) (u : Term C (Full K) (Origin A)) → shownAt o ≡ some u
       → (a : Atom C (Variable K A)) × (o ≡ some a) × (termOf a ≡ u)
   shown-some none u e = absurd (Option·none-ne-some u e)
   shown-some (some a) u e = (a, refl, Option·some-injective (termOf a) u e)

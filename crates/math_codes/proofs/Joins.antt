@@ -8,13 +8,14 @@ use Prim.Native.Nat.{ℕ}
 use native.Mathlib.Omega.{arith}
 use borrow.Author.Tests.{eq-eqb, ne-eqb}
 use lib.ListN.{length, getD, length-map}
+use Rattle.base_lists.specs.Arrays.{mapped-at}
 use Rattle.math_types.specs.Order.{Order}
 use Rattle.math_terms.specs.Constants.{Consts}
-use Rattle.math_overlaps.specs.Shapes.{fixed, free, Vars}
+use Rattle.math_overlaps.specs.Shapes.{fixed, free, Vars, fixed-once, free-once, fixed≢free}
 use Rattle.math_overlaps.specs.Joins.{At, State, start, resolve, replace, bind, joinClasses, join}
-use Rattle.math_codes.specs.Tables.{Holds, IsCode, fixed-once, free-once, fixed≢free, Table, Ranks, same, kindA, isFree, Made}
+use Rattle.math_codes.specs.Tables.{Holds, IsCode, Table, Ranks, same, kindA, isFree, Made}
 use Rattle.math_codes.specs.States.{swap, replaced, joinedBy, takes, joinCodes, joinPlaces}
-use Rattle.math_codes.proofs.Tables.{holds-below, is-code, same-code, same-atom, mapped-at}
+use Rattle.math_codes.proofs.Tables.{holds-below, is-code, same-code, same-atom}
 
 module _ (O : Order) (C : Consts O) (N : Vars O) (t : List (Option (At O C N))) where
   open Order O using (le)

@@ -8,10 +8,10 @@ use native.Mathlib.Omega.{arith}
 use native.Mathlib.Decide.{ℕ-discrete}
 use lib.ListN.{length}
 use Rattle.base_limits.specs.Limits.{fieldPlaces, rulePlaces, listItems}
-use Rattle.base_lists.specs.Seqs.{All, Any, IsCons}
+use Rattle.base_lists.specs.Seqs.{All, Any}
 use Rattle.math_types.specs.Order.{basic, list, full-eq}
 use Rattle.math_types.specs.Types.{Kind, basic-eq, basics, rank, rank-kinds, rank-once}
-use Rattle.math_terms.specs.Terms.{Term, con, var}
+use Rattle.math_terms.specs.Terms.{Term, con, var, term-eq}
 use Rattle.math_terms.specs.Fillings.{Occurs}
 use Rattle.math_terms.specs.Seqs.{concat-map, Distinct}
 use Rattle.text_grammar.specs.Letters.{letter}
@@ -24,14 +24,14 @@ use Rattle.text_grammar.specs.constants.Constants.{con-eq, consts}
 use Rattle.math_overlaps.specs.Shapes.{Side, left, right, side-eq, Shape, shapesOf}
 use Rattle.math_overlaps.specs.Candidates.{Cand}
 use Rattle.math_overlaps.specs.Substitutions.{substitute}
-use Rattle.math_overlaps.specs.Overlaps.{origin-eq, rename, numbersOf, PairShape, PairState, originFields, originValue, shown, overlaps}
+use Rattle.math_overlaps.specs.Overlaps.{origin-eq, rename, numbersOf, PairShape, PairState, originFields, originValue, shown}
 use Rattle.math_overlaps.proofs.Linear.{shapes-count}
 use Rattle.math_overlaps.proofs.Named.{gaps}
 use Rattle.math_overlaps.proofs.Listed.{raw, original-left, original-right}
 use Rattle.math_overlaps.proofs.Parts.{part-of-rule, part-occurs}
 use Rattle.overlap_spec.specs.Lines.{nameText, bindingText, bindingsText, lineText, leftTag, rightTag}
 use Rattle.overlap_spec.specs.Variables.{Variable, variables}
-use Rattle.overlap_spec.specs.Overlaps.{entriesOf, bindingsOf, lineOf}
+use Rattle.overlap_spec.specs.Overlaps.{bindingsOf, lineOf}
 use Rattle.overlap_spec.proofs.Variables.{in-variables}
 use Rattle.math_codes.specs.Tables.{IsCode, Table}
 use Rattle.math_codes.specs.Names.{noNames, nameFields}
@@ -43,7 +43,7 @@ use Rattle.math_codes.proofs.Joins.{Represents}
 use Rattle.math_codes.proofs.Entries.{At-place}
 use Rattle.math_codes.proofs.Places.{StandAll}
 use Rattle.math_codes.proofs.Names.{number-agrees}
-use Rattle.math_codes.proofs.Items.{term-eq, Items, entry-items, atom-value, list-value, there}
+use Rattle.math_codes.proofs.Items.{Items, entry-items, atom-value, list-value, there}
 
 -- ---- variables that stand in fields
 
@@ -194,18 +194,9 @@ module _ {A B D : Type 0} (R : A → B → Type 0) (f : A → D) (g : B → D) w
   each-text (x ∷ xs) (y ∷ ys) h k = ap₂ (λ (a : D) (l : List D). a ∷ l) (k x y (List·Memᴰ·head refl) (h .0))
       (each-text xs ys (h .1) (λ x y i r. k x y (List·Memᴰ·tail i) r))
 
-module _ {B D E : Type 0} (u : D → E) (v : B → D) where
-  pub text-mapped : (ys : List B) → map (λ y. u (v y)) ys ≡ map u (map v ys)
-  text-mapped [] = refl
-  text-mapped (y ∷ ys) = ap (λ (l : List E). u (v y) ∷ l) (text-mapped ys)
-
 -- an option that is related to one with a member
 pub some-there : {A B : Type 0} (R : A → B → Type 0) (o : Option A) (q : Option B) (y : B) → Perhaps R o q → q ≡ some y → (x : A) × (o ≡ some x) × R x y
 some-there R none none y h e = let z : _≡_ {A = ℕ} 0 1 = cc in absurd (omega arith)
 some-there R none (some b) y h e = absurd h
 some-there R (some a) none y h e = absurd h
 some-there R (some a) (some b) y h e = (a, refl, subst (R a) (let z : b ≡ y = cc in z) h)
-
-pub entries-cons : (r₁ r₂ : List (List OurTerm)) → IsCons r₁ → entriesOf r₁ r₂ ≡ overlaps basics consts ℕ-discrete r₁ r₂
-entries-cons [] r₂ h = absurd h
-entries-cons (f ∷ r₁) r₂ h = refl

@@ -1,7 +1,7 @@
 -- THE LIST made on codes is the overlap list, line by line, and there are tables for every two rules.
 use mathlib.Core.Path.{_≡_, refl, sym, ap, ap₂, _∙_}
 use mathlib.Core.Option.{some, Option·some-injective}
-use mathlib.Core.List.{List, [], _∷_, map}
+use mathlib.Core.List.{List, [], _∷_, map, map-map}
 use Prim.Native.Nat.{ℕ, _+_, _*_, _≤_}
 use native.Mathlib.Omega.{arith}
 use native.Mathlib.Decide.{ℕ-discrete}
@@ -24,6 +24,7 @@ use Rattle.math_overlaps.proofs.Linear.{linear-shapes}
 use Rattle.math_overlaps.proofs.Named.{gaps}
 use Rattle.overlap_spec.specs.Lines.{lineText}
 use Rattle.overlap_spec.specs.Overlaps.{entriesOf, lineOf, linesOf}
+use Rattle.overlap_spec.proofs.Exact.{entries-cons}
 use Rattle.math_codes.specs.Tables.{Table, kindA, isFree}
 use Rattle.math_codes.specs.Entries.{placeShapes, entriesOn}
 use Rattle.math_codes.specs.Items.{shownAt}
@@ -35,7 +36,7 @@ use Rattle.math_codes.proofs.Entries.{OnEntry, At-place, entries-are}
 use Rattle.math_codes.proofs.Places.{left-stand, right-stand, left-places, right-places, pair-long}
 use Rattle.math_codes.proofs.Items.{atom-there}
 use Rattle.math_codes.proofs.Makers.{hasSome, some-map}
-use Rattle.math_codes.proofs.Lines.{line-agrees, each-text, text-mapped, some-there, entries-cons}
+use Rattle.math_codes.proofs.Lines.{line-agrees, each-text, some-there}
 
 each-some-same : {A B : Type 0} (R : A → B → Type 0) (xs : List A) (ys : List B) → Each R xs ys → hasSome xs ≡ hasSome ys
 each-some-same R [] [] h = refl
@@ -79,10 +80,10 @@ module _ (r₁ r₂ : List (List OurTerm)) (T : Table) (texts : ℕ → List ℕ
     all-agree : listedOn r₁ r₂ T texts (some Ps) (some Qs) ≡ map lineText (linesOf r₁ r₂)
     all-agree =
         lines-same
-        ∙ text-mapped (λ e. lineText (lineOf r₁ r₂ e)) (shown basics consts ℕ-discrete Ss Ts)
-        (entries basics consts ourVars ℕ ℕ Ss Ts (start basics consts ourVars))
-        ∙ text-mapped lineText (lineOf r₁ r₂) (map (shown basics consts ℕ-discrete Ss Ts)
+        ∙ sym (map-map (λ e. lineText (lineOf r₁ r₂ e)) (shown basics consts ℕ-discrete Ss Ts)
         (entries basics consts ourVars ℕ ℕ Ss Ts (start basics consts ourVars)))
+        ∙ sym (map-map lineText (lineOf r₁ r₂) (map (shown basics consts ℕ-discrete Ss Ts)
+        (entries basics consts ourVars ℕ ℕ Ss Ts (start basics consts ourVars))))
         ∙ sym (ap (λ es. map lineText (map (lineOf r₁ r₂) es)) (entries-cons r₁ r₂ (ok₁ .0 .0) ∙ ap₂ (listed basics consts ℕ-discrete) is₁ is₂))
 
   -- the rules have shapes over places

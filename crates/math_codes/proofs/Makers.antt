@@ -3,18 +3,19 @@ use mathlib.Core.Path.{_≡_, refl, sym, ap, ap₂, _∙_}
 use mathlib.Core.Bool.{Bool, true, false, cond, _||_}
 use mathlib.Core.Option.{Option, none, some}
 use mathlib.Core.List.{List, [], _∷_, _++_, map, List·Memᴰ, List·Memᴰ·head, List·Memᴰ·tail}
-use Prim.Native.Nat.{ℕ, zero, suc, _+_, _-_, _/_, _%_, _≤_, _<_}
+use Prim.Native.Nat.{ℕ, zero, suc, _+_, _-_, _/_, _≤_, _<_}
 use native.Mathlib.Omega.{arith}
 use native.Mathlib.Decide.{decLt}
 use borrow.Author.Tests.{lt-ltb, le-ltb}
 use lib.Dec.{eqb}
-use lib.ListN.{length, getD, set, length-append}
+use lib.ListN.{length, getD, set, length-append, replicate}
 use Rattle.base_lists.specs.Seqs.{All}
 use Rattle.math_types.specs.Order.{Order}
 use Rattle.math_terms.specs.Constants.{Consts}
 use Rattle.math_terms.specs.Seqs.{concat-map}
 use Rattle.text_grammar.specs.Letters.{letterAt}
-use Rattle.text_grammar.specs.Numbers.{dec, decC, digitsOf}
+use Rattle.text_grammar.specs.Numbers.{digitsOf}
+use Rattle.text_grammar.proofs.Numbers.{one-digit, one-more}
 use Rattle.math_overlaps.specs.Shapes.{Vars}
 use Rattle.math_overlaps.specs.Candidates.{Cand, range, cands}
 use Rattle.math_overlaps.specs.Joins.{At, State}
@@ -84,6 +85,10 @@ at-most m [] h i = omega arith
 at-most m (x ∷ l) h zero = h .0
 at-most m (x ∷ l) h (suc i) = at-most m l (h .1) i
 
+pub zeros : (m n : ℕ) → AtMost m (replicate n 0)
+zeros m zero = tt
+zeros m (suc n) = (omega arith, zeros m n)
+
 at-most-more : (m : ℕ) (l : List ℕ) → AtMost m l → AtMost (suc m) l
 at-most-more m [] h = tt
 at-most-more m (x ∷ l) h = (let z = h .0 in omega arith, at-most-more m l (h .1))
@@ -128,42 +133,17 @@ names-few T (f ∷ is) m x h =
 
 -- ---- sizes
 
--- the digits of n, where at least k + 1, k + 2, k + 3 are allowed
-dec-one : (k n : ℕ) → n < 10 → length (dec (suc k) n) ≡ 1
-dec-one k n h = go (decLt n 10)
-  where
-    go : (d : Dec (n < 10)) → length (decC n d (dec k)) ≡ 1
-    go (yes p) = refl
-    go (no p) = absurd (p h)
-
--- one digit more than a tenth has
-dec-more : (k n m : ℕ) → 10 ≤ n → length (dec k (n / 10)) ≡ m → length (dec (suc k) n) ≡ suc m
-dec-more k n m h e = go (decLt n 10)
-  where
-    go : (d : Dec (n < 10)) → length (decC n d (dec k)) ≡ suc m
-    go (yes p) = absurd (omega arith)
-    go (no p) = length-append (dec k (n / 10)) ((48 + n % 10) ∷ []) ∙ (let z : length (dec k (n / 10)) + 1 ≡ suc m = omega (arith, e) in z)
-
-dec-two : (k n : ℕ) → 10 ≤ n → n < 100 → length (dec (suc (suc k)) n) ≡ 2
-dec-two k n h l = dec-more (suc k) n 1 h (dec-one k (n / 10) (omega arith))
-
-dec-three : (k n : ℕ) → 100 ≤ n → n < 1000 → length (dec (suc (suc (suc k))) n) ≡ 3
-dec-three k n h l = dec-more (suc (suc k)) n 2 (omega arith) (dec-two k (n / 10) (omega arith) (omega arith))
-
 two-digits : (n : ℕ) → 10 ≤ n → n < 100 → length (digitsOf n) ≡ 2
-two-digits zero h l = absurd (omega arith)
-two-digits (suc m) h l = dec-two m (suc m) h l
+two-digits n h l = omega (arith, one-more n h, one-digit (n / 10) (omega arith))
 
 three-digits : (n : ℕ) → 100 ≤ n → n < 1000 → length (digitsOf n) ≡ 3
-three-digits zero h l = absurd (omega arith)
-three-digits (suc zero) h l = absurd (omega arith)
-three-digits (suc (suc m)) h l = dec-three m (suc (suc m)) h l
+three-digits n h l = omega (arith, one-more n (omega arith), two-digits (n / 10) (omega arith) (omega arith))
 
 pub digits-size : (n : ℕ) → n < 1000 → length (digitsOf n) ≡ digitsSize n
 digits-size n h = go (decLt n 10) (decLt n 100)
   where
     go : Dec (n < 10) → Dec (n < 100) → length (digitsOf n) ≡ digitsSize n
-    go (yes p) q = rw (lt-ltb n 10 p) (dec-one n n p)
+    go (yes p) q = rw (lt-ltb n 10 p) (one-digit n p)
     go (no p) (yes q) = rw (le-ltb n 10 (omega arith), lt-ltb n 100 q) (two-digits n (omega arith) q)
     go (no p) (no q) = rw (le-ltb n 10 (omega arith), le-ltb n 100 (omega arith)) (three-digits n (omega arith) h)
 

@@ -10,7 +10,7 @@ use native.Mathlib.Omega.{arith}
 use native.Mathlib.Decide.{ℕ-discrete}
 use lib.Dec.{ltb}
 use borrow.Author.Tests.{lt-ltb}
-use lib.ListN.{length, getD, take, drop, replicate, length-append, length-take, length-drop}
+use lib.ListN.{length, getD, take, drop, length-append, length-take, length-drop}
 use Rattle.base_limits.specs.Limits.{mostFields, mostTerms, kindCount, atomKindCount, entryTerms, numbersOfSide, atomPlaces, fieldPlaces, rulePlaces}
 use Rattle.base_limits.specs.Limits.{pairPlaces, pairItems, longestTerm, entryPlaces, runBound, entryLine}
 use Rattle.base_lists.specs.Seqs.{All, tabulate, tabulate-long}
@@ -23,6 +23,7 @@ use Rattle.text_grammar.specs.Terms.{OurTerm}
 use Rattle.math_overlaps.specs.Candidates.{Cand, exact, long, range, cands}
 use Rattle.math_overlaps.specs.Entries.{span}
 use Rattle.math_overlaps.proofs.Pairs.{room-of, reach-of, no-long₁, no-long₂}
+use Rattle.math_overlaps.proofs.Candidates.{range-length}
 use Rattle.math_codes.specs.Tables.{Table}
 use Rattle.math_codes.specs.Names.{noNames, nameFields}
 use Rattle.math_codes.specs.Lines.{itemText, colonsSize, itemsSize, barsSize, fieldsSize}
@@ -31,8 +32,8 @@ use Rattle.math_codes.specs.Walks.{spanOn, itemAt, fieldItems}
 use Rattle.math_codes.specs.Whole.{spotsOf, itemsFrom, runIn, runOn}
 use Rattle.math_codes.specs.Makers.{itemSize, sumOf, boundSize, rankedSize, rankSizes, valuesSize, sizeItems, sizeLine, largestByte}
 use Rattle.math_codes.specs.Index.{slotAt, hasAt, valueAt, indexedValues, indexedItems, indexedLine}
-use Rattle.math_codes.proofs.Spots.{range-long, spot-cands}
-use Rattle.math_codes.proofs.Makers.{AtMost, at-most, itemCount, names-few, digits-size, item-size, values-size, line-size}
+use Rattle.math_codes.proofs.Spots.{spot-cands}
+use Rattle.math_codes.proofs.Makers.{at-most, itemCount, names-few, digits-size, item-size, values-size, line-size, zeros}
 use Rattle.math_codes.proofs.Whole.{Chosen}
 
 -- ---- how many items
@@ -73,12 +74,12 @@ module _ {L M : Type 0} where
   few-from : (b h t : ℕ) (o : Option L) (b′ h′ t′ : ℕ) (o′ : Option M) → termsFrom h t o ≤ mostTerms → termsFrom h′ t′ o′ ≤ mostTerms
       → (c : Cand) → List·Memᴰ c (cands (shapeFrom b h t o) (shapeFrom b′ h′ t′ o′)) → span (shapeFrom b h t o) (shapeFrom b′ h′ t′ o′) c ≤ 30
   few-from b h t none b′ h′ t′ o′ k k′ c i =
-      let r = room-of {L = L} {M = M} (shapeFrom b h t none) (shapeFrom b′ h′ t′ o′) c i .0 in omega (arith, r, range-long b h)
+      let r = room-of {L = L} {M = M} (shapeFrom b h t none) (shapeFrom b′ h′ t′ o′) c i .0 in omega (arith, r, range-length b h)
   few-from b h t (some l) b′ h′ t′ none k k′ c i =
-      let r = room-of {L = L} {M = M} (shapeFrom b h t (some l)) (shapeFrom b′ h′ t′ none) c i .1 in omega (arith, r, range-long b′ h′)
+      let r = room-of {L = L} {M = M} (shapeFrom b h t (some l)) (shapeFrom b′ h′ t′ none) c i .1 in omega (arith, r, range-length b′ h′)
   few-from b h t (some l) b′ h′ t′ (some m) k k′ c i =
       let r = reach-of (shapeFrom b h t (some l)) (shapeFrom b′ h′ t′ (some m)) c i in
-      omega (arith, r, range-long b h, range-long b′ h′, range-long (suc (b + h)) t, range-long (suc (b′ + h′)) t′)
+      omega (arith, r, range-length b h, range-length b′ h′, range-length (suc (b + h)) t, range-length (suc (b′ + h′)) t′)
 
   long-from : (b h t : ℕ) (o : Option L) (b′ h′ t′ : ℕ) (o′ : Option M) → termsFrom h t o ≤ mostTerms → termsFrom h′ t′ o′ ≤ mostTerms
       → List·Memᴰ long (cands (shapeFrom b h t o) (shapeFrom b′ h′ t′ o′)) → max h h′ + max t t′ ≤ 30
@@ -116,10 +117,6 @@ module _ {L M : Type 0} where
       let a = field-few atoms P Q n g (k .0) (k′ .0) c (subst (λ (l : List Cand). List·Memᴰ c l) (sym (spot-cands P Q)) (h .0)) in
       let b = items-few atoms n (suc g) Ps Qs cs (h .1) (k .1) (k′ .1) in
       omega (arith, suc-mul (length Ps) entryTerms)
-
-zeros : (m n : ℕ) → AtMost m (replicate n 0)
-zeros m zero = tt
-zeros m (suc n) = (omega arith, zeros m n)
 
 -- at most 124 items an entry
 pub rules-few : (r₁ r₂ : List (List OurTerm)) → IsLeft r₁ → IsLeft r₂ → (cs : List Cand) (atoms : List ℕ)

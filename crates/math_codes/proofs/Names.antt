@@ -12,7 +12,7 @@ use lib.Dec.{eqb}
 use lib.ListN.{length, getD, set, length-set, length-append, length-replicate, getD-replicate}
 use lib.Seq.{getD-set-same, getD-set-other}
 use Rattle.base_lists.specs.Seqs.{Any}
-use Rattle.math_terms.specs.Terms.{Term, con, var}
+use Rattle.math_terms.specs.Terms.{Term, con, var, kind-once, name-once}
 use Rattle.math_terms.specs.Seqs.{concat-map}
 use Rattle.math_terms.specs.Fillings.{Occurs}
 use Rattle.math_overlaps.specs.Overlaps.{placeOf, firsts, namesOf, number}
@@ -22,16 +22,6 @@ use Rattle.math_codes.proofs.Tables.{holds-below, same-code, same-atom}
 use Rattle.math_codes.proofs.Seqs.{Each}
 use Rattle.math_codes.proofs.Firsts.{has, has-left, has-right, has-head, has-firsts, added, firsts-more, numberFrom, number-other, number-new}
 use Rattle.math_codes.proofs.Firsts.{number-none, number-place}
-
-module _ {C K B : Type 0} where
-  con≢var : {c : C} {k : K} {b : B} → _≡_ {A = Term C K B} (con c) (var k b) → ⊥
-  con≢var {c} {k} {b} e = let o : _≡_ {A = ℕ} 0 1 = cc in omega arith
-
-  kind-once : {j k : K} {a b : B} → _≡_ {A = Term C K B} (var j a) (var k b) → j ≡ k
-  kind-once e = cc
-
-  name-once : {j k : K} {a b : B} → _≡_ {A = Term C K B} (var j a) (var k b) → a ≡ b
-  name-once e = cc
 
 -- ---- the names of a field
 

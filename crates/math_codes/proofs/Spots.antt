@@ -17,7 +17,7 @@ use Rattle.math_terms.specs.Matcher.{andThen}
 use Rattle.math_overlaps.specs.Shapes.{Shape, closed, gapped, withAtom, withList}
 use Rattle.math_overlaps.specs.Candidates.{Cand, range, cands}
 use Rattle.math_overlaps.specs.Entries.{row, meeting, merge, span, cells, equations}
-use Rattle.math_overlaps.proofs.Candidates.{Room}
+use Rattle.math_overlaps.proofs.Candidates.{Room, range-length}
 use Rattle.math_overlaps.proofs.Rows.{Covered}
 use Rattle.math_overlaps.proofs.Pairs.{room-of, covered-of}
 use Rattle.math_codes.specs.Tables.{Table}
@@ -26,10 +26,6 @@ use Rattle.math_codes.specs.Entries.{placeShape}
 use Rattle.math_codes.specs.Spots.{Spot, shapeFrom, spotShape, scanTerm, spotOf, tailAt, cellAt, pickCell, joinCells, joinFrom, candsFrom}
 use Rattle.math_codes.specs.Spots.{spotCands}
 use Rattle.math_codes.proofs.Items.{range-at}
-
-pub range-long : (a k : ℕ) → length (range a k) ≡ k
-range-long a zero = refl
-range-long a (suc k) = ap suc (range-long (suc a) k)
 
 range-snoc : (a k : ℕ) → range a (suc k) ≡ range a k ++ (a + k) ∷ []
 range-snoc a zero = ap (λ (n : ℕ). n ∷ []) (let e : a ≡ a + 0 = omega arith in e)
@@ -135,7 +131,7 @@ module _ {L : Type 0} where
     gapRow = map some (range b h) ++ (replicate (n - (h + t)) none ++ map some (range (suc (b + h)) t))
 
     gap-long : length gapRow ≡ n
-    gap-long = simp (length-append, length-map, length-replicate, range-long) (omega arith)
+    gap-long = simp (length-append, length-map, length-replicate, range-length) (omega arith)
 
     gap-at : (p : ℕ) → p < n → getD gapRow p none ≡ cond (ltb p h) (some (b + p)) (tailAt (some l) (suc (b + h)) t n p)
     gap-at p q = go (decLt p h) (decLe n (p + t))
@@ -150,7 +146,7 @@ module _ {L : Type 0} where
         back = map some (range (suc (b + h)) t)
 
         front-long : length front ≡ h
-        front-long = length-map (range b h) some ∙ range-long b h
+        front-long = length-map (range b h) some ∙ range-length b h
 
         gap-is : length gap ≡ n - (h + t)
         gap-is = length-replicate (n - (h + t)) none
@@ -177,13 +173,13 @@ module _ {L : Type 0} where
   row-from : (b h t n : ℕ) (o : Option L) → Room (shapeFrom b h t o) n → row n (shapeFrom b h t o)
       ≡ tabulate n (cellAt (record { base = b; head = h; tail = t; name = o }) n)
   row-from b h t n none r =
-      let e = r ∙ range-long b h in
+      let e = r ∙ range-length b h in
       tabulated n (map some (range b h)) (cellAt {L = L} (record { base = b; head = h; tail = t; name = none }) n) none
-      (length-map (range b h) some ∙ range-long b h ∙ sym e) (λ p l. row-closed b h n p e l)
+      (length-map (range b h) some ∙ range-length b h ∙ sym e) (λ p l. row-closed b h n p e l)
   row-from b h t n (some l) r =
-      let q : h + t ≤ n = omega (arith, r, range-long b h, range-long (suc (b + h)) t) in
-      ap₂ (λ (x y : ℕ). map some (range b h) ++ (replicate (n - (x + y)) none ++ map some (range (suc (b + h)) t))) (range-long b h)
-      (range-long (suc (b + h)) t)
+      let q : h + t ≤ n = omega (arith, r, range-length b h, range-length (suc (b + h)) t) in
+      ap₂ (λ (x y : ℕ). map some (range b h) ++ (replicate (n - (x + y)) none ++ map some (range (suc (b + h)) t))) (range-length b h)
+      (range-length (suc (b + h)) t)
       ∙ tabulated n (gapRow b h t n l q) (cellAt (record { base = b; head = h; tail = t; name = some l }) n) none (gap-long b h t n l q) (gap-at b h t n l q)
 
   pub row-spot : (s : Spot L) (n : ℕ) → RoomFor s n → row n (spotShape s) ≡ tabulate n (cellAt s n)
@@ -260,10 +256,10 @@ module _ {L M : Type 0} (s : Spot L) (s′ : Spot M) (c : Cand) (i : List·Mem�
 
 module _ {L M : Type 0} where
   cands-from : (b h t : ℕ) (o : Option L) (b′ h′ t′ : ℕ) (o′ : Option M) → cands (shapeFrom b h t o) (shapeFrom b′ h′ t′ o′) ≡ candsFrom h t o h′ t′ o′
-  cands-from b h t none b′ h′ t′ none = rw (range-long b h, range-long b′ h′)
-  cands-from b h t none b′ h′ t′ (some m) = rw (range-long b h, range-long b′ h′, range-long (suc (b′ + h′)) t′)
-  cands-from b h t (some l) b′ h′ t′ none = rw (range-long b h, range-long (suc (b + h)) t, range-long b′ h′)
-  cands-from b h t (some l) b′ h′ t′ (some m) = rw (range-long b h, range-long (suc (b + h)) t, range-long b′ h′, range-long (suc (b′ + h′)) t′)
+  cands-from b h t none b′ h′ t′ none = rw (range-length b h, range-length b′ h′)
+  cands-from b h t none b′ h′ t′ (some m) = rw (range-length b h, range-length b′ h′, range-length (suc (b′ + h′)) t′)
+  cands-from b h t (some l) b′ h′ t′ none = rw (range-length b h, range-length (suc (b + h)) t, range-length b′ h′)
+  cands-from b h t (some l) b′ h′ t′ (some m) = rw (range-length b h, range-length (suc (b + h)) t, range-length b′ h′, range-length (suc (b′ + h′)) t′)
 
   -- THE CANDIDATES of two fields
   pub spot-cands : (s : Spot L) (s′ : Spot M) → cands (spotShape s) (spotShape s′) ≡ spotCands s s′

@@ -2,11 +2,11 @@
 use mathlib.Core.Path.{_≡_, refl, sym, ap, _∙_}
 use mathlib.Core.Logic.{ite}
 use mathlib.Core.Option.{Option, none, some, Option·none-ne-some, Option·some-injective}
-use mathlib.Core.List.{List, [], _∷_, map}
+use mathlib.Core.List.{List, [], _∷_}
 use Prim.Native.Nat.{ℕ, zero, suc, _≤_, _<_}
 use native.Mathlib.Omega.{arith}
 use native.Mathlib.Decide.{ℕ-discrete}
-use lib.ListN.{length, getD, length-map, List·getD-map}
+use lib.ListN.{length, getD}
 use Rattle.base_lists.specs.Seqs.{tabulate-long, tabulate-at}
 use Rattle.math_types.specs.Order.{Order}
 use Rattle.math_terms.specs.Constants.{Consts}
@@ -85,15 +85,6 @@ module _ {A : Type 0} (d : Discrete A) where
   same-atom t x y a b h k e = holds-once t y a b (rw e at (h .0)) (k .0)
 
 -- ---- the tables that are kept
-
--- within a list, what stands for its absent members plays no part
-pub entry-any : {A : Type 0} (l : List A) (i : ℕ) (d e : A) → i < length l → getD l i d ≡ getD l i e
-entry-any [] i d e h = absurd (omega arith)
-entry-any (x ∷ l) zero d e h = refl
-entry-any (x ∷ l) (suc i) d e h = entry-any l i d e (omega arith)
-
-pub mapped-at : {A B : Type 0} (f : A → B) (l : List A) (i : ℕ) (d : A) (e : B) → i < length l → getD (map f l) i e ≡ f (getD l i d)
-mapped-at f l i d e h = entry-any (map f l) i e (f d) (omega (arith, length-map l f)) ∙ List·getD-map f l i d
 
 module _ (O : Order) (C : Consts O) (N : Vars O) (R : Ranks O) where
   pub made : (t : List (Option (At O C N))) → Made O C N R (tableOf O C N R t) t

@@ -1,39 +1,32 @@
 -- The code's recursion writes what is written of the entries in their order, and an entry's items are those of its fields.
-use mathlib.Core.Path.{_≡_, refl, sym, ap, ap₂, _∙_}
+use mathlib.Core.Path.{_≡_, refl, ap, ap₂, _∙_}
 use mathlib.Core.Bool.{Bool}
 use mathlib.Core.Option.{Option, none, some}
-use mathlib.Core.List.{List, [], _∷_, _++_, map, append-assoc, append-nil, List·Memᴰ, List·Memᴰ·head, List·Memᴰ·tail}
+use mathlib.Core.List.{List, [], _∷_, _++_, map, append-nil, List·Memᴰ, List·Memᴰ·head, List·Memᴰ·tail}
 use Prim.Native.Nat.{ℕ, zero, suc, _+_, max}
 use native.Mathlib.Omega.{arith}
 use lib.ListN.{getD, take, drop}
 use Rattle.base_lists.specs.Seqs.{tabulate, tabulate-same}
+use Rattle.base_lists.specs.Arrays.{map-take, map-drop}
 use Rattle.math_terms.specs.Seqs.{concat-map}
+use Rattle.math_terms.proofs.Seqs.{concat-map-append, concat-mapped}
 use Rattle.math_overlaps.specs.Candidates.{Cand, exact, long, range, before, wide, cands}
 use Rattle.math_overlaps.specs.Entries.{equations, chosen, branch, span, cells, fieldFor}
 use Rattle.math_overlaps.specs.Overlaps.{mapShape}
 use Rattle.math_overlaps.proofs.Pairs.{no-long₁, no-long₂}
+use Rattle.math_overlaps.proofs.Candidates.{range-length}
 use Rattle.math_codes.specs.Tables.{Table}
 use Rattle.math_codes.specs.States.{joinsPlaces}
 use Rattle.math_codes.specs.Entries.{entriesOn}
 use Rattle.math_codes.specs.Items.{itemsOf}
 use Rattle.math_codes.specs.Spots.{Spot, shapeFrom, spotShape, cellAt, pickCell, joinFrom}
 use Rattle.math_codes.specs.Walks.{orNothing, spanOn, joinsOn, walkOn, itemAt, fieldItems}
-use Rattle.math_codes.proofs.Spots.{range-long, spot-joins, spot-cells, spot-cands}
-
-module _ {A B : Type 0} (f : A → List B) where
-  concat-append : (s t : List A) → concat-map f (s ++ t) ≡ concat-map f s ++ concat-map f t
-  concat-append [] t = refl
-  concat-append (x ∷ s) t = ap (λ (l : List B). f x ++ l) (concat-append s t) ∙ sym (append-assoc (f x) (concat-map f s) (concat-map f t))
-
-module _ {A B C : Type 0} (f : B → List C) (g : A → B) where
-  pub concat-mapped : (s : List A) → concat-map f (map g s) ≡ concat-map (λ x. f (g x)) s
-  concat-mapped [] = refl
-  concat-mapped (x ∷ s) = ap (λ (l : List C). f (g x) ++ l) (concat-mapped s)
+use Rattle.math_codes.proofs.Spots.{spot-joins, spot-cells, spot-cands}
 
 module _ {L : Type 0} where
   same-before : (b h t : ℕ) (o : Option L) → before (shapeFrom b h t o) ≡ h
-  same-before b h t none = range-long b h
-  same-before b h t (some l) = range-long b h
+  same-before b h t none = range-length b h
+  same-before b h t (some l) = range-length b h
 
 -- the numbers of two fields say how wide an entry's field is
 module _ {L M : Type 0} where
@@ -41,7 +34,7 @@ module _ {L M : Type 0} where
       → wide (shapeFrom b h t o) (shapeFrom b′ h′ t′ o′) ≡ max h h′ + max t t′
   long-only b h t none b′ h′ t′ o′ i = absurd (no-long₁ ℕ L M (range b h) (shapeFrom b′ h′ t′ o′) i)
   long-only b h t (some l) b′ h′ t′ none i = absurd (no-long₂ ℕ L M (range b h) l (range (suc (b + h)) t) (range b′ h′) i)
-  long-only b h t (some l) b′ h′ t′ (some m) i = rw (range-long b h, range-long b′ h′, range-long (suc (b + h)) t, range-long (suc (b′ + h′)) t′)
+  long-only b h t (some l) b′ h′ t′ (some m) i = rw (range-length b h, range-length b′ h′, range-length (suc (b + h)) t, range-length (suc (b′ + h′)) t′)
 
   pub same-span : (s : Spot L) (s′ : Spot M) (c : Cand) → List·Memᴰ c (cands (spotShape s) (spotShape s′)) → span (spotShape s) (spotShape s′) c
       ≡ spanOn s s′ c
@@ -89,7 +82,7 @@ module _ (below : ℕ → ℕ → Bool) (T : Table) {L M : Type 0} where
           → concat-map (λ e. write (e .0) (e .1)) (branch cs j rest) ≡ concat-map step cs
       go [] i rec = refl
       go (c ∷ cs) i rec =
-          concat-append (λ e. write (e .0) (e .1)) (chosen c (j c) rest) (branch cs j rest)
+          concat-map-append (λ e. write (e .0) (e .1)) (chosen c (j c) rest) (branch cs j rest)
           ∙ ap₂ (λ (x y : List X). x ++ y)
           (written write rest c (j c)
           ∙ ap (λ (o : Option (List ℕ)). orNothing o (λ next. concat-map (λ e. write (c ∷ e .0) (e .1)) (rest next)))
@@ -100,16 +93,6 @@ module _ (below : ℕ → ℕ → Bool) (T : Table) {L M : Type 0} where
           (go cs (λ c′ m. i c′ (List·Memᴰ·tail m)) rec)
 
 -- ---- the items of an entry's field
-
-map-take : {A B : Type 0} (g : A → B) (n : ℕ) (l : List A) → map g (take n l) ≡ take n (map g l)
-map-take g zero l = refl
-map-take g (suc n) [] = refl
-map-take g (suc n) (x ∷ l) = ap (λ r. g x ∷ r) (map-take g n l)
-
-map-drop : {A B : Type 0} (g : A → B) (n : ℕ) (l : List A) → map g (drop n l) ≡ drop n (map g l)
-map-drop g zero l = refl
-map-drop g (suc n) [] = refl
-map-drop g (suc n) (x ∷ l) = map-drop g n l
 
 map-tabulate : {A B : Type 0} (g : A → B) (n : ℕ) (f : ℕ → A) → map g (tabulate n f) ≡ tabulate n (λ i. g (f i))
 map-tabulate g zero f = refl

@@ -19,6 +19,7 @@ use Rattle.math_overlaps.specs.Shapes.{Side, left, right, Shape, both}
 use Rattle.math_overlaps.specs.Candidates.{Cand}
 use Rattle.math_overlaps.specs.Entries.{fieldsFor}
 use Rattle.math_overlaps.specs.Overlaps.{mapShape, runOf}
+use Rattle.math_overlaps.proofs.Candidates.{range-length}
 use Rattle.overlap_spec.specs.Lines.{lineText, leftTag, rightTag}
 use Rattle.overlap_spec.specs.Variables.{Variable, variables}
 use Rattle.overlap_spec.specs.Overlaps.{entriesOf, linesOf}
@@ -31,7 +32,7 @@ use Rattle.math_codes.specs.Spots.{Spot, shapeFrom, spotShape, spotCands
 use Rattle.math_codes.specs.Walks.{orNothing, joinsOn, walkOn}
 use Rattle.math_codes.specs.Whole.{spotsOf, itemsFrom, runIn, runOn, valueOn, lineBy, lineItems, lineSpots, listSpots}
 use Rattle.math_codes.specs.Makers.{someOn}
-use Rattle.math_codes.proofs.Spots.{range-long, scan-agrees, spot-cands}
+use Rattle.math_codes.proofs.Spots.{scan-agrees, spot-cands}
 use Rattle.math_codes.proofs.Walks.{or-same, walk-agrees, items-agree}
 use Rattle.math_codes.proofs.Lists.{list-agrees, our-tables, has-places, same-some}
 use Rattle.math_codes.proofs.Makers.{hasSome, some-agrees}
@@ -104,7 +105,7 @@ run-from : (b h t : ℕ) (o : Option ℕ) (Ps : List (Shape ℕ ℕ)) (w : List 
     → runOf ℕ-discrete (shapeFrom b h t o ∷ Ps) (w ∷ is) l ≡ runIn o h t w l (runOf ℕ-discrete Ps is l)
 run-from b h t none Ps w is l = refl
 run-from b h t (some m) Ps w is l =
-    ap₂ (λ (x y : ℕ). ite (ℕ-discrete l m) (take (length w - (x + y)) (drop x w)) (runOf ℕ-discrete Ps is l)) (range-long b h) (range-long (suc (b + h)) t)
+    ap₂ (λ (x y : ℕ). ite (ℕ-discrete l m) (take (length w - (x + y)) (drop x w)) (runOf ℕ-discrete Ps is l)) (range-length b h) (range-length (suc (b + h)) t)
 
 run-agrees : (Ps : List (Spot ℕ)) (is : List (List ℕ)) (l : ℕ) → runOf ℕ-discrete (map spotShape Ps) is l ≡ runOn Ps is l
 run-agrees [] is l = refl

@@ -1,16 +1,15 @@
 -- The table of a pair: which atom stands at which place, and the code of an atom, the first place that holds it.
-use mathlib.Core.Path.{_≡_, sym, ap}
+use mathlib.Core.Path.{_≡_}
 use mathlib.Core.Logic.{ite}
 use mathlib.Core.Bool.{Bool, true, false}
 use mathlib.Core.Option.{Option, none, some}
 use mathlib.Core.List.{List, [], _∷_}
 use Prim.Native.Nat.{ℕ, suc}
-use native.Mathlib.Omega.{arith}
 use lib.ListN.{length, getD}
 use Rattle.base_lists.specs.Seqs.{tabulate}
 use Rattle.math_types.specs.Order.{Order}
 use Rattle.math_terms.specs.Constants.{Consts}
-use Rattle.math_overlaps.specs.Shapes.{Atom, fixed, free, Vars}
+use Rattle.math_overlaps.specs.Shapes.{fixed, free, Vars, atom-eq}
 use Rattle.math_overlaps.specs.Joins.{At}
 
 -- ---- places and codes, over atoms of any kind
@@ -35,39 +34,6 @@ module _ {A : Type 0} (same : Discrete A) where
   abbrev pub codeAt : List (Option A) → Option A → ℕ → ℕ
   codeAt t none p = p
   codeAt t (some a) p = codeOf t a
-
--- ---- equality of atoms
-
-module _ {C X : Type 0} where
-  -- constants are equal where their atoms are
-  pub fixed-once : {c d : C} → _≡_ {A = Atom C X} (fixed c) (fixed d) → c ≡ d
-  fixed-once e = cc
-
-  -- and variables
-  pub free-once : {x y : X} → _≡_ {A = Atom C X} (free x) (free y) → x ≡ y
-  free-once e = cc
-
-  -- no constant is a variable
-  pub fixed≢free : {c : C} {x : X} → _≡_ {A = Atom C X} (fixed c) (free x) → ⊥
-  fixed≢free {c} {x} e = let o : _≡_ {A = ℕ} 0 1 = cc in omega arith
-
-  -- by the constants
-  abbrev fixed-eq : {c d : C} → Dec (c ≡ d) → Dec (_≡_ {A = Atom C X} (fixed c) (fixed d))
-  fixed-eq (yes p) = yes (ap fixed p)
-  fixed-eq (no n) = no (λ e. n (fixed-once e))
-
-  -- by the variables
-  abbrev free-eq : {x y : X} → Dec (x ≡ y) → Dec (_≡_ {A = Atom C X} (free x) (free y))
-  free-eq (yes p) = yes (ap free p)
-  free-eq (no n) = no (λ e. n (free-once e))
-
-  module _ (con-eq : Discrete C) (var-eq : Discrete X) where
-    -- whether two atoms are equal
-    abbrev pub atom-eq : Discrete (Atom C X)
-    atom-eq (fixed c) (fixed d) = fixed-eq (con-eq c d)
-    atom-eq (fixed c) (free y) = no (λ e. fixed≢free e)
-    atom-eq (free x) (fixed d) = no (λ e. fixed≢free (sym e))
-    atom-eq (free x) (free y) = free-eq (var-eq x y)
 
 -- ---- the tables that code keeps: by place the code, the type's rank, and whether it is a variable
 

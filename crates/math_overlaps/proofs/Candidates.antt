@@ -163,11 +163,11 @@ module _ {A L R : Type 0} where
       go (yes h) = refl
       go (no h) = omega arith
 
--- a field of at most 16 terms: at most 16 candidates, and at most 31 terms in an entry's field
-range-length : (a k : ℕ) → length (range a k) ≡ k
+pub range-length : (a k : ℕ) → length (range a k) ≡ k
 range-length a zero = refl
 range-length a (suc k) = ap suc (range-length (suc a) k)
 
+-- a field of at most 16 terms: at most 16 candidates, and at most 31 terms in an entry's field
 module _ {A L : Type 0} where
   abbrev pub terms : Shape A L → ℕ
   terms (closed xs) = length xs

@@ -1,5 +1,5 @@
 -- The join of two atoms keeps exactly the fillings that make the two equal.
-use mathlib.Core.Path.{_≡_, refl, sym, _∙_, ap, subst}
+use mathlib.Core.Path.{_≡_, refl, sym, _∙_, ap}
 use mathlib.Core.Logic.{_↔_, _⊎_, inl, inr, ite, if-pos, if-neg}
 use mathlib.Core.Bool.{Bool, true, false, cond, false≢true}
 use mathlib.Core.List.{List, [], _∷_}
@@ -7,20 +7,9 @@ use mathlib.Core.Option.{Option, none, some}
 use Rattle.math_types.specs.Order.{Order}
 use Rattle.math_terms.specs.Constants.{Consts}
 use Rattle.math_terms.specs.Matcher.{andThen}
-use Rattle.math_overlaps.specs.Shapes.{Atom, fixed, free, val, Vars}
+use Rattle.math_overlaps.specs.Shapes.{Atom, fixed, free, val, Vars, free-once, fixed≢free}
 use Rattle.math_overlaps.specs.Joins.{At, State, start, replace, bind, joinClasses, join, joins}
 use Rattle.math_overlaps.proofs.Seqs.{SolvesV}
-
-module _ {C X : Type 0} where
-  abbrev pub IsFixed : Atom C X → Type 0
-  IsFixed (fixed c) = Unit {0}
-  IsFixed (free x) = ⊥
-
-  pub fixed≢free : {c : C} {x : X} → _≡_ {A = Atom C X} (fixed c) (free x) → ⊥
-  fixed≢free e = subst IsFixed e tt
-
-  pub free-inj : {x y : X} → _≡_ {A = Atom C X} (free x) (free y) → x ≡ y
-  free-inj e = cc
 
 module _ {C X : Type 0} where
   -- the value of an atom by constants
@@ -199,12 +188,12 @@ module _ (O : Order) (C : Consts O) (N : Vars O) where
 
       go₃ : (x ≡ y → ⊥) → le (sort y) (sort x) ≡ false → (b : Bool) → le (sort x) (sort y) ≡ b
           → Out s (Eqn (free x) (free y)) (cond b (some (bind O C N y (free x) s)) none)
-      go₃ n e true f = out-flip s (free y) (free x) (some (bind O C N y (free x) s)) (out-bind s g y (free x) hb ha (λ p. n (free-inj p)) f)
+      go₃ n e true f = out-flip s (free y) (free x) (some (bind O C N y (free x) s)) (out-bind s g y (free x) hb ha (λ p. n (free-once p)) f)
       go₃ n e false f = λ θ t r e′. no-meet e f θ t e′
 
       go₂ : (x ≡ y → ⊥) → (b : Bool) → le (sort y) (sort x) ≡ b
           → Out s (Eqn (free x) (free y)) (cond b (some (bind O C N x (free y) s)) (cond (le (sort x) (sort y)) (some (bind O C N y (free x) s)) none))
-      go₂ n true e = out-bind s g x (free y) ha hb (λ p. n (sym (free-inj p))) e
+      go₂ n true e = out-bind s g x (free y) ha hb (λ p. n (sym (free-once p))) e
       go₂ n false e = go₃ n e (le (sort x) (sort y)) refl
 
       go₁ : (q : Dec (x ≡ y))

@@ -7,7 +7,7 @@ use mathlib.Core.List.{List, [], _∷_, _++_, map}
 use mathlib.Core.List.{List·Memᴰ, List·Memᴰ·not-nil, List·Memᴰ·eq-of-singleton}
 use Prim.Native.Nat.{ℕ, zero, suc, _+_, _-_, max}
 use lib.ListN.{length, take, drop, replicate}
-use Rattle.base_lists.specs.Seqs.{All, all-append}
+use Rattle.base_lists.specs.Seqs.{All, all-append, all-map, all-mapped}
 use Rattle.math_types.specs.Order.{Order, Full, basic, list}
 use Rattle.math_terms.specs.Terms.{Term, con, var}
 use Rattle.math_terms.specs.Constants.{Consts}
@@ -146,14 +146,13 @@ module _ {A : Type 0} (P : A → Type 0) where
     every-fields g (S ∷ Ss) (T ∷ Ts) (c ∷ cs) h h′ = (every-field g S T c (h .0) (h′ .0), every-fields (suc g) Ss Ts cs (h .1) (h′ .1))
 
 module _ {A : Type 0} (P : A → Type 0) (f : A → A) (keeps : (a : A) → P a → P (f a)) where
-  all-mapped : (xs : List A) → All P xs → All P (map f xs)
-  all-mapped [] h = tt
-  all-mapped (a ∷ xs) h = (keeps a (h .0), all-mapped xs (h .1))
+  all-kept : (xs : List A) → All P xs → All P (map f xs)
+  all-kept xs h = all-mapped P f xs (all-map P (λ a. P (f a)) keeps xs h)
 
   module _ {L : Type 0} where
     every-mapped : (S : Shape A L) → Every P S → Every P (mapShape f S)
-    every-mapped (closed xs) h = all-mapped xs h
-    every-mapped (gapped p l t) h = (all-mapped p (h .0), all-mapped t (h .1))
+    every-mapped (closed xs) h = all-kept xs h
+    every-mapped (gapped p l t) h = (all-kept p (h .0), all-kept t (h .1))
 
     pub all-shapes-mapped : (Ss : List (Shape A L)) → All (Every P) Ss → All (Every P) (map (mapShape f) Ss)
     all-shapes-mapped [] h = tt

@@ -21,6 +21,7 @@ use Rattle.math_overlaps.specs.Joins.{At, start}
 use Rattle.math_overlaps.specs.Entries.{fieldsFor, entries}
 use Rattle.math_overlaps.specs.Overlaps.{Origin, named, place, origin-eq, termOf, fieldOf, mapShape, runOf, rename, PairShape, PairState, originFields}
 use Rattle.math_overlaps.specs.Overlaps.{originValue, numbersOf, shown}
+use Rattle.math_overlaps.proofs.Joins as ground
 use Rattle.math_overlaps.proofs.Joins.{valG, subA, kindA, Good, start-good, RespectsY}
 use Rattle.math_overlaps.proofs.Rows.{Inst}
 use Rattle.math_overlaps.proofs.Walks.{Insts, walk-back, known, picks}
@@ -114,7 +115,8 @@ module _ (O : Order) (C : Consts O) {A : Type 0} (name-eq : Discrete A) (Ss Ts :
   original-typed d Rs fs e i list a = tt
 
   pub left-typed : (e : List Cand × PairState O C name-eq) → List·Memᴰ e raw → TypedSubst O C (shown O C name-eq Ss Ts e .left)
-  left-typed e i = rename-typed O C (originValue O C name-eq left Ss (e .1) (original e)) (original-typed left Ss (original e) e i) (numbersOf O C name-eq (original e))
+  left-typed e i =
+      rename-typed O C (originValue O C name-eq left Ss (e .1) (original e)) (original-typed left Ss (original e) e i) (numbersOf O C name-eq (original e))
 
   pub right-typed : (e : List Cand × PairState O C name-eq) → List·Memᴰ e raw → TypedSubst O C (shown O C name-eq Ss Ts e .right)
   right-typed e i =
@@ -122,7 +124,8 @@ module _ (O : Order) (C : Consts O) {A : Type 0} (name-eq : Discrete A) (Ss Ts :
 
   -- ---- the values shown turn both rules into the entry's fields
 
-  instances : (e : List Cand × PairState O C name-eq) → List·Memᴰ e raw → Insts (val con (θ (e .1))) Ss (original e) × Insts (val con (θ (e .1))) Ts (original e)
+  instances : (e : List Cand × PairState O C name-eq) → List·Memᴰ e raw
+      → Insts (val con (θ (e .1))) Ss (original e) × Insts (val con (θ (e .1))) Ts (original e)
   instances e i =
       let r = walk-back O C N A A con (θ (e .1)) 0 Ss Ts (start O C N) (start-good O C N) e i own (original e) (show-insts (e .1) (fieldsFor 0 Ss Ts (e .0))) in
       (r .1, r .2)
@@ -203,7 +206,7 @@ module _ (O : Order) (C : Consts O) {A : Type 0} (name-eq : Discrete A) (Ss Ts :
         τ (of left k a) = h₁ .1 (basic k) a .0
         τ (of right k a) = h₂ .1 (basic k) a .0
 
-        typed : (x : X) → O .le (C .kind-of (τ x)) (N .sort x) ≡ true
+        typed : ground.Typed O C N τ
         typed (of left k a) = h₁ .1 (basic k) a .2
         typed (of right k a) = h₂ .1 (basic k) a .2
 
@@ -215,7 +218,8 @@ module _ (O : Order) (C : Consts O) {A : Type 0} (name-eq : Discrete A) (Ss Ts :
     τ,
     typed,
     named-from (valG τ) (λ g. m .0 list (place g)) (resolved O C N A A Ss Ts e) w
-        (sym (original-fill (λ c. c) (m .0) τ (λ s k a. m .1 (basic k) (named s a) .1) (resolved O C N A A Ss Ts e)) ∙ sym (fills-by (m .0) (original e)) ∙ m .2),
+        (sym (original-fill (λ c. c) (m .0) τ (λ s k a. m .1 (basic k) (named s a) .1) (resolved O C N A A Ss Ts e))
+        ∙ sym (fills-by (m .0) (original e)) ∙ m .2),
   )
     where
       m : Matches O C (original e) w
@@ -224,7 +228,7 @@ module _ (O : Order) (C : Consts O) {A : Type 0} (name-eq : Discrete A) (Ss Ts :
       τ : X → C .Con
       τ (of s k a) = m .1 (basic k) (named s a) .0
 
-      typed : (x : X) → O .le (C .kind-of (τ x)) (N .sort x) ≡ true
+      typed : ground.Typed O C N τ
       typed (of s k a) = m .1 (basic k) (named s a) .2
 
   pub same-choice : (e e′ : List Cand × PairState O C name-eq) → List·Memᴰ e raw → List·Memᴰ e′ raw → e .0 ≡ e′ .0 → e ≡ e′

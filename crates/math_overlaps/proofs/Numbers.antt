@@ -9,8 +9,8 @@ use Prim.Native.Nat.{ℕ, zero, suc, _+_, _≤_, _<_}
 use native.Mathlib.Omega.{arith}
 use native.Mathlib.Decide.{ℕ-discrete}
 use lib.ListN.{length, getElem?, length-append, length-map}
-use Rattle.base_lists.specs.Seqs.{All, Any, all-append}
-use Rattle.math_types.specs.Order.{Order, Full, basic, list, full-eq}
+use Rattle.base_lists.specs.Seqs.{All, Any, all-append, all-mem}
+use Rattle.math_types.specs.Order.{Order, Full, basic, list, full-eq, list≢basic}
 use Rattle.math_terms.specs.Terms.{Term, con, var}
 use Rattle.math_terms.specs.Constants.{Consts, TermOver}
 use Rattle.math_terms.specs.Seqs.{concat-map, Distinct}
@@ -213,9 +213,6 @@ module _ {C K A : Type 0} (kind-eq : Discrete K) (Q : Atom C (Variable K A) → 
       all-append (OriginIn k) (namesOf (full-eq kind-eq) k (fieldOf S))
       (concat-map (namesOf (full-eq kind-eq) k) (map fieldOf Ss)) (field-origins k S (h .0)) (all-origins k Ss (h .1))
 
-list≢basic : {K : Type 0} {j : K} → _≡_ {A = Full K} list (basic j) → ⊥
-list≢basic {K} {j} e = let o : _≡_ {A = ℕ} 0 1 = cc in omega arith
-
 -- a field has at most one list variable
 module _ {C K A : Type 0} (kind-eq : Discrete K) where
   no-lists : (xs : List (Atom C (Variable K A))) → namesOf (full-eq kind-eq) list (map termOf xs) ≡ []
@@ -241,15 +238,6 @@ module _ {C K A : Type 0} (kind-eq : Discrete K) where
   all-lists : (Ss : List (Shape (Atom C (Variable K A)) ℕ)) → length (concat-map (namesOf (full-eq kind-eq) list) (map fieldOf Ss)) ≤ length Ss
   all-lists [] = omega arith
   all-lists (S ∷ Ss) = let r = all-lists Ss in simp length-append (omega (arith, one-list S))
-
-module _ {A : Type 0} (P : A → Type 0) where
-  all-member : (l : List A) → All P l → (x : A) → List·Memᴰ x l → P x
-  all-member [] h x i = absurd (List·Memᴰ·not-nil i)
-  all-member (y ∷ l) h x i = go (List·Memᴰ·cases-cons i) (λ j. all-member l (h .1) x j)
-    where
-      go : (x ≡ y) ⊎ List·Memᴰ x l → (List·Memᴰ x l → P x) → P x
-      go (inl e) rec = along P (sym e) (h .0)
-      go (inr j) rec = rec j
 
 module _ {A L M : Type 0} where
   fields-count : (g : ℕ) (Ss : List (Shape A L)) (Ts : List (Shape A M)) (cs : List Cand) → length (fieldsFor g Ss Ts cs) ≤ length Ss
@@ -304,7 +292,7 @@ module _ (O : Order) (C : Consts O) {A : Type 0} (name-eq : Discrete A) (r₁ r�
         go (place g) q = absurd q
 
         inside : (m : Origin A) → List·Memᴰ m origins → List·Memᴰ m (map (named left) as₁ ++ map (named right) as₂)
-        inside m j = go m (all-member (OriginIn (O .kind-eq) InRules (basic k)) origins (all-origins (O .kind-eq) InRules (basic k) resolved from-rules) m j)
+        inside m j = go m (all-mem (OriginIn (O .kind-eq) InRules (basic k)) origins (all-origins (O .kind-eq) InRules (basic k) resolved from-rules) m j)
 
   module _ (Ss Ts : List (PairShape O C name-eq)) (e : List Cand × PairState O C name-eq) where
     -- the numbers of list variables are below the number of fields

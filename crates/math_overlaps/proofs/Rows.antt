@@ -200,9 +200,6 @@ module _ {A : Type 0} where
       go (no a) (yes b) = covered-sym (grow n f′ t′) (grow n f t) (covered-meet n f′ t′ f t q p (omega arith))
       go (no a) (no b) = covered-sym (grow n f′ t′) (grow n f t) (covered-full n f′ t′ f t q p (omega arith))
 
-  pub covers-left : (xs : List A) (q : List (Option A)) → length xs ≡ length q → Covered (map some xs) q
-  covers-left xs q e = covers-all xs q e
-
   pub covers-right : (r : List (Option A)) (xs : List A) → length r ≡ length xs → Covered r (map some xs)
   covers-right r xs e = covered-sym (map some xs) r (covers-all xs r (sym e))
 
@@ -214,8 +211,8 @@ module _ {A L M : Type 0} where
   Reach n (gapped f l t) (gapped f′ l′ t′) = n ≤ wide (gapped f l t) (gapped f′ l′ t′)
 
   pub covered-row : (n : ℕ) (S₁ : Shape A L) (S₂ : Shape A M) → Room S₁ n → Room S₂ n → Reach n S₁ S₂ → Covered (row n S₁) (row n S₂)
-  covered-row n (closed xs) (closed ys) p q h = covers-left xs (map some ys) (sym p ∙ q ∙ sym (length-map ys some))
-  covered-row n (closed xs) (gapped f l t) p q h = covers-left xs (grow n f t) (sym p ∙ sym (grow-length n f t q))
+  covered-row n (closed xs) (closed ys) p q h = covers-all xs (map some ys) (sym p ∙ q ∙ sym (length-map ys some))
+  covered-row n (closed xs) (gapped f l t) p q h = covers-all xs (grow n f t) (sym p ∙ sym (grow-length n f t q))
   covered-row n (gapped f l t) (closed ys) p q h = covers-right (grow n f t) ys (grow-length n f t p ∙ q)
   covered-row n (gapped f l t) (gapped f′ l′ t′) p q h = covered-grow n f t f′ t′ p q h
 

@@ -44,7 +44,9 @@ module _ (O : Order) (C : Consts O) (N : Vars O) where
   joinClasses s (fixed c) (fixed d) = ite (con-eq c d) (some s) none
   joinClasses s (fixed c) (free y) = cond (le (kind-of c) (sort y)) (some (bind y (fixed c) s)) none
   joinClasses s (free x) (fixed d) = cond (le (kind-of d) (sort x)) (some (bind x (fixed d) s)) none
-  joinClasses s (free x) (free y) = ite (var-eq x y) (some s) (cond (le (sort y) (sort x)) (some (bind x (free y) s)) (cond (le (sort x) (sort y)) (some (bind y (free x) s)) none))
+  joinClasses s (free x) (free y) =
+      ite (var-eq x y) (some s)
+      (cond (le (sort y) (sort x)) (some (bind x (free y) s)) (cond (le (sort x) (sort y)) (some (bind y (free x) s)) none))
 
   -- "Each join of two atoms turns one state of the fillings into the next" (union of two classes; a clash is a failure of unification)
   abbrev pub join : State → At → At → Option State

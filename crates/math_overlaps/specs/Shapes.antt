@@ -1,6 +1,9 @@
 -- A field with at most one list variable: atoms, perhaps a list variable, atoms. The atoms are those of a pair of rules.
+use mathlib.Core.Path.{_≡_}
 use mathlib.Core.Option.{Option, none, some}
 use mathlib.Core.List.{List, [], _∷_}
+use Prim.Native.Nat.{ℕ}
+use native.Mathlib.Omega.{arith}
 use Rattle.math_types.specs.Order.{Order, Full, basic, list}
 use Rattle.math_terms.specs.Terms.{Term, con, var}
 
@@ -10,6 +13,18 @@ use Rattle.math_terms.specs.Terms.{Term, con, var}
 pub data Atom (C X : Type 0) : Type 0 where
   fixed : C → Atom C X
   free : X → Atom C X
+  deriving Discrete as atom-eq
+
+-- what two atoms that are the same have in common
+module _ {C X : Type 0} where
+  pub fixed-once : {c d : C} → _≡_ {A = Atom C X} (fixed c) (fixed d) → c ≡ d
+  fixed-once e = cc
+
+  pub free-once : {x y : X} → _≡_ {A = Atom C X} (free x) (free y) → x ≡ y
+  free-once e = cc
+
+  pub fixed≢free : {c : C} {x : X} → _≡_ {A = Atom C X} (fixed c) (free x) → ⊥
+  fixed≢free {c} {x} e = let o : _≡_ {A = ℕ} 0 1 = cc in omega arith
 
 module _ {C X Y : Type 0} where
   -- the value of an atom: of a constant by ι, of a variable by θ

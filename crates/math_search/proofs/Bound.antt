@@ -17,7 +17,7 @@ use Rattle.math_search.specs.Answers.{listvars, isName, countOf, Linear,
 use Rattle.math_search.proofs.Seqs.{all-both}
 use Rattle.math_search.proofs.Terms.{atomic-once, listvar-once, atomic≢listvar}
 use Rattle.math_search.proofs.Counts.{same-le, same-self, count-le, same-count, Other, put-fill-all, all-put-in, put-length, put-lists, put-count}
-use Rattle.math_search.proofs.Counts.{not-occurs, without}
+use Rattle.math_search.proofs.Counts.{not-occurs, without, count-cons, lists-cons}
 use Rattle.math_search.proofs.Effects.{Bind, Does, fewer}
 use Rattle.math_search.proofs.Kept.{remove-does, decomp3-does, lin-swap, orient1-does, orient2-does, orient3-does, orient4-does}
 
@@ -44,14 +44,6 @@ module _ (E : Setting) where
   pub heads-differ : (x y : Name) (L M : Field E) → Linear E (listvar x ∷ L) (listvar y ∷ M) → _≡_ {A = Tm E} (listvar y) (listvar x) → ⊥
   heads-differ x y L M l e = let q : isName E x y ≡ 1 = if-pos (name-eq y x) (listvar-once e) 1 0 in omega (arith, l .once x, same-self E x)
 
-  pub count-cons : (n : Name) (t : Tm E) (M : Field E) → countOf E n M ≤ countOf E n (t ∷ M)
-  count-cons n (atomic a) M = omega arith
-  count-cons n (listvar m) M = omega arith
-
-  lists-cons : (t : Tm E) (M : Field E) → listvars E M ≤ listvars E (t ∷ M)
-  lists-cons (atomic a) M = omega arith
-  lists-cons (listvar m) M = omega arith
-
   decomp1-does : (L M : Field E) (f : Name) → Does E L M f (decomp1 E L M)
   decomp1-does [] M f = tt
   decomp1-does (atomic a ∷ L) M f = tt
@@ -69,7 +61,7 @@ module _ (E : Setting) where
     new = tt;
     fits = tt;
     lin = λ l p q.
-        record { left = omega (arith, l .left); right = omega (arith, l .right, lists-cons s M); once = λ n. omega (arith, l .once n, count-cons n s M) };
+        record { left = omega (arith, l .left); right = omega (arith, l .right, lists-cons E s M); once = λ n. omega (arith, l .once n, count-cons E n s M) };
     falls = fewer E (listvar x ∷ (t ∷ L)) (s ∷ M) (t ∷ L) M (omega arith);
     room = omega arith;
   }

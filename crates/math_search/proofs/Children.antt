@@ -7,7 +7,7 @@ use mathlib.Core.List.{List, [], _∷_, append-nil, List·Memᴰ, List·Memᴰ·
 use Prim.Native.Nat.{suc, _+_, _≤_}
 use native.Mathlib.Omega.{arith}
 use lib.ListN.{length, length-append}
-use Rattle.base_lists.specs.Seqs.{All, all-map}
+use Rattle.base_lists.specs.Seqs.{All, all-map, all-mapped, mem?}
 use Rattle.math_terms.specs.Constants.{Consts}
 use Rattle.math_terms.specs.Seqs.{concat-map}
 use Rattle.math_overlaps.specs.Shapes.{Vars}
@@ -18,11 +18,10 @@ use Rattle.math_search.specs.Rules.{Orient3}
 use Rattle.math_search.specs.Rules.{Orient4, ruleOrder, Move, keep, bind, fails, rule, add, collect, moves, apply, childrenOf, children}
 use Rattle.math_search.specs.Queue.{termsIn}
 use Rattle.math_search.specs.Answers.{ground, WellTyped}
-use Rattle.math_search.proofs.Seqs.{all-mapped}
 use Rattle.math_search.proofs.Counts.{Other}
 use Rattle.math_search.proofs.Effects.{Falls, termsLeft, Does}
 use Rattle.math_search.proofs.Bound.{rule-does}
-use Rattle.math_search.proofs.Invariant.{Respects, Unifies, Fixed, compose-iff, sound-move, Known, Unbound, Invariant, mem-dec, old-atom, old-mem}
+use Rattle.math_search.proofs.Invariant.{Respects, Unifies, Fixed, compose-iff, sound-move, Known, Unbound, Invariant, old-atom, old-mem}
 use Rattle.math_search.proofs.Invariant.{inv-move}
 use Rattle.math_search.proofs.Choice.{extend, extend-term, extend-field, no-fail, Agrees, Choice, choose}
 
@@ -170,7 +169,7 @@ module _ (E : Setting) where
 
       go : (t : Tm E) → ground E ρ (extend E m f w) t ≡ concat-map (ground E ρ (extend E m f w)) (σ t)
       go (atomic a) = old (atomic a) (old-atom E u a)
-      go (listvar k) = at k (mem-dec E k u)
+      go (listvar k) = at k (mem? (E .names .name-eq) k u)
 
   -- COMPLETE AT A STEP: a ground unifier of an open problem, extended at the fresh name, is one of some child
   pub step-complete : (L M : Field E) (σ : Bindings E) (u : List Name) → Invariant E (problem (equation L M) σ u)

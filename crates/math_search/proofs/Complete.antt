@@ -4,7 +4,7 @@ use mathlib.Core.Logic.{_⊎_, inl, inr}
 use mathlib.Core.List.{List, [], _∷_, _++_, append-nil, List·Memᴰ, List·Memᴰ·head, List·Memᴰ·tail, List·Memᴰ·not-nil, List·Memᴰ·cases-cons, Memᴰ·map}
 use mathlib.Core.List.{Memᴰ·append-left, Memᴰ·append-right}
 use Prim.Native.Nat.{ℕ, zero, suc}
-use Rattle.base_lists.specs.Seqs.{All, all-append, all-map}
+use Rattle.base_lists.specs.Seqs.{All, all-append, all-map, mem?}
 use Rattle.math_types.specs.Order.{Order}
 use Rattle.math_terms.specs.Constants.{Consts}
 use Rattle.math_terms.specs.Seqs.{concat-map}
@@ -14,7 +14,7 @@ use Rattle.math_search.specs.Rules.{Rule}
 use Rattle.math_search.specs.Queue.{answers, offspring, run}
 use Rattle.math_search.specs.Answers.{StandsIn, Fits, Solves, atomValue, ground, WellTyped, Covers}
 use Rattle.math_search.proofs.Seqs.{concat-map-self}
-use Rattle.math_search.proofs.Invariant.{Respects, Unifies, Fixed, Known, Unbound, Invariant, mem-dec, old-atom, old-mem}
+use Rattle.math_search.proofs.Invariant.{Respects, Unifies, Fixed, Known, Unbound, Invariant, old-atom, old-mem}
 use Rattle.math_search.proofs.Choice.{extend, extend-term, atom-typed}
 use Rattle.math_search.proofs.Children.{step-complete}
 use Rattle.math_search.proofs.Queue.{IsAnswers, answered, step-answers, all-offspring}
@@ -42,7 +42,7 @@ module _ (E : Setting) where
 
       go : (t : Tm E) → σ t ≡ concat-map σ (σ t)
       go (atomic a) = old (atomic a) (old-atom E u a)
-      go (listvar k) = at k (mem-dec E k u)
+      go (listvar k) = at k (mem? (E .names .name-eq) k u)
 
   pub fine-solves : (A B : Field E) (σ : Bindings E) (u : List Name) → Fine E A B (problem solved σ u) → Solves E A B σ
   fine-solves A B σ u h = (h .solves σ (tt, self-respects solved σ u (h .inv)), h .inv .kinds)

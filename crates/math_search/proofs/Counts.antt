@@ -8,10 +8,11 @@ use native.Mathlib.Omega.{arith}
 use lib.ListN.{length}
 use Rattle.base_lists.specs.Seqs.{All, all-map}
 use Rattle.math_terms.specs.Seqs.{concat-map}
+use Rattle.math_terms.proofs.Seqs.{concat-map-twice}
 use Rattle.math_search.specs.Problems.{Names, Setting, atomic, listvar, At, Tm, Field, tm-eq, put, Rest, solved, equation}
 use Rattle.math_search.specs.Rules.{occurs}
 use Rattle.math_search.specs.Answers.{listvars, isName, countOf, Linear}
-use Rattle.math_search.proofs.Seqs.{all-both, all-every, concat-map-agree, all-concat-map, concat-map-twice}
+use Rattle.math_search.proofs.Seqs.{all-both, all-every, concat-map-agree, all-concat-map}
 use Rattle.math_search.proofs.Terms.{listvar-once, atomic≢listvar}
 
 module _ (E : Setting) where
@@ -32,6 +33,15 @@ module _ (E : Setting) where
   count-le n [] = omega arith
   count-le n (atomic a ∷ L) = count-le n L
   count-le n (listvar m ∷ L) = omega (arith, count-le n L, same-le n m)
+
+  -- a term more takes none away
+  pub count-cons : (n : Name) (t : Tm E) (M : Field E) → countOf E n M ≤ countOf E n (t ∷ M)
+  count-cons n (atomic a) M = omega arith
+  count-cons n (listvar m) M = omega arith
+
+  pub lists-cons : (t : Tm E) (M : Field E) → listvars E M ≤ listvars E (t ∷ M)
+  lists-cons (atomic a) M = omega arith
+  lists-cons (listvar m) M = omega arith
 
   -- what is left is linear
   abbrev pub LinearRest : Rest E → Type 0

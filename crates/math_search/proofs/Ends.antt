@@ -5,10 +5,10 @@ use mathlib.Core.Path.{_≡_, refl, subst}
 use mathlib.Core.List.{List, List·Memᴰ, List·Memᴰ·not-nil}
 use Prim.Native.Nat.{ℕ, zero, suc, _<_}
 use native.Mathlib.Omega.{arith}
+use Rattle.base_lists.specs.Seqs.{all-mem}
 use Rattle.math_search.specs.Problems.{Names, Setting, Field, Bindings, solved, equation, Problem, problem, rest}
 use Rattle.math_search.specs.Rules.{Rule, children}
 use Rattle.math_search.specs.Termination.{Less, first, second, third, fourth, size, sizePart, headPart, typePart, Lower}
-use Rattle.math_search.proofs.Seqs.{all-mem}
 use Rattle.math_search.proofs.Searching.{steps-fall}
 
 -- ---- the order

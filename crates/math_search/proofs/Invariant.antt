@@ -1,12 +1,12 @@
 -- What holds of every problem of a search: list variables are not repeated, no term of what is left is bound, and no value has a bound
 -- variable; values have their types. And a step is sound: what solves a child solves the problem.
 use mathlib.Core.Path.{_≡_, refl, sym, _∙_, ap, subst}
-use mathlib.Core.Logic.{_↔_, _⊎_, inl, inr, ite}
+use mathlib.Core.Logic.{_↔_, ite}
 use mathlib.Core.Bool.{true}
 use mathlib.Core.Option.{some}
-use mathlib.Core.List.{List, [], _∷_, _++_, append-nil, List·Memᴰ, List·Memᴰ·head, List·Memᴰ·tail, List·Memᴰ·not-nil, List·Memᴰ·cases-cons, Memᴰ·cast}
+use mathlib.Core.List.{List, [], _∷_, _++_, append-nil, List·Memᴰ, Memᴰ·cast}
 use mathlib.Core.List.{Memᴰ·append-left, Memᴰ·append-right}
-use Rattle.base_lists.specs.Seqs.{All, all-map}
+use Rattle.base_lists.specs.Seqs.{All, all-map, all-mem, mem?}
 use Rattle.math_types.specs.Order.{Order}
 use Rattle.math_terms.specs.Seqs.{concat-map}
 use Rattle.math_overlaps.specs.Shapes.{fixed, free, Vars}
@@ -14,7 +14,7 @@ use Rattle.math_search.specs.Problems.{Names, Setting, atomic, listvar, 
 use Rattle.math_search.specs.Problems.{rest, bindings, used}
 use Rattle.math_search.specs.Rules.{Move, keep, bind, apply}
 use Rattle.math_search.specs.Answers.{Fits}
-use Rattle.math_search.proofs.Seqs.{all-mem, all-from, all-concat-map}
+use Rattle.math_search.proofs.Seqs.{all-from, all-concat-map}
 use Rattle.math_search.proofs.Terms.{listvar-once, atomic≢listvar}
 use Rattle.math_search.proofs.Counts.{LinearRest, Other, put-self, put-ne, put-fill-all, put-all, count-absent}
 use Rattle.math_search.proofs.Effects.{Holds, AllRest, Does}
@@ -72,19 +72,6 @@ module _ (E : Setting) where
     pub vals : (t : Tm E) → Known (used E p) t → All (Unbound (bindings E p) (used E p)) (bindings E p t)
     pub alone : (n : Name) → (List·Memᴰ n (used E p) → ⊥) → bindings E p (listvar n) ≡ listvar n ∷ []
     pub kinds : (t : Tm E) → Fits E t (bindings E p t)
-
-  pub mem-dec : (n : Name) (u : List Name) → Dec (List·Memᴰ n u)
-  mem-dec n [] = no (λ i. List·Memᴰ·not-nil i)
-  mem-dec n (m ∷ u) = go (name-eq n m) (mem-dec n u)
-    where
-      cases : (n ≡ m → ⊥) → (List·Memᴰ n u → ⊥) → (n ≡ m) ⊎ List·Memᴰ n u → ⊥
-      cases a b (inl e) = a e
-      cases a b (inr i) = b i
-
-      go : Dec (n ≡ m) → Dec (List·Memᴰ n u) → Dec (List·Memᴰ n (m ∷ u))
-      go (yes e) d = yes (List·Memᴰ·head e)
-      go (no a) (yes i) = yes (List·Memᴰ·tail i)
-      go (no a) (no b) = no (λ i. cases a b (List·Memᴰ·cases-cons i))
 
   pub old-atom : (u : List Name) (a : At E) → Known u (atomic a)
   old-atom u a n h e = atomic≢listvar e
@@ -165,4 +152,4 @@ module _ (E : Setting) where
 
       vals′ : (t : Tm E) → Known (v ++ u) t → All Unbound′ (compose E σ x s t)
       vals′ (atomic a) o = vals-old (atomic a) (old-atom u a)
-      vals′ (listvar k) o = vals-lst k (mem-dec k u) o
+      vals′ (listvar k) o = vals-lst k (mem? name-eq k u) o

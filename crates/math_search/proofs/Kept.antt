@@ -4,7 +4,6 @@ use mathlib.Core.Logic.{ite}
 use mathlib.Core.Bool.{Bool, true, false, cond, _&&_, not}
 use mathlib.Core.Option.{none, some}
 use mathlib.Core.List.{List, [], _∷_, _++_, append-cancel-left}
-use Prim.Native.Nat.{_≤_}
 use native.Mathlib.Omega.{arith}
 use Rattle.math_types.specs.Order.{Order}
 use Rattle.math_terms.specs.Seqs.{concat-map}
@@ -12,8 +11,9 @@ use Rattle.math_overlaps.specs.Shapes.{fixed, free, Vars}
 use Rattle.math_search.specs.Problems.{Names, Setting, atomic, listvar, Tm, Field, tm-eq, field-eq, solved, equation}
 use Rattle.math_search.specs.Rules.{keep, remove, decomp3, orient1, orient2, orient3, orient4}
 use Rattle.math_search.specs.Termination.{second, third, fourth}
-use Rattle.math_search.specs.Answers.{listvars, countOf, Linear}
+use Rattle.math_search.specs.Answers.{Linear}
 use Rattle.math_search.proofs.Effects.{Falls, Keep, Does, type-le, long-le, fewer}
+use Rattle.math_search.proofs.Counts.{count-cons, lists-cons}
 
 module _ (E : Setting) where
   open Setting E using (order, variables, names)
@@ -39,14 +39,6 @@ module _ (E : Setting) where
   decomp3-does (s ∷ L) [] f = tt
   decomp3-does (s ∷ L) (t ∷ M) f = go (tm-eq E s t)
     where
-      shorter : (K : Field E) (u : Tm E) → listvars E K ≤ listvars E (u ∷ K)
-      shorter K (atomic a) = omega arith
-      shorter K (listvar n) = omega arith
-
-      rarer : (n : Name) (K : Field E) (u : Tm E) → countOf E n K ≤ countOf E n (u ∷ K)
-      rarer n K (atomic a) = omega arith
-      rarer n K (listvar m) = omega arith
-
       go : (d : Dec (s ≡ t)) → Does E (s ∷ L) (t ∷ M) f (ite d (some (keep (equation L M))) none)
       go (yes e) = record {
         eqv = λ {B} θ. (
@@ -55,9 +47,9 @@ module _ (E : Setting) where
         );
         from = λ P h k. (h .1, k .1);
         lin = λ l. record {
-          left = omega (arith, l .left, shorter L s);
-          right = omega (arith, l .right, shorter M t);
-          once = λ n. omega (arith, l .once n, rarer n L s, rarer n M t);
+          left = omega (arith, l .left, lists-cons E s L);
+          right = omega (arith, l .right, lists-cons E t M);
+          once = λ n. omega (arith, l .once n, count-cons E n s L, count-cons E n t M);
         };
         falls = fewer E (s ∷ L) (t ∷ M) L M (omega arith);
         room = omega arith;

@@ -6,19 +6,18 @@ use mathlib.Core.List.{List, [], _∷_, _++_, append-assoc, List·Memᴰ, List·
 use Prim.Native.Nat.{ℕ, _+_, _≤_}
 use native.Mathlib.Omega.{arith}
 use lib.ListN.{length, length-append}
-use Rattle.base_lists.specs.Seqs.{All, all-map, all-left}
+use Rattle.base_lists.specs.Seqs.{All, all-map, all-left, all-mapped}
 use Rattle.math_terms.specs.Seqs.{concat-map}
-use Rattle.math_terms.proofs.Seqs.{concat-map-append}
+use Rattle.math_terms.proofs.Seqs.{concat-map-append, concat-map-twice}
 use Rattle.math_overlaps.specs.Shapes.{fixed, free}
 use Rattle.math_search.specs.Problems.{Names, Setting, atomic, listvar, Tm, Field, Bindings, put, Rest, solved, equation, problem, rest, bindings, root}
 use Rattle.math_search.specs.Rules.{Move, keep, bind, moves, apply, children}
 use Rattle.math_search.specs.Queue.{termsIn}
 use Rattle.math_search.specs.Answers.{StandsIn, isName, countOf, Fits}
-use Rattle.math_search.proofs.Seqs.{one-or-none, all-every, all-mapped, all-concat-map, concat-map-self, concat-map-twice}
+use Rattle.math_search.proofs.Seqs.{one-or-none, all-every, all-concat-map, concat-map-self}
 use Rattle.math_search.proofs.Terms.{listvar-once, atomic≢listvar}
-use Rattle.math_search.proofs.Counts.{Other, put-length, put-count, absent, count-absent}
+use Rattle.math_search.proofs.Counts.{Other, put-length, put-count, absent, count-absent, count-cons}
 use Rattle.math_search.proofs.Effects.{AllRest, termsLeft, Does}
-use Rattle.math_search.proofs.Bound.{count-cons}
 use Rattle.math_search.proofs.Invariant.{Known, Unbound, Invariant}
 use Rattle.math_search.proofs.Children.{Is, moves-is, move-does}
 use Rattle.math_search.proofs.Cuts.{leftOf, rightOf, Same, Cut, Cuts, put-away-name, rule-cuts}

@@ -4,12 +4,12 @@ use mathlib.Core.Logic.{inl, inr}
 use mathlib.Core.Option.{some}
 use mathlib.Core.List.{List, [], _∷_}
 use Prim.Native.Nat.{ℕ}
-use Rattle.base_lists.specs.Seqs.{All, all-map}
+use Rattle.base_lists.specs.Seqs.{All, all-map, all-mem}
 use Rattle.math_search.specs.Problems.{Names, Setting, listvar, Tm, Field, Bindings, solved, equation, Problem, problem, rest, bindings, root}
 use Rattle.math_search.specs.Rules.{Move, keep, bind, apply, children}
 use Rattle.math_search.specs.Queue.{total, answers, searching}
 use Rattle.math_search.specs.Answers.{StandsIn, Linear}
-use Rattle.math_search.proofs.Seqs.{all-mem, all-every}
+use Rattle.math_search.proofs.Seqs.{all-every}
 use Rattle.math_search.proofs.Counts.{Other, all-put-in}
 use Rattle.math_search.proofs.Effects.{AllRest, Does}
 use Rattle.math_search.proofs.Invariant.{Invariant, inv-move}

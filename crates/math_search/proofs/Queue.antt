@@ -8,12 +8,11 @@ use Prim.Native.Nat.{ℕ, zero, suc, _+_, _≤_}
 use native.Mathlib.Omega.{arith}
 use lib.Dec.{leb}
 use lib.ListN.{length, length-append}
-use Rattle.base_lists.specs.Seqs.{All, all-append}
+use Rattle.base_lists.specs.Seqs.{All, all-append, all-mapped}
 use borrow.Author.Tests.{leb-false, lt-leb}
 use Rattle.math_search.specs.Problems.{Names, Setting, Field, Bindings, solved, equation, Problem, problem, rest, root}
 use Rattle.math_search.specs.Rules.{children}
 use Rattle.math_search.specs.Queue.{rank, total, Result, answers, refused, unfinished, enqueue, onward, answer, offspring, run, searching}
-use Rattle.math_search.proofs.Seqs.{all-mapped}
 use Rattle.math_search.proofs.Falling.{weight-pos, queue-falls}
 
 module _ (E : Setting) where

@@ -23,6 +23,7 @@ use Rattle.base_lists.specs.Seqs.{All, all-map}
 use Rattle.math_types.specs.Order.{Order}
 use Rattle.math_terms.specs.Constants.{Consts}
 use Rattle.math_terms.specs.Seqs.{concat-map}
+use Rattle.math_terms.proofs.Seqs.{concat-map-twice}
 use Rattle.math_overlaps.specs.Shapes.{Vars}
 use Rattle.math_search.specs.Problems.{Names, Setting, atomic, listvar, Tm, Field, Bindings, solved, equation, Problem, problem, rest, bindings, used}
 use Rattle.math_search.specs.Problems.{root}
@@ -31,7 +32,7 @@ use Rattle.math_search.specs.Rules.{occurs, occur, children, Met}
 use Rattle.math_search.specs.Termination.{Lower}
 use Rattle.math_search.specs.Queue.{rank, total, Result, answers, refused, unfinished, run, searching}
 use Rattle.math_search.specs.Answers.{StandsIn, Linear, Solves, ground, WellTyped, Covers}
-use Rattle.math_search.proofs.Seqs.{all-every, concat-map-agree, concat-map-twice}
+use Rattle.math_search.proofs.Seqs.{all-every, concat-map-agree}
 use Rattle.math_search.proofs.Counts.{Other, absent, occurs-not}
 use Rattle.math_search.proofs.Effects.{Falls}
 use Rattle.math_search.proofs.Bound.{rest-right}

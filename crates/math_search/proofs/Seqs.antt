@@ -1,13 +1,11 @@
 -- Laws of lists: every member, beginnings, members replaced by lists.
-use mathlib.Core.Path.{_≡_, refl, sym, _∙_, ap, ap₂, subst}
+use mathlib.Core.Path.{_≡_, refl, sym, ap₂}
 use mathlib.Core.Logic.{_⊎_, inl, inr}
-use mathlib.Core.List.{List, [], _∷_, _++_, map, cons≢nil, head-eq-of-cons-eq, tail-eq-of-cons-eq, List·Memᴰ, List·Memᴰ·head, List·Memᴰ·tail, List·Memᴰ·not-nil}
-use mathlib.Core.List.{List·Memᴰ·cases-cons}
+use mathlib.Core.List.{List, [], _∷_, _++_, cons≢nil, head-eq-of-cons-eq, tail-eq-of-cons-eq, List·Memᴰ, List·Memᴰ·head, List·Memᴰ·tail}
 use Prim.Native.Nat.{ℕ, zero, suc, _≤_}
 use native.Mathlib.Omega.{arith}
 use Rattle.base_lists.specs.Seqs.{All, all-append}
 use Rattle.math_terms.specs.Seqs.{concat-map}
-use Rattle.math_terms.proofs.Seqs.{concat-map-append}
 
 pub one-or-none : (n : ℕ) → (n ≡ 0) ⊎ (1 ≤ n)
 one-or-none zero = inl refl
@@ -21,14 +19,6 @@ module _ {A : Type 0} where
   pub all-every : (P : A → Type 0) (s : List A) → ((x : A) → P x) → All P s
   all-every P [] f = tt
   all-every P (x ∷ s) f = (f x, all-every P s f)
-
-  pub all-mem : (P : A → Type 0) (s : List A) → All P s → (x : A) → List·Memᴰ x s → P x
-  all-mem P [] h x i = absurd (List·Memᴰ·not-nil i)
-  all-mem P (y ∷ s) h x i = go (λ j. all-mem P s (h .1) x j) (List·Memᴰ·cases-cons i)
-    where
-      go : (List·Memᴰ x s → P x) → (x ≡ y) ⊎ List·Memᴰ x s → P x
-      go rec (inl e) = subst P (sym e) (h .0)
-      go rec (inr j) = rec j
 
   pub all-from : (P : A → Type 0) (s : List A) → ((x : A) → List·Memᴰ x s → P x) → All P s
   all-from P [] f = tt
@@ -53,10 +43,6 @@ module _ {A : Type 0} where
       go (inr r) = inr (r .0, ap₂ (λ (u : A) (v : List A). u ∷ v) (sym (head-eq-of-cons-eq e)) (r .1))
 
 module _ {A B : Type 0} where
-  pub all-mapped : (P : B → Type 0) (g : A → B) (s : List A) → All (λ x. P (g x)) s → All P (map g s)
-  all-mapped P g [] h = tt
-  all-mapped P g (x ∷ s) h = (h .0, all-mapped P g s (h .1))
-
   pub concat-map-agree : (f g : A → List B) (s : List A) → All (λ x. f x ≡ g x) s → concat-map f s ≡ concat-map g s
   concat-map-agree f g [] h = refl
   concat-map-agree f g (x ∷ s) h = ap₂ (λ (u v : List B). u ++ v) (h .0) (concat-map-agree f g s (h .1))
@@ -69,8 +55,3 @@ module _ {A : Type 0} where
   pub concat-map-self : (f : A → List A) (s : List A) → All (λ x. f x ≡ x ∷ []) s → concat-map f s ≡ s
   concat-map-self f [] h = refl
   concat-map-self f (x ∷ s) h = ap₂ (λ (u v : List A). u ++ v) (h .0) (concat-map-self f s (h .1))
-
-module _ {A B C : Type 0} where
-  pub concat-map-twice : (g : B → List C) (f : A → List B) (s : List A) → concat-map g (concat-map f s) ≡ concat-map (λ x. concat-map g (f x)) s
-  concat-map-twice g f [] = refl
-  concat-map-twice g f (x ∷ s) = concat-map-append g (f x) (concat-map f s) ∙ ap (λ (u : List C). concat-map g (f x) ++ u) (concat-map-twice g f s)

@@ -12,7 +12,7 @@ use Prim.Native.Nat.{ℕ, suc, _+_, _≤_, _<_}
 use native.Mathlib.Omega.{arith}
 use lib.ListN.{length, length-append}
 use Rattle.base_limits.specs.Limits.{mostTerms, numbersOfPair}
-use Rattle.base_lists.specs.Seqs.{All, all-map, all-append}
+use Rattle.base_lists.specs.Seqs.{All, all-map, all-append, all-mem, all-mapped}
 use Rattle.math_types.specs.Order.{Order, basic, full-le}
 use Rattle.math_terms.specs.Constants.{Consts}
 use Rattle.math_terms.specs.Seqs.{concat-map}
@@ -26,7 +26,6 @@ use Rattle.math_search.specs.Rules.{Orient3}
 use Rattle.math_search.specs.Rules.{Orient4, below, occurs, Move, keep, bind, bindAtom, solveBy, rule, moves, apply, children, Met, start, step}
 use Rattle.math_search.specs.Queue.{termsIn}
 use Rattle.math_search.specs.Answers.{listvars, Linear, Fits}
-use Rattle.math_search.proofs.Seqs.{all-mem, all-mapped}
 use Rattle.math_search.proofs.Terms.{atomic≢listvar}
 use Rattle.math_search.proofs.Counts.{put-length}
 use Rattle.math_search.proofs.Children.{Is, moves-is, move-does}

@@ -9,7 +9,7 @@ use native.Mathlib.Omega.{arith}
 use native.Mathlib.Decide.{ℕ-discrete}
 use lib.ListN.{length}
 use Rattle.base_limits.specs.Limits.{numbersOfSide}
-use Rattle.base_lists.specs.Seqs.{All}
+use Rattle.base_lists.specs.Seqs.{All, all-mem}
 use Rattle.math_types.specs.Order.{Order, basic, list}
 use Rattle.math_terms.specs.Terms.{con, var}
 use Rattle.math_terms.specs.Constants.{Consts, TermOver}
@@ -17,6 +17,7 @@ use Rattle.math_terms.specs.Seqs.{concat-map}
 use Rattle.math_terms.specs.Fillings.{FillingOver, Typed, fill}
 use Rattle.math_terms.specs.Matching.{Matches}
 use Rattle.math_terms.specs.Linear.{lists, OneList, LeftLinear}
+use Rattle.math_terms.proofs.Seqs.{concat-map-twice}
 use Rattle.math_overlaps.specs.Shapes.{Side, left, right, Variable, of}
 use Rattle.math_overlaps.specs.Overlaps.{Entry, overlaps}
 use Rattle.math_overlaps.proofs.Overlaps.{exact}
@@ -25,7 +26,7 @@ use Rattle.math_search.specs.Fresh.{numbers}
 use Rattle.math_search.specs.Queue.{answers, searching}
 use Rattle.math_search.specs.Answers.{StandsIn, listvars, countOf, Linear, Solves, ground, WellTyped}
 use Rattle.math_search.specs.Pairs.{pairSetting, sideField, sixteenAbove}
-use Rattle.math_search.proofs.Seqs.{all-mem, all-from, concat-map-agree, concat-map-twice}
+use Rattle.math_search.proofs.Seqs.{all-from, concat-map-agree}
 use Rattle.math_search.proofs.Counts.{count-le}
 use Rattle.math_search.proofs.Searching.{searching-sound, searching-complete, instances}
 

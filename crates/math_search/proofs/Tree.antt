@@ -6,13 +6,13 @@ use mathlib.Core.List.{List, _++_, List·Memᴰ, List·Memᴰ·not-nil, Memᴰ·
 use Prim.Native.Nat.{_+_, _≤_}
 use native.Mathlib.Omega.{arith}
 use lib.ListN.{length}
-use Rattle.base_lists.specs.Seqs.{All, all-map}
+use Rattle.base_lists.specs.Seqs.{All, all-map, all-mem}
 use Rattle.math_terms.specs.Seqs.{concat-map}
 use Rattle.math_search.specs.Problems.{Names, Setting, Tm, Field, Bindings, solved, equation, Problem, problem, rest, bindings, used, root}
 use Rattle.math_search.specs.Rules.{Rule, Move, keep, bind, apply, children, Met, start, step}
 use Rattle.math_search.specs.Queue.{termsIn}
 use Rattle.math_search.specs.Answers.{StandsIn, Linear}
-use Rattle.math_search.proofs.Seqs.{all-mem, all-from}
+use Rattle.math_search.proofs.Seqs.{all-from}
 use Rattle.math_search.proofs.Effects.{termsLeft, Does}
 use Rattle.math_search.proofs.Invariant.{Unifies, Known, Invariant}
 use Rattle.math_search.proofs.Children.{all-children, children-room, children-inv, children-sound}

@@ -5,7 +5,7 @@ use mathlib.Core.Bool.{Bool, true, false, cond}
 use mathlib.Core.Option.{Option, none, some}
 use mathlib.Core.List.{List, [], _∷_, _++_, append-nil, List·Memᴰ, List·Memᴰ·head, List·Memᴰ·tail, List·Memᴰ·not-nil, List·Memᴰ·cases-cons}
 use mathlib.Core.List.{List·Memᴰ·append-cases, Memᴰ·cast, Memᴰ·append-left, Memᴰ·append-right}
-use Rattle.base_lists.specs.Seqs.{All, all-map}
+use Rattle.base_lists.specs.Seqs.{All, all-map, all-mem, all-mapped, mem?}
 use Rattle.math_types.specs.Order.{Order, basic, full-le}
 use Rattle.math_terms.specs.Seqs.{concat-map}
 use Rattle.math_overlaps.specs.Shapes.{fixed, free, Vars}
@@ -15,11 +15,11 @@ use Rattle.math_search.specs.Rules.{Rule, Remove, Decomp1, Decomp1′, D
 use Rattle.math_search.specs.Rules.{Orient3}
 use Rattle.math_search.specs.Rules.{Orient4, Move, keep, bind, below, occurs, rule, bindAtom, solveBy, apply, moves, children, Met, start, step}
 use Rattle.math_search.specs.Answers.{StandsIn, InRest, ListVariableOf, Linear}
-use Rattle.math_search.proofs.Seqs.{all-every, all-mem, all-from, all-mapped}
+use Rattle.math_search.proofs.Seqs.{all-every, all-from}
 use Rattle.math_search.proofs.Terms.{listvar-once}
 use Rattle.math_search.proofs.Counts.{Other, put-self, put-ne, all-put-in}
 use Rattle.math_search.proofs.Effects.{AllRest, Does}
-use Rattle.math_search.proofs.Invariant.{Fixed, Unbound, Invariant, mem-dec, old-mem}
+use Rattle.math_search.proofs.Invariant.{Fixed, Unbound, Invariant, old-mem}
 use Rattle.math_search.proofs.Children.{Is, moves-is, move-does}
 use Rattle.math_search.proofs.Tree.{Fine, met-fine, fine-known}
 
@@ -295,7 +295,7 @@ module _ (E : Setting) where
 
       -- THE SET: a list variable is in it exactly when the problem or its bindings have it
       pub used-is : (p : Problem E) → Met E A B p → (n : Name) → List·Memᴰ n (used E p) ↔ ListVariableOf E A B p n
-      used-is (problem e σ u) m n = (λ i. to (comes (problem e σ u) m .1 n i), λ h. from h (mem-dec E n u))
+      used-is (problem e σ u) m n = (λ i. to (comes (problem e σ u) m .1 n i), λ h. from h (mem? (E .names .name-eq) n u))
         where
           fine : Fine E A B (problem e σ u)
           fine = met-fine E A B linear (problem e σ u) m

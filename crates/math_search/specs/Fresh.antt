@@ -1,24 +1,15 @@
 -- List variables as numbers: "the fresh list variable is the lowest number absent from that set" (document 01).
 use mathlib.Core.Path.{_≡_}
 use mathlib.Core.Logic.{_⊎_, inl, inr, ite}
-use mathlib.Core.List.{List, [], _∷_, List·Memᴰ, List·Memᴰ·head, List·Memᴰ·tail, List·Memᴰ·not-nil, List·Memᴰ·cases-cons}
+use mathlib.Core.List.{List, [], _∷_, List·Memᴰ, List·Memᴰ·not-nil, List·Memᴰ·cases-cons}
 use Prim.Native.Nat.{ℕ, zero, suc, _+_, _≤_, _<_, max}
 use native.Mathlib.Omega.{arith}
 use native.Mathlib.Decide.{ℕ-discrete}
+use Rattle.base_lists.specs.Seqs.{mem?}
 use Rattle.math_search.specs.Problems.{Names}
 
 abbrev pub member : (n : ℕ) (u : List ℕ) → Dec (List·Memᴰ n u)
-member n [] = no (λ i. List·Memᴰ·not-nil i)
-member n (m ∷ u) = join (ℕ-discrete n m) (member n u)
-  where
-    cases : (n ≡ m → ⊥) → (List·Memᴰ n u → ⊥) → (n ≡ m) ⊎ List·Memᴰ n u → ⊥
-    cases a b (inl e) = a e
-    cases a b (inr i) = b i
-
-    join : Dec (n ≡ m) → Dec (List·Memᴰ n u) → Dec (List·Memᴰ n (m ∷ u))
-    join (yes e) d = yes (List·Memᴰ·head e)
-    join (no a) (yes i) = yes (List·Memᴰ·tail i)
-    join (no a) (no b) = no (λ i. cases a b (List·Memᴰ·cases-cons i))
+member n u = mem? ℕ-discrete n u
 
 -- above every member
 abbrev pub top : List ℕ → ℕ

@@ -1,12 +1,11 @@
 -- The problems of the search: what is left of the equation, the bindings so far, the list variables used so far.
-use mathlib.Core.Path.{_≡_, sym, ap, subst}
 use mathlib.Core.Logic.{ite}
 use mathlib.Core.List.{List, [], _∷_, _++_, List·Memᴰ}
 use Rattle.base_lists.specs.Equality.{list-eq}
 use Rattle.math_types.specs.Order.{Order, Full, basic, list}
 use Rattle.math_terms.specs.Constants.{Consts}
 use Rattle.math_terms.specs.Seqs.{concat-map}
-use Rattle.math_overlaps.specs.Shapes.{Atom, fixed, free, Vars}
+use Rattle.math_overlaps.specs.Shapes.{Atom, fixed, free, Vars, atom-eq}
 
 -- ---- what the search is over
 
@@ -31,31 +30,6 @@ pub data FieldTerm (A L : Type 0) : Type 0 where
   atomic : A → FieldTerm A L
   listvar : L → FieldTerm A L
   deriving Discrete as term-eq
-
-module _ {C X : Type 0} where
-  abbrev IsFixed : Atom C X → Type 0
-  IsFixed (fixed c) = Unit {0}
-  IsFixed (free x) = ⊥
-
-  pub fixed-once : {c d : C} → _≡_ {A = Atom C X} (fixed c) (fixed d) → c ≡ d
-  fixed-once p = cc
-
-  pub free-once : {x y : X} → _≡_ {A = Atom C X} (free x) (free y) → x ≡ y
-  free-once p = cc
-
-  abbrev same-fixed : {c d : C} → Dec (c ≡ d) → Dec (_≡_ {A = Atom C X} (fixed c) (fixed d))
-  same-fixed (yes p) = yes (ap {B = Atom C X} fixed p)
-  same-fixed (no n) = no (λ e. n (fixed-once e))
-
-  abbrev same-free : {x y : X} → Dec (x ≡ y) → Dec (_≡_ {A = Atom C X} (free x) (free y))
-  same-free (yes p) = yes (ap {B = Atom C X} free p)
-  same-free (no n) = no (λ e. n (free-once e))
-
-  abbrev pub atom-eq : Discrete C → Discrete X → Discrete (Atom C X)
-  atom-eq e f (fixed c) (fixed d) = same-fixed (e c d)
-  atom-eq e f (fixed c) (free y) = no (λ p. subst IsFixed p tt)
-  atom-eq e f (free x) (fixed d) = no (λ p. subst IsFixed (sym p) tt)
-  atom-eq e f (free x) (free y) = same-free (f x y)
 
 module _ (E : Setting) where
   open Setting E using (order, constants, variables, names)

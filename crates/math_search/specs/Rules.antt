@@ -150,7 +150,8 @@ module _ (E : Setting) where
   decomp2′ (listvar x ∷ []) M f = none
   decomp2′ (listvar x ∷ (t ∷ L)) [] f = none
   decomp2′ (listvar x ∷ (t ∷ L)) (atomic a ∷ M) f = none
-  decomp2′ (listvar x ∷ (t ∷ L)) (listvar y ∷ M) f = some (bind (listvar y) (listvar x ∷ (listvar f ∷ [])) (f ∷ []) (equation (t ∷ L) (listvar f ∷ M)))
+  decomp2′ (listvar x ∷ (t ∷ L)) (listvar y ∷ M) f =
+      some (bind (listvar y) (listvar x ∷ (listvar f ∷ [])) (f ∷ []) (equation (t ∷ L) (listvar f ∷ M)))
 
   -- ⟨s : L = s : M⟩ ⇒ ⟨L = M⟩
   abbrev pub decomp3 : Field E → Field E → Option Move
@@ -198,7 +199,8 @@ module _ (E : Setting) where
   subst3 (atomic a ∷ L) M f = none
   subst3 (listvar x ∷ []) M f = none
   subst3 (listvar x ∷ (t ∷ L)) [] f = none
-  subst3 (listvar x ∷ (t ∷ L)) (atomic a ∷ M) f = some (bind (listvar x) (atomic a ∷ (listvar f ∷ [])) (f ∷ []) (equation (listvar f ∷ (t ∷ L)) M))
+  subst3 (listvar x ∷ (t ∷ L)) (atomic a ∷ M) f =
+      some (bind (listvar x) (atomic a ∷ (listvar f ∷ [])) (f ∷ []) (equation (listvar f ∷ (t ∷ L)) M))
   subst3 (listvar x ∷ (t ∷ L)) (listvar y ∷ M) f = none
 
   -- ⟨a : M = x : L⟩ ⇒ ⟨x : L = a : M⟩, a is not a variable

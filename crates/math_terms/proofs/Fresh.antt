@@ -1,11 +1,9 @@
 -- Left-linearity as the matcher meets it: at each list variable, none of the terms before has it.
-use mathlib.Core.Path.{_≡_, refl, sym}
+use mathlib.Core.Path.{refl, sym}
 use mathlib.Core.Logic.{_↔_, _⊎_, inl, inr}
 use mathlib.Core.List.{List, [], _∷_, _++_, List·Memᴰ, List·Memᴰ·head, List·Memᴰ·tail, Memᴰ·cast}
-use Prim.Native.Nat.{ℕ}
-use native.Mathlib.Omega.{arith}
 use Rattle.base_lists.specs.Seqs.{Any}
-use Rattle.math_types.specs.Order.{Full, basic, list}
+use Rattle.math_types.specs.Order.{Full, basic, list, list≢basic}
 use Rattle.math_terms.specs.Terms.{Term, con, var}
 use Rattle.math_terms.specs.Seqs.{concat-map, Distinct}
 use Rattle.math_terms.specs.Fillings.{Occurs}
@@ -64,9 +62,6 @@ module _ {C K A : Type 0} where
       from (inl (inl i)) = inr (onto-occurs k a f done .1 (inl i))
       from (inl (inr i)) = inl i
       from (inr i) = inr (onto-occurs k a f done .1 (inr i))
-
-list≢basic : {K : Type 0} {k : K} → _≡_ {A = Full K} list (basic k) → ⊥
-list≢basic {K} {k} e = let o : _≡_ {A = ℕ} 0 1 = cc in omega arith
 
 module _ {C K A : Type 0} where
   -- ---- no list variable stands among the terms before it

@@ -3,7 +3,7 @@ use mathlib.Core.Path.{_≡_, refl, sym, _∙_, ap, ap₂, subst}
 use mathlib.Core.Logic.{_↔_}
 use mathlib.Core.List.{List, [], _∷_, _++_, map, append-assoc, append-nil, map-append, nil≢cons, cons≢nil, head-eq-of-cons-eq, tail-eq-of-cons-eq}
 use Rattle.math_types.specs.Order.{Order}
-use Rattle.math_terms.specs.Terms.{Term, con}
+use Rattle.math_terms.specs.Terms.{Term, con, con-once}
 use Rattle.math_terms.specs.Constants.{Consts, TermOver}
 use Rattle.math_terms.specs.Seqs.{concat-map}
 use Rattle.math_terms.specs.Fillings.{Filling, value, fill}
@@ -69,7 +69,7 @@ module _ {T U : Type 0} where
 
 module _ {C K A : Type 0} where
   -- the values as terms, and their constants
-  filled-terms : (φ : Filling C K A) (f : List (Term C K A)) → concat-map {B = Term C K A} (λ t. map con (value φ t)) f ≡ map con (fill φ f)
+  pub filled-terms : (φ : Filling C K A) (f : List (Term C K A)) → concat-map {B = Term C K A} (λ t. map con (value φ t)) f ≡ map con (fill φ f)
   filled-terms φ [] = refl
   filled-terms φ (t ∷ f) = ap (λ (l : List (Term C K A)). map con (value φ t) ++ l) (filled-terms φ f) ∙ sym (map-append con (value φ t) (fill φ f))
 
@@ -81,10 +81,7 @@ module _ {C K A : Type 0} where
   flat-fills φ [] = refl
   flat-fills φ (e ∷ es) = ap₂ (λ (l : List (Term C K A)) (ls : List (List (Term C K A))). l ∷ ls) (flat-fill φ e) (flat-fills φ es)
 
-  con-once : {c d : C} → _≡_ {A = Term C K A} (con c) (con d) → c ≡ d
-  con-once e = cc
-
-  cons-once : (u v : List C) → _≡_ {A = List (Term C K A)} (map con u) (map con v) → u ≡ v
+  pub cons-once : (u v : List C) → _≡_ {A = List (Term C K A)} (map con u) (map con v) → u ≡ v
   cons-once u v e = map-once con (λ c d. con-once) u v e
 
   fields-once : (us vs : List (List C)) → _≡_ {A = List (List (Term C K A))} (map (map con) us) (map (map con) vs) → us ≡ vs

@@ -7,6 +7,8 @@ use mathlib.Core.Path.{_≡_, refl, sym, _∙_}
 use mathlib.Core.Logic.{_⊎_, inl, inr, ⊎-elim}
 use mathlib.Core.Option.{Option, none, some}
 use mathlib.Core.Bool.{Bool, true, false, cond, false≢true}
+use Prim.Native.Nat.{ℕ}
+use native.Mathlib.Omega.{arith}
 
 -- `le-meet`: two kinds with a common lower kind are comparable, so a meet, where there is one, is one of the two.
 pub record Order : Type 1 where
@@ -24,6 +26,9 @@ pub data Full (K : Type 0) : Type 0 where
   basic : K → Full K
   list : Full K
   deriving Discrete as full-eq
+
+pub list≢basic : {K : Type 0} {k : K} → _≡_ {A = Full K} list (basic k) → ⊥
+list≢basic {K} {k} e = let o : _≡_ {A = ℕ} 0 1 = cc in omega arith
 
 module _ (O : Order) where
   abbrev pub full-le : Full (O .Kind) → Full (O .Kind) → Bool

@@ -14,6 +14,7 @@ use Prim.Native.Nat.{ℕ, _≤_, _<_}
 use native.Mathlib.Omega.{arith}
 use lib.Dec.{T}
 use lib.ListN.{length, getElem?}
+use Rattle.base_limits.specs.Limits.{kindCount, atomKindCount}
 use Rattle.base_lists.specs.Seqs.{All}
 use Rattle.base_lists.specs.Truths.{decided}
 use Rattle.math_types.specs.Order.{Order, basic, list}
@@ -71,6 +72,13 @@ atomKinds = K.atomKinds four
 
 pub kinds-are : kinds ≡ basic (leaf integer) ∷ basic (leaf string) ∷ basic atom ∷ list ∷ []
 kinds-are = refl
+
+-- how many there are
+pub kinds-count : length kinds ≡ kindCount
+kinds-count = refl
+
+pub atom-kinds-count : atomKinds ≡ atomKindCount
+atom-kinds-count = refl
 
 pub rank-basic : (k : Basic) → rank (basic k) < atomKinds
 rank-basic = K.rank-basic four
@@ -170,7 +178,7 @@ abbrev pub entry : ℕ → ℕ → Bool
 entry = K.entry four comparisons
 
 -- the laws of the table by themselves: one test, over the 64 triples of ranks
-pub table-lawful : T (lawful entry 4)
+pub table-lawful : T (lawful entry kindCount)
 table-lawful = tt
 
 -- the table is the order: one test, over the 16 pairs of ranks

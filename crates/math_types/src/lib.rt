@@ -3,6 +3,7 @@
 ghost use mathlib.Core.Path.{_≡_};
 ghost use Rattle.math_types.specs.Types.{rank, kindAt, le, same, isList, entry};
 ghost use Rattle.math_types.specs.Values.{kindOf, meetRank};
+use base_limits::KINDS;
 
 pub enum Kind {
     Integer,
@@ -17,8 +18,10 @@ pub enum Met {
     Nothing,
 }
 
+const CELLS: usize = KINDS * KINDS;
+
 // Document 01: "We keep the type order as a table of four by four". A row for each lower kind, a column for each upper one.
-const BELOW: [bool; 16] = [
+const BELOW: [bool; CELLS] = [
     true, // integer, integer
     false, // integer, string
     true, // integer, atom
@@ -65,7 +68,7 @@ pub fn kind_at(i: usize) -> Kind
 pub fn below(j: Kind, k: Kind) -> bool
     ensures { λ r. ⌜ r ≡ le (kindOf j) (kindOf k) ⌝ }
 {
-    let i = 4 * rank(j) + rank(k);
+    let i = KINDS * rank(j) + rank(k);
     BELOW[i]
 }
 
@@ -73,8 +76,8 @@ pub fn below(j: Kind, k: Kind) -> bool
 pub fn below_rank(j: u8, k: u8) -> bool
     ensures { λ r. ⌜ r ≡ entry j k ⌝ }
 {
-    let i = 4 * j as usize + k as usize;
-    if 16 <= i {
+    let i = KINDS * j as usize + k as usize;
+    if CELLS <= i {
         return false;
     }
     BELOW[i]

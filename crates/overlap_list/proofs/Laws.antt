@@ -6,8 +6,8 @@ use Prim.Native.Nat.{ℕ, suc, _+_, _-_, _*_, _≤_, _<_, min}
 use native.Mathlib.Omega.{arith}
 use lib.ListN.{length, take, drop, length-append}
 use lib.Seq.{sets, length-sets}
+use Rattle.base_lists.specs.Arrays.{sets-append}
 use Rattle.math_terms.proofs.Seqs.{concat-map-append}
-use Rattle.text_write.proofs.Stores.{sets-append}
 use Rattle.text_write.specs.pieces.Stored.{bytesOf}
 use Rattle.text_write.proofs.pieces.Stored.{bytes-length, store-part}
 use Rattle.pair_state.specs.declared.State.{State}

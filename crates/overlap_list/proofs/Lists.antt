@@ -2,7 +2,7 @@
 use mathlib.Core.Path.{_≡_, refl, sym, _∙_, ap, ap₂}
 use mathlib.Core.Logic.{_≢_}
 use mathlib.Core.Bool.{true, false}
-use mathlib.Core.Option.{Option, none, some, Option·none-ne-some, Option·some-injective}
+use mathlib.Core.Option.{Option, none, some}
 use mathlib.Core.List.{List, [], _∷_, _++_, map}
 use Prim.Native.Nat.{ℕ, suc}
 use native.Mathlib.Omega.{arith}
@@ -13,11 +13,12 @@ use Rattle.math_types.specs.Types.{basics, entry}
 use Rattle.text_grammar.specs.Terms.{OurTerm}
 use Rattle.text_grammar.specs.Limits.{IsLeft}
 use Rattle.text_grammar.specs.constants.Constants.{consts}
-use Rattle.math_overlaps.specs.Shapes.{Side, left, right, both, shapeOf, shapesOf}
+use Rattle.math_overlaps.specs.Shapes.{left, right, shapesOf}
 use Rattle.math_overlaps.specs.Candidates.{Cand, cands}
 use Rattle.math_overlaps.specs.Joins.{joins, start}
 use Rattle.math_overlaps.specs.Entries.{equations, chosen, branch, entries}
 use Rattle.math_overlaps.specs.Overlaps.{PairShape, PairState, shown, listed}
+use Rattle.math_overlaps.proofs.Linear.{shapes-count}
 use Rattle.overlap_spec.specs.Lines.{lineText}
 use Rattle.overlap_spec.specs.Overlaps.{lineOf, linesOf}
 use Rattle.math_codes.specs.Lines.{ourVars, OurTables}
@@ -96,22 +97,11 @@ listed-none none p h = refl
 listed-none (some Ss) none h = refl
 listed-none (some Ss) (some Ts) h = ap (map (shown basics consts ℕ-discrete Ss Ts)) (raw-none Ss Ts (start basics consts ourVars) (h Ss Ts refl refl))
 
--- a shape a field
-shapes-length : (d : Side) (r : List (List OurTerm)) (Ss : List OurShape) → shapesOf d r ≡ some Ss → length Ss ≡ length r
-shapes-length d [] Ss e = ap length (sym (Option·some-injective [] Ss e))
-shapes-length d (f ∷ r) Ss e = go (shapeOf d f) (shapesOf d r) e (λ Ts q. shapes-length d r Ts q)
-  where
-    go : (o : Option OurShape) (p : Option (List OurShape)) → both o p ≡ some Ss → ((Ts : List OurShape) → p ≡ some Ts → length Ts ≡ length r)
-        → length Ss ≡ length (f ∷ r)
-    go none p q rec = absurd (Option·none-ne-some Ss q)
-    go (some S) none q rec = absurd (Option·none-ne-some Ss q)
-    go (some S) (some Ts) q rec = ap length (sym (Option·some-injective (S ∷ Ts) Ss q)) ∙ ap suc (rec Ts refl)
-
 pub lines-none : (r₁ r₂ : List (List OurTerm)) → length r₁ ≢ length r₂ → linesOf r₁ r₂ ≡ []
 lines-none [] r₂ n = refl
 lines-none (f ∷ r₁) r₂ n =
     ap (map (lineOf (f ∷ r₁) r₂)) (listed-none (shapesOf left (f ∷ r₁)) (shapesOf right r₂)
-    (λ Ss Ts a b e. n (sym (shapes-length left (f ∷ r₁) Ss a) ∙ e ∙ shapes-length right r₂ Ts b)))
+    (λ Ss Ts a b e. n (sym (shapes-count left (f ∷ r₁) Ss a) ∙ e ∙ shapes-count right r₂ Ts b)))
 
 pub no-right : (r : List (List OurTerm)) → linesOf r [] ≡ []
 no-right [] = refl

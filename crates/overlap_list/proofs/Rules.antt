@@ -3,9 +3,8 @@ use mathlib.Core.Path.{_≡_, refl, sym, _∙_, ap, ap₂, subst, subst₂}
 use mathlib.Core.Logic.{_≢_}
 use mathlib.Core.Bool.{Bool, true, false, cond}
 use mathlib.Core.List.{List, [], _∷_, _++_, map}
-use Prim.Native.Nat.{ℕ, _*_, _≤_, _<_}
-use native.Mathlib.Omega.{arith}
-use native.Mathlib.Decide.{decLt}
+use Prim.Native.Nat.{ℕ, _*_, _≤_}
+use native.Mathlib.Omega.{arith, by-contra}
 use lib.ListN.{length, length-map}
 use borrow.Author.Tests.{le-leb}
 use Rattle.base_limits.specs.Limits.{mostTerms, fieldPlaces, rulePlaces, entryLine}
@@ -13,7 +12,7 @@ use Rattle.base_lists.specs.Seqs.{All}
 use Rattle.text_grammar.specs.Told.{byRoom}
 use Rattle.text_grammar.specs.Terms.{OurTerm}
 use Rattle.text_grammar.specs.Limits.{IsLeft}
-use Rattle.text_grammar.specs.Read.{rule, slip, accepted, OurFields, readSide}
+use Rattle.text_grammar.specs.Read.{rule, accepted, OurFields, readSide}
 use Rattle.text_grammar.proofs.Read.{read-accepted}
 use Rattle.text_grammar.proofs.Accepted.{rule-read}
 use Rattle.overlap_spec.specs.Lines.{Line, lineText, listText}
@@ -109,11 +108,8 @@ module _ (r₁ r₂ : List (List OurTerm)) (ok₁ : IsLeft r₁) (ok₂ : IsLeft
 not-long : (t : List ℕ) (x : OurFields) → readSide t ≡ accepted x → tooLong t ≡ false
 not-long t x e =
     let n = read-accepted rule t x .0 e .0 in
-    is-short t (go (n .0) (decLt (rule .bytes) (length t)))
-  where
-    go : ((p : ℕ) → (rule .bytes < length t) × (p ≡ rule .bytes) → ⊥) → Dec (rule .bytes < length t) → length t ≤ slip .bytes
-    go none (yes h) = absurd (none (rule .bytes) (h, refl))
-    go none (no n) = omega arith
+    let short = by-contra (length t) (rule .bytes) (λ h. n .0 (rule .bytes) (h, refl)) in
+    is-short t (omega arith)
 
 module _ (t u : List ℕ) (h : Accepts t u) where
   abbrev x : OurFields

@@ -1,7 +1,7 @@
 -- The candidate that comes next, and what is read of a pair's fields. Assumes nothing.
-use mathlib.Core.Path.{_≡_, refl, _∙_, ap, ap₂}
+use mathlib.Core.Path.{_≡_, _∙_, ap, ap₂, sym}
 use mathlib.Core.Logic.{_≢_}
-use mathlib.Core.Bool.{Bool, true, false, _&&_}
+use mathlib.Core.Bool.{Bool, true, false, and-true, and-false}
 use mathlib.Core.Option.{Option, none, some}
 use mathlib.Core.List.{List}
 use Prim.Native.Nat.{ℕ, _+_, _-_, _≤_, _<_}
@@ -45,19 +45,11 @@ few-candidates f g s k e a b c d p h =
     let q = span-low (spotOf f) (spotOf g) (omega arith) (omega arith) (omega arith) (omega arith) in
     (omega arith, h, omega (arith, q, ap (λ (x : Span). x .count) e, ap (λ (x : Span). x .least) e))
 
-and-true : (b : Bool) → b ≡ b && true
-and-true true = refl
-and-true false = refl
-
-and-false : (b : Bool) → false ≡ b && false
-and-false true = refl
-and-false false = refl
-
 pub candidate-last : (s : Span) (k : ℕ) → k ≡ 1 → record { items = s .least + (s .count - k); long = s .long } ≡ candidateOf s k
-candidate-last s k e = rw (eq-eqb k 1 e) (ap (λ (b : Bool). record { items = s .least + (s .count - k); long = b }) (and-true (s .long)))
+candidate-last s k e = rw (eq-eqb k 1 e) (ap (λ (b : Bool). record { items = s .least + (s .count - k); long = b }) (sym (and-true (s .long))))
 
 pub candidate-before : (s : Span) (k : ℕ) → k ≢ 1 → record { items = s .least + (s .count - k); long = false } ≡ candidateOf s k
-candidate-before s k n = rw (ne-eqb k 1 n) (ap (λ (b : Bool). record { items = s .least + (s .count - k); long = b }) (and-false (s .long)))
+candidate-before s k n = rw (ne-eqb k 1 n) (ap (λ (b : Bool). record { items = s .least + (s .count - k); long = b }) (sym (and-false (s .long))))
 
 -- ---- what is read of field j
 

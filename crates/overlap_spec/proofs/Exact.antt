@@ -7,7 +7,7 @@ use Prim.Native.Nat.{ℕ, zero, suc, _≤_}
 use native.Mathlib.Omega.{arith}
 use native.Mathlib.Decide.{ℕ-discrete}
 use lib.ListN.{length, getElem?, length-map}
-use Rattle.base_lists.specs.Seqs.{All, IsCons, all-map}
+use Rattle.base_lists.specs.Seqs.{All, IsCons, all-map, cons-map}
 use Rattle.math_types.specs.Types.{leaf, Basic, integer, string, atom, Kind, basics}
 use Rattle.math_terms.specs.Terms.{con, var}
 use Rattle.math_terms.specs.Fillings.{Filling, Typed, fill}
@@ -100,13 +100,9 @@ shown-by rule r σ ψ w t h = (names-are rule σ (variables rule), values)
 
 -- ---- the theorems
 
-cons-map : {A B : Type 0} (f : A → B) (l : List A) → IsCons l → IsCons (map f l)
-cons-map f [] h = h
-cons-map f (x ∷ l) h = tt
-
-pub entries-are : (r₁ r₂ : List (List OurTerm)) → IsCons r₁ → entriesOf r₁ r₂ ≡ overlaps basics consts ℕ-discrete r₁ r₂
-entries-are [] r₂ h = absurd h
-entries-are (f ∷ r₁) r₂ h = refl
+pub entries-cons : (r₁ r₂ : List (List OurTerm)) → IsCons r₁ → entriesOf r₁ r₂ ≡ overlaps basics consts ℕ-discrete r₁ r₂
+entries-cons [] r₂ h = absurd h
+entries-cons (f ∷ r₁) r₂ h = refl
 
 module _ (r₁ r₂ : List (List OurTerm)) (is₁ : IsLeft r₁) (is₂ : IsLeft r₂) where
   lin₁ : LeftLinear r₁
@@ -122,7 +118,7 @@ module _ (r₁ r₂ : List (List OurTerm)) (is₁ : IsLeft r₁) (is₂ : IsLeft
   in-ours r h = all-map (All TermIn) (All (ConstantIn OurCon)) (λ f k. all-map TermIn (ConstantIn OurCon) constant-in f k) r (h .0 .3)
 
   lines-are : linesOf r₁ r₂ ≡ map (lineOf r₁ r₂) entries
-  lines-are = ap (map (lineOf r₁ r₂)) (entries-are r₁ r₂ (is₁ .0 .0))
+  lines-are = ap (map (lineOf r₁ r₂)) (entries-cons r₁ r₂ (is₁ .0 .0))
 
   -- the line at a place is that of the entry there
   entry-at : (i : ℕ) (l : Line) → getElem? (linesOf r₁ r₂) i ≡ some l → (e : OurEntry) × (getElem? entries i ≡ some e) × (lineOf r₁ r₂ e ≡ l)
@@ -156,25 +152,34 @@ module _ (r₁ r₂ : List (List OurTerm)) (is₁ : IsLeft r₁) (is₂ : IsLeft
       list.one-place basics consts ℕ-discrete r₁ r₂ lin₁ lin₂ i j (d .0) (e .0) (d .1) (e .1) w (subst (λ (x : Line). Fits x w) (sym (d .2)) f)
       (subst (λ (x : Line). Fits x w) (sym (e .2)) g)
 
+  pub entry-of : (i : ℕ) (l : Line) → getElem? (linesOf r₁ r₂) i ≡ some l
+      → (e : OurEntry) × List·Memᴰ e (overlaps basics consts ℕ-discrete r₁ r₂) × (lineOf r₁ r₂ e ≡ l)
+  entry-of i l p = let e = entry-at i l p in (e .0, at-in entries i (e .0) (e .1), e .2)
+
+  -- what fills a line's fields fills both rules, by its entry's values
+  pub entry-fills : (i : ℕ) (l : Line) → getElem? (linesOf r₁ r₂) i ≡ some l
+      → (w : List (List Con)) (ψ : Filling Con Kind ℕ) → Typed basics consts ψ → map (fill ψ) (l .fields) ≡ w
+      → (e : OurEntry) × (lineOf r₁ r₂ e ≡ l)
+      × (Typed basics consts (λ k n. fill ψ (e .left k n)) × (map (fill (λ k n. fill ψ (e .left k n))) r₁ ≡ w))
+      × (Typed basics consts (λ k n. fill ψ (e .right k n)) × (map (fill (λ k n. fill ψ (e .right k n))) r₂ ≡ w))
+  entry-fills i l p w ψ t h =
+      let e = entry-of i l p in
+      let fills = subst (λ (x : Line). map (fill ψ) (x .fields) ≡ w) (sym (e .2)) h in (
+        e .0,
+        e .2,
+        list.fillings-left basics consts ℕ-discrete r₁ r₂ lin₁ lin₂ (e .0) (e .1) w ψ t fills,
+        list.fillings-right basics consts ℕ-discrete r₁ r₂ lin₁ lin₂ (e .0) (e .1) w ψ t fills,
+      )
+
   pub lines-fillings : (i : ℕ) (l : Line) → getElem? (linesOf r₁ r₂) i ≡ some l
       → (w : List (List Con)) (ψ : Filling Con Kind ℕ) → Typed basics consts ψ → map (fill ψ) (l .fields) ≡ w
       → Shows r₁ (l .left) ψ w × Shows r₂ (l .right) ψ w
-  lines-fillings i l p w ψ t h = subst (λ (x : Line). Shows r₁ (x .left) ψ w × Shows r₂ (x .right) ψ w) (e .2) (
-    shown-by r₁ is₁ (e .0 .left) ψ w (a .0) (a .1),
-    shown-by r₂ is₂ (e .0 .right) ψ w (b .0) (b .1),
-  )
-    where
-      e : (e : OurEntry) × (getElem? entries i ≡ some e) × (lineOf r₁ r₂ e ≡ l)
-      e = entry-at i l p
-
-      fills : map (fill ψ) (e .0 .fields) ≡ w
-      fills = subst (λ (x : Line). map (fill ψ) (x .fields) ≡ w) (sym (e .2)) h
-
-      a : Typed basics consts (λ k n. fill ψ (e .0 .left k n)) × (map (fill (λ k n. fill ψ (e .0 .left k n))) r₁ ≡ w)
-      a = list.fillings-left basics consts ℕ-discrete r₁ r₂ lin₁ lin₂ (e .0) (at-in entries i (e .0) (e .1)) w ψ t fills
-
-      b : Typed basics consts (λ k n. fill ψ (e .0 .right k n)) × (map (fill (λ k n. fill ψ (e .0 .right k n))) r₂ ≡ w)
-      b = list.fillings-right basics consts ℕ-discrete r₁ r₂ lin₁ lin₂ (e .0) (at-in entries i (e .0) (e .1)) w ψ t fills
+  lines-fillings i l p w ψ t h =
+      let e = entry-fills i l p w ψ t h in
+      subst (λ (x : Line). Shows r₁ (x .left) ψ w × Shows r₂ (x .right) ψ w) (e .1) (
+        shown-by r₁ is₁ (e .0 .left) ψ w (e .2 .0) (e .2 .1),
+        shown-by r₂ is₂ (e .0 .right) ψ w (e .3 .0) (e .3 .1),
+      )
 
   pub lines-slips : (i : ℕ) (l : Line) → getElem? (linesOf r₁ r₂) i ≡ some l → (w : List (List Con)) × OurSlip w × Fits l w
   lines-slips i l p =

@@ -1,22 +1,13 @@
 -- Laws of rising lists, and of the members that pass a test.
-use mathlib.Core.Path.{_≡_, refl, sym, _∙_, ap, subst}
+use mathlib.Core.Path.{_≡_, refl, sym, _∙_, ap}
 use mathlib.Core.Logic.{_↔_, _⊎_, inl, inr}
 use mathlib.Core.Bool.{Bool, true, false, cond, true≢false}
 use mathlib.Core.List.{List, [], _∷_, _++_, map, List·Memᴰ, List·Memᴰ·head, List·Memᴰ·tail, List·Memᴰ·not-nil, List·Memᴰ·cases-cons}
-use Rattle.base_lists.specs.Seqs.{All, all-append}
+use Rattle.base_lists.specs.Seqs.{All, all-append, all-mem, all-map, all-mapped}
 use Rattle.math_terms.specs.Seqs.{Distinct}
 use Rattle.overlap_spec.specs.Variables.{keep, Rising}
 
 module _ {A : Type 0} where
-  -- what every member has, each has
-  all-mem : (P : A → Type 0) (x : A) (xs : List A) → All P xs → List·Memᴰ x xs → P x
-  all-mem P x [] h m = absurd (List·Memᴰ·not-nil m)
-  all-mem P x (y ∷ xs) h m = go (λ i. all-mem P x xs (h .1) i) (List·Memᴰ·cases-cons m)
-    where
-      go : (List·Memᴰ x xs → P x) → (x ≡ y) ⊎ List·Memᴰ x xs → P x
-      go rec (inl e) = subst P (sym e) (h .0)
-      go rec (inr i) = rec i
-
   pub rising-append : (R : A → A → Type 0) (s t : List A) → Rising R s → Rising R t → All (λ x. All (R x) t) s → Rising R (s ++ t)
   rising-append R [] t p q h = q
   rising-append R (x ∷ s) t p q h = (all-append (R x) s t (p .0) (h .0), rising-append R s t (p .1) q (h .1))
@@ -24,7 +15,7 @@ module _ {A : Type 0} where
   -- where no member stands in R to itself, none comes twice
   pub rising-distinct : (R : A → A → Type 0) → ((x : A) → R x x → ⊥) → (xs : List A) → Rising R xs → Distinct xs
   rising-distinct R n [] h = tt
-  rising-distinct R n (x ∷ xs) h = (λ m. n x (all-mem (R x) x xs (h .0) m), rising-distinct R n xs (h .1))
+  rising-distinct R n (x ∷ xs) h = (λ m. n x (all-mem (R x) xs (h .0) x m), rising-distinct R n xs (h .1))
 
   keep-all : (P : A → Type 0) (p : A → Bool) (xs : List A) → All P xs → All P (keep p xs)
   keep-all P p [] h = tt
@@ -65,14 +56,10 @@ module _ {A : Type 0} where
           from t (inr m) = rec .1 (m, t)
 
 module _ {A B : Type 0} where
-  all-under : (P : A → Type 0) (Q : B → Type 0) (f : A → B) → ((x : A) → P x → Q (f x)) → (xs : List A) → All P xs → All Q (map f xs)
-  all-under P Q f g [] h = tt
-  all-under P Q f g (x ∷ xs) h = (g x (h .0), all-under P Q f g xs (h .1))
-
   pub rising-under : (R : A → A → Type 0) (S : B → B → Type 0) (f : A → B)
       → ((x y : A) → R x y → S (f x) (f y)) → (xs : List A) → Rising R xs → Rising S (map f xs)
   rising-under R S f g [] h = tt
-  rising-under R S f g (x ∷ xs) h = (all-under (R x) (S (f x)) f (g x) xs (h .0), rising-under R S f g xs (h .1))
+  rising-under R S f g (x ∷ xs) h = (all-mapped (S (f x)) f xs (all-map (R x) (λ y. S (f x) (f y)) (g x) xs (h .0)), rising-under R S f g xs (h .1))
 
   all-back : (Q : B → Type 0) (f : A → B) (xs : List A) → All Q (map f xs) → All (λ x. Q (f x)) xs
   all-back Q f [] h = tt

@@ -20,6 +20,7 @@ use Rattle.math_terms.specs.Fillings.{Occurs}
 use Rattle.text_grammar.specs.Terms.{OurTerm}
 use Rattle.text_grammar.specs.Limits.{TermIn}
 use Rattle.overlap_spec.specs.Variables.{Variable, numbersFrom, numbers, ofKind, every, isVariable, inField, occurs, variables, Before, Rising}
+use Rattle.text_grammar.proofs.Limited.{number-rule}
 use Rattle.overlap_spec.proofs.Rising.{rising-append, rising-distinct, keep-rising, keep-mem, rising-under, rising-back}
 
 -- ---- the numbers
@@ -159,18 +160,6 @@ occurs-is k n (f ∷ r) = go (occurs-is k n r)
         from : Any (Occurs k n) (f ∷ r) → (inField k n f ≡ true) ⊎ (occurs k n r ≡ true)
         from (inl h) = inl (in-field k n f .1 h)
         from (inr h) = inr (rec .1 h)
-
--- what occurs in a rule within the limits has a number within its limit
-number-field : (k : Kind) (n : ℕ) (f : List OurTerm) → All TermIn f → Occurs k n f → n ≤ largestNumber
-number-field k n [] h o = absurd o
-number-field k n (con c ∷ f) h o = number-field k n f (h .1) o
-number-field k n (var j m ∷ f) h (inl e) = let q = e .1 in let l : m ≤ largestNumber = h .0 in omega arith
-number-field k n (var j m ∷ f) h (inr o) = number-field k n f (h .1) o
-
-number-rule : (k : Kind) (n : ℕ) (r : List (List OurTerm)) → All (All TermIn) r → Any (Occurs k n) r → n ≤ largestNumber
-number-rule k n [] h o = absurd o
-number-rule k n (f ∷ r) h (inl o) = number-field k n f (h .0) o
-number-rule k n (f ∷ r) h (inr o) = number-rule k n r (h .1) o
 
 -- ---- THE VARIABLES
 

@@ -18,12 +18,11 @@ use Rattle.math_overlaps.specs.Candidates.{range}
 use Rattle.math_codes.specs.Tables.{Table}
 use Rattle.math_codes.specs.Names.{Names, noNames, counted, nameCode, nameCodes, nameFields}
 use Rattle.math_codes.specs.Index.{hasAt}
-use Rattle.math_codes.proofs.Makers.{AtMost, itemCount, names-few}
+use Rattle.math_codes.proofs.Makers.{AtMost, itemCount, names-few, zeros}
 use Rattle.pair_row.specs.Row.{tableIn, indexIn, topIn}
 use Rattle.pair_lines.specs.Lines.{sideFew}
 use Rattle.pair_lines.specs.Answers.{areItems, valueFits, valueWith, listedAt, listedRank, listedIn}
 use Rattle.pair_lines.proofs.Bounds.{tops-few}
-use Rattle.pair_lines.proofs.Laying.{zeros}
 use Rattle.pair_lines.proofs.Naming.{name-long}
 use Rattle.pair_lines.proofs.Loops.{names-long, all-named}
 

@@ -14,10 +14,11 @@ use Rattle.math_terms.specs.Seqs.{concat-map}
 use Rattle.math_overlaps.specs.Candidates.{range}
 use Rattle.math_codes.specs.Tables.{Table}
 use Rattle.math_codes.specs.Names.{Names, counted, nameCode, nameCodes, nameFields}
+use Rattle.math_codes.proofs.Index.{there}
 use Rattle.pair_row.specs.Row.{indexIn}
 use Rattle.pair_lines.specs.Lines.{Few}
 use Rattle.pair_lines.specs.Answers.{areItems, valueFits, valueWith, listedAt}
-use Rattle.pair_lines.proofs.Values.{there, texts-one, texts-split}
+use Rattle.pair_lines.proofs.Values.{texts-one, texts-split}
 
 -- ---- names in hand, as two rows of bytes
 

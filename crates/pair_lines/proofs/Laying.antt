@@ -9,12 +9,13 @@ use native.Mathlib.Omega.{arith}
 use native.Mathlib.Decide.{ℕ-discrete, decLt}
 use lib.Dec.{leb}
 use lib.ListN.{length, length-append, getD, set, length-set, take, drop, replicate, length-replicate, getD-replicate}
-use lib.Seq.{sets, length-sets, sets-eq, slice, slice-empty, take-set-le, take-nil, drop-drop, take-take, take-at, drop-at, length-take-le}
+use lib.Seq.{sets, length-sets, sets-eq, slice, slice-empty, take-set-le, drop-drop, take-take, take-at, drop-at, length-take-le}
 use lib.Seq.{getD-set-same, getD-set-other}
 use borrow.Author.Tests.{leb-true, le-ltb, lt-ltb}
 use Rattle.base_limits.specs.Limits.{entryTerms, numbersOfSide, pairPlaces, pairItems, entryPlaces}
 use Rattle.base_lists.specs.Truths.{both-is}
 use Rattle.base_lists.specs.Seqs.{tabulate, tabulate-long}
+use Rattle.base_lists.specs.Arrays.{part-of}
 use Rattle.math_codes.specs.Spots.{Spot}
 use Rattle.math_codes.specs.Names.{noNames}
 use Rattle.math_codes.specs.Whole as whole
@@ -46,12 +47,6 @@ count-fits n c e j h = rw (let z : j ≡ 0 + j = omega arith in z) (from-fits c 
 -- ---- parts of a row
 
 module _ {A : Type 0} where
-  -- the first k of what stands behind n are among the first n + k
-  pub part-of : (n k : ℕ) (l : List A) → take k (drop n l) ≡ drop n (take (n + k) l)
-  part-of zero k l = ap (λ (m : ℕ). take m l) (let e : k ≡ 0 + k = omega arith in e)
-  part-of (suc n) k [] = take-nil k ∙ ap (drop (suc n)) (sym (take-nil (suc n + k)))
-  part-of (suc n) k (x ∷ l) = part-of n k l ∙ ap (λ (m : ℕ). drop (suc n) (take m (x ∷ l))) (let e : suc (n + k) ≡ suc n + k = omega arith in e)
-
   -- a part of a part
   pub part-in : (h m n : ℕ) (l : List A) → h + m ≤ n → take m (drop h (take n l)) ≡ take m (drop h l)
   part-in h m n l le = part-of h m (take n l) ∙ ap (drop h) (take-take (h + m) n l le) ∙ sym (part-of h m l)
@@ -244,10 +239,6 @@ few-items : (n : ℕ) (f : ℕ → List ℕ) → ((j : ℕ) → j < n → length
 few-items zero f h = omega arith
 few-items (suc n) f h = omega (arith, h 0 (omega arith), few-items n (λ i. f (suc i)) (λ i p. h (suc i) (omega arith)))
 
-pub zeros : (m n : ℕ) → makers.AtMost m (replicate n 0)
-zeros m zero = tt
-zeros m (suc n) = (omega arith, zeros m n)
-
 module _ (row : List ℕ) (n : ℕ) (c : Choice) (atoms : List ℕ) where
   pub items-long : length (itemsIn row n c atoms) ≡ n
   items-long = tabulate-long n (fieldIn row c atoms)
@@ -260,5 +251,5 @@ module _ (row : List ℕ) (n : ℕ) (c : Choice) (atoms : List ℕ) where
 
     pub names-small : Few entryPlaces (namesIn row n c atoms .numbers)
     names-small i =
-        let few = makers.names-few (tableIn row) (itemsIn row n c atoms) 0 (noNames pairItems 4) (zeros 0 4, zeros 0 pairItems) .1 in
+        let few = makers.names-few (tableIn row) (itemsIn row n c atoms) 0 (noNames pairItems 4) (makers.zeros 0 4, makers.zeros 0 pairItems) .1 in
         omega (arith, makers.at-most (0 + makers.itemCount (itemsIn row n c atoms)) (namesIn row n c atoms .numbers) few i, items-small)

@@ -10,6 +10,7 @@ use lib.Seq.{sets, length-sets}
 use borrow.Author.Tests.{le-leb, lt-leb}
 use Rattle.base_limits.specs.Limits.{entryTerms, pairPlaces, pairItems, entryPlaces}
 use Rattle.base_lists.specs.Seqs.{tabulate, tabulate-long}
+use Rattle.base_lists.specs.Arrays.{sets-append, getD-blank}
 use Rattle.math_codes.specs.Tables.{Table}
 use Rattle.math_codes.specs.Names.{Names, noNames, nameCode, nameCodes, nameFields}
 use Rattle.pair_row.specs.declared.Shape.{Shape}
@@ -85,12 +86,6 @@ tabulate-last {A} zero f = ap (λ (k : ℕ). tabulate k f) (let e : 0 + 1 ≡ 1 
 tabulate-last {A} (suc n) f =
     ap (λ (k : ℕ). tabulate k f) (let e : suc n + 1 ≡ suc (n + 1) = omega arith in e) ∙ ap (λ (l : List A). f 0 ∷ l) (tabulate-last n (λ i. f (suc i)))
 
-sets-last : (l : List ℕ) (at : ℕ) (vs : List ℕ) (v : ℕ) → sets l at (vs ++ v ∷ []) ≡ set (sets l at vs) (at + length vs) v
-sets-last l at [] v = ap (λ (k : ℕ). set l k v) (let e : at ≡ at + 0 = omega arith in e)
-sets-last l at (x ∷ vs) v =
-    sets-last (set l at x) (suc at) vs v
-    ∙ ap (λ (k : ℕ). set (sets (set l at x) (suc at) vs) k v) (let e : suc at + length vs ≡ at + suc (length vs) = omega arith in e)
-
 few-names : (T : Table) (cs : List ℕ) (m : ℕ) (x : Names) → Few m (x .counts) → Few (m + length cs) (nameCodes T x cs .counts)
 few-names T [] m x h = rw (let e : m + 0 ≡ m = omega arith in e) h
 few-names T (c ∷ cs) m x h =
@@ -123,7 +118,7 @@ module _ (T : Table) (old : List ℕ) (x : Names) (from m : ℕ) (f : ℕ → �
     o
         ∙ ap₂ (λ (l : List ℕ) (k : ℕ). set l (from + k) c) (v .0) (sym (tabulate-long i f))
         ∙ ap (set (sets old from (tabulate i f)) (from + length (tabulate i f))) e
-        ∙ sym (sets-last old from (tabulate i f) (f i))
+        ∙ sets-append (tabulate i f) (f i ∷ []) old from
         ∙ ap (sets old from) (sym (tabulate-last i f)),
     p ∙ ap (λ (y : Names). y .counts) next,
     q ∙ ap (λ (y : Names). y .numbers) next,
@@ -186,13 +181,8 @@ module _ (row : List ℕ) (c : Choice) (atoms : List ℕ) where
       × (numbers ≡ nameFields (tableIn row) (noNames pairItems 4) (tabulate j (fieldIn row c atoms)) .numbers)
       × Few (entryTerms * j) counts
 
-  no-counts : (n m i : ℕ) → getD (replicate n 0) i 0 ≤ m
-  no-counts zero m i = omega arith
-  no-counts (suc n) m zero = omega arith
-  no-counts (suc n) m (suc i) = no-counts n m i
-
   pub lays-first : Lays 0 (replicate entryPlaces 0) (replicate 4 0) (replicate pairItems 0)
-  lays-first = (refl, refl, refl, no-counts 4 (entryTerms * 0))
+  lays-first = (refl, refl, refl, λ i. omega (arith, getD-blank {A = ℕ} 4 i 0))
 
   pub lays-one : (j : ℕ) (items counts numbers : List ℕ) → Lays j items counts numbers → countAt c j ≤ entryTerms → (items′ counts′ numbers′ : List ℕ)
       → items′ ≡ sets items (entryTerms * j) (fieldIn row c atoms j)

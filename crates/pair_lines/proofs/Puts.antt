@@ -2,22 +2,17 @@
 use mathlib.Core.Path.{_≡_, refl, sym, ap, ap₂, _∙_, subst}
 use mathlib.Core.Bool.{Bool, true, false, cond, _||_}
 use mathlib.Core.List.{List, [], _∷_, _++_}
-use Prim.Native.Nat.{ℕ, zero, suc, _+_, _/_, _%_, _^_, _≤_, _<_}
-use native.Mathlib.Nat.{add-zero, add-suc, suc-add}
+use Prim.Native.Nat.{ℕ, suc, _+_, _/_, _%_, _^_, _≤_, _<_}
 use native.Mathlib.Omega.{arith}
 use native.Mathlib.Decide.{decLt}
 use lib.Dec.{ltb}
-use lib.ListN.{length, getD, set, take, drop, length-append, length-take, length-drop}
+use lib.ListN.{length, getD, take, drop, length-append, length-take, length-drop}
 use lib.Seq.{sets, length-sets, take-all, take-suc, getD-drop}
 use borrow.Author.Tests.{lt-ltb, le-ltb}
-use Rattle.text_grammar.specs.Numbers.{dec, decC, digitsOf}
+use Rattle.base_lists.specs.Arrays.{sets-append}
+use Rattle.text_grammar.specs.Numbers.{digitsOf}
+use Rattle.text_grammar.proofs.Numbers.{digits-small, digits-more}
 use Rattle.pair_lines.specs.Lines.{Puts, blank, unled}
-
-sets-append : (a b l : List ℕ) (i : ℕ) → sets (sets l i a) (i + length a) b ≡ sets l i (a ++ b)
-sets-append [] b l i = rw add-zero
-sets-append (x ∷ a) b l i =
-    ap (λ (k : ℕ). sets (sets (set l i x) (suc i) a) k b) (add-suc i (length a) ∙ sym (suc-add i (length a)))
-    ∙ sets-append a b (set l i x) (suc i)
 
 pub puts-none : (at : ℕ) (l : List ℕ) → Puts [] at l at l
 puts-none at l = (omega arith, refl)
@@ -114,36 +109,14 @@ unled-next false a b at l {p} {r} {m} {n} d q s = go (decLt 0 at)
 
 -- ---- digits
 
-dec-one : (k n : ℕ) → n < 10 → dec (suc k) n ≡ (48 + n) ∷ []
-dec-one k n h = go (decLt n 10)
-  where
-    go : (d : Dec (n < 10)) → decC n d (dec k) ≡ (48 + n) ∷ []
-    go (yes p) = refl
-    go (no p) = absurd (p h)
-
-dec-more : (k n : ℕ) → 10 ≤ n → dec (suc k) n ≡ dec k (n / 10) ++ (48 + n % 10) ∷ []
-dec-more k n h = go (decLt n 10)
-  where
-    go : (d : Dec (n < 10)) → decC n d (dec k) ≡ dec k (n / 10) ++ (48 + n % 10) ∷ []
-    go (yes p) = absurd (omega arith)
-    go (no p) = refl
-
-pub digits-one : (n : ℕ) → n < 10 → digitsOf n ≡ (48 + n) ∷ []
-digits-one n h = dec-one n n h
-
 pub digits-two : (n : ℕ) → 10 ≤ n → n < 100 → digitsOf n ≡ (48 + n / 10) ∷ (48 + n % 10) ∷ []
-digits-two zero h k = absurd (omega arith)
-digits-two (suc n) h k = dec-more (suc n) (suc n) h ∙ ap (λ (t : List ℕ). t ++ (48 + suc n % 10) ∷ []) (dec-one n (suc n / 10) (omega arith))
+digits-two n h k = digits-more n h ∙ ap (λ (t : List ℕ). t ++ (48 + n % 10) ∷ []) (digits-small (n / 10) (omega arith))
 
 pub digits-three : (n : ℕ) → 100 ≤ n → n < 1000 → digitsOf n ≡ (48 + n / 100) ∷ (48 + n / 10 % 10) ∷ (48 + n % 10) ∷ []
-digits-three zero h k = absurd (omega arith)
-digits-three (suc zero) h k = absurd (omega arith)
-digits-three (suc (suc n)) h k =
-    let m = suc (suc n) in
-    dec-more m m (omega arith)
-    ∙ ap (λ (t : List ℕ). t ++ (48 + m % 10) ∷ []) (dec-more (suc n) (m / 10) (omega arith)
-    ∙ ap (λ (t : List ℕ). t ++ (48 + m / 10 % 10) ∷ []) (dec-one n (m / 10 / 10) (omega arith)
-    ∙ ap (λ (d : ℕ). (48 + d) ∷ []) (let e : m / 10 / 10 ≡ m / 100 = omega arith in e)))
+digits-three n h k =
+    digits-more n (omega arith)
+    ∙ ap (λ (t : List ℕ). t ++ (48 + n % 10) ∷ []) (digits-two (n / 10) (omega arith) (omega arith)
+    ∙ ap (λ (d : ℕ). (48 + d) ∷ (48 + n / 10 % 10) ∷ []) (let e : n / 10 / 10 ≡ n / 100 = omega arith in e))
 
 -- ---- a constant's bytes, one by one
 

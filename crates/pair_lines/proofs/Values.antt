@@ -9,15 +9,16 @@ use lib.ListN.{length, getD, take, drop, length-append, length-take, drop-of-len
 use lib.Seq.{slice, take-all}
 use borrow.Author.Tests.{lt-ltb, le-ltb}
 use Rattle.base_limits.specs.Limits.{atomKindCount, numbersOfSide}
+use Rattle.base_lists.specs.Arrays.{part-of}
 use Rattle.text_grammar.specs.Numbers.{digitsOf}
 use Rattle.math_terms.specs.Seqs.{concat-map}
 use Rattle.math_terms.proofs.Seqs.{concat-map-append}
 use Rattle.math_overlaps.specs.Candidates.{range}
 use Rattle.math_codes.specs.Lines.{itemText, itemsText}
-use Rattle.math_codes.specs.Index.{isThere, hasAt, nameAt, boundText, rankedValue}
+use Rattle.math_codes.specs.Index.{hasAt, nameAt, boundText, rankedValue}
+use Rattle.math_codes.proofs.Index.{there}
 use Rattle.pair_row.specs.Row.{tableIn, textIn, indexIn, topIn}
 use Rattle.pair_lines.specs.Lines.{tagOf, valueIn, rankIn, valuesIn}
-use Rattle.pair_lines.proofs.Laying.{part-of}
 use Rattle.pair_lines.proofs.Puts.{Led, led-append}
 
 -- ---- a value
@@ -73,10 +74,6 @@ nameIn right k v = 32 ∷ (tagOf right ∷ (nameAt k v ++ 61 ∷ []))
 
 pub name-long : (right : Bool) (k v : ℕ) → length (nameIn right k v) ≡ 4 + length (digitsOf v)
 name-long right k v = omega (arith, length-append (digitsOf v) (61 ∷ []))
-
-pub there : (x : ℕ) → (x ≡ 0 → ⊥) → isThere x ≡ true
-there zero h = absurd (h refl)
-there (suc x) h = refl
 
 module _ (row texts numbers : List ℕ) (right : Bool) (atoms : List ℕ) (runs : ℕ → List ℕ) (k v : ℕ) where
   pub shown-there : (indexIn row right (numbersOfSide * k + v) ≡ 0 → ⊥)

@@ -1,6 +1,6 @@
 -- TWO ATOMS ARE DECIDED BY THE MEET of their types' ranks: which takes which, and none is a clash. Assumes nothing.
-use mathlib.Core.Path.{_≡_, refl, sym, _∙_, ap, ap₂, subst}
-use mathlib.Core.Bool.{Bool, true, false, _&&_}
+use mathlib.Core.Path.{_≡_, sym, _∙_, ap, ap₂, subst}
+use mathlib.Core.Bool.{Bool, false, _&&_, and-false}
 use Prim.Native.Nat.{ℕ}
 use lib.Dec.{eqb}
 use Rattle.math_types.specs.Types.{entry}
@@ -10,14 +10,6 @@ use Rattle.math_types.specs.declared.Met.the-variants.{Is, Nothing}
 use Rattle.math_types.proofs.Ranks.{MeetSays, meet-says}
 use Rattle.math_codes.specs.Tables.{Table}
 use Rattle.math_codes.specs.States.{takes}
-
-pub never : (b : Bool) → b && false ≡ false
-never true = refl
-never false = refl
-
-pub alone : (b : Bool) → b ≡ b && true
-alone true = refl
-alone false = refl
 
 -- j and k are the ranks of x and y
 module _ (T : Table) (x y j k : ℕ) (is-j : j ≡ T .kind x) (is-k : k ≡ T .kind y) (r : Met) (is-r : r ≡ meetRank k j) where
@@ -39,7 +31,7 @@ module _ (T : Table) (x y j k : ℕ) (is-j : j ≡ T .kind x) (is-k : k ≡ T .k
 
   -- and where there is none
   pub none-left : r ≡ Nothing → takes entry T x y ≡ false
-  none-left e = sym left-is ∙ ap (λ (b : Bool). T .variable x && b) (says Nothing e .0) ∙ never (T .variable x)
+  none-left e = sym left-is ∙ ap (λ (b : Bool). T .variable x && b) (says Nothing e .0) ∙ and-false (T .variable x)
 
   pub none-right : r ≡ Nothing → takes entry T y x ≡ false
-  none-right e = sym right-is ∙ ap (λ (b : Bool). T .variable y && b) (says Nothing e .1) ∙ never (T .variable y)
+  none-right e = sym right-is ∙ ap (λ (b : Bool). T .variable y && b) (says Nothing e .1) ∙ and-false (T .variable y)

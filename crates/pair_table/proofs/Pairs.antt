@@ -15,7 +15,7 @@ use Rattle.base_limits.specs.Limits.{mostFields, longestString, numbersOfSide, 
 use Rattle.base_lists.specs.Seqs.{tabulate, tabulate-long, tabulate-at}
 use Rattle.math_types.specs.Order.{basic, list}
 use Rattle.math_types.specs.Types.{Kind, basics, rank}
-use Rattle.math_terms.specs.Terms.{con, var}
+use Rattle.math_terms.specs.Terms.{con, var, con-once, con≢var, kind-once}
 use Rattle.text_grammar.specs.Limits.{IsLeft}
 use Rattle.text_grammar.specs.Plain.{termText}
 use Rattle.text_grammar.specs.Read.{accepted, readSide}
@@ -35,7 +35,7 @@ use Rattle.math_codes.specs.Lines.{ourVars, OurAtom, OurOriginTerm, ourRanks, o
 use Rattle.math_codes.specs.Whole.{spotsOf}
 use Rattle.math_codes.specs.Index.{Right, Indexes, Tops}
 use Rattle.math_codes.proofs.Tables.{holds-below}
-use Rattle.math_codes.proofs.Items.{con-once, con≢var, kind-once, range-at}
+use Rattle.math_codes.proofs.Items.{range-at, shown-some}
 use Rattle.math_codes.proofs.Places.{left-stand, left-long, right-stand, pair-long}
 use Rattle.pair_row.specs.Row.{kindsAt, indexesAt, countAt, rowBytes, textsBytes, isSet, cellBytes}
 use Rattle.pair_row.specs.Row.{tableIn, textIn, bytesIn, spotIn, indexIn, topIn}
@@ -237,10 +237,6 @@ module _ (r₁ r₂ : List (List OurTerm)) (ok₁ : IsLeft r₁) (ok₂ : IsLeft
   abbrev Item : ℕ → OurOriginTerm → Type 0
   Item p u = ((a : OurAtom) × Holds atoms p a × (termOf a ≡ u)) ⊎ ((g : ℕ) × (g < listItems) × (p ≡ pairPlaces + g) × (var list (place g) ≡ u))
 
-  shown : (o : Option OurAtom) (u : OurOriginTerm) → shownAt o ≡ some u → (a : OurAtom) × (o ≡ some a) × (termOf a ≡ u)
-  shown none u e = absurd (Option·none-ne-some u e)
-  shown (some a) u e = (a, refl, Option·some-injective (termOf a) u e)
-
   abbrev listTerm : ℕ → Option OurOriginTerm
   listTerm g = some (var list (place g))
 
@@ -249,7 +245,7 @@ module _ (r₁ r₂ : List (List OurTerm)) (ok₁ : IsLeft r₁) (ok₂ : IsLeft
     where
       go : Dec (p < pairPlaces) → Dec (p - pairPlaces < listItems) → Item p u
       go (yes l) d =
-          inl (shown (getD atoms p none) u
+          inl (shown-some (getD atoms p none) u
           (sym (List·getD-append (map shownAt atoms) (map listTerm (range 0 listItems)) none p (omega (arith, l, many, length-map atoms shownAt))
           ∙ List·getD-map shownAt atoms p none) ∙ h))
       go (no n) d = behind d (let e : p ≡ length (map shownAt atoms) + (p - pairPlaces) = omega (arith, many, length-map atoms shownAt) in e)

@@ -15,8 +15,8 @@ use Rattle.math_types.specs.Order.{basic}
 use Rattle.math_types.specs.Types.{basics, rank}
 use Rattle.text_grammar.specs.Terms.{Con}
 use Rattle.text_grammar.specs.constants.Constants.{consts, kind-of}
-use Rattle.math_overlaps.specs.Shapes.{fixed}
-use Rattle.math_codes.specs.Tables.{Holds, fixed-once}
+use Rattle.math_overlaps.specs.Shapes.{fixed, fixed-once}
+use Rattle.math_codes.specs.Tables.{Holds}
 use Rattle.math_codes.specs.Tables.{same as alike}
 use Rattle.math_codes.specs.Lines.{ourVars, OurAtom}
 use Rattle.math_codes.proofs.Tables.{holds-once, code-holds, code-found}

@@ -1,7 +1,7 @@
 -- What the row says of the variables of a rule whose terms d are noted: the index by slot, and the tops.
 use mathlib.Core.Path.{_≡_, refl, sym, ap, _∙_, subst}
 use mathlib.Core.Logic.{_≢_}
-use mathlib.Core.Bool.{Bool, true, false, not, _||_, false≢true}
+use mathlib.Core.Bool.{Bool, true, false, not, _||_, false≢true, or-assoc}
 use mathlib.Core.Option.{Option}
 use mathlib.Core.List.{List, [], _∷_, _++_}
 use Prim.Native.Nat.{ℕ, suc, _+_, _*_, _≤_, _<_}
@@ -82,14 +82,10 @@ or-right : (a b : Bool) → b ≡ true → (a || b) ≡ true
 or-right true b e = refl
 or-right false b e = e
 
-or-assoc : (a b c : Bool) → (a || (b || c)) ≡ ((a || b) || c)
-or-assoc true b c = refl
-or-assoc false b c = refl
-
 pub in-append : (k : Kind) (n : ℕ) (d e : List OurTerm) → inField k n (d ++ e) ≡ (inField k n d || inField k n e)
 in-append k n [] e = refl
 in-append k n (u ∷ d) e =
-    ap (λ (b : Bool). isVariable k n u || b) (in-append k n d e) ∙ or-assoc (isVariable k n u) (inField k n d) (inField k n e)
+    ap (λ (b : Bool). isVariable k n u || b) (in-append k n d e) ∙ sym (or-assoc (isVariable k n u) (inField k n d) (inField k n e))
 
 pub in-one : (k : Kind) (n : ℕ) (d : List OurTerm) (u : OurTerm) → inField k n (d ++ u ∷ []) ≡ (inField k n d || isVariable k n u)
 in-one k n d u = in-append k n d (u ∷ []) ∙ ap (λ (b : Bool). inField k n d || b) (or-nothing (isVariable k n u))

@@ -14,8 +14,8 @@ use Rattle.math_types.specs.Types.{Basic, Kind, rank}
 use Rattle.math_terms.specs.Terms.{con, var}
 use Rattle.text_grammar.specs.Terms.{OurTerm, Con}
 use Rattle.text_grammar.specs.constants.Constants.{kind-of}
-use Rattle.math_overlaps.specs.Shapes.{fixed, free, Side, of}
-use Rattle.math_codes.specs.Tables.{Holds, fixed≢free}
+use Rattle.math_overlaps.specs.Shapes.{fixed, free, Side, of, fixed≢free}
+use Rattle.math_codes.specs.Tables.{Holds}
 use Rattle.math_codes.specs.Entries.{atomOf}
 use Rattle.math_codes.specs.Spots.{Spot, scanTerm, spotOf}
 use Rattle.math_codes.specs.Lines.{OurAtom}

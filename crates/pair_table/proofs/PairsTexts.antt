@@ -5,7 +5,7 @@ use mathlib.Core.Bool.{Bool, true, false, cond, _&&_}
 use mathlib.Core.Option.{Option, none}
 use mathlib.Core.List.{List, [], _∷_, _++_, foldl, append-assoc, append-nil}
 use Prim.Native.Nat.{ℕ, suc, _+_, _-_, _*_, _%_, _≤_, _<_}
-use native.Mathlib.Omega.{arith}
+use native.Mathlib.Omega.{arith, by-contra}
 use lib.Dec.{leb, ltb}
 use lib.ListN.{length, getD, drop, length-append, length-drop, List·getD-append}
 use lib.Seq.{getD-append-add, getD-drop}
@@ -14,6 +14,7 @@ use Rattle.base_limits.specs.Limits.{mostTerms, mostDigits, largestInteger, lon
 use Rattle.base_lists.specs.Seqs.{All, all-append, tabulated}
 use Rattle.math_types.specs.Order.{basic}
 use Rattle.math_types.specs.Types.{Kind, rank, isList}
+use Rattle.base_lists.specs.Arrays.{shift-length, shift-eq}
 use Rattle.math_types.specs.Values.{kindOf-from}
 use Rattle.math_terms.specs.Terms.{con}
 use Rattle.text_grammar.specs.Grammar.{Raw, raw-int, raw-str, raw-var, raw-empty, spell, Proper, colons, spellF, bars, spellT}
@@ -52,22 +53,14 @@ stands-at text pre b z q e l = (
   λ i h. ap₂ (λ (x : List ℕ) (j : ℕ). getD x (j + i) 0) e (sym l) ∙ getD-append-add pre (b ++ z) i 0 ∙ List·getD-append b z 0 i h,
 )
 
--- the next part behind b and a byte
-behind : (text pre b z : List ℕ) (c : ℕ) → text ≡ pre ++ (b ++ c ∷ z) → text ≡ (pre ++ (b ++ c ∷ [])) ++ z
-behind text pre b z c e =
-    e ∙ ap (λ (x : List ℕ). pre ++ x) (sym (append-assoc b (c ∷ []) z)) ∙ sym (append-assoc pre (b ++ c ∷ []) z)
-
-behind-long : (pre b : List ℕ) (c q : ℕ) → length pre ≡ q → length (pre ++ (b ++ c ∷ [])) ≡ suc (q + length b)
-behind-long pre b c q l = omega (arith, l, length-append pre (b ++ c ∷ []), length-append b (c ∷ []))
-
 stood-field : (text : List ℕ) (r : Raw) (rs : List Raw) (pre z : List ℕ) (q n i : ℕ) → text ≡ pre ++ (spellF (r ∷ rs) ++ z) → length pre ≡ q
     → All (Stood text) (tokensF q n i (r ∷ rs))
 stood-field text r [] pre z q n i e l = (stands-at text pre (spell r) z q (e ∙ ap (λ (x : List ℕ). pre ++ x) (append-assoc (spell r) [] z)) l, tt)
 stood-field text r (u ∷ rs) pre z q n i e l =
     let e′ = e ∙ ap (λ (x : List ℕ). pre ++ x) (append-assoc (spell r) (colons (u ∷ rs)) z) in (
       stands-at text pre (spell r) (colons (u ∷ rs) ++ z) q e′ l,
-      stood-field text u rs (pre ++ (spell r ++ 58 ∷ [])) z (suc (q + length (spell r))) n (suc i) (behind text pre (spell r) (spellF (u ∷ rs) ++ z) 58 e′)
-          (behind-long pre (spell r) 58 q l),
+      stood-field text u rs (pre ++ (spell r ++ 58 ∷ [])) z (suc (q + length (spell r))) n (suc i) (e′ ∙ shift-eq pre (spell r) (spellF (u ∷ rs) ++ z) 58)
+          (shift-length pre (spell r) 58 q l),
     )
 
 stood-any : (text : List ℕ) (f : List Raw) (pre z : List ℕ) (q n : ℕ) → text ≡ pre ++ (spellF f ++ z) → length pre ≡ q → All (Stood text) (tokensF q n 1 f)
@@ -79,8 +72,8 @@ stood-fields : (text : List ℕ) (fs : List (List Raw)) (f : List Raw) (pre : Li
 stood-fields text [] f pre q n e l = all-append (Stood text) (tokensF q n 1 f) [] (stood-any text f pre [] q n e l) tt
 stood-fields text (g ∷ gs) f pre q n e l =
     all-append (Stood text) (tokensF q n 1 f) (tokensT (suc (q + length (spellF f))) (suc n) (g ∷ gs)) (stood-any text f pre (bars (g ∷ gs)) q n e l)
-    (stood-fields text gs g (pre ++ (spellF f ++ 124 ∷ [])) (suc (q + length (spellF f))) (suc n) (behind text pre (spellF f) (spellF g ++ bars gs) 124 e)
-    (behind-long pre (spellF f) 124 q l))
+    (stood-fields text gs g (pre ++ (spellF f ++ 124 ∷ [])) (suc (q + length (spellF f))) (suc n) (e ∙ shift-eq pre (spellF f) (spellF g ++ bars gs) 124)
+    (shift-length pre (spellF f) 124 q l))
 
 -- ALL TERMS stand where they are tokened
 pub all-stood : (text : List ℕ) (y : List (List Raw)) → text ≡ spellT y → All (Stood text) (tokens y)
@@ -181,14 +174,11 @@ module _ (t : List (Option OurAtom)) (G : ℕ → List OurTerm) (s : Bool) (text
           → length fs + length (termOf r) ≤ mostTerms
           → NotedBy f (fs ++ termOf r) (d ++ termOf r) (p + length (termOf r)) (noteLexeme s text q n (lexemeOf r) (x .0) (x .1))
       raw-noted (raw-int ds) pr o st k m =
-          let few : value ds ≤ largestInteger = fits (λ h. o (inr h)) in
+          let few : value ds ≤ largestInteger = by-contra (value ds) largestInteger (λ h. o (inr h)) in
           constant-read (int (value ds)) (partOf text (q + zeros (partOf text q (length ds))) (length ds - zeros (partOf text q (length ds))))
           (lexemeOf (raw-int ds)) (omega arith) (omega (arith, st .0, spell-some (raw-int ds) pr)) (short (λ h. o (inl h))) (k .0)
           (omega (arith, digits-ten (value ds) few)) (digits-part text q ds pr st) refl
         where
-          fits : (largestInteger < value ds → ⊥) → value ds ≤ largestInteger
-          fits h = omega arith
-
           short : (mostDigits < length ds → ⊥) → length ds ≤ longestString
           short h = omega arith
       raw-noted (raw-str b) pr o st k m =

@@ -14,9 +14,9 @@ use Rattle.math_types.specs.Types.{Basic, Kind, basics, rank, rank-kinds}
 use Rattle.math_terms.specs.Terms.{var}
 use Rattle.text_grammar.specs.Terms.{OurTerm, Con}
 use Rattle.text_grammar.specs.constants.Constants.{consts}
-use Rattle.math_overlaps.specs.Shapes.{fixed, free, of}
+use Rattle.math_overlaps.specs.Shapes.{fixed, free, of, fixed≢free, free-once}
 use Rattle.overlap_spec.specs.Variables.{isVariable, inField}
-use Rattle.math_codes.specs.Tables.{Holds, kindA, isFree, fixed≢free, free-once}
+use Rattle.math_codes.specs.Tables.{Holds, kindA, isFree}
 use Rattle.math_codes.specs.Tables.{same as alike}
 use Rattle.math_codes.specs.Entries.{atomOf}
 use Rattle.math_codes.specs.Lines.{ourVars, OurAtom}

@@ -104,7 +104,7 @@ shapeNoted f isList n row =
 abbrev pub isField : ℕ → Bool
 isField field = leb 1 field && leb field mostFields
 
--- how many terms of the pair's field f are noted: `empty` is none, so this is the next term's place in the field, and a token's index is not
+-- how many terms of the pair's field f are noted: `empty` is none, so this is the next term's place in the field; a token's index is not
 abbrev pub termsIn : List ℕ → ℕ → ℕ
 termsIn row f =
     let k = shapesAt + shapeBytes * f in

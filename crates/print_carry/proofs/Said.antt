@@ -3,11 +3,10 @@ use mathlib.Core.Path.{_≡_, refl, sym, ap, ap₂, _∙_}
 use mathlib.Core.Bool.{Bool, cond}
 use mathlib.Core.List.{List, _++_, map}
 use Prim.Native.Nat.{ℕ, suc, _+_, _-_, _≤_, min}
-use native.Mathlib.Omega.{arith}
-use native.Mathlib.Decide.{decLe, decLt}
+use native.Mathlib.Decide.{decLt}
 use borrow.Author.Tests.{le-ltb}
-use lib.ListN.{length, take, drop, length-drop, drop-of-length-le}
-use lib.Seq.{take-all}
+use lib.ListN.{length, take, drop}
+use Rattle.print_parts.proofs.Lines.{behind-tab}
 use Rattle.bytes.specs.Bytes.{indexOf}
 use Rattle.base_limits.specs.Limits.{slipLine}
 use Rattle.math_terms.specs.Terms.{con}
@@ -24,8 +23,7 @@ use Rattle.apply_spec.specs.Carrying.{Carried, result, unmatched, tooLong}
 use Rattle.apply_spec.specs.Rules.{OurSlip, carried}
 use Rattle.text_values.specs.Values.{encodeRule, encodeSlip}
 use Rattle.text_accepted.proofs.rules.Rules.{counted-encode}
-use Rattle.text_accepted.specs.slips.Slips.{countedSlip}
-use Rattle.text_accepted.proofs.slips.Slips.{view-encode-slip, encode-accepted-slip}
+use Rattle.text_accepted.proofs.slips.Slips.{view-encode-slip, counted-slip}
 use Rattle.apply_rules.specs.Answers.{answerOf, carriedOf}
 use Rattle.apply_rules.proofs.Carries.{result-slip}
 use Rattle.text_read.specs.declared.RuleRead.{RuleRead}
@@ -39,13 +37,11 @@ use Rattle.print_carry.specs.Values.{saidCarried, saidReads}
 -- ---- the answer
 
 module _ (x : OurRule) (y : OurFields) (is-rule : IsRule x) (is-slip : IsSlip y) where
-  counted-slip : countedSlip (encodeSlip y) ≡ y
-  counted-slip = rw (encode-accepted-slip y is-slip, view-encode-slip y is-slip)
-
   carried-said : saidCarried (carriedOf (encodeRule x) (encodeSlip y)) ≡ carriedText y (carried x (map constants y))
   unfolding decLt
   carried-said =
-      ap₂ (λ (r : OurRule) (s : OurFields). saidCarried (answerOf (encodeSlip y) (carried r (map constants s)))) (counted-encode x is-rule) counted-slip
+      ap₂ (λ (r : OurRule) (s : OurFields). saidCarried (answerOf (encodeSlip y) (carried r (map constants s)))) (counted-encode x is-rule)
+      (counted-slip y is-slip)
       ∙ go (carried x (map constants y)) refl
     where
       go : (a : Carried OurSlip) → carried x (map constants y) ≡ a → saidCarried (answerOf (encodeSlip y) a) ≡ carriedText y a
@@ -66,11 +62,7 @@ reads-said t u = go (readRule t) (readSlip u) refl refl
 module _ (t : List ℕ) (tab rest : ℕ) (is-tab : tab ≡ indexOf 9 t) (is-rest : rest ≡ min (tab + 1) (length t)) where
   -- what is lent from the place behind the tab on
   slip-part : take (length t - rest) (drop rest t) ≡ slipPart t
-  slip-part = take-all (length t - rest) (drop rest t) (omega (arith, length-drop rest t)) ∙ go (decLe (tab + 1) (length t))
-    where
-      go : Dec (tab + 1 ≤ length t) → drop rest t ≡ slipPart t
-      go (yes h) = ap (λ (i : ℕ). drop i t) (let e : rest ≡ suc (indexOf 9 t) = omega arith in e)
-      go (no h) = drop-of-length-le t {i = rest} (omega arith) ∙ sym (drop-of-length-le t {i = suc (indexOf 9 t)} (omega arith))
+  slip-part = behind-tab t tab rest is-rest ∙ ap (λ (i : ℕ). drop (suc i) t) is-tab
 
   pub line-said : (r : RuleRead) (s : SlipRead)
       → length t ≤ slipLine

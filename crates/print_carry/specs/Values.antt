@@ -9,12 +9,9 @@ use Rattle.apply_rules.specs.declared.Carry.{Carry}
 use Rattle.apply_rules.specs.declared.Carry.the-variants.{Yes, No, TooLong}
 use Rattle.apply_rules.specs.declared.Carried.{Carried}
 use Rattle.apply_rules.specs.Answers.{told, carriedOf}
-use Rattle.text_refusals.specs.declared.verdicts.Verdict.{Verdict}
-use Rattle.text_refusals.specs.declared.verdicts.Verdict.the-variants.{Accepted, Refused}
-use Rattle.text_refusals.specs.verdicts.Verdicts.{numberOf}
 use Rattle.text_read.specs.declared.RuleRead.{RuleRead}
 use Rattle.text_read.specs.declared.SlipRead.{SlipRead}
-use Rattle.text_write.specs.pieces.Refusals.{numberAt}
+use Rattle.print_parts.specs.Verdicts.{verdictText}
 use Rattle.print_carry.specs.Carry.{refusalText}
 
 -- the words before the slip
@@ -25,11 +22,6 @@ saidAnswer TooLong = refusalText (told TooLong .number)
 
 abbrev pub saidCarried : Carried → List ℕ
 saidCarried c = saidAnswer (c .answer) ++ plain (viewSlip (c .slip))
-
--- a refusal with the words before it, or the text t where there is none
-abbrev pub verdictText : List ℕ → Verdict → List ℕ → List ℕ
-verdictText words Accepted t = t
-verdictText words (Refused r p) t = words ++ numberAt (numberOf r) p
 
 -- the slip, with a rule; both, as they were read
 abbrev pub saidSlip : Rule → SlipRead → List ℕ

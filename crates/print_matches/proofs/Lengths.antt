@@ -33,8 +33,9 @@ use Rattle.math_terms.specs.Compared.{allAtoms}
 use Rattle.math_terms.proofs.Compared.{compared-most}
 use Rattle.text_grammar.specs.constants.Constants.{consts}
 use Rattle.text_grammar.specs.constants.Matching.{constants, matcher, compared}
+use Rattle.text_grammar.proofs.Numbers.{digits-most}
 use Rattle.match_rules.proofs.Runs.{atom-value, value-long}
-use Rattle.text_write.proofs.Digits.{digits-most, digits-64}
+use Rattle.text_write.proofs.Digits.{digits-64}
 use Rattle.overlap_spec.specs.Variables.{numbersFrom, occurs, variables}
 use Rattle.overlap_spec.proofs.Variables.{occurs-is}
 use Rattle.text_write.proofs.pieces.Refusals.{number-at-length}

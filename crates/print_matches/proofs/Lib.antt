@@ -1,4 +1,3 @@
-pub mod Values
 pub mod Said
 pub mod Lengths
 pub mod Examples

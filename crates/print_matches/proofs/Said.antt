@@ -5,10 +5,10 @@ use mathlib.Core.Option.{Option, none, some}
 use mathlib.Core.List.{List, [], _∷_, _++_, map, append-nil}
 use Prim.Native.Nat.{ℕ, suc, _+_, _-_, _≤_, min}
 use native.Mathlib.Omega.{arith}
-use native.Mathlib.Decide.{decLe}
 use borrow.Author.Tests.{le-ltb}
-use lib.ListN.{length, take, drop, length-drop, drop-of-length-le}
-use lib.Seq.{take-all}
+use lib.ListN.{length, take, drop}
+use Rattle.print_parts.specs.Verdicts.{verdictText}
+use Rattle.print_parts.proofs.Lines.{behind-tab}
 use Rattle.bytes.specs.Bytes.{indexOf}
 use Rattle.base_limits.specs.Limits.{largestNumber, slipLine}
 use Rattle.base_lists.specs.Seqs.{All, Any}
@@ -17,7 +17,7 @@ use Rattle.math_types.specs.Types.{Basic, Kind, kinds}
 use Rattle.math_terms.specs.Terms.{con, var}
 use Rattle.math_terms.specs.Seqs.{concat-map}
 use Rattle.math_terms.specs.Fillings.{Filling, Occurs}
-use Rattle.math_terms.proofs.Seqs.{concat-map-append}
+use Rattle.math_terms.proofs.Seqs.{concat-map-append, concat-mapped}
 use Rattle.text_grammar.specs.Ascii.{ascii}
 use Rattle.text_grammar.specs.Terms.{Con, OurTerm}
 use Rattle.text_grammar.specs.Plain.{termText, fieldText}
@@ -32,7 +32,7 @@ use Rattle.text_values.specs.declared.Term.{Term}
 use Rattle.text_values.specs.declared.Field.{Field}
 use Rattle.text_values.specs.declared.SlipField.{SlipField}
 use Rattle.text_values.specs.Values.{viewTerm, encodeField, encodeSlipField}
-use Rattle.text_accepted.proofs.Accepted.{view-encode-term}
+use Rattle.text_values.proofs.canonical.Terms.{view-encode-term}
 use Rattle.match_fields.specs.declared.bindings.Filling.{Filling as FillingValue}
 use Rattle.match_rules.specs.declared.Match.{Match}
 use Rattle.match_rules.specs.Answers.{valueTerm, encodeValues, runsOf, found, itemsAt, comparison}
@@ -51,7 +51,7 @@ use Rattle.text_write.specs.pieces.Refusals.{numberAt}
 use Rattle.print_matches.specs.Matches.{rulePart, slipPart, valueText, foundText, matchText, readText, textsText, lineText}
 use Rattle.print_matches.proofs.answers.Values.{variable-viewed, run-viewed, same-over, same-kinds}
 use Rattle.print_matches.specs.answers.Values.{runText, saidValue, nameText, saidVariable, saidKind, saidValues, saidMatch}
-use Rattle.print_matches.specs.Values.{verdictText, saidTexts, saidSlip}
+use Rattle.print_matches.specs.Values.{saidTexts, saidSlip}
 
 -- ---- constants within their limits
 
@@ -128,10 +128,6 @@ kept {A} p g (a ∷ l) = go (p a) (kept p g l)
     go true e = ap (λ (t : List ℕ). g a ++ t) e
     go false e = e
 
-mapped : {A B : Type 0} (h : B → List ℕ) (f : A → B) (l : List A) → concat-map h (map f l) ≡ concat-map (λ (a : A). h (f a)) l
-mapped h f [] = refl
-mapped h f (a ∷ l) = ap (λ (t : List ℕ). h (f a) ++ t) (mapped h f l)
-
 -- all of one kind
 abbrev pub ofKindText : List (List OurTerm) → Filling Con Kind ℕ → Kind → List ℕ
 ofKindText x φ k = concat-map (ofVariable x φ k) numbers
@@ -142,7 +138,9 @@ module _ (x : List (List OurTerm)) (φ : Filling Con Kind ℕ) where
 
   over : (ks : List Kind) → concat-map text (concat-map ofKind ks) ≡ concat-map (ofKindText x φ) ks
   over [] = refl
-  over (k ∷ ks) = concat-map-append text (ofKind k) (concat-map ofKind ks) ∙ ap₂ (λ (a b : List ℕ). a ++ b) (mapped text (λ (n : ℕ). (k, n)) numbers) (over ks)
+  over (k ∷ ks) =
+      concat-map-append text (ofKind k) (concat-map ofKind ks)
+      ∙ ap₂ (λ (a b : List ℕ). a ++ b) (concat-mapped text (λ (n : ℕ). (k, n)) numbers) (over ks)
 
   -- kind by kind
   pub by-kind : concat-map (valueText φ) (variables x) ≡ concat-map (ofKindText x φ) kinds
@@ -214,11 +212,7 @@ rule-said t u r p n e q = ap (λ (o : OutcomeOf OurRule). readText o (readSlip u
 module _ (t : List ℕ) (tab rest : ℕ) (is-tab : tab ≡ indexOf 9 t) (is-rest : rest ≡ min (tab + 1) (length t)) where
   -- what is lent from the place behind the tab on
   slip-part : take (length t - rest) (drop rest t) ≡ slipPart t
-  slip-part = take-all (length t - rest) (drop rest t) (omega (arith, length-drop rest t)) ∙ go (decLe (tab + 1) (length t))
-    where
-      go : Dec (tab + 1 ≤ length t) → drop rest t ≡ slipPart t
-      go (yes h) = ap (λ (i : ℕ). drop i t) (let e : rest ≡ suc (indexOf 9 t) = omega arith in e)
-      go (no h) = drop-of-length-le t {i = rest} (omega arith) ∙ sym (drop-of-length-le t {i = suc (indexOf 9 t)} (omega arith))
+  slip-part = behind-tab t tab rest is-rest ∙ ap (λ (i : ℕ). drop (suc i) t) is-tab
 
   pub line-said : length t ≤ slipLine → lineText t ≡ textsText (take tab t) (take (length t - rest) (drop rest t))
   unfolding lineText

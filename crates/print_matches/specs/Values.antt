@@ -1,20 +1,13 @@
 -- The same texts, as code makes them of the two texts of a line. `slip-said`, `rule-said` of proofs/Said say that they are the same.
-use mathlib.Core.List.{List, _++_}
+use mathlib.Core.List.{List}
 use Prim.Native.Nat.{ℕ}
 use Rattle.text_grammar.specs.Ascii.{ascii}
 use Rattle.text_grammar.specs.Read.{readSlip}
-use Rattle.text_refusals.specs.declared.verdicts.Verdict.{Verdict}
-use Rattle.text_refusals.specs.declared.verdicts.Verdict.the-variants.{Accepted, Refused}
-use Rattle.text_refusals.specs.verdicts.Verdicts.{numberOf, verdictOf}
-use Rattle.text_write.specs.pieces.Refusals.{numberAt}
+use Rattle.text_refusals.specs.verdicts.Verdicts.{verdictOf}
 use Rattle.match_rules.specs.Answers.{comparisonOn}
 use Rattle.match_rules.specs.texts.Texts.{sideFields, slipFields}
+use Rattle.print_parts.specs.Verdicts.{verdictText}
 use Rattle.print_matches.specs.answers.Values.{saidMatch}
-
--- a refusal with the words before it, or the text t where there is none
-abbrev pub verdictText : List ℕ → Verdict → List ℕ → List ℕ
-verdictText words Accepted t = t
-verdictText words (Refused r p) t = words ++ numberAt (numberOf r) p
 
 -- the text t of a left side against the text u of a slip
 abbrev pub saidTexts : List ℕ → List ℕ → List ℕ

@@ -4,10 +4,9 @@ use mathlib.Core.Bool.{Bool, cond}
 use mathlib.Core.List.{List, _++_}
 use Prim.Native.Nat.{ℕ, suc, _+_, _-_, _≤_, _<_, min}
 use native.Mathlib.Omega.{arith}
-use native.Mathlib.Decide.{decLe}
 use borrow.Author.Tests.{lt-ltb, le-ltb}
-use lib.ListN.{length, take, drop, length-drop, drop-of-length-le}
-use lib.Seq.{take-all, length-take-le}
+use lib.ListN.{length, take, drop, length-drop}
+use lib.Seq.{length-take-le}
 use Rattle.bytes.specs.Bytes.{indexOf}
 use Rattle.search_row.specs.own.Sizes.{mostRecords}
 use Rattle.text_grammar.specs.Ascii.{ascii, newline}
@@ -15,6 +14,7 @@ use Rattle.text_grammar.specs.Terms.{OurTerm}
 use Rattle.text_grammar.specs.rules.Read.{readRule}
 use Rattle.print_parts.specs.sizes.Sizes.{sizeOf}
 use Rattle.print_solve.specs.search.Found.{mostBytes}
+use Rattle.print_parts.proofs.Lines.{behind-tab}
 use Rattle.print_solve.specs.Solve.{longestLine, part, behind, fieldIn, searchText, lineText}
 use Rattle.print_solve.specs.Values.{sizesText, rightText}
 
@@ -30,11 +30,7 @@ module _ (t : List ℕ) (tab rest : ℕ) (is-tab : tab ≡ indexOf 9 t) (is-rest
   here-is = ap (λ (i : ℕ). take i t) is-tab
 
   there-is : there ≡ behind t
-  there-is = take-all (length t - rest) (drop rest t) (omega (arith, length-drop rest t)) ∙ go (decLe (tab + 1) (length t))
-    where
-      go : Dec (tab + 1 ≤ length t) → drop rest t ≡ behind t
-      go (yes h) = ap (λ (i : ℕ). drop i t) (let e : rest ≡ suc (indexOf 9 t) = omega arith in e)
-      go (no h) = drop-of-length-le t {i = rest} (omega arith) ∙ sym (drop-of-length-le t {i = suc (indexOf 9 t)} (omega arith))
+  there-is = behind-tab t tab rest is-rest ∙ ap (λ (i : ℕ). drop (suc i) t) is-tab
 
   there-long : length there ≡ length t - rest
   there-long = length-take-le (length t - rest) (drop rest t) (omega (arith, length-drop rest t))

@@ -1,7 +1,7 @@
 -- How long an answer is, and that only the first bytes of a line matter. Assumes nothing.
 use mathlib.Core.Path.{_≡_, refl, ap}
 use mathlib.Core.Logic.{inl}
-use mathlib.Core.List.{List, []}
+use mathlib.Core.List.{List}
 use Prim.Native.Nat.{ℕ, _+_, _≤_, _<_}
 use native.Mathlib.Omega.{arith}
 use native.Mathlib.Decide.{decLt}
@@ -9,11 +9,11 @@ use lib.ListN.{length, take, length-append}
 use lib.Seq.{length-take-le, take-all}
 use Rattle.base_limits.specs.Limits.{longestRule}
 use Rattle.text_grammar.specs.Ascii.{newline}
-use Rattle.text_grammar.specs.Read.{Reason, long, rule, slip, OutcomeOf, Outcome, refused, accepted, readSlip}
+use Rattle.text_grammar.specs.Read.{Reason, long, slip, OutcomeOf, Outcome, refused, accepted, readSlip}
 use Rattle.text_grammar.proofs.Read.{read-refused}
 use Rattle.text_grammar.proofs.Refused.{slip-place}
 use Rattle.text_grammar.specs.rules.Read.{OurRule, readRule}
-use Rattle.text_grammar.proofs.rules.Read.{read-first}
+use Rattle.text_grammar.proofs.rules.Read.{long-rule}
 use Rattle.text_grammar.proofs.rules.Sharp.{rule-place}
 use Rattle.text_grammar.proofs.rules.Accepted.{rule-read, rule-length}
 use Rattle.text_write.proofs.pieces.Refusals.{number-at-length}
@@ -45,9 +45,6 @@ unfolding textsAnswer
 texts-short t = omega (arith, length-append (ruleAnswer t) (slipAnswer t), rule-answer-length t, slip-answer-length t)
 
 -- ---- ONLY THE FIRST 8,193 BYTES of a line matter: a longer text is refused by 1 whatever it holds
-
-long-rule : (t : List ℕ) → rule .bytes < length t → readRule t ≡ refused long (rule .bytes)
-long-rule t h = read-first t long (rule .bytes) .1 (inl (refl, (h, refl)))
 
 long-slip : (t : List ℕ) → slip .bytes < length t → readSlip t ≡ refused long (slip .bytes)
 long-slip t h = read-refused slip t long (slip .bytes) .1 (inl (refl, (h, refl)))

@@ -7,7 +7,7 @@ use native.Mathlib.Omega.{arith}
 use borrow.Author.Tests.{eq-eqb, ne-eqb}
 use lib.Dec.{eqb}
 use lib.ListN.{length, getD, take, drop, length-take}
-use Rattle.search_items.proofs.Loops.{next, past}
+use Rattle.base_lists.specs.Arrays.{here, no-more}
 use Rattle.search_items.specs.Substitution.{sameCodes, occursIn}
 
 -- ---- the same codes
@@ -34,17 +34,17 @@ module _ (n : ℕ) (s : List ℕ) (m : ℕ) (t : List ℕ) (w : ℕ) where
     abbrev from : ℕ → Bool
     from j = sameCodes (drop j (take n s)) (drop j (take m t))
 
-    here : sameCodes (take n s) (take m t) ≡ (eqb (getD s i d) (getD t i e) && from (i + 1))
-    here = v .3 ∙ ap₂ sameCodes (next n s w i d (v .0) h) (next m t w i e (v .1) (omega (arith, v .2)))
+    one : sameCodes (take n s) (take m t) ≡ (eqb (getD s i d) (getD t i e) && from (i + 1))
+    one = v .3 ∙ ap₂ sameCodes (here n s i d (omega arith) (omega (arith, v .0))) (here m t i e (omega (arith, v .2)) (omega (arith, v .1, v .2)))
 
     pub same-one : getD s i d ≡ getD t i e → Same (i + 1)
-    same-one q = (v .0, v .1, v .2, here ∙ ap (λ (c : Bool). c && from (i + 1)) (eq-eqb (getD s i d) (getD t i e) q))
+    same-one q = (v .0, v .1, v .2, one ∙ ap (λ (c : Bool). c && from (i + 1)) (eq-eqb (getD s i d) (getD t i e) q))
 
     pub same-not : (getD s i d ≡ getD t i e → ⊥) → false ≡ sameCodes (take n s) (take m t)
-    same-not q = sym (here ∙ ap (λ (c : Bool). c && from (i + 1)) (ne-eqb (getD s i d) (getD t i e) q))
+    same-not q = sym (one ∙ ap (λ (c : Bool). c && from (i + 1)) (ne-eqb (getD s i d) (getD t i e) q))
 
   pub same-all : (i : ℕ) → Same i → min n w ≤ i → true ≡ sameCodes (take n s) (take m t)
-  same-all i v h = sym (v .3 ∙ ap₂ sameCodes (past n s w i (v .0) h) (past m t w i (v .1) (omega (arith, v .2))))
+  same-all i v h = sym (v .3 ∙ ap₂ sameCodes (no-more n s w i (v .0) h) (no-more m t w i (v .1) (omega (arith, v .2))))
 
 -- ---- one of the codes
 
@@ -55,7 +55,7 @@ module _ (x : ℕ) (n : ℕ) (s : List ℕ) (w : ℕ) where
 
   module _ (i : ℕ) (d : ℕ) (v : Missed i) (h : i < min n w) where
     found : occursIn x (take n s) ≡ (eqb (getD s i d) x || occursIn x (drop (i + 1) (take n s)))
-    found = v .1 ∙ ap (occursIn x) (next n s w i d (v .0) h)
+    found = v .1 ∙ ap (occursIn x) (here n s i d (omega arith) (omega (arith, v .0)))
 
     pub missed-one : (getD s i d ≡ x → ⊥) → Missed (i + 1)
     missed-one q = (v .0, found ∙ ap (λ (c : Bool). c || occursIn x (drop (i + 1) (take n s))) (ne-eqb (getD s i d) x q))
@@ -64,4 +64,4 @@ module _ (x : ℕ) (n : ℕ) (s : List ℕ) (w : ℕ) where
     missed-not q = sym (found ∙ ap (λ (c : Bool). c || occursIn x (drop (i + 1) (take n s))) (eq-eqb (getD s i d) x q))
 
   pub missed-all : (i : ℕ) → Missed i → min n w ≤ i → false ≡ occursIn x (take n s)
-  missed-all i v h = sym (v .1 ∙ ap (occursIn x) (past n s w i (v .0) h))
+  missed-all i v h = sym (v .1 ∙ ap (occursIn x) (no-more n s w i (v .0) h))

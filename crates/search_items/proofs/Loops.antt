@@ -2,21 +2,10 @@
 use mathlib.Core.Path.{_≡_, refl, sym, _∙_, ap}
 use mathlib.Core.List.{List, [], _∷_, foldl, foldl-append}
 use Prim.Native.Nat.{ℕ, zero, suc, _+_, _<_, _≤_, min}
-use native.Mathlib.Numerals.{add-one}
 use native.Mathlib.Omega.{arith}
-use lib.ListN.{length, getD, take, drop, length-take, drop-of-length-le}
-use lib.Seq.{drop-cons, getD-take}
+use lib.ListN.{length, getD, take, drop}
+use Rattle.base_lists.specs.Arrays.{here, no-more}
 use Rattle.math_terms.specs.Seqs.{concat-map}
-
--- the next used place
-pub next : {B : Type 0} (n : ℕ) (s : List B) (w i : ℕ) (d : B) → length s ≡ w → i < min n w → drop i (take n s) ≡ getD s i d ∷ drop (i + 1) (take n s)
-next n s w i d e h =
-    let l : i < length (take n s) = omega (arith, length-take n s) in
-    rw (add-one, drop-cons (take n s) i d l, getD-take n s i d (omega arith))
-
--- behind the last
-pub past : {B : Type 0} (n : ℕ) (s : List B) (w i : ℕ) → length s ≡ w → min n w ≤ i → drop i (take n s) ≡ []
-past n s w i e h = drop-of-length-le (take n s) {i = i} (omega (arith, length-take n s))
 
 -- the first place
 pub first-used : {B : Type 0} (n : ℕ) (s : List B) (d e : B) → (n ≡ 0 → ⊥) → 0 < length s → getD s 0 d ≡ getD (take n s) 0 e
@@ -40,7 +29,12 @@ module _ {A B : Type 0} (f : A → B → A) (whole : A) (n : ℕ) (s : List B) (
   Folding i x = (length s ≡ w) × (whole ≡ foldl f x (drop i (take n s)))
 
   pub folding-one : (i : ℕ) (x y : A) (d : B) → Folding i x → i < min n w → y ≡ f x (getD s i d) → Folding (i + 1) y
-  folding-one i x y d v h e = (v .0, v .1 ∙ ap (foldl f x) (next n s w i d (v .0) h) ∙ ap (λ (z : A). foldl f z (drop (i + 1) (take n s))) (sym e))
+  folding-one i x y d v h e = (
+    v .0,
+    v .1
+        ∙ ap (foldl f x) (here n s i d (omega arith) (omega (arith, v .0)))
+        ∙ ap (λ (z : A). foldl f z (drop (i + 1) (take n s))) (sym e),
+  )
 
   pub folding-all : (i : ℕ) (x : A) → Folding i x → min n w ≤ i → x ≡ whole
-  folding-all i x v h = sym (v .1 ∙ ap (foldl f x) (past n s w i (v .0) h))
+  folding-all i x v h = sym (v .1 ∙ ap (foldl f x) (no-more n s w i (v .0) h))

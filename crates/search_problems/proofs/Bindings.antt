@@ -14,9 +14,9 @@ use Rattle.base_limits.specs.Limits.{pairPlaces}
 use Rattle.base_lists.specs.Seqs.{All}
 use Rattle.math_types.specs.Types.{Basic, basic-eq, basics}
 use Rattle.text_grammar.specs.constants.Constants.{consts}
-use Rattle.math_overlaps.specs.Shapes.{fixed, free, side-eq, Variable, variable-eq}
+use Rattle.math_overlaps.specs.Shapes.{fixed, free, side-eq, Variable, variable-eq, free-once}
 use Rattle.math_overlaps.specs.Joins.{resolve, replace, bind}
-use Rattle.math_search.specs.Problems.{atomic, listvar, Tm, Field, tm-eq, Bindings, put, putIn, compose, free-once}
+use Rattle.math_search.specs.Problems.{atomic, listvar, Tm, Field, tm-eq, Bindings, put, putIn, compose}
 use Rattle.math_search.specs.Answers.{Fits}
 use Rattle.math_search.proofs.Terms.{atomic-once, atomic≢listvar}
 use Rattle.math_search.proofs.Counts.{put-self, put-ne}

@@ -10,7 +10,7 @@ use native.Mathlib.Omega.{arith}
 use native.Mathlib.Decide.{ℕ-discrete}
 use lib.ListN.{length, getD, length-map}
 use Rattle.base_limits.specs.Limits.{numbersOfSide, numbersOfPair, rulePlaces, pairPlaces}
-use Rattle.base_lists.specs.Seqs.{All, tabulate-at}
+use Rattle.base_lists.specs.Seqs.{All, tabulate-at, all-mem}
 use Rattle.math_types.specs.Order.{basic, list}
 use Rattle.math_types.specs.Types.{basics}
 use Rattle.math_terms.specs.Terms.{con, var}
@@ -19,15 +19,15 @@ use Rattle.text_grammar.specs.Terms.{OurTerm}
 use Rattle.text_grammar.specs.Limits.{TermIn, IsLeft}
 use Rattle.text_grammar.specs.constants.Constants.{consts}
 use Rattle.text_grammar.proofs.constants.Linear.{left-linear}
+use Rattle.text_grammar.proofs.Limited.{lists-small}
 use Rattle.math_overlaps.specs.Shapes.{fixed, free, of, Side, left, right, Shape, closed, gapped, withAtom, withList}
 use Rattle.math_overlaps.specs.Candidates.{range}
-use Rattle.math_search.specs.Problems.{atomic, listvar, Tm, Field, unbound, namesIn, root}
+use Rattle.math_search.specs.Problems.{atomic, Tm, Field, unbound, namesIn, root}
 use Rattle.math_search.specs.Fresh.{numbers}
 use Rattle.math_search.specs.Rules.{start}
 use Rattle.math_search.specs.Answers.{StandsIn}
 use Rattle.math_search.specs.Pairs.{sixteenAbove}
 use Rattle.math_search.specs.Pairs as pairs
-use Rattle.math_search.proofs.Seqs.{all-mem}
 use Rattle.math_search.proofs.Slips.{fields-linear, sixteen-apart}
 use Rattle.search_problems.specs.variables.Sets.{setOf, withName}
 use Rattle.search_problems.proofs.variables.Laws.{with-one}
@@ -65,12 +65,6 @@ termOn d u = pairs.sideTerm basics consts ℕ-discrete numbers sixteenAbove d u
 number-is : (d : Side) (n : ℕ) → n < numbersOfSide → listNumber (isRight d) n ≡ sixteenAbove d n
 number-is left n h = mod-eq-of-lt h
 number-is right n h = ap (λ (k : ℕ). numbersOfSide + k) (mod-eq-of-lt h)
-
-names-small : (f : List OurTerm) → All TermIn f → All (λ n. n < numbersOfSide) (lists f)
-names-small [] h = tt
-names-small (con c ∷ f) h = names-small f (h .1)
-names-small (var (basic k) n ∷ f) h = names-small f (h .1)
-names-small (var list n ∷ f) h = (omega (arith, h .0), names-small f (h .1))
 
 numbers-are : (d : Side) (u : List ℕ) → All (λ n. n < numbersOfSide) u → map (listNumber (isRight d)) u ≡ map (sixteenAbove d) u
 numbers-are d [] h = refl
@@ -188,7 +182,7 @@ module _ (t : List (Option OurAtom)) (long : length t ≡ pairPlaces) (row : Lis
       -- its list variable's number
       own-are : map (listNumber (isRight d)) (ownNames s) ≡ namesIn setting (fieldOn d f)
       own-are =
-          ap (map (listNumber (isRight d))) (own-names s ∙ reads-spot .1) ∙ numbers-are d (lists f) (names-small f small) ∙ names-on d f
+          ap (map (listNumber (isRight d))) (own-names s ∙ reads-spot .1) ∙ numbers-are d (lists f) (lists-small f small) ∙ names-on d f
 
       own-agrees : ownItems (isRight d) s ≡ valueIn t (unbound setting) (namesIn setting (fieldOn d f))
       own-agrees = go (s .gapped) ∙ ap (valueIn t (unbound setting)) own-are
@@ -239,7 +233,7 @@ module _ (t : List (Option OurAtom)) (long : length t ≡ pairPlaces) (row : Lis
     equation-of =
         record {
           linear = fields-linear basics consts ℕ-discrete numbers sixteenAbove f g one-f one-g
-              (sixteen-apart basics consts f g (names-small f (p .0 .3 .0)));
+              (sixteen-apart basics consts f g (lists-small f (p .0 .3 .0)));
           left-short = omega (arith, p .0 .2 .0, length-map f (termOn left));
           right-short = omega (arith, q .0 .2 .0, length-map g (termOn right));
           left-in = on-side left 0 f (p .0 .3 .0) stand-f;

@@ -27,6 +27,7 @@ use denote.Triple.Spec.{tripleOf}
 use denote.Triple.Statement.{Contract, Triple}
 use denote.Triple.Call.{calls-at}
 use denote.Triple.Clauses.{ensured, lasts}
+use Rattle.base_walks.proofs.Returns.{receives-as}
 use Rattle.text_values.specs.declared.Field.{Field}
 use Rattle.text_values.proofs.Field as F
 use Rattle.text_values.proofs.Field.Laws as F′
@@ -36,11 +37,11 @@ use Rattle.search_steps.specs.starts.Starts.{begun, again}
 use Rattle.search_steps.proofs.turns.State as S
 use Rattle.search_steps.proofs.turns.State.Laws as S′
 use Rattle.search_row.proofs.Lending.{x}
-use Rattle.search_row.proofs.Drives.{mach-state, receives, receives-as}
+use Rattle.search_row.proofs.Drives.{mach-state, receives}
 use Rattle.search_steps.proofs.starts.begin as begin
-use Rattle.search_steps.proofs.starts.begin.Symbol.{name as #search-starts·begin}
+use Rattle.search_steps.proofs.starts.begin.Symbol.{name as #search-steps·starts·begin}
 use Rattle.search_steps.proofs.starts.again as again′
-use Rattle.search_steps.proofs.starts.again.Symbol.{name as #search-starts·again}
+use Rattle.search_steps.proofs.starts.again.Symbol.{name as #search-steps·starts·again}
 use Rattle.search_row.specs.declared.Searched.{Searched}
 use Rattle.search_row.specs.Answers.{reported}
 use Rattle.search_row.proofs.Searched as N
@@ -101,10 +102,10 @@ module _ {M : Type 1} (𝓤 : URA M) (H : Heap 𝓤) (A : Atoms 𝓤) (W : Given
 module _ {M : Type 1} {𝓤 : URA M} {H : Heap 𝓤} {A : Atoms 𝓤} {K : Type 0} {W : Given 𝓤 H A} {Γ : List (Item 𝓤)}
     {E : Env 𝓤 H} {C : Calls 𝓤 H} {Λ : Loops 𝓤 H} {Q : Post 𝓤 H} {d : Place} {rest : Body} where
   module _ (t : K) (mem : Memory → SProp 𝓤) (run : Routine → Fun 𝓤) (fm : FmC 𝓤 H (W .laws) C) {xs : List Operand} where
-    pub calls-begin : Triple 𝓤 (C #search-starts·begin) (Begin 𝓤 H A mem run) → (f g : Field) (cap : ℕ) → Is F.the-row f (mach-field f ∷ [])
+    pub calls-begin : Triple 𝓤 (C #search-steps·starts·begin) (Begin 𝓤 H A mem run) → (f g : Field) (cap : ℕ) → Is F.the-row f (mach-field f ∷ [])
         → Is F.the-row g (mach-field g ∷ []) → cap < 2 ^ 64 → ((P : SProp 𝓤) → Opds K W (raw P ∷ Γ) E xs (mach-field f ∷ mach-field g ∷ vint w64 cap ∷ []))
         → ((s : State) → s ≡ begun f g cap → Is S.the-row s (mach-state s ∷ []) → Seq K W Γ (lands C Λ E d (mach-state s) rest Q))
-        → Seq K W Γ (runs C Λ E (seq (call #search-starts·begin xs d) rest) Q)
+        → Seq K W Γ (runs C Λ E (seq (call #search-steps·starts·begin xs d) rest) Q)
     calls-begin known f g cap gf gg fits ops k =
         use0 W (raw (Begin 𝓤 H A mem run .pre (to-begin 𝓤 H A W mem run f g cap))) (goes-begin 𝓤 H A W mem run f g cap gf gg fits) $
         calls-at t fm (Begin 𝓤 H A mem run) known (to-begin 𝓤 H A W mem run f g cap) (ops _) (λ w.
@@ -116,10 +117,10 @@ module _ {M : Type 1} {𝓤 : URA M} {H : Heap 𝓤} {A : Atoms 𝓤} {K : Type 
         (id⊢ 𝓤 _) $
         pick t (λ ws. split t $ drop t $ heard t (r ≡ begun f g cap) (λ e. split t $ drop t $ receives t S.the-type S′.the-laws r refl (k r e)))))
 
-    pub calls-again : Triple 𝓤 (C #search-starts·again) (Again 𝓤 H A mem run) → (s u : State) (n : ℕ) → Is S.the-row s (mach-state s ∷ [])
+    pub calls-again : Triple 𝓤 (C #search-steps·starts·again) (Again 𝓤 H A mem run) → (s u : State) (n : ℕ) → Is S.the-row s (mach-state s ∷ [])
         → Is S.the-row u (mach-state u ∷ []) → n < 2 ^ 64 → ((P : SProp 𝓤) → Opds K W (raw P ∷ Γ) E xs (mach-state s ∷ mach-state u ∷ vint w64 n ∷ []))
         → ((v : State) → v ≡ again s u n → Is S.the-row v (mach-state v ∷ []) → Seq K W Γ (lands C Λ E d (mach-state v) rest Q))
-        → Seq K W Γ (runs C Λ E (seq (call #search-starts·again xs d) rest) Q)
+        → Seq K W Γ (runs C Λ E (seq (call #search-steps·starts·again xs d) rest) Q)
     calls-again known s u n gs gu fits ops k =
         use0 W (raw (Again 𝓤 H A mem run .pre (to-again 𝓤 H A W mem run s u n))) (goes-again 𝓤 H A W mem run s u n gs gu fits) $
         calls-at t fm (Again 𝓤 H A mem run) known (to-again 𝓤 H A W mem run s u n) (ops _) (λ w.

@@ -26,17 +26,18 @@ use types.Kit.{pick, fsplit, fjoin, feqL, await, done}
 use types.Run.{Opds}
 use sound.WpLaws.{FmC}
 use denote.RattleType.{RattleType}
-use denote.Laws.{Is, Tells, shows}
+use denote.Laws.{Is}
 use denote.Plain.{Nothing, uint-makes}
 use denote.Builtin.{u8, usize}
 use denote.Slice.{sliceVal, Room, finally}
-use denote.Steps.{only, owned, facts, heard, nothing}
+use denote.Steps.{only, owned, heard, nothing}
 use denote.Struct.Declared.{Declared, row}
 use denote.Struct.Laws as LL
 use denote.Triple.Spec.{tripleOf}
 use denote.Triple.Statement.{Contract, Triple}
 use denote.Triple.Call.{calls-at}
 use denote.Triple.Clauses.{Clauses, ensured, closing, lasts}
+use Rattle.base_walks.proofs.Returns.{receives-as}
 use Rattle.search_problems.specs.declared.Problem.{Problem}
 use Rattle.search_steps.specs.declared.turns.State.{State}
 use Rattle.search_steps.specs.declared.turns.Turn.{Turn}
@@ -59,7 +60,7 @@ use Rattle.search_row.proofs.take.Symbol.{name as #search-row·take}
 use Rattle.search_row.proofs.blank as blank
 use Rattle.search_row.proofs.blank.Symbol.{name as #search-row·blank}
 use Rattle.search_steps.proofs.advance as advance
-use Rattle.search_steps.proofs.advance.Symbol.{name as #search-step·advance}
+use Rattle.search_steps.proofs.advance.Symbol.{name as #search-steps·advance}
 use Rattle.search_row.proofs.step as step
 
 -- the machine value of a problem, of a state and of a turn
@@ -188,14 +189,6 @@ module _ {M : Type 1} (𝓤 : URA M) (H : Heap 𝓤) (A : Atoms 𝓤) (W : Given
 -- ---- the calls
 module _ {M : Type 1} {𝓤 : URA M} {H : Heap 𝓤} {A : Atoms 𝓤} {K : Type 0} {W : Given 𝓤 H A} {Γ : List (Item 𝓤)}
     {E : Env 𝓤 H} {C : Calls 𝓤 H} {Λ : Loops 𝓤 H} {Q : Post 𝓤 H} {d : Place} {rest : Body} where
-  -- a value r that a call returned, of which r ≡ v is known, is landed as v
-  pub receives-as : K → (R : RattleType) (val : R .Denot → Val) → Tells R (Is R) (λ y. val y ∷ []) → (v : R .Denot) {r : R .Denot} {w : Val}
-      → r ≡ v → (Is R v (val v ∷ []) → Seq K W Γ (lands C Λ E d (val v) rest Q)) → Seq K W (‵ (R .own r (w ∷ [])) ∷ Γ) (lands C Λ E d w rest Q)
-  receives-as t R val tells v {r} {w} e k = facts t R (Is R) (shows 𝓤 H A R) r (w ∷ []) (λ is.
-      let is′ : Is R v (w ∷ []) = subst (λ (y : R .Denot). Is R y (w ∷ [])) e is in
-      let told : w ∷ [] ≡ val v ∷ [] = tells v (w ∷ []) is′ in
-      subst (λ (u : Val). Seq K W Γ (lands C Λ E d u rest Q)) (sym (ap only told)) (k (subst (Is R v) told is′)))
-
   -- of a struct
   pub receives : K → (D : Declared) (F : LL.Laws D) (v : D .D) {r : D .D} {w : Val} → r ≡ v
       → (Is (row D) v (LL.val D F v ∷ []) → Seq K W Γ (lands C Λ E d (LL.val D F v) rest Q)) → Seq K W (‵ (row D .own r (w ∷ [])) ∷ Γ) (lands C Λ E d w rest Q)
@@ -278,13 +271,13 @@ module _ {M : Type 1} {𝓤 : URA M} {H : Heap 𝓤} {A : Atoms 𝓤} {K : Type 
           move t (1 ∷ []) $ split t $ split t $ move t (1 ∷ []) $ drop t $ move t (0 ∷ 3 ∷ 2 ∷ []) $ unlend t tt T.the-row ys ys room e refl $
           move t (2 ∷ []) $ receives t T.the-type T′.the-laws (getD ys i blankProblem) (is .0) k)))))
 
-      pub calls-advance : Triple 𝓤 (C #search-step·advance) (Advance 𝓤 H A mem run) → (s : State) (p : Problem) (ys : List ℕ)
+      pub calls-advance : Triple 𝓤 (C #search-steps·advance) (Advance 𝓤 H A mem run) → (s : State) (p : Problem) (ys : List ℕ)
           → Room u8 n → length ys ≡ n → Is S.the-row s (mach-state s ∷ []) → Is T.the-row p (mach p ∷ [])
           → ((P : SProp 𝓤) (δ : GName) (ν : ℕ)
           → Opds K W (raw P ∷ ‵ (LentAgain u8 κ (ν ∷ []) q γ b o δ ys) ∷ Γ) E xs (mach-state s ∷ mach p ∷ sliceVal (b, o) n ∷ []))
           → (length (wrote s p ys) ≡ n → Is U.the-row (moved s p) (mach-turn (moved s p) ∷ [])
           → Seq K W (Own 𝓤 u8 κ γ b o n (wrote s p ys) ∷ ‵ (flft κ q) ∷ Γ) (lands C Λ E d (mach-turn (moved s p)) rest Q))
-          → Seq K W (Own 𝓤 u8 κ γ b o n ys ∷ ‵ (flft κ q) ∷ Γ) (runs C Λ E (seq (call #search-step·advance xs d) rest) Q)
+          → Seq K W (Own 𝓤 u8 κ γ b o n ys ∷ ‵ (flft κ q) ∷ Γ) (runs C Λ E (seq (call #search-steps·advance xs d) rest) Q)
       calls-advance known s p ys room e gs gp ops k = lend t tt u8 ys e (λ ν δ.
           use2 W (raw (Advance 𝓤 H A mem run .pre (to-advance 𝓤 H A W mem run b o n ν δ ys s p))) (goes-advance 𝓤 H A W mem run b o n ν δ ys s p gs gp) $
           calls-at t fm (Advance 𝓤 H A mem run) known (to-advance 𝓤 H A W mem run b o n ν δ ys s p) (ops _ δ ν) (λ w.

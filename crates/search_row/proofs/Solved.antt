@@ -3,13 +3,13 @@ use mathlib.Core.Path.{_≡_, refl, sym, _∙_, ap, ap₂, subst}
 use mathlib.Core.Bool.{Bool, true, false, cond, _&&_}
 use mathlib.Core.Logic.{inl, inr}
 use mathlib.Core.List.{List, [], _∷_, append-nil}
-use Prim.Native.Nat.{ℕ, suc, _≤_, _<_}
+use Prim.Native.Nat.{ℕ, _≤_}
 use native.Mathlib.Omega.{arith}
-use lib.Dec.{lit<}
 use lib.ListN.{length, getD, length-map}
 use borrow.Author.Tests.{le-leb, lt-ltb}
 use Rattle.base_limits.specs.Limits.{largestNumber, kindCount, entryTerms, numbersOfSide, pairPlaces, pairItems}
 use Rattle.base_lists.specs.Seqs.{All}
+use Rattle.base_lists.specs.Arrays.{empty}
 use Rattle.math_types.specs.Order.{basic, list}
 use Rattle.math_terms.specs.Terms.{con, var}
 use Rattle.math_terms.specs.Fillings.{Occurs}
@@ -28,10 +28,11 @@ use Rattle.search_items.proofs.codes.Answers.{answer-agrees}
 use Rattle.search_items.specs.Items.{itemsOf, blankItems}
 use Rattle.pair_row.specs.Row.{tableIn, textIn, indexIn, topIn}
 use Rattle.pair_table.specs.Pairs.{PairIn}
-use Rattle.pair_lines.specs.Lines.{sideFew, numbersFew, lineBound}
+use Rattle.pair_lines.specs.Lines.{numbersFew, lineBound}
 use Rattle.pair_lines.specs.Answers.{areItems, valueFits, answerFits, wholeAnswer, answerIn}
 use Rattle.pair_lines.proofs.AnswerLines.{any-answer}
 use Rattle.pair_lines.proofs.Short.{cell-short}
+use Rattle.pair_lines.proofs.Lines.{numbers-few}
 use Rattle.search_steps.specs.Machine.{lineIn}
 use Rattle.search_problems.specs.declared.Problem.{Problem}
 use Rattle.search_items.specs.declared.Items.{Items}
@@ -46,10 +47,6 @@ no-more d (con c ∷ f) n o l = no-more d f n o l
 no-more d (var (basic k) m ∷ f) n (inl e) l = let z : _≡_ {A = ℕ} 0 1 = cc in absurd (omega arith)
 no-more d (var (basic k) m ∷ f) n (inr o) l = no-more d f n o l
 no-more d (var list m ∷ f) n o l = omega arith
-
-empty : {A : Type 0} (l : List A) → length l ≤ 0 → l ≡ []
-empty [] h = refl
-empty (x ∷ l) h = absurd (omega arith)
 
 only-name : (d : Side) (f : List OurTerm) (n : ℕ) → Occurs list n f → length (namesIn setting (fieldOn d f)) ≤ 1
     → namesIn setting (fieldOn d f) ≡ sixteenAbove d n ∷ []
@@ -100,19 +97,6 @@ module _ (f g : List OurTerm) (is-f : IsLeft (f ∷ [])) (is-g : IsLeft (g ∷ [
 
   -- ---- it fits the writer
 
-  fewer : (right : Bool) → ((k : ℕ) → k < kindCount → topIn row right k ≤ suc largestNumber) → sideFew row right ≡ true
-  fewer d h =
-      let a = h 0 (lit< tt) in
-      let b = h 1 (lit< tt) in
-      let c = h 2 (lit< tt) in
-      let e = h 3 (lit< tt) in
-      rw (
-        le-leb (topIn row d 0) numbersOfSide (omega (arith, a)),
-        le-leb (topIn row d 1) numbersOfSide (omega (arith, b)),
-        le-leb (topIn row d 2) numbersOfSide (omega (arith, c)),
-        le-leb (topIn row d 3) numbersOfSide (omega (arith, e)),
-      )
-
   are-items : (ts : Field setting) → All (On (ourRow (f ∷ []) (g ∷ []))) ts → areItems (codesOf (ourRow (f ∷ []) (g ∷ [])) ts) ≡ true
   are-items [] h = refl
   are-items (x ∷ ts) h =
@@ -127,8 +111,8 @@ module _ (f g : List OurTerm) (is-f : IsLeft (f ∷ [])) (is-g : IsLeft (g ∷ [
       (le-leb (length (codesOf t (valueOf σ u))) entryTerms (omega (arith, length-map (valueOf σ u) (codeTm t), k .short)))
       (are-items (valueOf σ u) (k .within))
 
-  numbers-few : numbersFew row ≡ true
-  numbers-few = ap₂ (λ (a b : Bool). a && b) (fewer false (pair .left-tops .within)) (fewer true (pair .right-tops .within))
+  few : numbersFew row ≡ true
+  few = numbers-few row (pair .left-tops .within) (pair .right-tops .within)
 
   left-fits : valueFits (items 0) ≡ true
   left-fits =
@@ -145,7 +129,7 @@ module _ (f g : List OurTerm) (is-f : IsLeft (f ∷ [])) (is-g : IsLeft (g ∷ [
       ap (λ (b : Bool). cond b (wholeAnswer row texts (p .atoms .atoms) (items 0) (items 1)) []) fits ∙ indexed-line
     where
       fits : answerFits row (items 0) (items 1) ≡ true
-      fits = ap₂ (λ (a b : Bool). a && b) numbers-few (ap₂ (λ (a b : Bool). a && b) left-fits right-fits)
+      fits = ap₂ (λ (a b : Bool). a && b) few (ap₂ (λ (a b : Bool). a && b) left-fits right-fits)
 
   -- it is short
   pub solved-short : length (answerText f g σ) ≤ lineBound
@@ -153,6 +137,6 @@ module _ (f g : List OurTerm) (is-f : IsLeft (f ∷ [])) (is-g : IsLeft (g ∷ [
       omega (
         arith,
         ap (λ (l : List ℕ). length l) solved-line,
-        any-answer row texts (p .atoms .atoms) (items 0) (items 1) numbers-few left-fits right-fits
+        any-answer row texts (p .atoms .atoms) (items 0) (items 1) few left-fits right-fits
             (λ c. let k = cell-short row texts (pair .bytes-few) c in omega arith),
       )

@@ -15,8 +15,8 @@ use Rattle.math_types.specs.Order.{Full}
 use Rattle.math_types.specs.Types.{Basic, basics, rank, entry, entry-is}
 use Rattle.text_grammar.specs.Terms.{Con}
 use Rattle.text_grammar.specs.constants.Constants.{consts, con-eq}
-use Rattle.math_overlaps.specs.Shapes.{fixed, free}
-use Rattle.math_search.specs.Problems.{atomic, listvar, Tm, Field, field-eq, termType, fieldType, fixed-once}
+use Rattle.math_overlaps.specs.Shapes.{fixed, free, fixed-once}
+use Rattle.math_search.specs.Problems.{atomic, listvar, Tm, Field, field-eq, termType, fieldType}
 use Rattle.math_search.specs.Rules as rules
 use Rattle.math_search.proofs.Terms.{atomic-once}
 use Rattle.math_codes.specs.Tables.{Made}

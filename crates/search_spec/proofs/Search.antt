@@ -7,21 +7,19 @@
 use mathlib.Core.Path.{_≡_}
 use mathlib.Core.Logic.{_↔_}
 use mathlib.Core.List.{List, [], _∷_, List·Memᴰ}
-use Prim.Native.Nat.{ℕ, _<_}
-use native.Mathlib.Omega.{arith}
+use Prim.Native.Nat.{ℕ}
 use native.Mathlib.Decide.{ℕ-discrete}
 use Rattle.base_limits.specs.Limits.{numbersOfSide}
 use Rattle.base_lists.specs.Seqs.{All}
-use Rattle.math_types.specs.Order.{basic, list}
 use Rattle.math_types.specs.Types.{Basic, basics}
-use Rattle.math_terms.specs.Terms.{con, var}
 use Rattle.math_terms.specs.Seqs.{concat-map}
-use Rattle.math_terms.specs.Linear.{lists, LeftLinear}
+use Rattle.math_terms.specs.Linear.{LeftLinear}
 use Rattle.text_grammar.specs.Terms.{Con, OurTerm}
-use Rattle.text_grammar.specs.Limits.{TermIn, IsLeft}
+use Rattle.text_grammar.specs.Limits.{IsLeft}
 use Rattle.text_grammar.specs.constants.Constants.{consts}
 use Rattle.text_grammar.specs.constants.Matching.{Matches}
 use Rattle.text_grammar.proofs.constants.Linear.{left-linear}
+use Rattle.text_grammar.proofs.Limited.{lists-small}
 use Rattle.math_overlaps.specs.Shapes.{left, right, Variable}
 use Rattle.overlap_spec.specs.Overlaps.{OurEntry, entriesOf}
 use Rattle.math_search.specs.Problems.{Bindings}
@@ -36,12 +34,6 @@ use Rattle.search_spec.specs.Answers.{setting, fieldOn, found}
 
 pub found-ends : (room : ℕ) (f g : List OurTerm) → found room f g ≡ unfinished → ⊥
 found-ends room f g e = searching-ends setting room (fieldOn left f) (fieldOn right g) e
-
-lists-small : (f : List OurTerm) → All TermIn f → All (λ n. n < numbersOfSide) (lists f)
-lists-small [] h = tt
-lists-small (con c ∷ f) h = lists-small f (h .1)
-lists-small (var (basic k) n ∷ f) h = lists-small f (h .1)
-lists-small (var list n ∷ f) h = let k = h .0 in (omega arith, lists-small f (h .1))
 
 -- a slip's field is an instance of an answer, by values of their types
 abbrev pub Instance : List OurTerm → Bindings setting → List Con → Type 0

@@ -15,7 +15,7 @@ use lib.Dec.{ltb}
 use lib.ListN.{length}
 use borrow.Author.Tests.{lt-ltb, le-ltb}
 use Rattle.base_limits.specs.Limits.{numbersOfSide}
-use Rattle.base_lists.specs.Seqs.{All}
+use Rattle.base_lists.specs.Seqs.{All, all-mem}
 use Rattle.math_types.specs.Order.{basic, list}
 use Rattle.math_types.specs.Types.{Basic, Kind, basics}
 use Rattle.math_terms.specs.Terms.{con, var}
@@ -26,6 +26,7 @@ use Rattle.math_terms.specs.Matching.{Matches}
 use Rattle.text_grammar.specs.Terms.{Con, OurTerm}
 use Rattle.text_grammar.specs.Limits.{TermIn, IsLeft}
 use Rattle.text_grammar.specs.constants.Constants.{consts}
+use Rattle.text_grammar.proofs.Limited.{number-field}
 use Rattle.math_overlaps.specs.Substitutions.{substitute, TypedSubst, TermsOf}
 use Rattle.math_overlaps.specs.Shapes.{fixed, free, Side, left, right, side-eq, Variable, of}
 use Rattle.math_overlaps.specs.Overlaps.{Origin, named, place, origin-eq, rename}
@@ -41,7 +42,6 @@ use Rattle.math_search.specs.Answers.{StandsIn, Fits, Solves, ground, WellTyped
 use Rattle.math_search.specs.Pairs.{sixteenAbove}
 use Rattle.math_search.specs.Pairs as pairs
 use Rattle.math_search.specs.Fresh.{numbers}
-use Rattle.math_search.proofs.Seqs.{all-mem}
 use Rattle.math_search.proofs.Peak.{refused-peak, refused-queued}
 use Rattle.search_spec.specs.Answers.{setting, fieldOn, found, originOf, valueOf, valuesOn, valuesOf, numberIn, shownOn, answerText, Lines, lines, nine}
 use Rattle.search_spec.specs.Answers.{linesIn, linesOf}
@@ -204,12 +204,6 @@ stands-on d k n (con c ∷ e) o = List·Memᴰ·tail (stands-on d k n e o)
 stands-on d k n (var j m ∷ e) (inl q) = List·Memᴰ·head (ap₂ (λ (a : Kind) (b : ℕ). termOn d (var a b)) (q .0) (q .1))
 stands-on d k n (var j m ∷ e) (inr o) = List·Memᴰ·tail (stands-on d k n e o)
 
-number-in : (k : Kind) (n : ℕ) (e : List OurTerm) → All TermIn e → Occurs k n e → TermIn (var k n)
-number-in k n [] i o = absurd o
-number-in k n (con c ∷ e) i o = number-in k n e (i .1) o
-number-in k n (var j m ∷ e) i (inl q) = let l = i .0 in omega (arith, l, q .1)
-number-in k n (var j m ∷ e) i (inr o) = number-in k n e (i .1) o
-
 pub value-on : (d : Side) (σ : Bindings setting) (k : Kind) (n : ℕ) → valueOf d σ k n ≡ map originOf (σ (termOn d (var k n)))
 value-on d σ (basic k) n = refl
 value-on d σ list n = refl
@@ -266,7 +260,7 @@ module _ (f g : List OurTerm) (is-f : IsLeft (f ∷ [])) (is-g : IsLeft (g ∷ [
 
       lefts : (k : Kind) (n : ℕ) → Occurs k n f → φ k n ≡ fill (r .0) (shownOn left f g (c .0) k n)
       lefts k n o =
-          sym (left-term φ ψ t u (var k n) (number-in k n f (is-f .0 .3 .0) o))
+          sym (left-term φ ψ t u (var k n) (number-field k n f (is-f .0 .3 .0) o))
           ∙ shown-at left k n (Memᴰ·append-left (valuesOn right g (c .0))
           (Memᴰ·map (λ (v : listed.Variable). valueOf left (c .0) (v .0) (v .1)) (in-variables (f ∷ []) (is-f .0 .3) k n .1 (inl o))))
           (inl (stands-on left k n f o))

@@ -14,12 +14,12 @@ use Rattle.search_problems.specs.declared.Problem.{Problem}
 use Rattle.search_problems.specs.Values.{blankProblem}
 use Rattle.text_write.specs.pieces.Stored.{storeLine}
 use Rattle.text_write.proofs.pieces.Stored.{store-part, store-end}
-use Rattle.math_codes.proofs.Tables.{entry-any}
 use Rattle.pair_row.specs.Row.{tableIn}
 use Rattle.pair_lines.specs.Lines.{Puts}
 use Rattle.pair_lines.specs.Answers.{answerIn}
 use Rattle.search_items.specs.declared.Items.{Items}
 use Rattle.search_items.specs.Items.{itemsOf, blankItems}
+use Rattle.base_lists.specs.Arrays.{entry-any}
 use Rattle.search_steps.specs.declared.turns.State.{State}
 use Rattle.search_steps.specs.declared.turns.Turn.{Turn}
 use Rattle.search_steps.specs.turns.Turns.{trying, nextPlace, aim, plus, firstRule, stopped, ruleTurn, decided}

@@ -9,7 +9,7 @@ ghost use Rattle.search_items.specs.Items.{itemsOf};
 ghost use Rattle.search_steps.specs.Machine.{answers, lineOf, linePlace, moved, wrote};
 
 pub mod starts; // the states that the two runs start in
-mod tables; // the tables of two fields
+pub mod tables; // the tables of two fields
 pub mod turns; // what a turn decides
 
 use crate::turns::State;

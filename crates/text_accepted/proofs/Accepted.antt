@@ -4,14 +4,14 @@
 use mathlib.Core.Path.{_≡_, refl, sym, _∙_, ap}
 use mathlib.Core.Logic.{_↔_}
 use mathlib.Core.Bool.{Bool, true, _&&_}
-use mathlib.Core.List.{List, [], _∷_, List·Memᴰ, List·Memᴰ·head, List·Memᴰ·tail}
-use Prim.Native.Nat.{ℕ, _≤_, _<_}
+use mathlib.Core.List.{List, [], _∷_, List·Memᴰ, List·Memᴰ·head}
+use Prim.Native.Nat.{ℕ, _≤_}
 use native.Mathlib.Omega.{arith}
 use borrow.Author.Tests.{ltb-true, lt-ltb}
 use lib.Dec.{eqb, ltb}
 use lib.ListN.{length, getD}
 use Rattle.base_limits.specs.Limits.{mostFields}
-use Rattle.base_lists.specs.Seqs.{All, IsCons, all-map}
+use Rattle.base_lists.specs.Seqs.{All, IsCons, all-map, all-mem, cons-is}
 use Rattle.text_grammar.specs.Terms.{OurTerm}
 use Rattle.text_grammar.specs.Read.{rule, OutcomeOf, accepted, readSide}
 use Rattle.text_grammar.specs.Limits.{TermIn, Within, Linear, IsLeft}
@@ -20,7 +20,7 @@ use Rattle.text_values.specs.declared.Term.{Term}
 use Rattle.text_values.specs.declared.Field.{Field}
 use Rattle.text_values.specs.declared.RuleSide.{RuleSide}
 use Rattle.text_accepted.specs.linearity.Lists.{linear}
-use Rattle.text_values.specs.Values.{viewTerm, viewField, viewSide, blankField, blankSide, encodeTerm, encodeField, encodeSide, oneField}
+use Rattle.text_values.specs.Values.{viewField, viewSide, blankField, blankSide, encodeField, encodeSide, oneField}
 use Rattle.text_accepted.specs.Accepted.{fieldOk, fieldBlank, acceptedRight, acceptedLeft, acceptedField}
 use Rattle.base_lists.specs.Truths.{both-is}
 use Rattle.text_accepted.proofs.linearity.Linear.{linear-is, linear-field}
@@ -71,14 +71,6 @@ module _ {A : Type 0} where
       let r = all-both P Q xs in
       (λ h. ((h .0 .0, r .0 (h .1) .0), (h .0 .1, r .0 (h .1) .1)), λ h. ((h .0 .0, h .1 .0), r .1 (h .0 .1, h .1 .1)))
 
-  pub cons-is : (xs : List A) → (0 < length xs) ↔ IsCons xs
-  cons-is [] = (λ h. omega arith, λ h. absurd h)
-  cons-is (x ∷ xs) = (λ h. tt, λ h. omega arith)
-
-  all-mem : (P : A → Type 0) (xs : List A) (y : A) → All P xs → List·Memᴰ y xs → P y
-  all-mem P (x ∷ xs) y h (List·Memᴰ·head e) = rw e (h .0)
-  all-mem P (x ∷ xs) y h (List·Memᴰ·tail m) = all-mem P xs y (h .1) m
-
 pub within-is : (w : ℕ) (r : List (List OurTerm)) → Within w r ↔ (IsCons r × (length r ≤ mostFields) × All (λ f. (length f ≤ w) × All TermIn f) r)
 within-is w r =
     let b = all-both (λ f. length f ≤ w) (All TermIn) r in
@@ -88,9 +80,6 @@ pub rule-is : (r : List (List OurTerm)) → IsLeft r ↔ (IsCons r × SideIn r �
 rule-is r = let i = within-is (rule .width) r in (λ h. let j = i .0 (h .0) in (j .0, (j .1, j .2), h .1), λ h. (i .1 (h .0, h .1 .0, h .1 .1), h .2))
 
 -- ---- there and back
-pub view-encode-term : (t : OurTerm) → TermIn t → viewTerm (encodeTerm t) ≡ t
-view-encode-term t h = term-stands .view-encode t h
-
 pub view-encode-field : (ts : List OurTerm) → length ts ≤ rule .width → All TermIn ts → viewField (encodeField ts) ≡ ts
 view-encode-field ts k h = field-stands .view-encode ts (k, h)
 
@@ -169,7 +158,7 @@ accepted-field f h = let a = accepted-rule (oneField f) h in (a .0, ap (λ (r : 
 one-rule : (r : List (List OurTerm)) (ts : List OurTerm) → IsLeft r → List·Memᴰ ts r → IsLeft (ts ∷ [])
 one-rule r ts h m =
     let i = rule-is r .0 h in
-    rule-is (ts ∷ []) .1 (tt, (omega arith, (all-mem FieldIn r ts (i .1 .1) m, tt)), linear-field r ts (i .2) m)
+    rule-is (ts ∷ []) .1 (tt, (omega arith, (all-mem FieldIn r (i .1 .1) ts m, tt)), linear-field r ts (i .2) m)
 
 pub field-value-iff : (f : Field)
     → (acceptedField f ≡ true)

@@ -3,8 +3,8 @@ use mathlib.Core.Path.{_≡_, refl, sym, _∙_, ap, subst}
 use mathlib.Core.Logic.{_↔_, inl, inr}
 use mathlib.Core.Option.{Option, none, some, Option·getD}
 use mathlib.Core.List.{List, [], _∷_, map}
-use Prim.Native.Nat.{ℕ, suc, _*_, _≤_, _<_}
-use native.Mathlib.Omega.{arith}
+use Prim.Native.Nat.{ℕ, suc, _*_, _≤_}
+use native.Mathlib.Omega.{arith, by-contra}
 use lib.ListN.{length, length-append, length-map}
 use Rattle.base_limits.specs.Limits.{mostTerms, largestInteger, mostItems, longestTerm, longestField, longestSide, longestSlipField, longestSlip}
 use Rattle.base_lists.specs.Seqs.{All, all-append, all-map}
@@ -58,10 +58,7 @@ said-is t x s = ap (λ (a : Option (List (List Raw))). Option·getD a []) (parse
 
 -- FROM THE TEXT TO THE LIMITS
 term-in : (r : Raw) → Proper r → (Over r → ⊥) → All TermIn (termOf r)
-term-in (raw-int ds) p n = (go (λ h. n (inr h)), tt)
-  where
-    go : (largestInteger < value ds → ⊥) → value ds ≤ largestInteger
-    go k = omega arith
+term-in (raw-int ds) p n = (by-contra (value ds) largestInteger (λ h. n (inr h)), tt)
 term-in (raw-str s) p n = ((p, omega arith), tt)
 term-in (raw-var k ds) p n = (omega arith, tt)
 term-in raw-empty p n = tt
@@ -74,7 +71,7 @@ terms-in : (x : List (List Raw)) → All FieldOk x → All (All (λ r. Over r �
 terms-in [] p n = tt
 terms-in (f ∷ fs) p n = (field-in f (p .0 .1) (n .0), terms-in fs (p .1) (n .1))
 
-term-short : (r : Raw) → length (termOf r) ≤ 1
+pub term-short : (r : Raw) → length (termOf r) ≤ 1
 term-short (raw-int ds) = omega arith
 term-short (raw-str s) = omega arith
 term-short (raw-var k ds) = omega arith

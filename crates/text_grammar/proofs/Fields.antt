@@ -4,8 +4,7 @@ use mathlib.Core.Logic.{_↔_}
 use mathlib.Core.Option.{Option, none, some}
 use mathlib.Core.List.{List, [], _∷_, _++_, append-nil, append-assoc}
 use Prim.Native.Nat.{ℕ, suc, _+_, _≤_, _<_}
-use native.Mathlib.Omega.{arith}
-use native.Mathlib.Decide.{decLt}
+use native.Mathlib.Omega.{arith, by-contra}
 use lib.ListN.{length}
 use Rattle.base_limits.specs.Limits.{mostFields}
 use Rattle.base_lists.specs.Seqs.{All, Any, all-append, all-left, all-right}
@@ -22,17 +21,10 @@ pub few-to : (x : List (List Raw)) (p n : ℕ) → All FieldOk x → n ≤ 5 →
 few-to [] p n g h a = omega arith
 few-to ([] ∷ fs) p n g h a = absurd (g .0 .0)
 few-to ((r ∷ rs) ∷ fs) p n g h a =
-    let here : n < 5 = low n (a .0) in
+    let here : n ≤ mostFields = by-contra n mostFields (a .0) in
     let rest = few-to fs (suc (p + length (spellF (r ∷ rs)))) (suc n) (g .1) (omega arith)
     (all-right (λ m. FifthField m → ⊥) (tokensF p n 1 (r ∷ rs)) (tokensT (suc (p + length (spellF (r ∷ rs)))) (suc n) fs) a) in
     omega arith
-  where
-    low : (n : ℕ) → (mostFields < n → ⊥) → n < 5
-    low n k = go (decLt mostFields n)
-      where
-        go : Dec (mostFields < n) → n < 5
-        go (yes h) = absurd (k h)
-        go (no h) = omega arith
 
 few-f : (rs : List Raw) (p n i : ℕ) → n < 5 → All (λ m. FifthField m → ⊥) (tokensF p n i rs)
 few-f [] p n i h = tt
@@ -48,16 +40,9 @@ few-from (f ∷ fs) p n h =
 width-f : (w : ℕ) (rs : List Raw) (p n i : ℕ) → i ≤ suc w → All (λ m. TooMany w m → ⊥) (tokensF p n i rs) → i + length rs ≤ suc w
 width-f w [] p n i h a = omega arith
 width-f w (r ∷ rs) p n i h a =
-    let here : i ≤ w = low (a .0) in
+    let here : i ≤ w = by-contra i w (a .0) in
     let rest = width-f w rs (suc (p + length (spell r))) n (suc i) (omega arith) (a .1) in
     omega arith
-  where
-    low : (w < i → ⊥) → i ≤ w
-    low k = go (decLt w i)
-      where
-        go : Dec (w < i) → i ≤ w
-        go (yes h) = absurd (k h)
-        go (no h) = omega arith
 
 pub width-to : (w : ℕ) (x : List (List Raw)) (p n : ℕ) → All (λ m. TooMany w m → ⊥) (tokensT p n x) → All (λ f. length f ≤ w) x
 width-to w [] p n a = tt

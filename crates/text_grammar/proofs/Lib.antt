@@ -11,6 +11,7 @@ pub mod Plain
 pub mod Fields
 pub mod Accepted
 pub mod Lengths
+pub mod Limited
 pub mod Theorems
 pub mod Examples
 pub mod Walk

@@ -86,9 +86,13 @@ number-digits [] h = absurd h
 number-digits (d ∷ []) h = (tt, (h, tt))
 number-digits (d ∷ (e ∷ s)) h = (tt, (h .0, h .2))
 
+-- no more digits than the power of ten above says
+pub digits-most : (k n : ℕ) → n < 10 ^ suc k → length (digitsOf n) ≤ suc k
+digits-most k n h = dec-length (suc n) n k h
+
 -- at most ten digits up to the largest integer
 pub digits-ten : (n : ℕ) → n ≤ largestInteger → length (digitsOf n) ≤ mostDigits
-digits-ten n h = dec-length (suc n) n 9 (omega arith)
+digits-ten n h = digits-most 9 n (omega arith)
 
 -- digits without leading zeros are those of their value
 val-grows : (s : List ℕ) (v : ℕ) → v ≤ val v s
@@ -120,18 +124,33 @@ dec-more (d ∷ s) k j n a l h g =
         go (no p) =
             ap₂ (λ (x : List ℕ) (y : ℕ). x ++ y ∷ []) (dec-fuel k m n h (omega arith) ∙ ap (dec m) (let z : n ≡ m / 10 = omega arith in z)) (omega arith)
 
-dec-one : (n : ℕ) → n < 10 → dec (suc n) n ≡ (48 + n) ∷ []
-dec-one n h = go (decLt n 10)
+-- a digit alone
+pub digits-small : (n : ℕ) → n < 10 → digitsOf n ≡ (48 + n) ∷ []
+digits-small n h = go (decLt n 10)
   where
     go : (c : Dec (n < 10)) → decC n c (dec n) ≡ (48 + n) ∷ []
     go (yes p) = refl
     go (no p) = absurd (p h)
 
+-- the last digit stands behind those of the tenth part
+pub digits-more : (n : ℕ) → 10 ≤ n → digitsOf n ≡ digitsOf (n / 10) ++ (48 + n % 10) ∷ []
+digits-more n h = go (decLt n 10)
+  where
+    go : (c : Dec (n < 10)) → decC n c (dec n) ≡ digitsOf (n / 10) ++ (48 + n % 10) ∷ []
+    go (yes p) = absurd (omega arith)
+    go (no p) = ap (λ (x : List ℕ). x ++ (48 + n % 10) ∷ []) (dec-fuel n (suc (n / 10)) (n / 10) (omega arith) (omega arith))
+
+pub one-digit : (n : ℕ) → n < 10 → length (digitsOf n) ≡ 1
+one-digit n h = ap length (digits-small n h)
+
+pub one-more : (n : ℕ) → 10 ≤ n → length (digitsOf n) ≡ length (digitsOf (n / 10)) + 1
+one-more n h = ap length (digits-more n h) ∙ length-append (digitsOf (n / 10)) ((48 + n % 10) ∷ [])
+
 -- digits without leading zeros are those of their value
 pub digits-one : (s : List ℕ) → Number s → digitsOf (value s) ≡ s
 digits-one [] h = absurd h
-digits-one (d ∷ []) h = dec-one (0 * 10 + (d - 48)) (omega arith) ∙ ap (λ (x : ℕ). x ∷ []) (omega arith)
+digits-one (d ∷ []) h = digits-small (0 * 10 + (d - 48)) (omega arith) ∙ ap (λ (x : ℕ). x ∷ []) (omega arith)
 digits-one (d ∷ (e ∷ s)) h =
     let n = 0 * 10 + (d - 48) in
     sym (dec-more (e ∷ s) (suc n) (suc (val n (e ∷ s))) n (h .2) (omega (arith, h .1, h .0)) (omega arith) (omega arith))
-    ∙ ap (λ (x : List ℕ). x ++ e ∷ s) (dec-one n (omega arith) ∙ ap (λ (x : ℕ). x ∷ []) (omega arith))
+    ∙ ap (λ (x : List ℕ). x ++ e ∷ s) (digits-small n (omega arith) ∙ ap (λ (x : ℕ). x ∷ []) (omega arith))

@@ -1,16 +1,17 @@
 -- Where a text is refused: in it or at its end, and never beyond the bytes that a text may have.
 use mathlib.Core.Path.{_≡_, refl, sym, _∙_, ap, subst}
-use mathlib.Core.Logic.{_⊎_, inl, inr}
+use mathlib.Core.Logic.{inl, inr}
 use mathlib.Core.List.{List, [], _∷_, _++_}
 use Prim.Native.Nat.{ℕ, zero, suc, _≤_, _<_}
 use native.Mathlib.Omega.{arith}
 use native.Mathlib.Decide.{decLt}
 use lib.ListN.{length, length-append}
-use Rattle.text_grammar.specs.Grammar.{spell}
+use Rattle.text_grammar.specs.Grammar.{spell, Grammar}
 use Rattle.text_grammar.specs.Read.{Reason, long, grammar, fields, terms, limits, linear, variable, unknown, number, Sort, rule, slip, FirstBad, Refuses}
 use Rattle.text_grammar.specs.Read.{FirstReason, refused, read, readSide, readSlip}
 use Rattle.text_grammar.proofs.Read.{read-refused}
 use Rattle.text_grammar.proofs.Sharp.{first-bad}
+use Rattle.text_grammar.proofs.rules.Stops.{stops-in}
 
 -- a term that is refused stands in the text
 bad-in : (w : ℕ) (r : Reason) (t : List ℕ) (p : ℕ) → FirstBad w r t p → p ≤ length t
@@ -21,11 +22,7 @@ bad-in w r t p f =
 
 place-in : (S : Sort) (t : List ℕ) (r : Reason) (p : ℕ) → Refuses S t r p → p ≤ length t
 place-in S t long p h = omega (arith, h .0, h .1)
-place-in S t grammar p h = go (h .1)
-  where
-    go : {A B : Type 0} → ((p ≡ length t) × A) ⊎ ((p < length t) × B) → p ≤ length t
-    go (inl e) = omega (arith, e .0)
-    go (inr l) = omega (arith, l .0)
+place-in S t grammar p h = stops-in Grammar t p h
 place-in S t fields p h = bad-in (S .width) fields t p h
 place-in S t terms p h = bad-in (S .width) terms t p h
 place-in S t limits p h = bad-in (S .width) limits t p h

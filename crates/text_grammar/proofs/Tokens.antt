@@ -5,15 +5,10 @@ use Prim.Native.Nat.{ℕ, suc, _+_, _≤_, _<_}
 use native.Mathlib.Omega.{arith}
 use lib.ListN.{length, length-append}
 use Rattle.base_lists.specs.Seqs.{All, all-append, all-map}
+use Rattle.base_lists.specs.Arrays.{shift-eq, shift-length}
 use Rattle.text_grammar.specs.Grammar.{Raw, spell, colons, spellF, bars, spellT}
 use Rattle.text_grammar.specs.Tokens.{Token, tokensF, tokensT, tokens}
 use Rattle.text_grammar.specs.Sharp.{Stands}
-
-shift-eq : (pre w rest : List ℕ) (c : ℕ) → pre ++ (w ++ (c ∷ rest)) ≡ (pre ++ (w ++ c ∷ [])) ++ rest
-shift-eq pre w rest c = simp append-assoc
-
-shift-length : (pre w : List ℕ) (c p : ℕ) → length pre ≡ p → length (pre ++ (w ++ c ∷ [])) ≡ suc (p + length w)
-shift-length pre w c p e = simp (length-append, length-append) (omega arith)
 
 stands-f : (t : List ℕ) (rs : List Raw) (p n i : ℕ) (pre post : List ℕ) → t ≡ pre ++ (spellF rs ++ post) → length pre ≡ p → All (Stands t) (tokensF p n i rs)
 stands-f t [] p n i pre post e l = tt

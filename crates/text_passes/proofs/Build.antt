@@ -5,7 +5,7 @@ use mathlib.Core.Bool.{Bool, true, false, _&&_}
 use mathlib.Core.List.{List, [], _∷_, _++_, map, foldl, append-nil, append-assoc, map-append}
 use mathlib.Core.List.{foldl-append}
 use Prim.Native.Nat.{ℕ, suc, _+_, _%_, _<_, _≤_, min}
-use native.Mathlib.Omega.{arith}
+use native.Mathlib.Omega.{arith, by-contra}
 use borrow.Author.Tests.{lt-ltb, ne-eqb}
 use lib.Dec.{ltb}
 use lib.ListN.{length, set, replicate, length-append, length-map}
@@ -18,14 +18,15 @@ use Rattle.text_grammar.specs.Numbers.{value}
 use Rattle.text_grammar.specs.Tokens.{Token, tokens, tokensF, tokensT, Over}
 use Rattle.text_grammar.specs.Terms.{OurTerm, termOf, fieldOf, fieldsOf}
 use Rattle.text_grammar.specs.Read.{rule, slip}
+use Rattle.text_grammar.proofs.Accepted.{term-short}
 use Rattle.text_values.specs.declared.Term.{Term}
 use Rattle.text_values.specs.declared.Form.the-variants.{Int, Str, Var}
 use Rattle.text_values.specs.declared.Field.{Field}
 use Rattle.text_values.specs.declared.SlipField.{SlipField}
 use Rattle.text_values.specs.Values.{pad, blankTerm, blankField, blankSlipField, encodeTerm, encodeField, encodeSide, encodeSlipField, encodeSlip}
+use Rattle.text_values.proofs.Pads.{pad-set}
 use Rattle.text_scan.specs.Lexemes.{capped}
 use Rattle.text_scan.specs.terms.Terms.{termFrom}
-use Rattle.text_scan.proofs.terms.Copies.{pad-set}
 use Rattle.text_passes.specs.Build.{isEmpty, addRaw, pushField, addItem, pushSlipField, turns, turned, put, whole, builtSide, builtSlip}
 
 -- one more in the place behind the used ones, of what a list of A is encoded as
@@ -49,17 +50,11 @@ var-is v h = omega arith
 -- the terms of a field, over any fields F
 module _ {F : Type 0} (encF : List OurTerm → F) (add : F → Raw → F) (w : ℕ)
     (add-is : (ts : List OurTerm) (r : Raw) → (Over r → ⊥) → length ts < w → add (encF ts) r ≡ encF (ts ++ termOf r)) where
-  term-few : (r : Raw) → length (termOf r) ≤ 1
-  term-few (raw-int ds) = omega arith
-  term-few (raw-str s) = omega arith
-  term-few (raw-var k ds) = omega arith
-  term-few raw-empty = omega arith
-
   pub adds : (rs : List Raw) (ts : List OurTerm) → All (λ r. Over r → ⊥) rs → length ts + length rs ≤ w → foldl add (encF ts) rs ≡ encF (ts ++ fieldOf rs)
   adds [] ts o h = ap encF (sym (append-nil ts))
   adds (r ∷ rs) ts o h =
       ap (λ (f : F). foldl add f rs) (add-is ts r (o .0) (omega arith))
-      ∙ adds rs (ts ++ termOf r) (o .1) (omega (arith, length-append ts (termOf r), term-few r))
+      ∙ adds rs (ts ++ termOf r) (o .1) (omega (arith, length-append ts (termOf r), term-short r))
       ∙ ap encF (append-assoc ts (termOf r) (fieldOf rs))
 
 module _ {F R : Type 0} (encF : List OurTerm → F) (encR : List (List OurTerm) → R) (blank : F) (add : F → Raw → F) (push : R → F → R) (w : ℕ)
@@ -158,10 +153,7 @@ module _ (w : ℕ) (ts : List OurTerm) (h : length ts < w) where
     adds-one (raw-int ds) o =
         add-other (raw-int ds) refl
         ∙ ap make (with-one _ (termFrom (raw-int ds))
-        (ap (λ (n : ℕ). record { form = Int n; text = replicate longestString 0 }) (int-is (value ds) (fits (λ k. o (inr k))))))
-      where
-        fits : (largestInteger < value ds → ⊥) → value ds ≤ largestInteger
-        fits k = omega arith
+        (ap (λ (n : ℕ). record { form = Int n; text = replicate longestString 0 }) (int-is (value ds) (by-contra (value ds) largestInteger (λ k. o (inr k))))))
     adds-one (raw-str s) o =
         let l : length s ≤ longestString = omega arith in
         let e : min (length s) longestString ≡ length s = omega arith in

@@ -118,11 +118,13 @@ module _ {M : Type 1} {𝓤 : URA M} {H : Heap 𝓤} {A : Atoms 𝓤} {K : Type 
       calls-has-term known ops k =
           calls-shared t fm Boolean vbool bool-tells (ltb (a .place) (length (now s))) (‵ (Text κ s)) (LifeToken 𝓤 κ q) (text-twice 𝓤 H A W κ s)
           (returns-of 𝓤 H A has-term.ended (has-term.clauses 𝓤 H A mem run) C #text-passes·has-term known (to-has-term 𝓤 H A W mem run κ q s a .0) tt
-          (ltb (a .place) (length (now s))) (λ z ws. id⊢ 𝓤 _) (Kept 𝓤 H A W mem run κ q s) (LifeToken 𝓤 κ q) (gives-has-term 𝓤 H A W mem run κ q s a g) (id⊢ 𝓤 _))
+          (ltb (a .place) (length (now s))) (λ z ws. id⊢ 𝓤 _) (Kept 𝓤 H A W mem run κ q s) (LifeToken 𝓤 κ q)
+          (gives-has-term 𝓤 H A W mem run κ q s a g) (id⊢ 𝓤 _))
           ops (λ _. k)
 
       pub calls-term : Triple 𝓤 (C #text-passes·term) (Term 𝓤 H A mem run) → ((P : SProp 𝓤) → Opds K W (raw P ∷ ‵ (Text κ s) ∷ Γ) E xs (mach (reader s a) ∷ []))
-          → (Lexeme-is (lexemeOf (termAt (now s) a)) → Seq K W (‵ (Text κ s) ∷ LifeToken 𝓤 κ q ∷ Γ) (lands C Λ E d (mach-lexeme (lexemeOf (termAt (now s) a))) rest Q))
+          → (Lexeme-is (lexemeOf (termAt (now s) a))
+          → Seq K W (‵ (Text κ s) ∷ LifeToken 𝓤 κ q ∷ Γ) (lands C Λ E d (mach-lexeme (lexemeOf (termAt (now s) a))) rest Q))
           → Seq K W (‵ (Text κ s) ∷ LifeToken 𝓤 κ q ∷ Γ) (runs C Λ E (seq (call #text-passes·term xs d) rest) Q)
       calls-term known ops k =
           calls-shared t fm O.the-row mach-lexeme (LL.tells O.the-type O′.the-laws) (lexemeOf (termAt (now s) a)) (‵ (Text κ s)) (LifeToken 𝓤 κ q)
@@ -140,4 +142,5 @@ module _ {M : Type 1} {𝓤 : URA M} {H : Heap 𝓤} {A : Atoms 𝓤} {K : Type 
           calls-shared t fm (B (κ, tt)) mach (LL.tells (D (κ, tt)) (F (κ, tt))) (reader s (next-at (now s) a p)) (‵ (Text κ s)) (LifeToken 𝓤 κ q)
           (text-twice 𝓤 H A W κ s)
           (returns-of 𝓤 H A passed.ended (passed.clauses 𝓤 H A mem run) C #text-passes·passed known (to-passed 𝓤 H A W mem run κ q s a p .0) tt (reader s
-          (next-at (now s) a p)) (λ z ws. id⊢ 𝓤 _) (Kept 𝓤 H A W mem run κ q s) (LifeToken 𝓤 κ q) (gives-passed 𝓤 H A W mem run κ q s a p g h low) (id⊢ 𝓤 _)) ops k
+          (next-at (now s) a p)) (λ z ws. id⊢ 𝓤 _) (Kept 𝓤 H A W mem run κ q s) (LifeToken 𝓤 κ q)
+          (gives-passed 𝓤 H A W mem run κ q s a p g h low) (id⊢ 𝓤 _)) ops k

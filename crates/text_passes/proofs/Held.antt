@@ -119,6 +119,10 @@ module _ {M : Type 1} (𝓤 : URA M) (H : Heap 𝓤) (A : Atoms 𝓤) (W : Given
   pub reader-typedᵉ : (κ : Lft) (r : Reader) → Reader-is κ r → Holds (hasTy (R′.mir erased) (mach r)) × WT (mach r)
   reader-typedᵉ κ r g = LL.lawful (Dᵉ κ) (Fᵉ κ) 𝓤 H A W .typed r _ g .0
 
+  -- a reader in a local
+  pub at-reader : (κ : Lft) (s : RefT (List ℕ)) → Text-is κ s → (a : At) → At-is a → Holds (hasTy (R′.mir erased) (mach (reader s a))) × WT (mach (reader s a))
+  at-reader κ s gt a g = reader-typedᵉ κ (reader s a) (reader-is κ s a gt g)
+
   module _ (κ : Lft) where
     pub text-twice : (s : RefT (List ℕ)) → ent 𝓤 (sem 𝓤 H A (Text κ s)) (sep 𝓤 (sem 𝓤 H A (Text κ s)) (sem 𝓤 H A (Text κ s)))
     text-twice s = shr-slice-copy 𝓤 H A W (named 0) κ u8 .twice s (mach-text s ∷ [])

@@ -11,7 +11,7 @@ use borrow.Author.Tests.{lt-ltb, le-ltb, eq-eqb, ne-eqb}
 use lib.Dec.{eqb}
 use lib.ListN.{length, getD, drop, length-append, length-drop, drop-of-length-le}
 use lib.Seq.{drop-cons, drop-drop}
-use Rattle.base_lists.specs.Seqs.{IsCons}
+use Rattle.base_lists.specs.Seqs.{cons-is}
 use Rattle.text_grammar.specs.Bytes.{Digit, digit?, Begins, b-digit, b-quote, b-letter, b-e, b-none, begins}
 use Rattle.text_grammar.specs.Grammar.{Raw, raw-int, raw-str, raw-var, raw-empty, spell}
 use Rattle.text_grammar.specs.Tokens.{Token}
@@ -166,17 +166,14 @@ module _ (t : List ℕ) where
               (sym (ne-eqb (getD t e 0) 58 q))
 
   -- A STEP: the term that stands here, then those behind it
-  pub tokens-step : (a : At) → a .place < length t → tokensFrom t a ≡ tokenAt a (termAt t a) ∷ tokensFrom t (behind t a (a .place + length (spell (termAt t a))))
+  pub tokens-step : (a : At) → a .place < length t
+      → tokensFrom t a ≡ tokenAt a (termAt t a) ∷ tokensFrom t (behind t a (a .place + length (spell (termAt t a))))
   tokens-step a h =
       let room = length t - (a .place + 1) in
       let r = termAt t a in
       let e = a .place + length (spell r) in
       let s : length t - a .place ≡ suc room = omega arith in
       ap (λ (k : ℕ). walk k (drop (a .place) t) (a .place) (a .field) (a .index)) s
-      ∙ walk-step room (drop (a .place) t) (a .place) (a .field) (a .index) (cons (drop (a .place) t) (omega (arith, length-drop (a .place) t)))
+      ∙ walk-step room (drop (a .place) t) (a .place) (a .field) (a .index) (cons-is (drop (a .place) t) .0 (omega (arith, length-drop (a .place) t)))
       ∙ ap (λ (l : List ℕ). tokenAt a r ∷ walkOn (walk room) e (a .field) (a .index) l) (drop-drop (length (spell r)) (a .place) t)
       ∙ ap (λ (l : List Token). tokenAt a r ∷ l) (on a e room (omega arith))
-    where
-      cons : (z : List ℕ) → 0 < length z → IsCons z
-      cons [] k = absurd (omega arith)
-      cons (b ∷ z) k = tt

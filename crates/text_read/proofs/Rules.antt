@@ -1,11 +1,11 @@
 -- What the code says of a rule text, case by case, is reading: `judge-is` of text_grammar/proofs/rules has reading side by side.
 use mathlib.Core.Path.{_≡_, refl, sym, _∙_, ap, ap₂, subst}
-use mathlib.Core.Logic.{inl, inr, if-pos, if-neg}
+use mathlib.Core.Logic.{inl, inr, if-neg}
 use mathlib.Core.Bool.{Bool, true, false, cond}
 use mathlib.Core.Option.{Option, none, some, Option·map}
 use mathlib.Core.List.{List, _∷_}
 use Prim.Native.Nat.{ℕ, _+_, _-_, _<_, _≤_}
-use native.Mathlib.Omega.{arith}
+use native.Mathlib.Omega.{arith, by-contra}
 use native.Mathlib.Decide.{decLt}
 use lib.Dec.{ltb}
 use lib.ListN.{length, take, drop, length-drop}
@@ -27,6 +27,7 @@ use Rattle.text_grammar.specs.rules.Place.{cut, placeRule}
 use Rattle.text_grammar.specs.rules.Read.{OurRule, readRule}
 use Rattle.text_grammar.specs.rules.Judge.{asRule, rightTold, lower, lackingAt, known, judgeTwo, judgeParts}
 use Rattle.text_grammar.proofs.rules.Judge.{judge-is}
+use Rattle.text_grammar.proofs.rules.Read.{long-rule}
 use Rattle.text_grammar.proofs.rules.Sharp as rules
 use Rattle.text_scan.specs.declared.Found.{Found}
 use Rattle.text_scan.specs.Places.{foundOf}
@@ -67,6 +68,11 @@ right-verdict d (refused variable p) = refl
 right-verdict d (refused unknown p) = refl
 right-verdict d (accepted y) = refl
 
+-- a text without an arrow
+pub as-rule : (o : Outcome) → verdictOf (asRule o) ≡ verdictOf o
+as-rule (refused r p) = refl
+as-rule (accepted x) = refl
+
 -- a refusal, or else what v says
 abbrev pub orElse : Verdict → Verdict → Verdict
 orElse Accepted v = v
@@ -88,14 +94,8 @@ lower-verdict (accepted x) (accepted y) o = refl
 -- ---- where the code is
 
 module _ (t : List ℕ) where
-  long-read : rule .bytes < length t → readRule t ≡ refused long (rule .bytes)
-  long-read h =
-      judge-is t
-      ∙ ap (λ (o : Option ℕ). tell long o (tell grammar (placeRule t) (judgeParts t (cut t))))
-      (if-pos (decLt (rule .bytes) (length t)) h (some (rule .bytes)) none)
-
   pub judged-long : rule .bytes < length t → Refused (reasonFrom long) (rule .bytes) ≡ verdictOf (readRule t)
-  judged-long h = sym (ap verdictOf (long-read h))
+  judged-long h = sym (ap verdictOf (long-rule t h))
 
   module _ (short : length t ≤ rule .bytes) where
     short-read : readRule t ≡ tell grammar (placeRule t) (judgeParts t (cut t))
@@ -111,10 +111,6 @@ module _ (t : List ℕ) where
     one-read e =
         let c = one-cut t e in
         short-read ∙ ap₂ (λ (o : Option ℕ) (d : Option (List ℕ × List ℕ)). tell grammar o (judgeParts t d)) (c .0) (c .1)
-
-    as-rule : (o : Outcome) → verdictOf (asRule o) ≡ verdictOf o
-    as-rule (refused r p) = refl
-    as-rule (accepted x) = refl
 
     pub judged-one : splitOf t ≡ split.One → verdictOf (readSide t) ≡ verdictOf (readRule t)
     judged-one e = sym (ap verdictOf (one-read e) ∙ as-rule (readSide t))
@@ -179,11 +175,7 @@ right-base d t e = go (readSide t) refl e
 -- building gives its fields
 module _ (t : List ℕ) (base : Base rule t) where
   base-short : length t ≤ rule .bytes
-  base-short = go (decLt (rule .bytes) (length t))
-    where
-      go : Dec (rule .bytes < length t) → length t ≤ rule .bytes
-      go (yes h) = absurd (base .0 (rule .bytes) (h, refl))
-      go (no n) = omega arith
+  base-short = by-contra (length t) (rule .bytes) (λ h. base .0 (rule .bytes) (h, refl))
 
   base-says : (x : List (List Raw)) × Says t x
   base-says = in-grammar t (base .1)

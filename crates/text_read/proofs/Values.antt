@@ -2,13 +2,13 @@
 use mathlib.Core.Path.{_≡_, refl, sym, _∙_, ap, ap₂, subst}
 use mathlib.Core.Option.{Option, none, some, Option·map}
 use mathlib.Core.List.{List, []}
-use Prim.Native.Nat.{ℕ, _+_, _-_, _<_, _≤_}
-use native.Mathlib.Omega.{arith}
+use Prim.Native.Nat.{ℕ, _+_, _-_, _≤_}
+use native.Mathlib.Omega.{arith, by-contra}
 use native.Mathlib.Decide.{decLt}
 use lib.ListN.{length, take, drop}
 use lib.Seq.{take-all}
 use Rattle.text_grammar.specs.Terms.{fieldsOf}
-use Rattle.text_grammar.specs.Read.{rule, said, unknown, OutcomeOf, OurFields, Outcome, refused, accepted, tell, readSide}
+use Rattle.text_grammar.specs.Read.{rule, said, unknown, OutcomeOf, OurFields, refused, accepted, tell, readSide}
 use Rattle.text_grammar.specs.rules.Read.{OurRule, readRule}
 use Rattle.text_grammar.specs.rules.Judge.{asRule, lackingAt, known}
 use Rattle.text_values.specs.declared.RuleSide.{RuleSide}
@@ -25,7 +25,7 @@ use Rattle.text_read.specs.Sides.{endOf}
 use Rattle.text_read.specs.Answers.{ruleRead, sideSaid, leftSaid, leftEnd, JudgesLeft}
 use Rattle.text_read.proofs.Rules.{judged-long, judged-stops, one-read, orElse, accepted-base, accepted-said}
 use Rattle.text_read.proofs.Rules.{side-built, both-fine}
-use Rattle.text_read.proofs.Rules.{first, two-verdict, two-is, slice-is, left-base, right-fine, left-accepted, sides}
+use Rattle.text_read.proofs.Rules.{first, two-verdict, two-is, slice-is, left-base, right-fine, left-accepted, sides, as-rule}
 
 refused≢accepted : {r : _} {p : ℕ} → Refused r p ≡ Accepted → ⊥
 refused≢accepted {r} {p} e = let z : _≡_ {A = ℕ} 0 1 = cc in omega arith
@@ -34,11 +34,7 @@ refused≢accepted {r} {p} e = let z : _≡_ {A = ℕ} 0 1 = cc in omega arith
 
 module _ (t : List ℕ) (fine : verdictOf (readRule t) ≡ Accepted) where
   short : length t ≤ rule .bytes
-  short = go (decLt (rule .bytes) (length t))
-    where
-      go : Dec (rule .bytes < length t) → length t ≤ rule .bytes
-      go (yes h) = absurd (refused≢accepted (judged-long t h ∙ fine))
-      go (no n) = omega arith
+  short = by-contra (length t) (rule .bytes) (λ h. refused≢accepted (judged-long t h ∙ fine))
 
   pub not-stopped : (p : ℕ) → splitOf t ≡ split.Stops p → ⊥
   not-stopped p e = refused≢accepted (judged-stops t short p e ∙ fine)
@@ -46,11 +42,7 @@ module _ (t : List ℕ) (fine : verdictOf (readRule t) ≡ Accepted) where
   -- of one side
   module _ (e : splitOf t ≡ split.One) where
     one-verdict : Accepted ≡ verdictOf (readSide t)
-    one-verdict = sym fine ∙ ap verdictOf (one-read t short e) ∙ as-side (readSide t)
-      where
-        as-side : (o : Outcome) → verdictOf (asRule o) ≡ verdictOf o
-        as-side (refused r p) = refl
-        as-side (accepted x) = refl
+    one-verdict = sym fine ∙ ap verdictOf (one-read t short e) ∙ as-rule (readSide t)
 
     one-says : readRule t ≡ accepted (fieldsOf (said t), [])
     one-says = one-read t short e ∙ ap asRule (accepted-said t one-verdict)
@@ -98,14 +90,14 @@ module _ (t : List ℕ) (fine : verdictOf (readRule t) ≡ Accepted) where
 
 -- ---- the answers
 
+pub rule-verdict : (o : OutcomeOf OurRule) → ruleRead o .verdict ≡ verdictOf o
+rule-verdict (refused r p) = refl
+rule-verdict (accepted w) = refl
+
 module _ (t : List ℕ) where
   refused-out : (o : OutcomeOf OurRule) {r : _} {p : ℕ} → verdictOf o ≡ Refused r p → (ruleRead o .rule ≡ blankRule) × (leftSaid o ≡ [])
   refused-out (refused q k) e = (refl, refl)
   refused-out (accepted w) e = absurd (refused≢accepted (sym e))
-
-  verdict-is : (o : OutcomeOf OurRule) → ruleRead o .verdict ≡ verdictOf o
-  verdict-is (refused q k) = refl
-  verdict-is (accepted w) = refl
 
   whole : (o : OutcomeOf OurRule) → record { verdict = ruleRead o .verdict; rule = ruleRead o .rule } ≡ ruleRead o
   whole (refused q k) = refl
@@ -114,7 +106,7 @@ module _ (t : List ℕ) where
   pub rule-yes : (v : Verdict) (r : Rule) → v ≡ verdictOf (readRule t) → r ≡ (ruleRead (readRule t)) .rule
       → record { verdict = v; rule = r } ≡ ruleRead (readRule t)
   rule-yes v r is-v is-r =
-      ap₂ (λ (x : Verdict) (y : Rule). record { verdict = x; rule = y }) (is-v ∙ sym (verdict-is (readRule t))) is-r ∙ whole (readRule t)
+      ap₂ (λ (x : Verdict) (y : Rule). record { verdict = x; rule = y }) (is-v ∙ sym (rule-verdict (readRule t))) is-r ∙ whole (readRule t)
 
   pub rule-no : (v : Verdict) (r : Rule) (k : _) (p : ℕ) → v ≡ verdictOf (readRule t) → v ≡ Refused k p → r ≡ blankRule
       → record { verdict = v; rule = r } ≡ ruleRead (readRule t)

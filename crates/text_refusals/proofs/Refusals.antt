@@ -5,7 +5,7 @@ use mathlib.Core.Bool.{Bool, true, false, not, _||_, cond}
 use mathlib.Core.Option.{Option, none, some, Option·map}
 use mathlib.Core.List.{List, [], _∷_, _++_, foldl, append-nil}
 use Prim.Native.Nat.{ℕ, suc, _+_, _<_, _≤_}
-use native.Mathlib.Omega.{arith}
+use native.Mathlib.Omega.{arith, by-contra}
 use native.Mathlib.Decide.{decLt}
 use borrow.Author.Tests.{lt-ltb, le-ltb, eq-eqb, ne-eqb}
 use lib.Dec.{ltb}
@@ -47,10 +47,7 @@ lt-same a b c f g = go (decLt a b)
   where
     go : Dec (a < b) → ltb a b ≡ ltb a c
     go (yes h) = lt-ltb a b h ∙ sym (lt-ltb a c (f h))
-    go (no n) = le-ltb a b (omega arith) ∙ sym (le-ltb a c (not-less (λ k. n (g k))))
-      where
-        not-less : (a < c → ⊥) → c ≤ a
-        not-less k = omega arith
+    go (no n) = le-ltb a b (omega arith) ∙ sym (le-ltb a c (by-contra c a (λ k. n (g k))))
 
 -- cutting a value above the largest integer changes no test
 capped-test : (a v : ℕ) → a ≤ largestInteger → ltb a (capped v) ≡ ltb a v

@@ -6,10 +6,10 @@ use native.Mathlib.Omega.{arith}
 use lib.Dec.{eqb, eqb→eq}
 use lib.ListN.{getD}
 use Rattle.base_lists.specs.Tables.{table}
+use Rattle.base_lists.specs.Arrays.{entry-any}
 use Rattle.text_scan.specs.Classes.{fineOf}
 use Rattle.text_scan.specs.Steps.{steps, next}
 use Rattle.text_scan.proofs.Bytes.{fine-small}
-use Rattle.text_scan.proofs.Steps.{entry-any}
 
 -- the code's table
 abbrev pub classes : List ℕ

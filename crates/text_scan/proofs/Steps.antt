@@ -6,10 +6,8 @@ use mathlib.Core.Bool.{Bool, true, false}
 use mathlib.Core.Option.{Option, none, some}
 use mathlib.Core.List.{List, [], _∷_}
 use Prim.Native.Nat.{ℕ, zero, suc, _<_}
-use native.Mathlib.Omega.{arith}
 use native.Mathlib.Decide.{ℕ-discrete, decLe}
 use lib.Dec.{T, eqb, ltb, eqb→eq, ltb→lt}
-use lib.ListN.{length, getD}
 use Rattle.base_lists.specs.Tables.{both, both-left, both-right, allBelow, all-below}
 use Rattle.text_grammar.specs.Bytes.{digit?, begins, follows, first, holds}
 use Rattle.text_grammar.specs.Machine.{State, after, digits, number, done, quoted, must, Move, move}
@@ -93,9 +91,3 @@ pub next-small : (s b : ℕ) → s < 9 → b < 256 → next s (fineOf b) < 10
 next-small s b hs hb =
     ltb→lt (next s (fineOf b)) 10
     (both-left (ltb (next s (fineOf b)) 10) (sameL (code (stateOf (next s (fineOf b)))) (code (step (stateOf s) b))) (at s b hs hb))
-
--- within the list, an entry does not depend on what stands for the entries past it
-pub entry-any : (l : List ℕ) (i d e : ℕ) → i < length l → getD l i d ≡ getD l i e
-entry-any [] i d e h = absurd (omega arith)
-entry-any (x ∷ l) zero d e h = refl
-entry-any (x ∷ l) (suc i) d e h = entry-any l i d e (omega arith)

@@ -1,18 +1,13 @@
 -- Laws of stores: a text behind another is both written in one. Assumes nothing.
 use mathlib.Core.Path.{_≡_, sym, ap, ap₂, _∙_}
-use mathlib.Core.List.{List, [], _∷_, _++_}
+use mathlib.Core.List.{List, _∷_, _++_}
 use Prim.Native.Nat.{ℕ, suc, _+_, _<_}
-use native.Mathlib.Nat.{add-zero, add-suc, suc-add}
 use native.Mathlib.Numerals.{add-one}
 use native.Mathlib.Omega.{arith}
 use lib.ListN.{length, drop, getD, set, length-append}
 use lib.Seq.{sets, drop-cons}
+use Rattle.base_lists.specs.Arrays.{sets-append}
 use Rattle.text_write.specs.Room.{Put}
-
-pub sets-append : (a b l : List ℕ) (i : ℕ) → sets (sets l i a) (i + length a) b ≡ sets l i (a ++ b)
-sets-append [] b l i = rw add-zero
-sets-append (x ∷ a) b l i =
-    ap (λ (k : ℕ). sets (sets (set l i x) (suc i) a) k b) (add-suc i (length a) ∙ sym (suc-add i (length a))) ∙ sets-append a b (set l i x) (suc i)
 
 -- a at `at`, and then b behind it, is a ++ b at `at`
 pub put-behind : (a b l : List ℕ) (at : ℕ) {l′ l″ : List ℕ} {p r : ℕ} → p ≡ at + length a → l′ ≡ sets l at a → r ≡ p + length b → l″ ≡ sets l′ p b

@@ -17,17 +17,17 @@ use Rattle.apply_spec.specs.Rules.{OurSlip, carried}
 use Rattle.apply_spec.proofs.Carrying.{unmatched≢result}
 use Rattle.apply_spec.proofs.Rules.{no-slip}
 use Rattle.text_values.specs.declared.Slip.{Slip}
-use Rattle.text_values.specs.Values.{encodeSlip}
 use Rattle.text_accepted.specs.rules.Rules.{countedRule}
 use Rattle.text_accepted.proofs.rules.Rules.{counted-encode}
 use Rattle.text_accepted.specs.slips.Slips.{countedSlip}
-use Rattle.text_accepted.proofs.slips.Slips.{view-encode-slip, encode-accepted-slip}
+use Rattle.text_accepted.proofs.slips.Slips.{counted-slip}
 use Rattle.apply_rules.specs.declared.Carried.{Carried as CarriedValue}
 use Rattle.apply_rules.specs.Answers.{answerOf, carriedOf}
 use Rattle.apply_rules.proofs.Carries.{result-slip}
 use Rattle.text_read.specs.declared.RuleRead.{RuleRead}
 use Rattle.text_read.specs.declared.SlipRead.{SlipRead}
 use Rattle.text_read.specs.Answers.{ruleRead, slipRead, sideSaid}
+use Rattle.text_read.proofs.Values.{rule-verdict}
 use Rattle.text_refusals.specs.verdicts.Verdicts.{verdictOf}
 use Rattle.text_write.specs.declared.Written.{Written}
 use Rattle.text_write.specs.declared.Written.the-variants.{Bytes, TooSmall}
@@ -42,16 +42,9 @@ use Rattle.yopobrush.proofs.Said.{verdict-said}
 
 -- ---- what was read
 
-rule-verdict : (o : OutcomeOf OurRule) → ruleRead o .verdict ≡ verdictOf o
-rule-verdict (refused r p) = refl
-rule-verdict (accepted w) = refl
-
 slip-verdict : (o : Outcome) → slipRead o .verdict ≡ verdictOf o
 slip-verdict (refused r p) = refl
 slip-verdict (accepted x) = refl
-
-counted-slip : (y : OurFields) → IsSlip y → countedSlip (encodeSlip y) ≡ y
-counted-slip y h = rw (encode-accepted-slip y h, view-encode-slip y h)
 
 -- a rule as it was read counts as what the text says
 rule-counted : (t : List ℕ) → countedRule (ruleRead (readRule t) .rule) ≡ ruleSaid (readRule t)

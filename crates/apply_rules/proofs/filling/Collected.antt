@@ -7,30 +7,19 @@ use native.Mathlib.Omega.{arith}
 use native.Mathlib.Decide.{decLe}
 use borrow.Author.Tests.{le-leb, lt-leb}
 use lib.Dec.{leb}
-use lib.ListN.{length, set, replicate, length-append}
-use lib.Seq.{set-append-seam}
+use lib.ListN.{length, length-append}
 use Rattle.base_limits.specs.Limits.{mostItems}
 use Rattle.text_values.specs.declared.Term.{Term}
 use Rattle.text_values.specs.declared.SlipField.{SlipField}
-use Rattle.text_values.specs.Values.{pad, blankTerm}
+use Rattle.text_values.specs.Values.{blankTerm}
+use Rattle.text_values.proofs.Pads.{pad-set}
 use Rattle.apply_rules.specs.filling.Filled.{slipField}
 use Rattle.apply_rules.specs.filling.Pushes.{pushed, collected}
-
--- one more in the place behind the used ones
-pub pad-more : {A : Type 0} (w : ℕ) (d : A) (s : List A) (a : A) → length s < w → set (pad w d s) (length s) a ≡ pad w d (s ++ a ∷ [])
-pad-more w d s a h =
-    let k = w - (length s + 1) in
-    let e : w - length s ≡ suc k = omega arith in
-    let e′ : w - length (s ++ a ∷ []) ≡ k = omega (arith, length-append s (a ∷ [])) in
-    ap (λ (m : ℕ). set (s ++ replicate m d) (length s) a) e
-    ∙ set-append-seam s d (replicate k d) a
-    ∙ sym (append-assoc s (a ∷ []) (replicate k d))
-    ∙ ap (λ (m : ℕ). (s ++ a ∷ []) ++ replicate m d) (sym e′)
 
 push-short : (s : List Term) (t : Term) → length s < mostItems → pushed (slipField s) t ≡ slipField (s ++ t ∷ [])
 push-short s t h =
     rw (lt-leb mostItems (length s) h)
-    (ap₂ (λ (n : ℕ) (l : List Term). record { n = n; terms = l }) (sym (length-append s (t ∷ []))) (pad-more mostItems blankTerm s t h))
+    (ap₂ (λ (n : ℕ) (l : List Term). record { n = n; terms = l }) (sym (length-append s (t ∷ []))) (pad-set mostItems blankTerm s t h))
 
 fold-short : (ts s : List Term) → length s + length ts ≤ mostItems → foldl pushed (slipField s) ts ≡ slipField (s ++ ts)
 fold-short [] s h = ap slipField (sym (append-nil s))

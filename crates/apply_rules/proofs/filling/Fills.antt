@@ -6,21 +6,21 @@ use mathlib.Core.Bool.{Bool, true, false, _&&_, cond}
 use mathlib.Core.List.{List, [], _∷_, _++_, map, map-map, map-append}
 use Prim.Native.Nat.{ℕ, _-_}
 use lib.Dec.{leb}
-use lib.ListN.{length, take, replicate, length-map}
-use lib.Seq.{take-at}
+use lib.ListN.{length-map}
 use Rattle.base_limits.specs.Limits.{mostFields, mostTerms, mostItems}
 use Rattle.base_lists.specs.Seqs.{Any}
 use Rattle.math_types.specs.Types.{Kind}
 use Rattle.math_types.specs.Values.{kindOf-from}
 use Rattle.math_terms.specs.Terms.{con, var}
 use Rattle.math_terms.specs.Seqs.{concat-map}
-use Rattle.math_terms.specs.Fillings.{Filling, value, fill, Occurs}
+use Rattle.math_terms.specs.Fillings.{Filling, fill, Occurs}
 use Rattle.text_grammar.specs.Terms.{Con, int, str, OurTerm}
 use Rattle.text_values.specs.declared.Term.{Term}
 use Rattle.text_values.specs.declared.Field.{Field}
 use Rattle.text_values.specs.declared.SlipField.{SlipField}
 use Rattle.text_values.specs.declared.Slip.{Slip}
 use Rattle.text_values.specs.Values.{pad, blankTerm, blankField, blankSlipField, blankSlip, encodeTerm, encodeField, encodeSide, encodeSlipField, encodeSlip}
+use Rattle.text_values.proofs.Pads.{unpadded}
 use Rattle.match_fields.specs.declared.bindings.Filling.{Filling as FillingValue}
 use Rattle.apply_rules.specs.declared.filling.Filled.{Filled}
 use Rattle.apply_rules.specs.filling.Filled.{valueItems, filledTerm, filledField, allShort, slipField, slipOf, filledAs, filledSide}
@@ -28,10 +28,6 @@ use Rattle.apply_rules.specs.filling.Filled.{valueItems, filledTerm, fil
 -- the value of a constant
 abbrev pub enc : Con → Term
 enc c = encodeTerm (con c)
-
--- the used places of a padded array
-unpadded : {A B : Type 0} (w : ℕ) (d : B) (g : A → B) (s : List A) → take (length s) (pad w d (map g s)) ≡ map g s
-unpadded w d g s = take-at (map g s) (replicate (w - length (map g s)) d) (length s) (length-map s g)
 
 -- ---- the slip of constants
 

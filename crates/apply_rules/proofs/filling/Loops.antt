@@ -6,26 +6,23 @@ use Prim.Native.Nat.{ℕ, zero, suc, _+_, _-_, _<_, _≤_, min}
 use native.Mathlib.Omega.{arith}
 use lib.Dec.{leb}
 use lib.ListN.{length, getD, set, take, drop, length-take, length-map, drop-of-length-le}
-use lib.Seq.{take-add, take-all}
+use lib.Seq.{take-add, take-all, take-nil}
 use Rattle.base_limits.specs.Limits.{mostFields, mostTerms, mostItems}
+use Rattle.base_lists.specs.Arrays.{here, map-drop}
 use Rattle.math_terms.specs.Seqs.{concat-map}
 use Rattle.text_values.specs.declared.Term.{Term}
 use Rattle.text_values.specs.declared.Field.{Field}
 use Rattle.text_values.specs.declared.SlipField.{SlipField}
 use Rattle.text_values.specs.declared.Slip.{Slip}
 use Rattle.text_values.specs.Values.{pad, blankSlipField, blankSlip}
+use Rattle.text_values.proofs.Pads.{pad-set}
 use Rattle.match_fields.specs.Fields.{itemsOf}
-use Rattle.match_fields.proofs.Walks.{here}
 use Rattle.apply_rules.specs.declared.filling.Filled.{Filled}
 use Rattle.apply_rules.specs.filling.Filled.{allShort, slipField, slipOf, filledAs}
 use Rattle.apply_rules.specs.filling.Pushes.{pushed, collected}
-use Rattle.apply_rules.proofs.filling.Collected.{pad-more, short-by, long-by}
+use Rattle.apply_rules.proofs.filling.Collected.{short-by, long-by}
 
 -- ---- the items of a run: those from i on, as many as are left, make the whole
-
-take-nil : {A : Type 0} (n : ℕ) → _≡_ {A = List A} (take n []) []
-take-nil zero = refl
-take-nil (suc n) = refl
 
 module _ (whole : SlipField) (f : SlipField) where
   abbrev pub Copying : ℕ → ℕ → SlipField → Type 0
@@ -77,11 +74,6 @@ module _ (whole : SlipField) (g : Term → List Term) (n : ℕ) (s : List Term) 
 
 -- ---- the fields of a side: those before i are short and stand in their places
 
-drop-map : {A B : Type 0} (g : A → B) (i : ℕ) (l : List A) → drop i (map g l) ≡ map g (drop i l)
-drop-map g zero l = refl
-drop-map g (suc i) [] = refl
-drop-map g (suc i) (x ∷ l) = drop-map g i l
-
 module _ (g : Field → List Term) (n : ℕ) (s : List Field) where
   abbrev fs : List (List Term)
   fs = map g (take n s)
@@ -105,9 +97,9 @@ module _ (g : Field → List Term) (n : ℕ) (s : List Field) where
   module _ (i : ℕ) (out : Slip) (d : Field) (v : Standing i out) (h : i < min n 4) (f : SlipField) (is-f : f ≡ collected (g (getD s i d))) where
     next : drop i fs ≡ g (getD s i d) ∷ drop (i + 1) fs
     next =
-        drop-map g i (take n s)
+        sym (map-drop g i (take n s))
         ∙ ap (map g) (here n s i d (omega arith) (omega (arith, v .0)))
-        ∙ ap (λ (l : List (List Term)). g (getD s i d) ∷ l) (sym (drop-map g (i + 1) (take n s)))
+        ∙ ap (λ (l : List (List Term)). g (getD s i d) ∷ l) (map-drop g (i + 1) (take n s))
 
     all-next : allShort fs ≡ leb (length (g (getD s i d))) mostItems && allShort (drop (i + 1) fs)
     all-next = v .4 ∙ ap allShort next
@@ -127,7 +119,7 @@ module _ (g : Field → List Term) (n : ℕ) (s : List Field) where
           is-new
               ∙ ap₂ (λ (l : List SlipField) (x : SlipField). set l i x) (v .3) (b .1)
               ∙ ap (λ (j : ℕ). set (pad mostFields blankSlipField (map slipField (take i fs))) j (slipField (g (getD s i d)))) (sym place)
-              ∙ pad-more mostFields blankSlipField (map slipField (take i fs)) (slipField (g (getD s i d))) (omega (arith, place))
+              ∙ pad-set mostFields blankSlipField (map slipField (take i fs)) (slipField (g (getD s i d))) (omega (arith, place))
               ∙ ap (pad mostFields blankSlipField) (sym (map-append slipField (take i fs) (g (getD s i d) ∷ [])))
               ∙ ap (λ (l : List (List Term)). pad mostFields blankSlipField (map slipField l)) (sym one-more),
           all-next ∙ ap (λ (x : Bool). x && allShort (drop (i + 1) fs)) (b .0),

@@ -111,10 +111,6 @@ module _ {A : Type 0} (d : A) where
     pub fits : length q ≤ cap
     pub holds : (i : ℕ) → i < length q → getD row (place head i cap) d ≡ getD q i d
 
-  -- the last of a list that is put behind another
-  last-is : (q : List A) (p : A) → getD (q ++ p ∷ []) (length q) d ≡ p
-  last-is q p = getD-append-seam q p [] d
-
   pub ring-put : (row : List A) (cap head : ℕ) (q : List A) (p : A) → Ring row cap head q
       → length q < cap → Ring (set row (place head (length q) cap) p) cap head (q ++ p ∷ [])
   ring-put row cap head q p r l = record {
@@ -139,7 +135,7 @@ module _ {A : Type 0} (d : A) where
       at i (inr e) =
           ap (λ (j : ℕ). getD (set row (place head (length q) cap) p) (place head j cap) d) e
           ∙ getD-set-same row (place head (length q) cap) p d (omega (arith, r .size, place-low head (length q) cap (r .inside) (r .fits)))
-          ∙ sym (last-is q p) ∙ ap (λ (j : ℕ). getD (q ++ p ∷ []) j d) (sym e)
+          ∙ sym (getD-append-seam q p [] d) ∙ ap (λ (j : ℕ). getD (q ++ p ∷ []) j d) (sym e)
 
   pub ring-head : (row : List A) (cap head : ℕ) (p : A) (q : List A) → Ring row cap head (p ∷ q) → getD row head d ≡ p
   ring-head row cap head p q r = ap (λ (j : ℕ). getD row j d) (sym (place-first head cap (r .inside))) ∙ r .holds 0 (omega arith)

@@ -5,8 +5,9 @@ use Prim.Native.Nat.{_+_, _/_, _%_}
 use native.Mathlib.Omega.{arith}
 use lib.ListN.{length}
 use Rattle.text_grammar.specs.Numbers.{digitsOf}
+use Rattle.text_grammar.proofs.Numbers.{digits-small}
 use borrow.Author.Needs.{needs}
-use Rattle.pair_lines.proofs.Puts.{puts-as, puts-next, digits-one, digits-two, digits-three}
+use Rattle.pair_lines.proofs.Puts.{puts-as, puts-next, digits-two, digits-three}
 use Rattle.pair_lines.proofs.put_digits.Statement.{statement}
 use Rattle.pair_lines.proofs.put_digits.Tie as tie
 
@@ -16,7 +17,7 @@ add-put-byte c = search needs
 put-byte-requires : tie.Need-put-byte-requires
 put-byte-requires c κs =
     let z = c .before .before .before in
-    omega (arith, z .pre, ap length (digits-one (z .args .n) (c .before .if1 .taken)))
+    omega (arith, z .pre, ap length (digits-small (z .args .n) (c .before .if1 .taken)))
 
 same-length : tie.Need-same-length
 same-length c = search needs
@@ -26,7 +27,7 @@ returns c =
     let c4 = c .before .before .before .before in
     let c6 = c4 .before .before in
     let z = c6 .args in
-    puts-as (z .at) (z .out .now) (sym (digits-one (z .n) (c4 .if1 .taken))) (c .before .before .put-byte .ensures)
+    puts-as (z .at) (z .out .now) (sym (digits-small (z .n) (c4 .if1 .taken))) (c .before .before .put-byte .ensures)
 
 add-put-byte-2 : tie.Need-add-put-byte-2
 add-put-byte-2 c = search needs

@@ -1,8 +1,8 @@
 -- `print_carry::put_slip_read` meets its contract: by the verdict. Assumes nothing.
 use Rattle.text_grammar.specs.Ascii.{ascii}
 use Rattle.text_write.proofs.pieces.Pieces.{placed-as}
-use Rattle.print_carry.proofs.Values.{text-accepted, text-refused}
 use borrow.Author.Needs.{needs}
+use Rattle.print_parts.proofs.Verdicts.{text-accepted, text-refused}
 use Rattle.print_carry.proofs.put_slip_read.Statement.{statement}
 use Rattle.print_carry.proofs.put_slip_read.Tie as tie
 

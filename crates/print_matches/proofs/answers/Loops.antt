@@ -7,10 +7,11 @@ use native.Mathlib.Numerals.{add-one}
 use native.Mathlib.Omega.{arith}
 use native.Mathlib.Decide.{decLe}
 use lib.ListN.{length, getD, take, drop, length-take, length-drop, drop-of-length-le}
-use lib.Seq.{take-all, take-take, take-add, drop-at, drop-cons, length-take-le}
+use lib.Seq.{take-all, take-take, drop-cons}
 use Rattle.math_types.specs.Order.{list}
 use Rattle.math_types.specs.Types.{Kind, kinds, atomKinds, rank-kinds, kindAt, basic-at}
 use Rattle.base_limits.specs.Limits.{mostItems, numbersOfSide, variablePlaces}
+use Rattle.base_lists.specs.Arrays.{entry-any, here, part-of}
 use Rattle.math_terms.specs.Seqs.{concat-map}
 use Rattle.text_grammar.specs.Grammar.{colons}
 use Rattle.text_grammar.specs.Plain.{rawOf, termText, fieldText}
@@ -21,8 +22,6 @@ use Rattle.match_fields.specs.declared.bindings.Filling.{Filling}
 use Rattle.match_fields.specs.declared.bindings.Run.{Run}
 use Rattle.match_fields.specs.declared.bindings.Values.{Values}
 use Rattle.match_fields.specs.bindings.Values.{slot, blankRun}
-use Rattle.match_fields.proofs.bindings.Entries.{entry-any}
-use Rattle.match_fields.proofs.Walks.{here}
 use Rattle.overlap_spec.specs.Variables.{numbersFrom}
 use Rattle.text_write.specs.pieces.Placed.{Placed}
 use Rattle.text_write.proofs.pieces.Pieces.{Left, all-left, left-next, rest-as, none-left, placed-next, placed-as}
@@ -33,9 +32,6 @@ use Rattle.print_matches.specs.answers.Values.{itemsFrom, runText, atomT
 -- each with its `:` in front
 abbrev pub rowText : List Term → List ℕ
 rowText l = colons (map rawOf (map viewTerm l))
-
-drop-front : {A : Type 0} (i m : ℕ) (l : List A) → i ≤ length l → drop i (take (i + m) l) ≡ take m (drop i l)
-drop-front i m l h = ap (drop i) (take-add i m l) ∙ drop-at (take i l) (take m (drop i l)) i (length-take-le i l h)
 
 module _ {A : Type 0} (l : List A) (start count from end : ℕ) (is-from : from ≡ min start (length l)) (is-end : end ≡ from + min count (length l - from)) where
   first : drop start l ≡ drop from l
@@ -55,7 +51,7 @@ module _ {A : Type 0} (l : List A) (start count from end : ℕ) (is-from : from 
           ∙ sym (take-all (min count (length l - from)) (drop from l) (omega (arith, length-drop from l)))
 
   part : take count (drop start l) ≡ drop from (take end l)
-  part = ap (take count) first ∙ most ∙ sym (drop-front from (min count (length l - from)) l (omega arith)) ∙ ap (λ (i : ℕ). drop from (take i l)) (sym is-end)
+  part = ap (take count) first ∙ most ∙ part-of from (min count (length l - from)) l ∙ ap (λ (i : ℕ). drop from (take i l)) (sym is-end)
 
 -- the run's items are those from `from` on before `end`
 module _ (f : SlipField) (start count n from end : ℕ) (long : length (f .terms) ≡ mostItems) (is-n : n ≡ min (f .n) mostItems)

@@ -20,13 +20,14 @@ use Rattle.text_values.specs.declared.Term.{Term}
 use Rattle.text_values.specs.declared.Field.{Field}
 use Rattle.text_values.specs.declared.SlipField.{SlipField}
 use Rattle.text_values.specs.Values.{blankField, viewTerm, viewField, encodeField, encodeSlipField}
+use Rattle.text_values.proofs.Pads.{unpadded}
 use Rattle.text_accepted.proofs.Accepted.{view-encode-rule}
 use Rattle.match_fields.specs.declared.bindings.Filling.{Filling}
 use Rattle.match_fields.specs.declared.bindings.Run.{Run}
 use Rattle.match_fields.specs.bindings.Values.{slot}
 use Rattle.match_rules.specs.declared.Comparison.{Comparison}
 use Rattle.match_rules.specs.Answers.{itemsAt}
-use Rattle.match_rules.proofs.Agree.{enc, unpadded}
+use Rattle.match_rules.proofs.Agree.{enc}
 use Rattle.match_rules.proofs.Items.{run-items-of}
 use Rattle.overlap_spec.specs.Variables.{numbersFrom, numbers, occurs}
 use Rattle.print_matches.specs.answers.Values.{runText, nameText, saidValue, saidVariable, saidValues, saidMatch, Noted, notedText}

@@ -2,8 +2,8 @@
 use mathlib.Core.Path.{sym, _∙_}
 use Rattle.text_grammar.specs.Ascii.{ascii}
 use Rattle.text_write.proofs.pieces.Pieces.{placed-as}
-use Rattle.print_matches.proofs.Values.{text-accepted, text-refused}
 use borrow.Author.Needs.{needs}
+use Rattle.print_parts.proofs.Verdicts.{text-accepted, text-refused}
 use Rattle.print_matches.proofs.put_slip.Statement.{statement}
 use Rattle.print_matches.proofs.put_slip.Tie as tie
 

@@ -13,11 +13,12 @@ use Rattle.text_grammar.specs.Told.{Told, byRoom}
 use Rattle.text_grammar.specs.Numbers.{digitsOf}
 use Rattle.text_grammar.proofs.Told.{eight-iff, fits-iff}
 use Rattle.text_grammar.specs.Ascii.{ascii, newline}
+use Rattle.text_grammar.proofs.Numbers.{digits-most}
 use Rattle.text_values.specs.declared.Field.{Field}
 use Rattle.search_problems.specs.Values.{blankProblem}
 use Rattle.search_steps.specs.Row.{blanks}
 use Rattle.text_write.specs.Answers.{after}
-use Rattle.text_write.proofs.Digits.{digits-most, digits-64}
+use Rattle.text_write.proofs.Digits.{digits-64}
 use Rattle.search_spec.specs.Answers as answers
 use Rattle.search_spec.specs.Answers.{bytesOf}
 use Rattle.text_write.specs.pieces.Placed.{Placed}

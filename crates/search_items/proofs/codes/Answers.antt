@@ -6,7 +6,7 @@ use Prim.Native.Nat.{ℕ, _+_}
 use native.Mathlib.Omega.{arith}
 use lib.ListN.{length, getD, drop}
 use Rattle.base_limits.specs.Limits.{mostFields, numbersOfSide, fieldPlaces, rulePlaces, pairPlaces, listItems, pairItems}
-use Rattle.base_lists.specs.Seqs.{All, Any}
+use Rattle.base_lists.specs.Seqs.{All, Any, all-mem}
 use Rattle.math_types.specs.Order.{basic, list}
 use Rattle.math_types.specs.Types.{Basic, Kind, basics}
 use Rattle.math_terms.specs.Fillings.{Occurs}
@@ -22,7 +22,6 @@ use Rattle.overlap_spec.specs.Variables.{variables}
 use Rattle.overlap_spec.proofs.Variables.{in-variables}
 use Rattle.math_search.specs.Problems.{atomic, listvar, Tm, Field, Bindings}
 use Rattle.math_search.specs.Pairs.{sixteenAbove}
-use Rattle.math_search.proofs.Seqs.{all-mem}
 use Rattle.math_codes.specs.Tables.{IsCode, Table, codeOf, same}
 use Rattle.math_codes.specs.Names.{noNames, nameFields}
 use Rattle.math_codes.specs.Lines.{ourVars, OurOriginTerm, valuesText, ourRow, ourTerms, OurTables}

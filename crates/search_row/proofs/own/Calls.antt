@@ -32,13 +32,13 @@ use denote.Triple.Spec.{tripleOf}
 use denote.Triple.Statement.{Contract, Triple}
 use denote.Triple.Call.{calls-at}
 use denote.Triple.Clauses.{ensured, lasts}
+use Rattle.base_walks.proofs.Returns.{receives-as}
 use Rattle.text_values.specs.declared.Field.{Field}
 use Rattle.text_values.proofs.Field as F
 use Rattle.text_values.proofs.Field.Laws as F′
 use Rattle.search_problems.specs.declared.Problem.{Problem}
 use Rattle.search_problems.proofs.Problem as T
 use Rattle.search_row.proofs.Lending.{x, Own, LentAgain, lend, unlend}
-use Rattle.search_row.proofs.Drives.{receives-as}
 use Rattle.search_row.specs.declared.Searched.{Searched}
 use Rattle.search_row.specs.Answers.{Searches}
 use Rattle.search_row.proofs.Searched as N

@@ -51,10 +51,10 @@ use Rattle.base_walks.proofs.Walk.{holds, envOf, pos, allocs-all, frees-all, va
 use Rattle.search_row.proofs.Lending.{x, Own}
 use Rattle.search_row.proofs.Drives.{mach-state, Blanks, Searching, calls-blank, calls-drive}
 use Rattle.search_steps.proofs.starts.begin.Symbol as begin-def
-use Rattle.search_steps.proofs.starts.begin.Symbol.{name as #search-starts·begin}
+use Rattle.search_steps.proofs.starts.begin.Symbol.{name as #search-steps·starts·begin}
 use Rattle.search_steps.proofs.starts.begin.Met as begin-thm
 use Rattle.search_steps.proofs.starts.again.Symbol as again-def
-use Rattle.search_steps.proofs.starts.again.Symbol.{name as #search-starts·again}
+use Rattle.search_steps.proofs.starts.again.Symbol.{name as #search-steps·starts·again}
 use Rattle.search_steps.proofs.starts.again.Met as again-thm
 use Rattle.search_row.proofs.from_root.Symbol as from-root-def
 use Rattle.search_row.proofs.from_root.Symbol.{name as #search-row·from-root}
@@ -121,8 +121,9 @@ module _ {M : Type 1} (𝓤 : URA M) (H : Heap 𝓤) (A : Atoms 𝓤) (W : Given
     abbrev L′ : ℕ → ℕ
     L′ n = pos 5 22 n
 
-    walk : Halts f g ys os → Room T.the-row (length ys) → Room u8 (length os) → (𝓣 : Tables 𝓤 H) → Triple 𝓤 (𝓣 .C #search-starts·begin) (Begin 𝓤 H A mem run)
-        → Triple 𝓤 (𝓣 .C #search-starts·again) (Again 𝓤 H A mem run) → Triple 𝓤 (𝓣 .C #search-row·report) (Report 𝓤 H A mem run)
+    walk : Halts f g ys os → Room T.the-row (length ys) → Room u8 (length os) → (𝓣 : Tables 𝓤 H)
+        → Triple 𝓤 (𝓣 .C #search-steps·starts·begin) (Begin 𝓤 H A mem run)
+        → Triple 𝓤 (𝓣 .C #search-steps·starts·again) (Again 𝓤 H A mem run) → Triple 𝓤 (𝓣 .C #search-row·report) (Report 𝓤 H A mem run)
         → Triple 𝓤 (𝓣 .C #search-row·blank) (Blanks 𝓤 H A mem run) → Triple 𝓤 (𝓣 .C #search-row·from-root) (Searching 𝓤 H A)
         → ent 𝓤 (onEntry 𝓤 H A search′.signature (κ, (κ′, tt)) (q, (q′, tt)) (bound .0 .3) (bound .0 .4))
         (WpFn 𝓤 H (𝓣 .C) (𝓣 .Λ) code.function (mach-field f ∷ mach-field g ∷ r₀ ∷ o₀ ∷ []) Post)
@@ -227,8 +228,10 @@ search-spec 𝓤 H 𝓜 𝓖 𝓡 =
     (walk 𝓤 H A W (𝓜 .mem) (𝓡 .run) (κs .0) (κs .1 .0) (qs .0) (qs .1 .0) (a .1 .1 .0 .ptr .0) (a .1 .1 .0 .ptr .1) (a .1 .1 .1 .0 .ptr .0)
     (a .1 .1 .1 .0 .ptr .1) (a .1 .1 .0 .name) (a .1 .1 .1 .0 .name) (a .0) (a .1 .0) (a .1 .1 .0 .now) (a .1 .1 .1 .0 .now) (are .0) (are .1 .0)
     (halts (a .0) (a .1 .0) (a .1 .1 .0 .now) (a .1 .1 .1 .0 .now)) (are .1 .1 .0 .0 .1) (are .1 .1 .1 .0 .0 .1) 𝓣
-    (cited 𝓤 H (Begin 𝓤 H A (𝓜 .mem) (𝓡 .run)) 𝓜 𝓡 code.env #search-starts·begin begin-def.routine code.calls-search-starts·begin (begin-thm.met 𝓤 H 𝓜 𝓖 𝓡))
-    (cited 𝓤 H (Again 𝓤 H A (𝓜 .mem) (𝓡 .run)) 𝓜 𝓡 code.env #search-starts·again again-def.routine code.calls-search-starts·again (again-thm.met 𝓤 H 𝓜 𝓖 𝓡))
+    (cited 𝓤 H (Begin 𝓤 H A (𝓜 .mem) (𝓡 .run)) 𝓜 𝓡 code.env #search-steps·starts·begin begin-def.routine code.calls-search-steps·starts·begin
+    (begin-thm.met 𝓤 H 𝓜 𝓖 𝓡))
+    (cited 𝓤 H (Again 𝓤 H A (𝓜 .mem) (𝓡 .run)) 𝓜 𝓡 code.env #search-steps·starts·again again-def.routine code.calls-search-steps·starts·again
+    (again-thm.met 𝓤 H 𝓜 𝓖 𝓡))
     (cited 𝓤 H (Report 𝓤 H A (𝓜 .mem) (𝓡 .run)) 𝓜 𝓡 code.env #search-row·report report-def.routine code.calls-search-row·report (report-thm.met 𝓤 H 𝓜 𝓖 𝓡))
     (cited 𝓤 H (Blanks 𝓤 H A (𝓜 .mem) (𝓡 .run)) 𝓜 𝓡 code.env #search-row·blank blank-def.routine code.calls-search-row·blank (blank-thm.met 𝓤 H 𝓜 𝓖 𝓡))
     (cited 𝓤 H (Searching 𝓤 H A) 𝓜 𝓡 code.env #search-row·from-root from-root-def.routine code.calls-search-row·from-root (from-root-thm.met 𝓤 H 𝓜 𝓖 𝓡))))))

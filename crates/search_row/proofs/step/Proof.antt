@@ -49,7 +49,7 @@ use Rattle.search_row.proofs.take.Symbol as take-def
 use Rattle.search_row.proofs.take.Symbol.{name as #search-row·take}
 use Rattle.search_row.proofs.take.Met as take-thm
 use Rattle.search_steps.proofs.advance.Symbol as advance-def
-use Rattle.search_steps.proofs.advance.Symbol.{name as #search-step·advance}
+use Rattle.search_steps.proofs.advance.Symbol.{name as #search-steps·advance}
 use Rattle.search_steps.proofs.advance.Met as advance-thm
 use Rattle.search_row.proofs.put.Symbol as put-def
 use Rattle.search_row.proofs.put.Symbol.{name as #search-row·put}
@@ -107,7 +107,7 @@ module _ {M : Type 1} (𝓤 : URA M) (H : Heap 𝓤) (A : Atoms 𝓤) (W : Given
     L n = pos 4 15 n
 
     walk : Room T.the-row (length (c .row)) → Room u8 (length (c .out)) → (𝓣 : Tables 𝓤 H) → Triple 𝓤 (𝓣 .C #search-row·take) (Take 𝓤 H A mem run)
-        → Triple 𝓤 (𝓣 .C #search-step·advance) (Advance 𝓤 H A mem run) → Triple 𝓤 (𝓣 .C #search-row·put) (Put 𝓤 H A mem run)
+        → Triple 𝓤 (𝓣 .C #search-steps·advance) (Advance 𝓤 H A mem run) → Triple 𝓤 (𝓣 .C #search-row·put) (Put 𝓤 H A mem run)
         → ent 𝓤 (onEntry 𝓤 H A step.signature (κ, (κ′, tt)) (q, (q′, tt)) (bound .0 .3) (bound .0 .4))
         (WpFn 𝓤 H (𝓣 .C) (𝓣 .Λ) code.function (r₀ ∷ o₀ ∷ s₀ ∷ []) Post)
     walk fits fits′ 𝓣 kt ka kp =
@@ -170,6 +170,6 @@ step-spec 𝓤 H 𝓜 𝓖 𝓡 =
     (walk 𝓤 H A W (𝓜 .mem) (𝓡 .run) (κs .0) (κs .1 .0) (qs .0) (qs .1 .0) (a .0 .ptr .0) (a .0 .ptr .1) (a .1 .0 .ptr .0) (a .1 .0 .ptr .1) (a .0 .name)
     (a .1 .0 .name) (conf (a .1 .1 .0) (a .0 .now) (a .1 .0 .now)) (are .1 .1 .0) (are .0 .0 .1) (are .1 .0 .0 .1) 𝓣
     (cited 𝓤 H (Take 𝓤 H A (𝓜 .mem) (𝓡 .run)) 𝓜 𝓡 code.env #search-row·take take-def.routine code.calls-search-row·take (take-thm.met 𝓤 H 𝓜 𝓖 𝓡))
-    (cited 𝓤 H (Advance 𝓤 H A (𝓜 .mem) (𝓡 .run)) 𝓜 𝓡 code.env #search-step·advance advance-def.routine code.calls-search-step·advance
+    (cited 𝓤 H (Advance 𝓤 H A (𝓜 .mem) (𝓡 .run)) 𝓜 𝓡 code.env #search-steps·advance advance-def.routine code.calls-search-steps·advance
     (advance-thm.met 𝓤 H 𝓜 𝓖 𝓡))
     (cited 𝓤 H (Put 𝓤 H A (𝓜 .mem) (𝓡 .run)) 𝓜 𝓡 code.env #search-row·put put-def.routine code.calls-search-row·put (put-thm.met 𝓤 H 𝓜 𝓖 𝓡))))))

@@ -10,7 +10,7 @@ use native.Mathlib.Decide.{ℕ-discrete}
 use lib.ListN.{length, getD, set, length-set, getD-replicate}
 use lib.Seq.{getD-set-same, getD-set-other}
 use Rattle.base_limits.specs.Limits.{largestNumber, numbersOfSide}
-use Rattle.base_lists.specs.Seqs.{All, Any, any?, all-append, all-map}
+use Rattle.base_lists.specs.Seqs.{All, Any, any?, all-append, all-map, any-left, any-right, any-map}
 use Rattle.math_types.specs.Order.{basic, list}
 use Rattle.math_terms.specs.Terms.{con, var}
 use Rattle.text_grammar.specs.Terms.{OurTerm}
@@ -23,14 +23,6 @@ use Rattle.base_lists.specs.Truths.{both-is, not-is, false-is}
 
 -- ---- some member of a list
 module _ {A : Type 0} where
-  any-left : (P : A → Type 0) (s t : List A) → Any P s → Any P (s ++ t)
-  any-left P (x ∷ s) t (inl p) = inl p
-  any-left P (x ∷ s) t (inr a) = inr (any-left P s t a)
-
-  any-right : (P : A → Type 0) (s t : List A) → Any P t → Any P (s ++ t)
-  any-right P [] t a = a
-  any-right P (x ∷ s) t a = inr (any-right P s t a)
-
   any-append : (P : A → Type 0) (s t : List A) → Any P (s ++ t) → Any P s ⊎ Any P t
   any-append P [] t a = inr a
   any-append P (x ∷ s) t (inl p) = inl (inl p)
@@ -48,10 +40,6 @@ module _ {A : Type 0} where
       go : Any P s ⊎ Any Q s → Any P (x ∷ s) ⊎ Any Q (x ∷ s)
       go (inl p) = inl (inr p)
       go (inr q) = inr (inr q)
-
-  any-map : (P Q : A → Type 0) → ((x : A) → P x → Q x) → (s : List A) → Any P s → Any Q s
-  any-map P Q f (x ∷ s) (inl p) = inl (f x p)
-  any-map P Q f (x ∷ s) (inr a) = inr (any-map P Q f s a)
 
   any-not : (P Q : A → Type 0) → ((x : A) → P x → Q x → ⊥) → (s : List A) → All P s → Any Q s → ⊥
   any-not P Q f (x ∷ s) h (inl q) = f x (h .0) q

@@ -5,12 +5,13 @@ use mathlib.Core.List.{List, [], _∷_, map}
 use Prim.Native.Nat.{ℕ, _+_, _<_, _≤_, min}
 use borrow.Author.Tests.{not-true, not-false}
 use lib.ListN.{length, getD, take, drop}
+use Rattle.base_lists.specs.Arrays.{here, no-more}
 use Rattle.text_grammar.specs.Read.{OurFields}
 use Rattle.text_values.specs.declared.Term.{Term}
 use Rattle.text_values.specs.declared.Field.{Field}
 use Rattle.text_values.specs.Values.{viewTerm, viewField}
-use Rattle.text_accepted.proofs.variables.Loops.{here, no-more}
 use Rattle.text_accepted.specs.rules.Rules.{knownTerm, knownField, known}
+use native.Mathlib.Omega.{arith}
 
 abbrev pub every : {A : Type 0} → (A → Bool) → List A → Bool
 every test [] = true
@@ -34,7 +35,7 @@ module _ {A : Type 0} (test : A → Bool) (n : ℕ) (s : List A) (w : ℕ) where
 
   module _ (i : ℕ) (d : A) (b : Bool) (u : Met i) (h : i < min n w) (is-b : b ≡ test (getD s i d)) where
     one : every test (take n s) ≡ b && every test (drop (i + 1) (take n s))
-    one = u .1 ∙ ap (every test) (here n s w i (u .0) d h) ∙ ap (λ (x : Bool). x && every test (drop (i + 1) (take n s))) (sym is-b)
+    one = u .1 ∙ ap (every test) (here n s i d (omega arith) (omega (arith, u .0))) ∙ ap (λ (x : Bool). x && every test (drop (i + 1) (take n s))) (sym is-b)
 
     pub met-one : not b ≡ false → Met (i + 1)
     met-one e = (u .0, one ∙ ap (λ (x : Bool). x && every test (drop (i + 1) (take n s))) (not-false b e))

@@ -1,10 +1,10 @@
 -- The accepted slips are exactly those that some text is read as, one for each slip.
 -- `view-encode-..`: a value stands for what it was made of. `accepted-slip`: an accepted value is the one of what it stands for, within the limits.
 -- `slip-value-iff`: the theorem.
-use mathlib.Core.Path.{_≡_, refl, ap}
+use mathlib.Core.Path.{_≡_, refl, ap, _∙_}
 use mathlib.Core.Logic.{_↔_}
-use mathlib.Core.Bool.{Bool, true, _&&_}
-use mathlib.Core.List.{List}
+use mathlib.Core.Bool.{Bool, true, _&&_, cond}
+use mathlib.Core.List.{List, []}
 use Prim.Native.Nat.{ℕ, _≤_}
 use lib.Dec.{eqb, ltb}
 use lib.ListN.{length}
@@ -23,7 +23,7 @@ use Rattle.text_values.specs.canonical.Filled.{filledTo}
 use Rattle.text_values.proofs.canonical.Arrays.{Stands, encode-one, Counted, counted}
 use Rattle.text_values.proofs.canonical.Terms.{item-stands, ItemIn}
 use Rattle.text_accepted.proofs.Accepted.{all-both, within-is, count-is, value-iff}
-use Rattle.text_accepted.specs.slips.Slips.{slipFieldOk, slipFieldBlank, acceptedSlip}
+use Rattle.text_accepted.specs.slips.Slips.{slipFieldOk, slipFieldBlank, acceptedSlip, countedSlip}
 
 -- ---- fields and slips: a count and an array
 abbrev slip-field-parts : Counted Term SlipField
@@ -104,6 +104,13 @@ accepted-slip v h =
     let e = slip-stands .encode-view v (p .1) in
     let c = count-is (v .n) (viewSlip v) (ap (λ (s : Slip). s .n) e) .0 (p .0) in
     (slip-is (viewSlip v) .1 (c, slip-stands .view-in v (p .1)), e)
+
+-- ---- as what a slip counts
+pub counted-accepted : (s : Slip) → acceptedSlip s ≡ true → countedSlip s ≡ viewSlip s
+counted-accepted s h = ap (λ (b : Bool). cond b (viewSlip s) []) h
+
+pub counted-slip : (r : List (List OurTerm)) → IsSlip r → countedSlip (encodeSlip r) ≡ r
+counted-slip r h = counted-accepted (encodeSlip r) (encode-accepted-slip r h) ∙ view-encode-slip r h
 
 -- ---- THE ACCEPTED SLIPS are those that some text is read as
 pub slip-value-iff : (v : Slip) → (acceptedSlip v ≡ true) ↔ ((t : List ℕ) × (r : List (List OurTerm)) × (readSlip t ≡ accepted r) × (v ≡ encodeSlip r))

@@ -3,10 +3,9 @@ use mathlib.Core.Path.{_≡_, refl, sym, ap, _∙_}
 use mathlib.Core.Bool.{Bool, true, false, _||_}
 use mathlib.Core.List.{List, [], _∷_, map}
 use Prim.Native.Nat.{ℕ, _+_, _<_, _≤_, min}
-use native.Mathlib.Numerals.{add-one}
 use native.Mathlib.Omega.{arith}
-use lib.ListN.{length, getD, take, drop, length-take, drop-of-length-le}
-use lib.Seq.{drop-cons, getD-take}
+use lib.ListN.{length, getD, take, drop}
+use Rattle.base_lists.specs.Arrays.{here, no-more}
 use Rattle.math_types.specs.Types.{Kind}
 use Rattle.text_values.specs.declared.Term.{Term}
 use Rattle.text_values.specs.declared.Field.{Field}
@@ -27,17 +26,6 @@ pub some-field : (k : Kind) (n : ℕ) (l : List Field) → occurs k n (map viewF
 some-field k n [] = refl
 some-field k n (f ∷ l) = ap (λ (b : Bool). inField k n (viewField f) || b) (some-field k n l)
 
--- the member at i of the first n of the w places of s, and those behind it
-module _ {A : Type 0} (n : ℕ) (s : List A) (w i : ℕ) (e : length s ≡ w) where
-  pub here : (d : A) → i < min n w → drop i (take n s) ≡ getD s i d ∷ drop (i + 1) (take n s)
-  here d h =
-      let l : i < length (take n s) = omega (arith, length-take n s) in
-      let k : i < n = omega arith in
-      rw (add-one, drop-cons (take n s) i d l, getD-take n s i d k)
-
-  pub no-more : min n w ≤ i → drop i (take n s) ≡ []
-  no-more h = drop-of-length-le (take n s) {i = i} (omega (arith, length-take n s))
-
 module _ {A : Type 0} (test : A → Bool) (n : ℕ) (s : List A) (w : ℕ) where
   -- none of the first i passed
   abbrev pub Unmet : ℕ → Type 0
@@ -48,7 +36,7 @@ module _ {A : Type 0} (test : A → Bool) (n : ℕ) (s : List A) (w : ℕ) where
 
   module _ (i : ℕ) (d : A) (b : Bool) (u : Unmet i) (h : i < min n w) (is-b : b ≡ test (getD s i d)) where
     one : some test (take n s) ≡ b || some test (drop (i + 1) (take n s))
-    one = u .1 ∙ ap (some test) (here n s w i (u .0) d h) ∙ ap (λ (x : Bool). x || some test (drop (i + 1) (take n s))) (sym is-b)
+    one = u .1 ∙ ap (some test) (here n s i d (omega arith) (omega (arith, u .0))) ∙ ap (λ (x : Bool). x || some test (drop (i + 1) (take n s))) (sym is-b)
 
     pub unmet-one : b ≡ false → Unmet (i + 1)
     unmet-one e = (u .0, one ∙ ap (λ (x : Bool). x || some test (drop (i + 1) (take n s))) e)

@@ -5,7 +5,7 @@ use mathlib.Core.List.{List, [], _∷_, _++_, map, map-append, append-assoc, app
 use Prim.Native.Nat.{ℕ, suc}
 use native.Mathlib.Omega.{arith}
 use lib.ListN.{length}
-use Rattle.base_lists.specs.Seqs.{All, Any}
+use Rattle.base_lists.specs.Seqs.{All, Any, any-left, any-map, any-right}
 use Rattle.math_types.specs.Order.{basic, list}
 use Rattle.math_terms.specs.Terms.{con, var}
 use Rattle.math_terms.specs.Seqs.{concat-map, Distinct}
@@ -16,18 +16,6 @@ use Rattle.text_grammar.specs.Terms.{OurTerm}
 use Rattle.text_grammar.specs.Limits.{occF, occR, Linear}
 
 module _ {A : Type 0} where
-  any-left : (P : A → Type 0) (s t : List A) → Any P s → Any P (s ++ t)
-  any-left P (x ∷ s) t (inl p) = inl p
-  any-left P (x ∷ s) t (inr a) = inr (any-left P s t a)
-
-  any-last : (P : A → Type 0) (s : List A) (x : A) → P x → Any P (s ++ x ∷ [])
-  any-last P [] x p = inl p
-  any-last P (y ∷ s) x p = inr (any-last P s x p)
-
-  any-map : (P Q : A → Type 0) → ((x : A) → P x → Q x) → (s : List A) → Any P s → Any Q s
-  any-map P Q f (x ∷ s) (inl p) = inl (f x p)
-  any-map P Q f (x ∷ s) (inr a) = inr (any-map P Q f s a)
-
   none-rest : (P : List A → A → Type 0) (before s t : List A) → NoneOf P before (s ++ t) → NoneOf P (before ++ s) t
   none-rest P before [] t h = rw append-nil h
   none-rest P before (x ∷ s) t h = rw append-assoc at (none-rest P (before ++ x ∷ []) s t (h .1))
@@ -48,7 +36,7 @@ apart-names before [] h = (tt, λ a i n. List·Memᴰ·not-nil i)
 apart-names before (o ∷ os) h = more (apart-names (before ++ o ∷ []) os (h .1))
   where
     more : Names (before ++ o ∷ []) os → Names before (o ∷ os)
-    more r = ((λ i. r .1 (name o) i (any-last (λ p. name p ≡ name o) before o refl), r .0), λ a i n. go a n (List·Memᴰ·cases-cons i))
+    more r = ((λ i. r .1 (name o) i (any-right (λ p. name p ≡ name o) before (o ∷ []) (inl refl)), r .0), λ a i n. go a n (List·Memᴰ·cases-cons i))
       where
         go : (a : ℕ) → Any (λ p. name p ≡ a) before → (a ≡ name o) ⊎ List·Memᴰ a (map name os) → ⊥
         go a n (inl e) = h .0 (any-map (λ p. name p ≡ a) (Clash o) (λ p q. inr (q ∙ e)) before n)
@@ -77,7 +65,7 @@ module _ (n : ℕ) (rest : List Occ) where
   one-list before [] h = omega arith
   one-list before (con c ∷ f) h = one-list before f h
   one-list before (var (basic k) a ∷ f) h = one-list before f h
-  one-list before (var list a ∷ f) h = omega (arith, no-more (before ++ (n, a) ∷ []) f (any-last (λ o. o .0 ≡ n) before (n, a) refl) (h .1))
+  one-list before (var list a ∷ f) h = omega (arith, no-more (before ++ (n, a) ∷ []) f (any-right (λ o. o .0 ≡ n) before ((n, a) ∷ []) (inl refl)) (h .1))
 
 one-lists : (n : ℕ) (before : List Occ) (r : List (List OurTerm)) → Apart before (occR n r) → All OneList r
 one-lists n before [] h = tt

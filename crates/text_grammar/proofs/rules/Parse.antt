@@ -35,7 +35,8 @@ cut-joined a u g =
     ∙ ap₂ (λ (l m : List ℕ). cutParts l (place2 l) (arrow1 m)) (take-append-seam a (61 ∷ (62 ∷ u))) (drop-append-seam a (61 ∷ (62 ∷ u)))
     ∙ ap₂ (cutParts a) (place2-none a .0 g) (arrow-is u)
 
-arrow-behind : (r u : List ℕ) → arrow1 r ≡ some u → r ≡ 61 ∷ (62 ∷ u)
+-- what stands at the arrow
+pub arrow-behind : (r u : List ℕ) → arrow1 r ≡ some u → r ≡ 61 ∷ (62 ∷ u)
 arrow-behind [] u e = absurd (Option·none-ne-some u e)
 arrow-behind (b ∷ r) u e = first (ℕ-discrete b 61) e
   where

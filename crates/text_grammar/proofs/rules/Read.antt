@@ -1,6 +1,6 @@
 -- Reading a rule text answers what the refusals say: each refusal in its case only, never 7, and accepted where none applies.
 use mathlib.Core.Path.{_≡_, refl, sym, _∙_, ap, subst}
-use mathlib.Core.Logic.{_≢_, _↔_, ite, Iff·trans}
+use mathlib.Core.Logic.{_≢_, _↔_, ite, Iff·trans, inl}
 use mathlib.Core.Option.{Option, none, some, Option·map, Option·getD}
 use mathlib.Core.List.{List, [], _∷_}
 use Prim.Native.Nat.{ℕ, _<_}
@@ -17,7 +17,8 @@ use Rattle.text_grammar.proofs.Read.{chain-refused, chain-accepted}
 use Rattle.text_grammar.proofs.Theorems.{not-tried, reason-iff}
 use Rattle.text_grammar.specs.rules.Sides.{Sides, one, SaysRule, RuleGrammar}
 use Rattle.text_grammar.specs.rules.Place.{parseRule, placeRule}
-use Rattle.text_grammar.specs.rules.Read.{order, tokensFor, BadIn, badIn?, FirstIn, RefusesRule, saidRule, firstIn, placeOf, OurRule, bothFields, readRule}
+use Rattle.text_grammar.specs.rules.Read.{order, tokensFor, BadIn, badIn?, FirstIn, RefusesRule, saidRule, firstIn}
+use Rattle.text_grammar.specs.rules.Read.{placeOf, OurRule, bothFields, readRule}
 use Rattle.text_grammar.proofs.rules.Place.{place-rule-is, place-rule-none}
 use Rattle.text_grammar.proofs.rules.Parse.{ParsedRule, parsed-rule, parse-rule-complete, says-rule-one}
 
@@ -67,6 +68,10 @@ answers t unknown = first-answers unknown t
 
 pub read-first : (t : List ℕ) (r : Reason) (p : ℕ) → (readRule t ≡ refused r p) ↔ FirstReason (RefusesRule t) order r p
 read-first t r p = chain-refused (RefusesRule t) (placeOf t) (answers t) (bothFields (saidRule t)) order r p
+
+-- a text with too many bytes
+pub long-rule : (t : List ℕ) → rule .bytes < length t → readRule t ≡ refused long (rule .bytes)
+long-rule t h = read-first t long (rule .bytes) .1 (inl (refl, (h, refl)))
 
 pub read-none : (t : List ℕ) (w : OurRule) → (readRule t ≡ accepted w) ↔ (NoReason (RefusesRule t) order × (bothFields (saidRule t) ≡ w))
 read-none t w = chain-accepted (RefusesRule t) (placeOf t) (answers t) (bothFields (saidRule t)) order w

@@ -8,7 +8,8 @@ use Rattle.text_grammar.specs.Leftmost.{leftmost, LeftmostAt}
 use Rattle.text_grammar.specs.Tokens.{Token}
 use Rattle.text_grammar.specs.Place.{StopsOf}
 use Rattle.text_grammar.specs.Terms.{fieldsOf}
-use Rattle.text_grammar.specs.Read.{Reason, long, grammar, fields, terms, limits, linear, variable, unknown, rule, Bad, bad?, placeOfToken}
+use Rattle.text_grammar.specs.Read.{Reason, long, grammar, fields, terms, limits, linear, variable, unknown}
+use Rattle.text_grammar.specs.Read.{rule, Bad, bad?, placeOfToken}
 use Rattle.text_grammar.specs.Read.{longer}
 use Rattle.text_grammar.specs.Read.{OutcomeOf, chain, OurFields}
 use Rattle.text_grammar.specs.rules.Sides.{Sides, one, two, SaysRule, RuleGrammar}

@@ -31,7 +31,8 @@ use denote.Triple.Walked.{says, Stays, stay-none-slice, walkOf, goes-none-slice,
 use denote.Exit.{yes}
 use Rattle.base_walks.proofs.Walk.{holds, envOf, pos, allocs-all, frees-all, var, sets}
 use Rattle.text_passes.specs.Places.{first}
-use Rattle.text_passes.proofs.Held.{LifeToken, reader, mach-text, mach-at, mach, Text, Text-is, At-is, at-is, reader-is, text-typed, at-typed, reader-typed}
+use Rattle.text_passes.proofs.Held.{LifeToken, reader, mach-text, mach-at, mach, Text, Text-is, At-is, at-is, reader-is}
+use Rattle.text_passes.proofs.Held.{text-typed, at-typed, reader-typed}
 use Rattle.text_passes.proofs.Held.{text-twice, held}
 use Rattle.text_passes.proofs.start.Key.{name as #text-passes·start}
 use Rattle.text_passes.proofs.start as start

@@ -1,4 +1,5 @@
--- `text_passes::term` meets its contract: a walk of its MIR, by hand. The reader is taken apart, and `text_scan::lexeme_at` is called on the text and the place.
+-- `text_passes::term` meets its contract: a walk of its MIR, by hand. The reader is taken apart, and `text_scan::lexeme_at` is called on
+-- the text and the place.
 -- Assumes nothing.
 use mathlib.Core.Path.{refl}
 use Prim.Native.Nat.{ℕ, _<_, _^_}

@@ -10,10 +10,7 @@ use Rattle.text_grammar.proofs.Accepted.{slip-read, slip-plain}
 use Rattle.text_values.specs.declared.Slip.{Slip}
 use Rattle.text_values.specs.Values.{viewSlip, encodeSlip}
 use Rattle.text_accepted.specs.slips.Slips.{acceptedSlip, countedSlip}
-use Rattle.text_accepted.proofs.slips.Slips.{accepted-slip, encode-accepted-slip, view-encode-slip}
-
-counted-accepted : (s : Slip) → acceptedSlip s ≡ true → countedSlip s ≡ viewSlip s
-counted-accepted s h = ap (λ (b : Bool). cond b (viewSlip s) []) h
+use Rattle.text_accepted.proofs.slips.Slips.{accepted-slip, counted-accepted, counted-slip}
 
 -- READING A SLIP'S PLAIN TEXT gives what the slip stands for, and there is one value for it
 pub read-written : (s : Slip) → acceptedSlip s ≡ true → (readSlip (plain (countedSlip s)) ≡ accepted (viewSlip s)) × (encodeSlip (viewSlip s) ≡ s)
@@ -23,9 +20,7 @@ read-written s h =
 
 -- EVERY TEXT that is read as r is written as the one plain text of r
 pub written-once : (t : List ℕ) (r : List (List OurTerm)) → readSlip t ≡ accepted r → plain (countedSlip (encodeSlip r)) ≡ plain r
-written-once t r e =
-    let h = slip-read t r e in
-    ap plain (counted-accepted (encodeSlip r) (encode-accepted-slip r h) ∙ view-encode-slip r h)
+written-once t r e = ap plain (counted-slip r (slip-read t r e))
 
 accepted-one : (x y : List (List OurTerm)) → _≡_ {A = Outcome} (accepted x) (accepted y) → x ≡ y
 accepted-one x y e = cc

@@ -1,7 +1,7 @@
 -- What the code finds, case by case, is how the text is split.
 use mathlib.Core.Path.{_≡_, refl, sym, _∙_, ap, ap₂, subst}
-use mathlib.Core.Logic.{_⊎_, inl, inr, ite, if-neg}
-use mathlib.Core.Option.{Option, none, some, Option·map}
+use mathlib.Core.Logic.{_⊎_, inl, inr, if-neg}
+use mathlib.Core.Option.{Option, none, some, Option·map, Option·none-ne-some}
 use mathlib.Core.List.{List, [], _∷_}
 use Prim.Native.Nat.{ℕ, suc, _+_, _-_, _<_, _≤_}
 use native.Mathlib.Omega.{arith}
@@ -14,7 +14,7 @@ use Rattle.text_grammar.specs.Machine.{place2}
 use Rattle.text_grammar.proofs.Place.{place2-is, place2-none}
 use Rattle.text_grammar.specs.rules.Place.{arrow1, arrow2, cutParts, cutAt, cut, place61, place62, placeAt, placeOn, placeRule}
 use Rattle.text_grammar.proofs.rules.Place.{place-rule-none}
-use Rattle.text_grammar.proofs.rules.Parse.{cut-none}
+use Rattle.text_grammar.proofs.rules.Parse.{cut-none, arrow-behind}
 use Rattle.text_scan.specs.declared.Found.{Found}
 use Rattle.text_scan.specs.declared.Found.the-variants as found
 use Rattle.text_scan.specs.Places.{foundOf}
@@ -140,9 +140,6 @@ module _ (t : List ℕ) (p : ℕ) (stops : place2 t ≡ some p) where
 
 -- ---- what a split says
 
-none≢some : {A : Type 0} {x : A} → none ≡ some x → ⊥
-none≢some {A} {x} e = let z : _≡_ {A = ℕ} 0 1 = cc in omega arith
-
 -- the text stops being a rule's where the grammar says so
 pub stops-place : (t : List ℕ) (p : ℕ) → splitOf t ≡ split.Stops p → placeRule t ≡ some p
 stops-place t p e = go (placeRule t) (cut t) e
@@ -159,23 +156,6 @@ one-cut t e = go (placeRule t) (cut t) e
     go (some q) c e = let z : _≡_ {A = ℕ} 0 1 = cc in absurd (omega arith)
     go none none e = (refl, refl)
     go none (some d) e = let z : _≡_ {A = ℕ} 0 1 = cc in absurd (omega arith)
-
--- what stands at the arrow
-arrow-is : (r u : List ℕ) → arrow1 r ≡ some u → r ≡ 61 ∷ (62 ∷ u)
-arrow-is [] u e = absurd (none≢some e)
-arrow-is (b ∷ r) u e = first (ℕ-discrete b 61) e
-  where
-    second : (r : List ℕ) → arrow2 r ≡ some u → r ≡ 62 ∷ u
-    second [] e = absurd (none≢some e)
-    second (c ∷ v) e = go (ℕ-discrete c 62) e
-      where
-        go : (d : Dec (c ≡ 62)) → ite d (some v) none ≡ some u → c ∷ v ≡ 62 ∷ u
-        go (yes h) q = let z : v ≡ u = cc in ap₂ _∷_ h z
-        go (no h) q = absurd (none≢some q)
-
-    first : (d : Dec (b ≡ 61)) → ite d (arrow2 r) none ≡ some u → b ∷ r ≡ 61 ∷ (62 ∷ u)
-    first (yes h) q = ap₂ _∷_ h (second r q)
-    first (no h) q = absurd (none≢some q)
 
 -- the two sides: the bytes before the arrow and those behind it, each of the grammar of one side
 pub record TwoSides (t : List ℕ) (p : ℕ) : Type 0 where
@@ -195,7 +175,7 @@ two-is (some q) c p e = let z : _≡_ {A = ℕ} 0 1 = cc in absurd (omega arith)
 
 map-none : (f : ℕ → ℕ) (o : Option ℕ) → Option·map f o ≡ none → o ≡ none
 map-none f none e = refl
-map-none f (some n) e = absurd (none≢some (sym e))
+map-none f (some n) e = absurd (Option·none-ne-some (f n) (sym e))
 
 behind-arrow : (n : ℕ) (u : List ℕ) → place61 n (61 ∷ (62 ∷ u)) ≡ Option·map (λ q. suc (suc n) + q) (place2 u)
 unfolding ℕ-discrete
@@ -214,7 +194,7 @@ module _ (t : List ℕ) (p n : ℕ) (stops : place2 t ≡ some n) (e : splitOf t
 
     with-arrow : (u : List ℕ) → arrow1 (drop n t) ≡ some u → TwoSides t p
     with-arrow u k =
-        let r = arrow-is (drop n t) u k in
+        let r = arrow-behind (drop n t) u k in
         let with = ap (λ (w : Option (List ℕ)). splitBy (place61 n (drop n t)) (cutParts (take n t) none w)) (sym k) ∙ now in
         let d = two-is (place61 n (drop n t)) (take n t, u) p with in
         let l = length-drop n t in

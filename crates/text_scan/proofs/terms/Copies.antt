@@ -1,24 +1,14 @@
 -- A loop that copies the bytes of a text into an array.
 use mathlib.Core.Path.{_≡_, sym, _∙_, ap, ap₂}
 use mathlib.Core.Logic.{_⊎_, inl, inr}
-use mathlib.Core.List.{List, [], _∷_, _++_, append-assoc}
-use Prim.Native.Nat.{ℕ, suc, _+_, _-_, _<_, _≤_}
+use mathlib.Core.List.{List}
+use Prim.Native.Nat.{ℕ, _+_, _-_, _<_, _≤_}
 use native.Mathlib.Numerals.{add-one}
 use native.Mathlib.Omega.{arith}
-use lib.ListN.{length, getD, take, drop, set, replicate, length-append, length-drop}
-use lib.Seq.{set-append-seam, take-all, take-suc, length-take-le, getD-drop}
+use lib.ListN.{length, getD, take, drop, set, length-drop}
+use lib.Seq.{take-all, take-suc, length-take-le, getD-drop}
 use Rattle.text_values.specs.Values.{pad}
-
--- one more in the place behind the used ones
-pub pad-set : {A : Type 0} (w : ℕ) (d : A) (s : List A) (a : A) → length s < w → set (pad w d s) (length s) a ≡ pad w d (s ++ a ∷ [])
-pad-set w d s a h =
-    let k = w - (length s + 1) in
-    let e : w - length s ≡ suc k = omega arith in
-    let e′ : w - length (s ++ a ∷ []) ≡ k = omega (arith, length-append s (a ∷ [])) in
-    ap (λ (n : ℕ). set (s ++ replicate n d) (length s) a) e
-    ∙ set-append-seam s d (replicate k d) a
-    ∙ sym (append-assoc s (a ∷ []) (replicate k d))
-    ∙ ap (λ (n : ℕ). (s ++ a ∷ []) ++ replicate n d) (sym e′)
+use Rattle.text_values.proofs.Pads.{pad-set}
 
 -- A LOOP that copies the bytes of z into an array of w
 module _ (w : ℕ) (t : List ℕ) (from : ℕ) where

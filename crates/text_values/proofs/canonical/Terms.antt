@@ -2,7 +2,7 @@
 use mathlib.Core.Path.{_≡_, refl, sym, ap, ap₂}
 use mathlib.Core.Logic.{_↔_}
 use mathlib.Core.Bool.{true, _&&_, not, false≢true}
-use mathlib.Core.List.{List, [], _∷_, map}
+use mathlib.Core.List.{List, map-id}
 use Prim.Native.Nat.{ℕ, _≤_}
 use native.Mathlib.Omega.{arith}
 use borrow.Author.Tests.{leb-true, le-leb, eqb-true, eq-eqb}
@@ -50,29 +50,25 @@ byte-stands =
       blank-is = λ b. (λ h. eqb-true b 0 h, λ e. eq-eqb b 0 e);
     }
 
-map-same : (s : List ℕ) → map (λ (b : ℕ). b) s ≡ s
-map-same [] = refl
-map-same (b ∷ s) = ap (λ (l : List ℕ). b ∷ l) (map-same s)
-
 -- the first k bytes of an array, and zeros behind them
 module _ (k : ℕ) (s : List ℕ) (h : textOk k s ≡ true) where
   text-count : length (take k s) ≡ k
-  text-count = rw map-same at (array-count byte-stands longestString k s h)
+  text-count = rw map-id at (array-count byte-stands longestString k s h)
 
   text-few : k ≤ longestString
   text-few = array-few byte-stands longestString k s h
 
   text-in : All Inside (take k s)
-  text-in = rw map-same at (array-in byte-stands longestString k s h)
+  text-in = rw map-id at (array-in byte-stands longestString k s h)
 
   text-pad : pad longestString 0 (take k s) ≡ s
-  text-pad = simp map-same at (array-encode-view byte-stands longestString k s h)
+  text-pad = simp map-id at (array-encode-view byte-stands longestString k s h)
 
 text-good : (s : List ℕ) → All Inside s → length s ≤ longestString → textOk (length s) (pad longestString 0 s) ≡ true
-text-good s h k = simp map-same at (array-good byte-stands longestString s k h)
+text-good s h k = simp map-id at (array-good byte-stands longestString s k h)
 
 text-view : (s : List ℕ) → All Inside s → take (length s) (pad longestString 0 s) ≡ s
-text-view s h = simp map-same at (array-view byte-stands longestString s h)
+text-view s h = simp map-id at (array-view byte-stands longestString s h)
 
 -- ---- terms
 abbrev made : Form → List ℕ → Term
@@ -93,10 +89,10 @@ encode-term-ok (con (int n)) h = both-is (leb n largestInteger) (textOk 0 (repli
 encode-term-ok (con (str s)) h = text-good s (h .0) (h .1)
 encode-term-ok (var k n) h = both-is (leb n largestNumber) (textOk 0 (replicate longestString 0)) .1 (le-leb n largestNumber h, refl)
 
-view-encode : (t : OurTerm) → TermIn t → viewTerm (encodeTerm t) ≡ t
-view-encode (con (int n)) h = refl
-view-encode (con (str s)) h = ap (λ (l : List ℕ). con (str l)) (text-view s (h .0))
-view-encode (var k n) h = ap (λ (j : _). var j n) (kindOf-from k)
+pub view-encode-term : (t : OurTerm) → TermIn t → viewTerm (encodeTerm t) ≡ t
+view-encode-term (con (int n)) h = refl
+view-encode-term (con (str s)) h = ap (λ (l : List ℕ). con (str l)) (text-view s (h .0))
+view-encode-term (var k n) h = ap (λ (j : _). var j n) (kindOf-from k)
 
 blank-form : (f : Form) (s : List ℕ) → formBlank f s ≡ true → made f s ≡ blankTerm
 blank-form (Int n) s h =
@@ -114,7 +110,7 @@ term-stands =
       view-in = λ t h. form-in (t .form) (t .text) h;
       encode-view = λ t h. encode-form (t .form) (t .text) h;
       encode-good = encode-term-ok;
-      view-encode = view-encode;
+      view-encode = view-encode-term;
       blank-is = blank-term;
     }
 
@@ -138,7 +134,7 @@ item-stands =
       view-in = λ t h. let p = item t h in (form-in (t .form) (t .text) (p .1), constant-is (t .form) (t .text) (p .0));
       encode-view = λ t h. encode-form (t .form) (t .text) (item t h .1);
       encode-good = λ t h. both-is (isConstant (encodeTerm t .form)) (termOk (encodeTerm t)) .1 (is-constant t (h .1), encode-term-ok t (h .0));
-      view-encode = λ t h. view-encode t (h .0);
+      view-encode = λ t h. view-encode-term t (h .0);
       blank-is = blank-term;
     }
   where

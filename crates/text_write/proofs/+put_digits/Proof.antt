@@ -5,7 +5,8 @@ use lib.ListN.{length-set}
 use borrow.Author.Needs.{needs}
 use borrow.Fn.Kinds.{In}
 use borrow.Fn.PlainCycle.{Measures, is, falls, and}
-use Rattle.text_write.proofs.Digits.{one-digit, one-more, put-small, put-more}
+use Rattle.text_grammar.proofs.Numbers.{one-digit, one-more}
+use Rattle.text_write.proofs.Digits.{put-small, put-more}
 use Rattle.text_write.proofs.put_digits.Reads as put-digits
 use Rattle.text_write.proofs.put_digits.Kinds as put-digits-kinds
 use Rattle.text_write.proofs.+put_digits.Lts-put_digits as put-digits-lts

@@ -6,7 +6,8 @@ use native.Mathlib.Omega.{arith}
 use lib.ListN.{length}
 use Rattle.text_write.specs.Sizes.{longestNumber}
 use Rattle.text_grammar.specs.Numbers.{digitsOf}
-use Rattle.text_write.proofs.Digits.{digits-some, digits-64, one-digit, one-more}
+use Rattle.text_grammar.proofs.Numbers.{one-digit, one-more}
+use Rattle.text_write.proofs.Digits.{digits-some, digits-64}
 use Rattle.text_write.proofs.digits_size.Statement.{statement}
 use Rattle.text_write.proofs.digits_size.Tie as tie
 

@@ -11,13 +11,13 @@ use lib.Dec.{leb}
 use lib.ListN.{length, take, drop, getD, set, length-append}
 use lib.Seq.{sets, sets-eq, length-sets, set-out, take-at, take-length, drop-cons}
 use borrow.Author.Tests.{le-leb, leb-true}
+use Rattle.base_lists.specs.Arrays.{sets-append}
 use Rattle.text_grammar.specs.Told.{Told, byRoom}
 use Rattle.text_grammar.proofs.Told.{fits-iff}
 use Rattle.text_write.specs.declared.Written.{Written}
 use Rattle.text_write.specs.declared.Written.the-variants.{Bytes, TooSmall}
 use Rattle.text_write.specs.Answers.{told, Writes}
 use Rattle.text_write.proofs.Answers.{wrote}
-use Rattle.text_write.proofs.Stores.{sets-append}
 use Rattle.text_write.specs.pieces.Sizes.{sizeOf}
 use Rattle.text_write.specs.pieces.Placed.{placed, placeBehind, Placed}
 

@@ -7,7 +7,7 @@ use Rattle.text_grammar.specs.Ascii.{ascii}
 use Rattle.text_grammar.specs.Numbers.{digitsOf}
 use Rattle.text_grammar.specs.Read.{Reason, number}
 use Rattle.text_grammar.proofs.Refused.{number-small}
-use Rattle.text_write.proofs.Digits.{digits-most}
+use Rattle.text_grammar.proofs.Numbers.{digits-most}
 use Rattle.text_write.specs.pieces.Refusals.{numberAt}
 
 -- a number of at most two digits, " at " and the place

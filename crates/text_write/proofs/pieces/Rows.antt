@@ -2,11 +2,10 @@
 -- `left` is the text from an item on, with its separator in front: what a loop that has come to that item still has to put. Assumes nothing.
 use mathlib.Core.Path.{_≡_, ap, _∙_}
 use mathlib.Core.List.{List, [], _∷_, _++_}
-use Prim.Native.Nat.{ℕ, suc, _+_, _≤_, _<_, min}
-use native.Mathlib.Numerals.{add-one}
+use Prim.Native.Nat.{ℕ, _+_, _≤_, _<_, min}
 use native.Mathlib.Omega.{arith}
 use lib.ListN.{length, take, drop, getD, length-take, drop-of-length-le}
-use lib.Seq.{drop-cons, getD-take, length-take-le}
+use Rattle.base_lists.specs.Arrays.{here}
 use Rattle.text_values.specs.declared.Form.the-variants.{Int}
 use Rattle.text_values.specs.declared.Term.{Term}
 use Rattle.text_write.proofs.Arrays.{take-most}
@@ -17,13 +16,6 @@ use Rattle.text_write.proofs.pieces.Pieces.{Left, all-left, none-left, 
 -- what an index past an array's end would read; no index goes there
 abbrev pub no-term : Term
 no-term = record { form = Int 0; text = [] }
-
-module _ {A : Type 0} where
-  -- what is in use from i on: the element at i, and what is in use behind it
-  drop-next : (d : A) (xs : List A) (n i : ℕ) → n ≤ length xs → i < n → drop i (take n xs) ≡ getD xs i d ∷ drop (i + 1) (take n xs)
-  drop-next d xs n i l h =
-      let in-use : i < length (take n xs) = omega (arith, length-take-le n xs l) in
-      rw add-one (drop-cons (take n xs) i d in-use ∙ ap (λ (x : A). x ∷ drop (suc i) (take n xs)) (getD-take n xs i d h))
 
 abbrev pub left : {A : Type 0} → Row A → List A → ℕ → ℕ → List ℕ
 left R xs n i = R .rest (drop i (take n xs))
@@ -45,14 +37,14 @@ module _ {A : Type 0} (R : Row A) (xs : List A) (k w n : ℕ) where
 
 module _ {A : Type 0} (R : Row A) (d : A) (xs : List A) (k w n : ℕ) where
   next : (i : ℕ) → length xs ≡ w → n ≡ min k w → i < n → left R xs n i ≡ (R .separator ∷ []) ++ (R .item (getD xs i d) ++ left R xs n (i + 1))
-  next i long most h = ap (R .rest) (drop-next d xs n i (omega arith) h) ∙ R .one (getD xs i d) (drop (i + 1) (take n xs))
+  next i long most h = ap (R .rest) (here n xs i d h (omega arith)) ∙ R .one (getD xs i d) (drop (i + 1) (take n xs))
 
   last : (i : ℕ) → n ≤ i → left R xs n i ≡ []
   last i h = ap (R .rest) (drop-of-length-le (take n xs) {i = i} (omega (arith, length-take n xs))) ∙ R .none
 
   start : length xs ≡ w → n ≡ min k w → 1 ≤ n → R .whole (take k xs) ≡ R .item (getD xs 0 d) ++ left R xs n 1
   start long most h =
-      ap (R .whole) (take-most k n w xs long most ∙ drop-next d xs n 0 (omega arith) h)
+      ap (R .whole) (take-most k n w xs long most ∙ here n xs 0 d h (omega arith))
       ∙ R .first (getD xs 0 d) (drop 1 (take n xs))
 
   -- item 0, and the others behind it

@@ -9,9 +9,9 @@ use native.Mathlib.Decide.{decLt}
 use lib.ListN.{length, set, take, drop, length-append, length-take, length-drop, take-append-drop, drop-of-length-le}
 use lib.Seq.{sets, sets-eq, take-all}
 use borrow.Author.Tests.{le-leb}
+use Rattle.base_lists.specs.Arrays.{sets-append}
 use Rattle.math_terms.proofs.Seqs.{concat-map-append}
 use Rattle.text_write.specs.Answers.{after}
-use Rattle.text_write.proofs.Stores.{sets-append}
 use Rattle.text_write.proofs.pieces.Pieces.{sets-out}
 use Rattle.text_write.specs.pieces.Stored.{bytesOf, storeLine, storeAll}
 

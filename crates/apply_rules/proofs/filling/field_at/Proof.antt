@@ -3,8 +3,8 @@ use mathlib.Core.Path.{_≡_, sym, _∙_}
 use native.Mathlib.Omega.{arith}
 use lib.ListN.{length, List·getD-eq-default}
 use Rattle.base_lists.specs.Seqs.{long-mapped}
+use Rattle.base_lists.specs.Arrays.{entry-any}
 use Rattle.text_values.specs.Values.{blankSlipField}
-use Rattle.match_fields.proofs.bindings.Entries.{entry-any}
 use borrow.Author.Needs.{needs}
 use Rattle.apply_rules.proofs.filling.field_at.Statement.{statement}
 use Rattle.apply_rules.proofs.filling.field_at.Tie as tie

@@ -4,9 +4,9 @@ use Prim.Native.Nat.{ℕ}
 use native.Mathlib.Omega.{arith}
 use Rattle.base_limits.specs.Limits.{atomPlaces}
 use Rattle.base_lists.specs.Seqs.{long-mapped}
+use Rattle.base_lists.specs.Arrays.{entry-any}
 use lib.ListN.{length, getD, List·getD-eq-default}
 use Rattle.text_values.specs.Values.{blankTerm}
-use Rattle.match_fields.proofs.bindings.Entries.{entry-any}
 use borrow.Author.Needs.{needs}
 use Rattle.match_fields.proofs.bindings.value_of.Statement.{statement}
 use Rattle.match_fields.proofs.bindings.value_of.Tie as tie

@@ -5,8 +5,8 @@ use native.Mathlib.Omega.{arith}
 use lib.ListN.{length, drop, take}
 use Rattle.base_limits.specs.Limits.{mostTerms}
 use Rattle.base_lists.specs.Seqs.{long-mapped}
+use Rattle.base_lists.specs.Arrays.{here, no-more}
 use Rattle.match_fields.proofs.Walks.{absent}
-use Rattle.text_accepted.proofs.variables.Loops.{here, no-more}
 use Rattle.print_matches.proofs.answers.Noted.{Open, open-all, open-next, open-none, isTerm, field-noted}
 use borrow.Author.Needs.{needs}
 use Rattle.print_matches.proofs.answers.note_field.Statement.{statement}
@@ -51,7 +51,7 @@ loop-again c =
     let h : L .i < min (z .t2 .n) mostTerms = omega (arith, m, c .before .before .loop-test .taken) in (
       L .inv .0,
       open-next isTerm (z .v .has) (take (z .t2 .n) (z .t2 .terms)) _ _ _ (L .w .has) (c .note-term .result .has)
-          (here (z .t2 .n) (z .t2 .terms) mostTerms (L .i) (L .inv .0) absent h) (L .inv .1) (c .note-term .ensures),
+          (here (z .t2 .n) (z .t2 .terms) (L .i) absent (omega arith) (omega (arith, L .inv .0))) (L .inv .1) (c .note-term .ensures),
     )
 
 returns : tie.Need-returns Inv-loop μ-loop

@@ -67,7 +67,7 @@ use Rattle.base_numbers.proofs.at_most.Met as at-most-thm
 use Rattle.search_row.proofs.search.Symbol as search-def
 use Rattle.search_row.proofs.search.Symbol.{name as #search-row·search}
 use Rattle.search_row.proofs.search.Met as search-thm
-use Rattle.search_row.proofs.own.search_in.Key.{name as #search-run·search-in}
+use Rattle.search_row.proofs.own.search_in.Key.{name as #search-row·own·search-in}
 use Rattle.search_row.proofs.own.search_in as search-in
 use Rattle.search_row.proofs.own.search_in.Statement as stated
 use Rattle.search_row.proofs.own.search_in.Code as code
@@ -204,7 +204,7 @@ search-in-spec 𝓤 H 𝓜 𝓖 𝓡 =
     let clauses = search-in.clauses 𝓤 H A (𝓜 .mem) (𝓡 .run) in
     let goes = WpFn 𝓤 H (𝓣 .C) (𝓣 .Λ) code.function in
     entered 𝓤 H (tripleOf 𝓤 H A search-in.signature (search-in.spec 𝓤 H A (𝓜 .mem) (𝓡 .run))) (tables 𝓤 H 𝓜 𝓡 code.env .C)
-    (tables 𝓤 H 𝓜 𝓡 code.env .Λ) #search-run·search-in code.function (code.unfolded 𝓤 H 𝓜 𝓡)
+    (tables 𝓤 H 𝓜 𝓡 code.env .Λ) #search-row·own·search-in code.function (code.unfolded 𝓤 H 𝓜 𝓡)
     (walk-meets 𝓤 H A search-in.ended stayed W (
       goes-none 𝓤 H A W 1 (λ _. F.the-row) yes (λ κs x f. refl),
       (

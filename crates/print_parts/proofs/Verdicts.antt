@@ -7,7 +7,7 @@ use Rattle.text_refusals.specs.declared.verdicts.Verdict.{Verdict}
 use Rattle.text_refusals.specs.declared.verdicts.Verdict.the-variants.{Accepted, Refused}
 use Rattle.text_refusals.specs.verdicts.Verdicts.{numberOf}
 use Rattle.text_write.specs.pieces.Refusals.{numberAt}
-use Rattle.print_matches.specs.Values.{verdictText}
+use Rattle.print_parts.specs.Verdicts.{verdictText}
 
 module _ (words : List ℕ) (v : Verdict) (t : List ℕ) where
   pub text-accepted : v ≡ Accepted → verdictText words v t ≡ t
