@@ -8,7 +8,7 @@ use Rattle.math_search.specs.Problems.{Names, Setting, Field, Bindings, 
 use Rattle.math_search.specs.Rules.{Rule, ruleOrder, Move, fails, rule, apply, ruleCount}
 use Rattle.math_search.specs.worklist.Machine.{Records}
 
--- the rules have the numbers from k on to 13
+-- the rules have the numbers from k on, up to their count
 abbrev pub Numbered : (Rule → ℕ) → ℕ → List Rule → Type 0
 Numbered number k [] = k ≡ ruleCount
 Numbered number k (r ∷ rs) = (number r ≡ k) × Numbered number (k + 1) rs

@@ -23,7 +23,7 @@ pub record Records : Type 1 where
   pub line : Rec → List ℕ
   pub store : List ℕ → ℕ → List ℕ → List ℕ
 
--- `rule`: the next rule that gives the held problem a child; 14 where none is left, or no problem is held
+-- `rule`: the next rule that gives the held problem a child; `ruleCount` where none is left, or no problem is held
 pub record Work (R : Type 0) : Type 0 where
   pub busy : Bool
   pub refused : Bool
