@@ -15,8 +15,8 @@ use Rattle.math_types.specs.Types.{Kind, basics}
 use Rattle.math_terms.specs.Terms.{con}
 use Rattle.math_terms.specs.Fillings.{Filling, fill}
 use Rattle.math_terms.specs.Matcher.{complete}
-use Rattle.text_grammar.specs.Terms.{Con, OurTerm}
-use Rattle.text_grammar.specs.constants.Constants.{consts}
+use Rattle.text_grammar.specs.Terms.{OurTerm}
+use Rattle.text_grammar.specs.constants.Constants.{Con, consts}
 use Rattle.text_grammar.specs.constants.Matching.{constants, matcher}
 use Rattle.text_grammar.specs.rules.Read.{OurRule}
 use Rattle.text_grammar.specs.rules.Limits.{IsRule}

@@ -13,9 +13,9 @@ use Rattle.math_types.specs.Types.{Kind, basics}
 use Rattle.math_terms.specs.Terms.{con, var}
 use Rattle.math_terms.specs.Fillings.{Filling, fill, Occurs}
 use Rattle.math_terms.specs.Matcher.{complete, orSome}
-use Rattle.text_grammar.specs.Terms.{Con, OurTerm}
+use Rattle.text_grammar.specs.Terms.{OurTerm}
+use Rattle.text_grammar.specs.constants.Constants.{Con, consts}
 use Rattle.text_grammar.specs.Limits.{TermIn, IsLeft, IsSlip}
-use Rattle.text_grammar.specs.constants.Constants.{consts}
 use Rattle.text_grammar.specs.constants.Matching.{constants, matcher}
 use Rattle.text_values.specs.declared.Term.{Term}
 use Rattle.text_values.specs.Values.{encodeSide, encodeSlip}

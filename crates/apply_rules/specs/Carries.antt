@@ -11,8 +11,8 @@ use Rattle.base_lists.specs.Seqs.{IsCons}
 use Rattle.math_types.specs.Types.{Kind, basics}
 use Rattle.math_terms.specs.Terms.{con}
 use Rattle.math_terms.specs.Fillings.{Filling, Typed, fill}
-use Rattle.text_grammar.specs.Terms.{Con, OurTerm}
-use Rattle.text_grammar.specs.constants.Constants.{consts}
+use Rattle.text_grammar.specs.Terms.{OurTerm}
+use Rattle.text_grammar.specs.constants.Constants.{Con, consts}
 use Rattle.text_grammar.specs.constants.Matching.{constants, Matches}
 use Rattle.apply_spec.specs.Carrying.{Short, Over}
 use Rattle.text_values.specs.declared.Rule.{Rule}

@@ -10,7 +10,7 @@ use Rattle.math_terms.specs.Terms.{con}
 use Rattle.text_grammar.specs.Ascii.{ascii}
 use Rattle.text_grammar.specs.Bytes.{digit?, begins, follows, first, holds}
 use Rattle.text_grammar.specs.Tokens.{fifth?, many?, over?, clash?, clashOf?}
-use Rattle.text_grammar.specs.Terms.{int}
+use Rattle.text_grammar.specs.constants.Constants.{int}
 use Rattle.text_grammar.specs.Read.{OutcomeOf, Outcome, refused, accepted, readSlip}
 use Rattle.text_grammar.specs.Plain.{plain}
 use Rattle.text_grammar.specs.constants.Matching.{constants}

@@ -12,8 +12,8 @@ use Rattle.base_lists.specs.Seqs.{All, IsCons, cons-map}
 use Rattle.math_types.specs.Types.{Kind, basics}
 use Rattle.math_terms.specs.Fillings.{Filling, Typed, fill}
 use Rattle.math_terms.specs.Linear.{LeftLinear}
-use Rattle.text_grammar.specs.Terms.{Con, OurTerm}
-use Rattle.text_grammar.specs.constants.Constants.{consts}
+use Rattle.text_grammar.specs.Terms.{OurTerm}
+use Rattle.text_grammar.specs.constants.Constants.{Con, consts}
 use Rattle.text_grammar.specs.constants.Matching.{Matches, matcher}
 use Rattle.text_grammar.proofs.constants.Linear.{left-linear}
 use Rattle.overlap_spec.specs.Fits.{OurCon}

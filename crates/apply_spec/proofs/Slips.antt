@@ -7,7 +7,8 @@ use lib.ListN.{length, length-map}
 use Rattle.base_limits.specs.Limits.{mostFields, mostItems}
 use Rattle.base_lists.specs.Seqs.{All, IsCons, all-map, cons-map}
 use Rattle.math_terms.specs.Terms.{con, var}
-use Rattle.text_grammar.specs.Terms.{Con, OurTerm}
+use Rattle.text_grammar.specs.Terms.{OurTerm}
+use Rattle.text_grammar.specs.constants.Constants.{Con}
 use Rattle.text_grammar.specs.Limits.{TermIn, IsCon}
 use Rattle.text_grammar.specs.Read.{slip, OurFields}
 use Rattle.math_overlaps.specs.Constants.{ConstantIn}

@@ -8,8 +8,7 @@ use Rattle.base_limits.specs.Limits.{mostItems}
 use Rattle.base_lists.specs.Seqs.{IsCons}
 use Rattle.math_types.specs.Types.{Kind, basics}
 use Rattle.math_terms.specs.Fillings.{Filling, Typed, fill}
-use Rattle.text_grammar.specs.Terms.{Con}
-use Rattle.text_grammar.specs.constants.Constants.{consts}
+use Rattle.text_grammar.specs.constants.Constants.{Con, consts}
 use Rattle.text_grammar.specs.constants.Matching.{Matches}
 use Rattle.text_grammar.specs.rules.Read.{OurRule}
 use Rattle.apply_spec.specs.Carrying.{Carried, result, unmatched, tooLong, limited, Short, Over}

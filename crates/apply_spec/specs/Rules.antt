@@ -4,9 +4,8 @@ use native.Mathlib.Decide.{ℕ-discrete}
 use Rattle.base_limits.specs.Limits.{mostItems}
 use Rattle.math_types.specs.Types.{basics}
 use Rattle.math_terms.specs.Terms.{con}
-use Rattle.text_grammar.specs.Terms.{Con}
+use Rattle.text_grammar.specs.constants.Constants.{Con, consts}
 use Rattle.text_grammar.specs.Limits.{IsSlip}
-use Rattle.text_grammar.specs.constants.Constants.{consts}
 use Rattle.text_grammar.specs.rules.Read.{OurRule}
 use Rattle.apply_spec.specs.Carrying as theory
 

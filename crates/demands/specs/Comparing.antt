@@ -15,9 +15,9 @@ use Rattle.base_lists.specs.Seqs.{All}
 use Rattle.math_types.specs.Types.{basics}
 use Rattle.math_terms.specs.Compared.{Passes, CountIs, allAtoms}
 use Rattle.math_terms.proofs.Compared.{compared-exactly, compared-none, compared-yes, compared-most, yes-passes}
-use Rattle.text_grammar.specs.Terms.{Con, OurTerm}
+use Rattle.text_grammar.specs.Terms.{OurTerm}
+use Rattle.text_grammar.specs.constants.Constants.{Con, consts}
 use Rattle.text_grammar.specs.Limits.{Linear}
-use Rattle.text_grammar.specs.constants.Constants.{consts}
 use Rattle.text_grammar.specs.constants.Matching.{constants, matcher, tests, compared}
 use Rattle.text_grammar.proofs.constants.Matching.{match-iff}
 use Rattle.text_values.specs.declared.Rule.{Rule}

@@ -16,9 +16,9 @@ use Rattle.math_terms.specs.Terms.{Term, con, var}
 use Rattle.math_terms.specs.Fillings.{Filling, Typed, fill, Occurs}
 use Rattle.math_terms.specs.Linear.{LeftLinear}
 use Rattle.math_terms.proofs.Fillings.{fills-agree}
-use Rattle.text_grammar.specs.Terms.{Con, OurTerm}
+use Rattle.text_grammar.specs.Terms.{OurTerm}
+use Rattle.text_grammar.specs.constants.Constants.{Con, consts, some-of, some-of-le}
 use Rattle.text_grammar.specs.Limits.{IsLeft}
-use Rattle.text_grammar.specs.constants.Constants.{consts, some-of, some-of-le}
 use Rattle.text_grammar.proofs.constants.Linear.{left-linear}
 use Rattle.math_overlaps.specs.Substitutions.{Subst, substitute, TermsOf, TypedSubst}
 use Rattle.math_overlaps.specs.Overlaps.{overlaps}

@@ -22,7 +22,8 @@ use Rattle.math_terms.specs.Laws.{expr}
 use Rattle.math_terms.specs.Matching.{MatchesByLaws}
 use Rattle.math_terms.specs.Matcher.{complete}
 use Rattle.text_grammar.specs.Grammar.{Raw, Says}
-use Rattle.text_grammar.specs.Terms.{Con, OurTerm, fieldsOf}
+use Rattle.text_grammar.specs.Terms.{OurTerm, fieldsOf}
+use Rattle.text_grammar.specs.constants.Constants.{Con, consts}
 use Rattle.text_grammar.specs.Limits.{IsCon, IsLeft, IsSlip}
 use Rattle.text_grammar.specs.Read.{OutcomeOf, Outcome, refused, accepted, readSide, readSlip}
 use Rattle.text_grammar.proofs.Parse.{says-one}
@@ -34,7 +35,6 @@ use Rattle.text_grammar.specs.rules.Tokens.{leftSide}
 use Rattle.text_grammar.specs.rules.Read.{OurRule, readRule}
 use Rattle.text_grammar.proofs.rules.Accepted as rules
 use Rattle.text_grammar.proofs.rules.Left.{left-says, left-reads}
-use Rattle.text_grammar.specs.constants.Constants.{consts}
 use Rattle.text_grammar.specs.constants.Matching.{constants, Matches, matcher}
 use Rattle.text_grammar.specs.constants.Written.{writtenField}
 use Rattle.text_grammar.proofs.constants.Written.{written-matches, terms-matches}

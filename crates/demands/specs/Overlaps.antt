@@ -23,7 +23,8 @@ use Rattle.base_lists.specs.Seqs.{All}
 use Rattle.math_types.specs.Types.{Kind, basics}
 use Rattle.math_terms.specs.Fillings.{Filling, Typed, fill}
 use Rattle.text_grammar.specs.Told.{Told}
-use Rattle.text_grammar.specs.Terms.{Con, OurTerm}
+use Rattle.text_grammar.specs.Terms.{OurTerm}
+use Rattle.text_grammar.specs.constants.Constants.{Con, consts}
 use Rattle.text_grammar.specs.Limits.{IsLeft}
 use Rattle.text_grammar.specs.Read.{Reason, OutcomeOf, refused, accepted}
 use Rattle.text_grammar.specs.rules.Read.{OurRule, readRule}
@@ -31,7 +32,6 @@ use Rattle.text_grammar.specs.rules.Place.{leftText}
 use Rattle.text_grammar.proofs.rules.Accepted.{rule-read}
 use Rattle.text_grammar.proofs.rules.Before.{one-sided}
 use Rattle.text_grammar.proofs.rules.Left.{left-reads}
-use Rattle.text_grammar.specs.constants.Constants.{consts}
 use Rattle.text_grammar.specs.constants.Matching.{Matches}
 use Rattle.overlap_spec.specs.Lines.{Line, listText, WritableLine}
 use Rattle.overlap_spec.specs.Overlaps.{linesOf, overlapText}

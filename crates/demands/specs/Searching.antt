@@ -29,7 +29,8 @@ use Rattle.math_terms.specs.Laws.{_≈_, flat, replace}
 use Rattle.math_terms.proofs.Laws.{laws, flat-replace, filled-terms, cons-once}
 use Rattle.text_grammar.specs.Told.{Told}
 use Rattle.text_grammar.specs.Grammar.{Raw, Says}
-use Rattle.text_grammar.specs.Terms.{Con, OurTerm, fieldsOf}
+use Rattle.text_grammar.specs.Terms.{OurTerm, fieldsOf}
+use Rattle.text_grammar.specs.constants.Constants.{Con, consts}
 use Rattle.text_grammar.specs.Limits.{IsLeft}
 use Rattle.text_grammar.specs.Read.{accepted}
 use Rattle.text_grammar.specs.rules.Read.{readRule}
@@ -37,7 +38,6 @@ use Rattle.text_grammar.proofs.rules.Before.{one-sided}
 use Rattle.text_grammar.proofs.Told.{eight-iff, fits-iff}
 use Rattle.text_grammar.proofs.Parse.{says-one}
 use Rattle.text_grammar.proofs.Theorems.{rule-accepted}
-use Rattle.text_grammar.specs.constants.Constants.{consts}
 use Rattle.text_grammar.specs.constants.Written.{writtenField}
 use Rattle.text_grammar.proofs.constants.Written.{flat-field}
 use Rattle.math_overlaps.specs.Substitutions.{Subst, image, substitute}

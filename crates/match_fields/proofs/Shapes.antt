@@ -12,7 +12,8 @@ use Rattle.math_types.specs.Values.{kindOf-from}
 use Rattle.math_terms.specs.Terms.{con, var}
 use Rattle.math_terms.specs.Matcher.{atoms, hasRoom, room}
 use Rattle.math_terms.specs.Linear.{lists}
-use Rattle.text_grammar.specs.Terms.{int, str, OurTerm}
+use Rattle.text_grammar.specs.Terms.{OurTerm}
+use Rattle.text_grammar.specs.constants.Constants.{int, str}
 use Rattle.text_values.specs.Values.{encodeTerm}
 use Rattle.match_fields.specs.declared.Shape.{Shape}
 use Rattle.match_fields.specs.Fields.{shapeWith, noShape, shapeOf, fitsLength}

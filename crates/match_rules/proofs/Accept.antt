@@ -11,7 +11,8 @@ use lib.ListN.{length, take, length-map}
 use Rattle.base_limits.specs.Limits.{mostFields}
 use Rattle.base_lists.specs.Seqs.{All, IsCons, all-map}
 use Rattle.math_terms.specs.Linear.{OneList}
-use Rattle.text_grammar.specs.Terms.{Con, OurTerm}
+use Rattle.text_grammar.specs.Terms.{OurTerm}
+use Rattle.text_grammar.specs.constants.Constants.{Con}
 use Rattle.text_grammar.specs.Limits.{TermIn, IsCon}
 use Rattle.text_grammar.specs.constants.Matching.{constants, matcher, compared}
 use Rattle.text_grammar.proofs.constants.Linear.{left-linear}

@@ -23,9 +23,9 @@ use Rattle.math_terms.specs.Matcher.{andThen, atoms, width, blank, bind, same, 
 use Rattle.math_terms.specs.Linear.{OneList}
 use Rattle.math_terms.proofs.Slices.{span, room-span}
 use Rattle.math_terms.proofs.Seqs.{item-at}
-use Rattle.text_grammar.specs.Terms.{Con, int, str, OurTerm}
+use Rattle.text_grammar.specs.Terms.{OurTerm}
+use Rattle.text_grammar.specs.constants.Constants.{Con, int, str, con-eq, kind-of, consts}
 use Rattle.text_grammar.specs.Limits.{TermIn}
-use Rattle.text_grammar.specs.constants.Constants.{con-eq, kind-of, consts}
 use Rattle.text_values.specs.declared.SlipField.{SlipField}
 use Rattle.text_values.specs.Values.{pad, blankTerm, encodeTerm, encodeField, encodeSlipField}
 use Rattle.text_values.specs.declared.Term.{Term as TermValue}

@@ -17,9 +17,9 @@ use Rattle.math_terms.specs.Linear.{OneList}
 use Rattle.math_terms.specs.Matcher.{atoms, width, hasRoom, test, matchField}
 use Rattle.math_terms.proofs.Compared.{countThen, comparedWalk, comparedField, comparedFields}
 use Rattle.math_terms.proofs.Slices.{span, room-span}
-use Rattle.text_grammar.specs.Terms.{Con, int, str, OurTerm}
+use Rattle.text_grammar.specs.Terms.{OurTerm}
+use Rattle.text_grammar.specs.constants.Constants.{Con, int, str, consts}
 use Rattle.text_grammar.specs.Limits.{TermIn}
-use Rattle.text_grammar.specs.constants.Constants.{consts}
 use Rattle.text_values.specs.declared.Term.{Term as TermValue}
 use Rattle.text_values.specs.Values.{blankTerm, encodeTerm, encodeField}
 use Rattle.match_fields.specs.declared.bindings.Values.{Values}

@@ -20,9 +20,9 @@ use Rattle.math_terms.specs.Fillings.{Filling}
 use Rattle.math_terms.specs.Matcher.{atoms, blank, matchFields}
 use Rattle.math_terms.specs.Linear.{lists, OneList}
 use Rattle.math_terms.proofs.Compared.{compared-none, compared-walked}
-use Rattle.text_grammar.specs.Terms.{Con, int, str, OurTerm}
+use Rattle.text_grammar.specs.Terms.{OurTerm}
+use Rattle.text_grammar.specs.constants.Constants.{Con, int, str, consts}
 use Rattle.text_grammar.specs.Limits.{TermIn}
-use Rattle.text_grammar.specs.constants.Constants.{consts}
 use Rattle.text_grammar.specs.constants.Matching.{matcher, compared}
 use Rattle.text_values.specs.declared.Term.{Term as TermValue}
 use Rattle.text_values.specs.declared.Field.{Field}

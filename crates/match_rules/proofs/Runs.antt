@@ -19,9 +19,9 @@ use Rattle.math_terms.specs.Fillings.{Filling, Typed, fill, Occurs}
 use Rattle.math_terms.specs.Matcher.{atoms, complete, room, hasRoom}
 use Rattle.math_terms.specs.Linear.{lists, OneList}
 use Rattle.math_terms.proofs.Slices.{Slices, field-iff}
-use Rattle.text_grammar.specs.Terms.{Con, OurTerm}
+use Rattle.text_grammar.specs.Terms.{OurTerm}
+use Rattle.text_grammar.specs.constants.Constants.{Con, consts}
 use Rattle.text_grammar.specs.Limits.{Linear}
-use Rattle.text_grammar.specs.constants.Constants.{consts}
 use Rattle.text_grammar.specs.constants.Matching.{matcher}
 use Rattle.text_grammar.proofs.constants.Linear.{left-linear}
 use Rattle.text_grammar.proofs.constants.Matching.{match-yes, match-is}

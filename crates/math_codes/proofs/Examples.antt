@@ -8,7 +8,8 @@ use Rattle.math_types.specs.Order.{basic, list}
 use Rattle.math_types.specs.Types.{leaf, integer, atom, entry}
 use Rattle.math_terms.specs.Terms.{con, var}
 use Rattle.text_grammar.specs.Ascii.{ascii}
-use Rattle.text_grammar.specs.Terms.{OurTerm, int}
+use Rattle.text_grammar.specs.Terms.{OurTerm}
+use Rattle.text_grammar.specs.constants.Constants.{int}
 use Rattle.math_overlaps.specs.Shapes.{left, right}
 use Rattle.math_codes.specs.Tables.{Table}
 use Rattle.math_codes.specs.Lines.{ourTable, ourTexts}

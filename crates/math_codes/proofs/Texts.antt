@@ -10,10 +10,9 @@ use lib.ListN.{length, drop, length-append}
 use Rattle.base_lists.specs.Seqs.{All, IsCons}
 use Rattle.math_terms.specs.Terms.{con}
 use Rattle.text_grammar.specs.Bytes.{Digit}
-use Rattle.text_grammar.specs.Grammar.{Number}
-use Rattle.text_grammar.specs.Numbers.{val, value, digitsOf}
+use Rattle.text_grammar.specs.Numbers.{Number, val, value, digitsOf}
 use Rattle.text_grammar.specs.Plain.{termText}
-use Rattle.text_grammar.specs.Terms.{Con, int, str}
+use Rattle.text_grammar.specs.constants.Constants.{Con, int, str}
 use Rattle.text_grammar.proofs.Numbers.{digits-value, digits-number, digits-one}
 use Rattle.math_overlaps.proofs.Seqs.{cut}
 use Rattle.math_codes.specs.Texts.{zeros}

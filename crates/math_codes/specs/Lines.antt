@@ -14,8 +14,8 @@ use Rattle.math_terms.specs.Seqs.{concat-map}
 use Rattle.text_grammar.specs.Letters.{letterAt}
 use Rattle.text_grammar.specs.Numbers.{digitsOf}
 use Rattle.text_grammar.specs.Plain.{termText}
-use Rattle.text_grammar.specs.Terms.{Con, OurTerm}
-use Rattle.text_grammar.specs.constants.Constants.{consts}
+use Rattle.text_grammar.specs.Terms.{OurTerm}
+use Rattle.text_grammar.specs.constants.Constants.{Con, consts}
 use Rattle.math_overlaps.specs.Shapes.{Vars, Side, left, right, pairVars, Shape}
 use Rattle.math_overlaps.specs.Candidates.{Cand}
 use Rattle.math_overlaps.specs.Joins.{At}

@@ -8,7 +8,8 @@ use Rattle.math_types.specs.Order.{basic, list}
 use Rattle.math_types.specs.Types.{leaf, integer, string, atom, Kind}
 use Rattle.math_terms.specs.Terms.{con, var}
 use Rattle.text_grammar.specs.Ascii.{ascii, newline}
-use Rattle.text_grammar.specs.Terms.{OurTerm, int, str}
+use Rattle.text_grammar.specs.Terms.{OurTerm}
+use Rattle.text_grammar.specs.constants.Constants.{int, str}
 use Rattle.overlap_spec.specs.Lines.{Binding, Line, lineText, listText}
 use Rattle.overlap_spec.specs.Variables.{variables}
 

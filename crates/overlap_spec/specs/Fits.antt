@@ -7,9 +7,9 @@ use Rattle.base_lists.specs.Seqs.{All}
 use Rattle.math_types.specs.Types.{Kind, basics}
 use Rattle.math_terms.specs.Terms.{con}
 use Rattle.math_terms.specs.Fillings.{Filling, Typed, fill}
-use Rattle.text_grammar.specs.Terms.{Con, OurTerm}
+use Rattle.text_grammar.specs.Terms.{OurTerm}
+use Rattle.text_grammar.specs.constants.Constants.{Con, consts}
 use Rattle.text_grammar.specs.Limits.{TermIn}
-use Rattle.text_grammar.specs.constants.Constants.{consts}
 use Rattle.text_grammar.specs.constants.Matching.{Matches}
 use Rattle.math_overlaps.specs.Solutions as theory
 use Rattle.overlap_spec.specs.Lines.{Binding, Line}

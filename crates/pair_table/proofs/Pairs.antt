@@ -19,9 +19,9 @@ use Rattle.math_terms.specs.Terms.{con, var, con-once, con≢var, kind-once}
 use Rattle.text_grammar.specs.Limits.{IsLeft}
 use Rattle.text_grammar.specs.Plain.{termText}
 use Rattle.text_grammar.specs.Read.{accepted, readSide}
-use Rattle.text_grammar.specs.Terms.{OurTerm, Con, int, str}
+use Rattle.text_grammar.specs.Terms.{OurTerm}
+use Rattle.text_grammar.specs.constants.Constants.{Con, int, str, consts, kind-of}
 use Rattle.text_grammar.proofs.Accepted.{rule-read}
-use Rattle.text_grammar.specs.constants.Constants.{consts, kind-of}
 use Rattle.math_overlaps.specs.Shapes.{fixed, free, left, right, of}
 use Rattle.math_overlaps.specs.Candidates.{range}
 use Rattle.math_overlaps.specs.Overlaps.{Origin, place, termOf}

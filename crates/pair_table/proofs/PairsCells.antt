@@ -15,9 +15,8 @@ use Rattle.base_lists.specs.Truths.{both-is}
 use Rattle.math_types.specs.Order.{basic}
 use Rattle.math_types.specs.Types.{rank}
 use Rattle.text_grammar.specs.Numbers.{value, digitsOf}
-use Rattle.text_grammar.specs.Terms.{Con, int, str}
+use Rattle.text_grammar.specs.constants.Constants.{Con, int, str, kind-of}
 use Rattle.text_grammar.proofs.Numbers.{digits-value}
-use Rattle.text_grammar.specs.constants.Constants.{kind-of}
 use Rattle.pair_row.specs.Row.{kindsAt, membersAt, textsBytes, bytesIn, cellBytes}
 use Rattle.pair_table.specs.Notes.{celled, sameFrom, sameConstant, memberFrom}
 

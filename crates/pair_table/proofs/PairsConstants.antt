@@ -13,8 +13,7 @@ use borrow.Author.Tests.{eq-eqb, ne-eqb}
 use Rattle.base_limits.specs.Limits.{longestString, pairPlaces}
 use Rattle.math_types.specs.Order.{basic}
 use Rattle.math_types.specs.Types.{basics, rank}
-use Rattle.text_grammar.specs.Terms.{Con}
-use Rattle.text_grammar.specs.constants.Constants.{consts, kind-of}
+use Rattle.text_grammar.specs.constants.Constants.{Con, consts, kind-of}
 use Rattle.math_overlaps.specs.Shapes.{fixed, fixed-once}
 use Rattle.math_codes.specs.Tables.{Holds}
 use Rattle.math_codes.specs.Tables.{same as alike}

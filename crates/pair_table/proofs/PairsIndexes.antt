@@ -15,7 +15,8 @@ use Rattle.base_lists.specs.Truths.{both-is}
 use Rattle.math_types.specs.Order.{basic, list}
 use Rattle.math_types.specs.Types.{Basic, Kind, rank, rank-kinds, rank-once, same, same-is}
 use Rattle.math_terms.specs.Terms.{con, var}
-use Rattle.text_grammar.specs.Terms.{OurTerm, Con}
+use Rattle.text_grammar.specs.Terms.{OurTerm}
+use Rattle.text_grammar.specs.constants.Constants.{Con}
 use Rattle.math_overlaps.specs.Shapes.{free, Side, left, right, Variable, of, kindIn}
 use Rattle.overlap_spec.specs.Variables.{isVariable, inField}
 use Rattle.math_codes.specs.Tables.{Holds}

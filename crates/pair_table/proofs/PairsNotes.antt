@@ -11,8 +11,7 @@ use lib.ListN.{length, getD}
 use Rattle.base_limits.specs.Limits.{longestString, pairPlaces}
 use Rattle.math_types.specs.Order.{basic}
 use Rattle.math_types.specs.Types.{basics, rank}
-use Rattle.text_grammar.specs.Terms.{Con}
-use Rattle.text_grammar.specs.constants.Constants.{consts}
+use Rattle.text_grammar.specs.constants.Constants.{Con, consts}
 use Rattle.math_overlaps.specs.Shapes.{fixed}
 use Rattle.math_codes.specs.Tables.{Holds, codeOf, kindA, isFree}
 use Rattle.math_codes.specs.Tables.{same as alike}

@@ -12,8 +12,8 @@ use Rattle.base_limits.specs.Limits.{mostTerms, longestString, largestNumber, f
 use Rattle.math_types.specs.Order.{basic, list}
 use Rattle.math_types.specs.Types.{Basic, Kind, rank}
 use Rattle.math_terms.specs.Terms.{con, var}
-use Rattle.text_grammar.specs.Terms.{OurTerm, Con}
-use Rattle.text_grammar.specs.constants.Constants.{kind-of}
+use Rattle.text_grammar.specs.Terms.{OurTerm}
+use Rattle.text_grammar.specs.constants.Constants.{Con, kind-of}
 use Rattle.math_overlaps.specs.Shapes.{fixed, free, Side, of, fixed≢free}
 use Rattle.math_codes.specs.Tables.{Holds}
 use Rattle.math_codes.specs.Entries.{atomOf}

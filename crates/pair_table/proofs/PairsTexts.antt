@@ -17,13 +17,13 @@ use Rattle.math_types.specs.Types.{Kind, rank, isList}
 use Rattle.base_lists.specs.Arrays.{shift-length, shift-eq}
 use Rattle.math_types.specs.Values.{kindOf-from}
 use Rattle.math_terms.specs.Terms.{con}
-use Rattle.text_grammar.specs.Grammar.{Raw, raw-int, raw-str, raw-var, raw-empty, spell, Proper, colons, spellF, bars, spellT}
+use Rattle.text_grammar.specs.Grammar.{Raw, raw-var, raw-empty, spell, Proper, colons, spellF, bars, spellT}
+use Rattle.text_grammar.specs.constants.Constants.{raw-int, raw-str, Con, int, str, kind-of}
 use Rattle.text_grammar.specs.Numbers.{value, digitsOf}
 use Rattle.text_grammar.specs.Tokens.{Token, tokensF, tokensT, tokens, Over}
-use Rattle.text_grammar.specs.Terms.{OurTerm, Con, int, str, termOf, fieldOf}
+use Rattle.text_grammar.specs.Terms.{OurTerm, termOf, fieldOf}
 use Rattle.text_grammar.proofs.Walk.{spell-some}
 use Rattle.text_grammar.proofs.Numbers.{digits-one, digits-ten}
-use Rattle.text_grammar.specs.constants.Constants.{kind-of}
 use Rattle.math_overlaps.specs.Shapes.{Side}
 use Rattle.math_codes.specs.Texts.{zeros}
 use Rattle.math_codes.specs.Entries.{atomOf}

@@ -12,8 +12,8 @@ use Rattle.base_limits.specs.Limits.{largestNumber, numbersOfSide, pairPlaces}
 use Rattle.math_types.specs.Order.{basic, list}
 use Rattle.math_types.specs.Types.{Basic, Kind, basics, rank, rank-kinds}
 use Rattle.math_terms.specs.Terms.{var}
-use Rattle.text_grammar.specs.Terms.{OurTerm, Con}
-use Rattle.text_grammar.specs.constants.Constants.{consts}
+use Rattle.text_grammar.specs.Terms.{OurTerm}
+use Rattle.text_grammar.specs.constants.Constants.{Con, consts}
 use Rattle.math_overlaps.specs.Shapes.{fixed, free, of, fixed≢free, free-once}
 use Rattle.overlap_spec.specs.Variables.{isVariable, inField}
 use Rattle.math_codes.specs.Tables.{Holds, kindA, isFree}

@@ -18,7 +18,8 @@ use Rattle.math_terms.specs.Terms.{con, var}
 use Rattle.math_terms.specs.Seqs.{concat-map}
 use Rattle.math_terms.specs.Fillings.{Filling, Occurs}
 use Rattle.text_grammar.specs.Ascii.{ascii, newline}
-use Rattle.text_grammar.specs.Terms.{Con, OurTerm}
+use Rattle.text_grammar.specs.Terms.{OurTerm}
+use Rattle.text_grammar.specs.constants.Constants.{Con, consts}
 use Rattle.text_grammar.specs.Numbers.{digitsOf}
 use Rattle.text_grammar.specs.Plain.{termText, fieldText}
 use Rattle.text_grammar.specs.Limits.{IsLeft, IsSlip}
@@ -31,7 +32,6 @@ use Rattle.text_grammar.proofs.rules.Sharp.{rule-place}
 use Rattle.math_terms.specs.Matcher.{atoms}
 use Rattle.math_terms.specs.Compared.{allAtoms}
 use Rattle.math_terms.proofs.Compared.{compared-most}
-use Rattle.text_grammar.specs.constants.Constants.{consts}
 use Rattle.text_grammar.specs.constants.Matching.{constants, matcher, compared}
 use Rattle.text_grammar.proofs.Numbers.{digits-most}
 use Rattle.match_rules.proofs.Runs.{atom-value, value-long}

@@ -19,7 +19,8 @@ use Rattle.math_terms.specs.Seqs.{concat-map}
 use Rattle.math_terms.specs.Fillings.{Filling, Occurs}
 use Rattle.math_terms.proofs.Seqs.{concat-map-append, concat-mapped}
 use Rattle.text_grammar.specs.Ascii.{ascii}
-use Rattle.text_grammar.specs.Terms.{Con, OurTerm}
+use Rattle.text_grammar.specs.Terms.{OurTerm}
+use Rattle.text_grammar.specs.constants.Constants.{Con}
 use Rattle.text_grammar.specs.Plain.{termText, fieldText}
 use Rattle.text_grammar.specs.Limits.{TermIn, IsLeft, IsSlip}
 use Rattle.text_grammar.specs.Numbers.{digitsOf}

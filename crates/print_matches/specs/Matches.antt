@@ -11,7 +11,8 @@ use Rattle.math_types.specs.Types.{Kind}
 use Rattle.math_terms.specs.Terms.{con, var}
 use Rattle.math_terms.specs.Seqs.{concat-map}
 use Rattle.math_terms.specs.Fillings.{Filling}
-use Rattle.text_grammar.specs.Terms.{Con, OurTerm}
+use Rattle.text_grammar.specs.Terms.{OurTerm}
+use Rattle.text_grammar.specs.constants.Constants.{Con}
 use Rattle.text_grammar.specs.Numbers.{digitsOf}
 use Rattle.text_grammar.specs.Plain.{termText, fieldText}
 use Rattle.text_grammar.specs.Read.{number, OutcomeOf, Outcome, refused, accepted, readSlip}

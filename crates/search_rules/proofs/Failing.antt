@@ -13,8 +13,7 @@ use Rattle.base_lists.specs.Seqs.{All}
 use Rattle.base_lists.specs.Truths.{decided}
 use Rattle.math_types.specs.Order.{Full}
 use Rattle.math_types.specs.Types.{Basic, basics, rank, entry, entry-is}
-use Rattle.text_grammar.specs.Terms.{Con}
-use Rattle.text_grammar.specs.constants.Constants.{consts, con-eq}
+use Rattle.text_grammar.specs.constants.Constants.{Con, consts, con-eq}
 use Rattle.math_overlaps.specs.Shapes.{fixed, free, fixed-once}
 use Rattle.math_search.specs.Problems.{atomic, listvar, Tm, Field, field-eq, termType, fieldType}
 use Rattle.math_search.specs.Rules as rules

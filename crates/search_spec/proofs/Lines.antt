@@ -17,10 +17,10 @@ use Rattle.math_terms.specs.Terms.{con, var}
 use Rattle.math_terms.specs.Constants.{TermOver}
 use Rattle.math_terms.specs.Fillings.{Filling, Typed, fill, Occurs}
 use Rattle.text_grammar.specs.Ascii.{newline}
-use Rattle.text_grammar.specs.Terms.{Con, int, str, OurTerm}
+use Rattle.text_grammar.specs.Terms.{OurTerm}
+use Rattle.text_grammar.specs.constants.Constants.{Con, int, str, consts}
 use Rattle.text_grammar.specs.Plain.{TermOk, plain}
 use Rattle.text_grammar.specs.Limits.{TermIn, IsLeft}
-use Rattle.text_grammar.specs.constants.Constants.{consts}
 use Rattle.math_overlaps.specs.Substitutions.{Subst}
 use Rattle.math_overlaps.specs.Shapes.{fixed, free, Side, left, right, of}
 use Rattle.math_overlaps.specs.Overlaps.{Origin, rename}

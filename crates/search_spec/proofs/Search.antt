@@ -14,9 +14,9 @@ use Rattle.base_lists.specs.Seqs.{All}
 use Rattle.math_types.specs.Types.{Basic, basics}
 use Rattle.math_terms.specs.Seqs.{concat-map}
 use Rattle.math_terms.specs.Linear.{LeftLinear}
-use Rattle.text_grammar.specs.Terms.{Con, OurTerm}
+use Rattle.text_grammar.specs.Terms.{OurTerm}
+use Rattle.text_grammar.specs.constants.Constants.{Con, consts}
 use Rattle.text_grammar.specs.Limits.{IsLeft}
-use Rattle.text_grammar.specs.constants.Constants.{consts}
 use Rattle.text_grammar.specs.constants.Matching.{Matches}
 use Rattle.text_grammar.proofs.constants.Linear.{left-linear}
 use Rattle.text_grammar.proofs.Limited.{lists-small}

@@ -15,12 +15,12 @@ use Rattle.math_terms.specs.Terms.{Term, con, var}
 use Rattle.math_terms.specs.Constants.{TermOver}
 use Rattle.math_terms.specs.Seqs.{concat-map}
 use Rattle.math_terms.specs.Fillings.{Occurs}
-use Rattle.text_grammar.specs.Terms.{OurTerm, int, str}
+use Rattle.text_grammar.specs.Terms.{OurTerm}
+use Rattle.text_grammar.specs.constants.Constants.{int, str, consts}
 use Rattle.text_grammar.specs.Grammar.{colons}
 use Rattle.text_grammar.specs.Plain.{rawOf, termText, fieldText}
 use Rattle.text_grammar.specs.Limits.{TermIn}
 use Rattle.text_grammar.proofs.Numbers.{digits-ten}
-use Rattle.text_grammar.specs.constants.Constants.{consts}
 use Rattle.math_overlaps.specs.Shapes.{fixed, free, Side, left, right, side-eq, of}
 use Rattle.math_overlaps.specs.Overlaps.{placeOf, without, firsts, namesOf, rename, Origin, named, place, origin-eq}
 use Rattle.overlap_spec.specs.Lines.{Binding, leftTag, rightTag, bindingText, bindingsText}

@@ -23,9 +23,9 @@ use Rattle.math_terms.specs.Constants.{TermOver}
 use Rattle.math_terms.specs.Seqs.{concat-map}
 use Rattle.math_terms.specs.Fillings.{Filling, Typed, value, fill, Occurs}
 use Rattle.math_terms.specs.Matching.{Matches}
-use Rattle.text_grammar.specs.Terms.{Con, OurTerm}
+use Rattle.text_grammar.specs.Terms.{OurTerm}
+use Rattle.text_grammar.specs.constants.Constants.{Con, consts}
 use Rattle.text_grammar.specs.Limits.{TermIn, IsLeft}
-use Rattle.text_grammar.specs.constants.Constants.{consts}
 use Rattle.text_grammar.proofs.Limited.{number-field}
 use Rattle.math_overlaps.specs.Substitutions.{substitute, TypedSubst, TermsOf}
 use Rattle.math_overlaps.specs.Shapes.{fixed, free, Side, left, right, side-eq, Variable, of}

@@ -11,9 +11,9 @@ use Rattle.math_terms.specs.Terms.{var}
 use Rattle.math_terms.specs.Constants.{TermOver}
 use Rattle.math_terms.specs.Seqs.{concat-map}
 use Rattle.math_terms.specs.Fillings.{Filling, Typed, fill}
-use Rattle.text_grammar.specs.Terms.{Con, OurTerm}
+use Rattle.text_grammar.specs.Terms.{OurTerm}
+use Rattle.text_grammar.specs.constants.Constants.{Con, consts}
 use Rattle.text_grammar.specs.Ascii.{newline}
-use Rattle.text_grammar.specs.constants.Constants.{consts}
 use Rattle.math_overlaps.specs.Substitutions.{Subst}
 use Rattle.math_overlaps.specs.Shapes.{free, Side, left, right, of}
 use Rattle.math_overlaps.specs.Overlaps.{Origin, place, termOf, rename, numbersOf}

@@ -6,16 +6,15 @@ use mathlib.Core.List.{List, [], _∷_, map}
 use Prim.Native.Nat.{ℕ, suc, _*_, _≤_}
 use native.Mathlib.Omega.{arith, by-contra}
 use lib.ListN.{length, length-append, length-map}
-use Rattle.base_limits.specs.Limits.{mostTerms, largestInteger, mostItems, longestTerm, longestField, longestSide, longestSlipField, longestSlip}
+use Rattle.base_limits.specs.Limits.{mostTerms, mostItems, longestTerm, longestField, longestSide, longestSlipField, longestSlip}
 use Rattle.base_lists.specs.Seqs.{All, all-append, all-map}
 use Rattle.math_terms.specs.Terms.{con, var}
-use Rattle.text_grammar.specs.Grammar.{Raw, raw-int, raw-str, raw-var, raw-empty, Proper, FieldOk, TextOk, spell, spellF, colons, bars, Says, Grammar}
+use Rattle.text_grammar.specs.Grammar.{Raw, raw-var, raw-empty, Proper, FieldOk, TextOk, spell, spellF, colons, bars, Says, Grammar, raw-con}
 use Rattle.text_grammar.specs.Machine.{place2}
 use Rattle.text_grammar.specs.Place.{Answers, Stops}
-use Rattle.text_grammar.specs.Numbers.{value}
 use Rattle.text_grammar.specs.Leftmost.{NoneOf, leftmost, LeftmostAt}
 use Rattle.text_grammar.specs.Tokens.{Token, tokens, FifthField, TooMany, Over, TokenOver, IsVar, TokenVar}
-use Rattle.text_grammar.specs.Terms.{OurTerm, int, str, termOf, fieldOf, fieldsOf}
+use Rattle.text_grammar.specs.Terms.{OurTerm, termOf, fieldOf, fieldsOf}
 use Rattle.text_grammar.specs.Read.{Reason, long, grammar, fields, terms, limits, linear, variable, Sort, rule, slip, Bad, bad?, placeOfToken, FirstBad}
 use Rattle.text_grammar.specs.Read.{Refuses}
 use Rattle.text_grammar.specs.Read.{said, Never, accepted, readSide, readSlip}
@@ -28,6 +27,7 @@ use Rattle.text_grammar.proofs.Leftmost.{leftmost-is, none-not, Found, 
 use Rattle.text_grammar.proofs.Read.{read-accepted}
 use Rattle.text_grammar.proofs.Plain.{plain-says, plain-said, back}
 use Rattle.text_grammar.proofs.Fields.{few-to, few-from, width-to, width-from, each, linear-tokens}
+use Rattle.text_grammar.proofs.constants.Constants.{con-in, in-ok, in-not-over, con-short}
 
 -- REASONS AND MARKS
 module _ (w : ℕ) (o : Reason) (t : List ℕ) (x : List (List Raw)) (s : Says t x) where
@@ -58,8 +58,7 @@ said-is t x s = ap (λ (a : Option (List (List Raw))). Option·getD a []) (parse
 
 -- FROM THE TEXT TO THE LIMITS
 term-in : (r : Raw) → Proper r → (Over r → ⊥) → All TermIn (termOf r)
-term-in (raw-int ds) p n = (by-contra (value ds) largestInteger (λ h. n (inr h)), tt)
-term-in (raw-str s) p n = ((p, omega arith), tt)
+term-in (raw-con r) p n = (con-in r p n, tt)
 term-in (raw-var k ds) p n = (omega arith, tt)
 term-in raw-empty p n = tt
 
@@ -72,8 +71,7 @@ terms-in [] p n = tt
 terms-in (f ∷ fs) p n = (field-in f (p .0 .1) (n .0), terms-in fs (p .1) (n .1))
 
 pub term-short : (r : Raw) → length (termOf r) ≤ 1
-term-short (raw-int ds) = omega arith
-term-short (raw-str s) = omega arith
+term-short (raw-con r) = omega arith
 term-short (raw-var k ds) = omega arith
 term-short raw-empty = omega arith
 
@@ -98,8 +96,7 @@ within-to w (f ∷ fs) ok a b c =
 
 no-names : (rs : List Raw) → All (λ r. IsVar r → ⊥) rs ↔ All IsCon (fieldOf rs)
 no-names [] = (λ h. tt, λ h. tt)
-no-names (raw-int ds ∷ rs) = (λ h. (tt, no-names rs .0 (h .1)), λ h. (λ z. z, no-names rs .1 (h .1)))
-no-names (raw-str s ∷ rs) = (λ h. (tt, no-names rs .0 (h .1)), λ h. (λ z. z, no-names rs .1 (h .1)))
+no-names (raw-con r ∷ rs) = (λ h. (tt, no-names rs .0 (h .1)), λ h. (λ z. z, no-names rs .1 (h .1)))
 no-names (raw-var k ds ∷ rs) = (λ h. absurd (h .0 tt), λ h. absurd (h .0))
 no-names (raw-empty ∷ rs) = (λ h. no-names rs .0 (h .1), λ h. (λ z. z, no-names rs .1 h))
 
@@ -115,9 +112,7 @@ names-tokens x = (
 
 -- FROM THE LIMITS TO THE PLAIN TEXT
 not-over : (t : OurTerm) → TermIn t → Over (rawOf t) → ⊥
-not-over (con (int n)) h (inl k) = omega (arith, digits-ten n h)
-not-over (con (int n)) h (inr k) = omega (arith, digits-value n)
-not-over (con (str s)) h k = omega (arith, h .1)
+not-over (con c) h k = in-not-over c h k
 not-over (var j n) h k = omega (arith, digits-value n)
 
 not-over-all : (ts : List OurTerm) → All TermIn ts → All (λ r. Over r → ⊥) (map rawOf ts)
@@ -135,8 +130,7 @@ raw-widths w ([] ∷ fs) h = (omega arith, raw-widths w fs (h .1))
 raw-widths w ((t ∷ ts) ∷ fs) h = (omega (arith, length-map (t ∷ ts) rawOf, h .0), raw-widths w fs (h .1))
 
 term-ok : (t : OurTerm) → TermIn t → TermOk t
-term-ok (con (int n)) h = tt
-term-ok (con (str s)) h = h .0
+term-ok (con c) h = in-ok c h
 term-ok (var k n) h = tt
 
 pub rule-ok : (w : ℕ) (r : List (List OurTerm)) → Within w r → RuleOk r
@@ -144,8 +138,7 @@ rule-ok w r h = (h .0, all-map (All TermIn) (All TermOk) (λ f g. all-map TermIn
 
 -- the plain text is never too long
 pub spell-short : (t : OurTerm) → TermIn t → length (spell (rawOf t)) ≤ longestTerm
-spell-short (con (int n)) h = omega (arith, digits-ten n h)
-spell-short (con (str s)) h = omega (arith, h .1, length-append s (34 ∷ []))
+spell-short (con c) h = con-short c h
 spell-short (var k n) h = omega (arith, digits-ten n (omega arith))
 
 colons-short : (ts : List OurTerm) → All TermIn ts → length (colons (map rawOf ts)) ≤ suc longestTerm * length ts
@@ -222,9 +215,10 @@ rule-read t r e =
 pub rule-plain : (r : List (List OurTerm)) → IsLeft r → readSide (plain r) ≡ accepted r
 rule-plain r h =
     let b = plain-base rule 15 refl r (h .0) (omega (arith, rule-length r (h .0))) in
-    let s = plain-says r (rule-ok mostTerms r (h .0)) in
-    let l = clean-from mostTerms linear (plain r) (map rawField r) s (linear-tokens (map rawField r) .1 (subst Linear (sym (back r)) (h .1))) in
-    read-accepted rule (plain r) r .1 ((b .0, (b .1, (b .2, (b .3, (b .4, (l, tt)))))), plain-said r (rule-ok mostTerms r (h .0)))
+    let ok = rule-ok mostTerms r (h .0) in
+    let s = plain-says r ok in
+    let l = clean-from mostTerms linear (plain r) (map rawField r) s (linear-tokens (map rawField r) .1 (subst Linear (sym (back r (ok .1))) (h .1))) in
+    read-accepted rule (plain r) r .1 ((b .0, (b .1, (b .2, (b .3, (b .4, (l, tt)))))), plain-said r ok)
 
 pub slip-read : (t : List ℕ) (r : List (List OurTerm)) → readSlip t ≡ accepted r → IsSlip r
 slip-read t r e =
@@ -237,10 +231,11 @@ slip-read t r e =
 pub slip-plain : (r : List (List OurTerm)) → IsSlip r → readSlip (plain r) ≡ accepted r
 slip-plain r h =
     let b = plain-base slip 63 refl r (h .0) (omega (arith, slip-length r (h .0))) in
-    let s = plain-says r (rule-ok mostItems r (h .0)) in
+    let ok = rule-ok mostItems r (h .0) in
+    let s = plain-says r ok in
     let l = clean-from mostItems variable (plain r) (map rawField r) s
-    (names-tokens (map rawField r) .1 (subst (λ (q : List (List OurTerm)). All (All IsCon) q) (sym (back r)) (h .1))) in
-    read-accepted slip (plain r) r .1 ((b .0, (b .1, (b .2, (b .3, (b .4, (l, tt)))))), plain-said r (rule-ok mostItems r (h .0)))
+    (names-tokens (map rawField r) .1 (subst (λ (q : List (List OurTerm)). All (All IsCon) q) (sym (back r (ok .1))) (h .1))) in
+    read-accepted slip (plain r) r .1 ((b .0, (b .1, (b .2, (b .3, (b .4, (l, tt)))))), plain-said r ok)
 
 -- ACCEPTED is within the limits
 pub rule-iff : (r : List (List OurTerm)) → ((t : List ℕ) × (readSide t ≡ accepted r)) ↔ IsLeft r

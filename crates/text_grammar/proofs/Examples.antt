@@ -13,7 +13,7 @@ use Rattle.math_types.specs.Types.{atom}
 use Rattle.math_terms.specs.Terms.{con, var}
 use Rattle.text_grammar.specs.Bytes.{digit?, begins, follows, first, holds}
 use Rattle.text_grammar.specs.Tokens.{fifth?, many?, over?, clash?, clashOf?}
-use Rattle.text_grammar.specs.Terms.{int, str}
+use Rattle.text_grammar.specs.constants.Constants.{int, str}
 use Rattle.text_grammar.specs.Read.{long, grammar, fields, terms, limits, linear, variable, refused, accepted, readSide, readSlip}
 use Rattle.text_grammar.specs.Plain.{plain}
 

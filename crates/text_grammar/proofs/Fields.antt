@@ -9,7 +9,7 @@ use lib.ListN.{length}
 use Rattle.base_limits.specs.Limits.{mostFields}
 use Rattle.base_lists.specs.Seqs.{All, Any, all-append, all-left, all-right}
 use Rattle.math_types.specs.Order.{basic, list}
-use Rattle.text_grammar.specs.Grammar.{Raw, raw-int, raw-str, raw-var, raw-empty, FieldOk, spell, spellF}
+use Rattle.text_grammar.specs.Grammar.{Raw, raw-var, raw-empty, FieldOk, spell, spellF, raw-con}
 use Rattle.text_grammar.specs.Leftmost.{NoneOf}
 use Rattle.text_grammar.specs.Tokens.{Token, tokens, tokensF, tokensT, FifthField, TooMany, listNo, Occ, occ, occs, Clash, ClashOf, NotLinear}
 use Rattle.text_grammar.specs.Terms.{OurTerm, termOf, fieldOf, fieldsOf}
@@ -93,8 +93,7 @@ occF-append n [] t = refl
 occF-append n (a ∷ s) t = ap (λ (l : List Occ). occT n a ++ l) (occF-append n s t) ∙ sym (append-assoc (occT n a) (occF n s) (occF n t))
 
 occ-term : (n : ℕ) (r : Raw) → occ n (listNo r) ≡ occF n (termOf r)
-occ-term n (raw-int ds) = refl
-occ-term n (raw-str s) = refl
+occ-term n (raw-con r) = refl
 occ-term n (raw-var (basic k) ds) = refl
 occ-term n (raw-var list ds) = refl
 occ-term n raw-empty = refl

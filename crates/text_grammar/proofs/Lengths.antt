@@ -5,9 +5,9 @@ use mathlib.Core.List.{List, [], _∷_}
 use Prim.Native.Nat.{ℕ, suc, _+_, _*_, _≤_, _<_}
 use native.Mathlib.Omega.{arith}
 use lib.ListN.{length, length-append}
-use Rattle.base_limits.specs.Limits.{mostDigits, longestTerm, longestField, longestSide, longestSlipField, longestSlip}
+use Rattle.base_limits.specs.Limits.{longestTerm, longestField, longestSide, longestSlipField, longestSlip}
 use Rattle.base_lists.specs.Seqs.{All}
-use Rattle.text_grammar.specs.Grammar.{Raw, raw-int, raw-str, raw-var, raw-empty, Proper, FieldOk, TextOk, spell, spellF, colons, bars, spellT}
+use Rattle.text_grammar.specs.Grammar.{Raw, raw-var, raw-empty, Proper, FieldOk, TextOk, spell, spellF, colons, bars, spellT, raw-con}
 use Rattle.text_grammar.specs.Numbers.{value}
 use Rattle.text_grammar.specs.Leftmost.{NoneOf}
 use Rattle.text_grammar.specs.Tokens.{tokens, FifthField, TooMany, Over, TokenOver}
@@ -18,14 +18,11 @@ use Rattle.text_grammar.proofs.Leftmost.{none-all}
 use Rattle.text_grammar.proofs.Read.{read-accepted}
 use Rattle.text_grammar.proofs.Fields.{few-to, width-to, each}
 use Rattle.text_grammar.proofs.Accepted.{Base, in-grammar, clean-to}
+use Rattle.text_grammar.proofs.constants.Constants.{raw-con-short}
 
 -- no accepted text is longer than the longest plain text
 raw-short : (r : Raw) → Proper r → (Over r → ⊥) → length (spell r) ≤ longestTerm
-raw-short (raw-int ds) p n = go (λ h. n (inl h))
-  where
-    go : (mostDigits < length ds → ⊥) → length ds ≤ longestTerm
-    go k = omega arith
-raw-short (raw-str s) p n = omega (arith, length-append s (34 ∷ []))
+raw-short (raw-con r) p n = raw-con-short r n
 raw-short (raw-var k ds) p n = omega (arith, digits-ten (value ds) (omega arith), ap (λ (l : List ℕ). length l) (digits-one ds p))
 raw-short raw-empty p n = omega arith
 

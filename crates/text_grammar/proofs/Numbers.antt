@@ -9,8 +9,7 @@ use lib.ListN.{length, length-append}
 use Rattle.base_limits.specs.Limits.{mostDigits, largestInteger}
 use Rattle.base_lists.specs.Seqs.{All, IsCons, all-append}
 use Rattle.text_grammar.specs.Bytes.{Digit}
-use Rattle.text_grammar.specs.Grammar.{Number}
-use Rattle.text_grammar.specs.Numbers.{val, value, decC, dec, digitsOf}
+use Rattle.text_grammar.specs.Numbers.{Number, val, value, decC, dec, digitsOf}
 
 pub val-append : (s t : List ℕ) (v : ℕ) → val v (s ++ t) ≡ val (val v s) t
 val-append [] t v = refl

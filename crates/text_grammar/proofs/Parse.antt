@@ -11,7 +11,9 @@ use Rattle.math_types.specs.Types.{Kind}
 use Rattle.text_grammar.specs.Bytes.{Digit, Inside, letter, digit?, Begins, b-digit, b-quote, b-letter, b-e, b-none, begins, Follows, f-digit, f-colon}
 use Rattle.text_grammar.specs.Bytes.{f-bar}
 use Rattle.text_grammar.specs.Bytes.{f-none, follows, First, n-zero, n-more, n-none, first, Holds, h-quote, h-in, h-none, holds}
-use Rattle.text_grammar.specs.Grammar.{Raw, raw-int, raw-str, raw-var, raw-empty, spell, Number, Proper, colons, spellF, bars, FieldOk, spellT, TextOk}
+use Rattle.text_grammar.specs.Grammar.{Raw, raw-var, raw-empty, spell, Proper, colons, spellF, bars, FieldOk, spellT, TextOk, raw-con}
+use Rattle.text_grammar.specs.constants.Constants.{raw-int, raw-str}
+use Rattle.text_grammar.specs.Numbers.{Number}
 use Rattle.text_grammar.specs.Grammar.{Says}
 use Rattle.text_grammar.specs.Grammar.{Grammar}
 use Rattle.text_grammar.specs.Machine.{State, after, digits, number, done, quoted, must, Rest, Move, push, turn, term, goA, goD, goE, goN, goQ, goM, then}
@@ -124,13 +126,13 @@ pub data Unfold (q : State) (o : Rest) : Type 0 where
   ends : say q o ≡ [] → Final q → o ≡ ([], [], []) → Unfold q o
   goes : (b : ℕ) (m : State × (Rest → Rest)) (o′ : Rest) → move q b ≡ some m → Fits (m .0) o′ → m .1 o′ ≡ o → say q o ≡ b ∷ say (m .0) o′ → Unfold q o
 
-goA-digit : (b : ℕ) (c : Begins b) → Digit b → goA b c ≡ some (digits, term (λ w. raw-int (b ∷ w)))
+goA-digit : (b : ℕ) (c : Begins b) → Digit b → goA b c ≡ some (digits, term (λ w. raw-con (raw-int (b ∷ w))))
 goA-digit b c d = ap (goA b) (begun-digit b c d .1)
 
 goA-letter : (k : Kind) → move after (letter k) ≡ some (number, term (raw-var k))
 goA-letter k = ap (goA (letter k)) (begun-letter k (begins (letter k)) .1)
 
-goA-quote : move after 34 ≡ some (quoted, term raw-str)
+goA-quote : move after 34 ≡ some (quoted, term (λ w. raw-con (raw-str w)))
 unfolding begins digit? decLe ℕ-discrete
 goA-quote = refl
 
@@ -184,10 +186,10 @@ goM-same c cs (yes e) = refl
 goM-same c cs (no n) = absurd (n refl)
 
 unfold-a : (r : Raw) (rs : List Raw) (fs : List (List Raw)) → Proper r → All Proper rs → All FieldOk fs → Unfold after ([], r ∷ rs, fs)
-unfold-a (raw-int []) rs fs p a g = absurd (p .0)
-unfold-a (raw-int (d ∷ ds)) rs fs p a g =
-    goes d (digits, term (λ w. raw-int (d ∷ w))) (ds, rs, fs) (goA-digit d (begins d) (p .1 .0)) (p .1 .1, a, g) refl (simp append-assoc)
-unfold-a (raw-str s) rs fs p a g = goes 34 (quoted, term raw-str) (s, rs, fs) goA-quote (p, a, g) refl (simp append-assoc)
+unfold-a (raw-con (raw-int [])) rs fs p a g = absurd (p .0)
+unfold-a (raw-con (raw-int (d ∷ ds))) rs fs p a g =
+    goes d (digits, term (λ w. raw-con (raw-int (d ∷ w)))) (ds, rs, fs) (goA-digit d (begins d) (p .1 .0)) (p .1 .1, a, g) refl (simp append-assoc)
+unfold-a (raw-con (raw-str s)) rs fs p a g = goes 34 (quoted, term (λ w. raw-con (raw-str w))) (s, rs, fs) goA-quote (p, a, g) refl (simp append-assoc)
 unfold-a (raw-var k ds) rs fs p a g = goes (letter k) (number, term (raw-var k)) (ds, rs, fs) (goA-letter k) (p, a, g) refl (simp append-assoc)
 unfold-a raw-empty rs fs p a g = goes 101 (must 109 (112 ∷ 116 ∷ 121 ∷ []), term (λ w. raw-empty)) ([], rs, fs) goA-e (tt, a, g) refl refl
 

@@ -5,18 +5,18 @@ use mathlib.Core.List.{List, [], _∷_, _++_, map}
 use Prim.Native.Nat.{ℕ}
 use Rattle.base_lists.specs.Seqs.{All}
 use Rattle.math_terms.specs.Terms.{con, var}
-use Rattle.text_grammar.specs.Grammar.{Raw, raw-int, raw-str, raw-var, raw-empty, Number, Proper, FieldOk, spellT, Says}
+use Rattle.text_grammar.specs.Grammar.{Raw, raw-var, raw-empty, Proper, FieldOk, spellT, Says, raw-con}
 use Rattle.text_grammar.specs.Machine.{parse}
-use Rattle.text_grammar.specs.Numbers.{digitsOf}
-use Rattle.text_grammar.specs.Terms.{OurTerm, int, str, termOf, fieldOf, fieldsOf}
+use Rattle.text_grammar.specs.Terms.{OurTerm, termOf, fieldOf, fieldsOf}
 use Rattle.text_grammar.specs.Read.{said}
 use Rattle.text_grammar.specs.Plain.{rawOf, rawField, plain, TermOk, RuleOk}
+use Rattle.text_grammar.specs.constants.Constants.{Con, RawCon, LeanCon}
 use Rattle.text_grammar.proofs.Parse.{parse-complete}
-use Rattle.text_grammar.proofs.Numbers.{digits-value, digits-number, number-digits, digits-one}
+use Rattle.text_grammar.proofs.Numbers.{digits-value, digits-number, digits-one}
+use Rattle.text_grammar.proofs.constants.Constants.{con-back, con-proper, con-lean, lean-con}
 
 proper-raw : (t : OurTerm) → TermOk t → Proper (rawOf t)
-proper-raw (con (int n)) h = number-digits (digitsOf n) (digits-number n)
-proper-raw (con (str s)) h = h
+proper-raw (con c) h = con-proper c h
 proper-raw (var k n) h = digits-number n
 
 proper-all : (ts : List OurTerm) → All TermOk ts → All Proper (map rawOf ts)
@@ -35,29 +35,28 @@ pub plain-says : (r : List (List OurTerm)) → RuleOk r → Says (plain r) (map 
 plain-says [] h = absurd (h .0)
 plain-says (f ∷ fs) h = ((tt, fields-ok (f ∷ fs) (h .1)), refl)
 
-back-term : (t : OurTerm) → termOf (rawOf t) ≡ t ∷ []
-back-term (con (int n)) = ap (λ (m : ℕ). con (int m) ∷ []) (digits-value n)
-back-term (con (str s)) = refl
-back-term (var k n) = ap (λ (m : ℕ). var k m ∷ []) (digits-value n)
+back-term : (t : OurTerm) → TermOk t → termOf (rawOf t) ≡ t ∷ []
+back-term (con c) h = ap (λ (d : Con). con d ∷ []) (con-back c h)
+back-term (var k n) h = ap (λ (m : ℕ). var k m ∷ []) (digits-value n)
 
-back-terms : (ts : List OurTerm) → fieldOf (map rawOf ts) ≡ ts
-back-terms [] = refl
-back-terms (t ∷ ts) = ap₂ (λ (a b : List OurTerm). a ++ b) (back-term t) (back-terms ts)
+back-terms : (ts : List OurTerm) → All TermOk ts → fieldOf (map rawOf ts) ≡ ts
+back-terms [] h = refl
+back-terms (t ∷ ts) h = ap₂ (λ (a b : List OurTerm). a ++ b) (back-term t (h .0)) (back-terms ts (h .1))
 
-back-field : (f : List OurTerm) → fieldOf (rawField f) ≡ f
-back-field [] = refl
-back-field (t ∷ ts) = back-terms (t ∷ ts)
+back-field : (f : List OurTerm) → All TermOk f → fieldOf (rawField f) ≡ f
+back-field [] h = refl
+back-field (t ∷ ts) h = back-terms (t ∷ ts) h
 
-pub back : (r : List (List OurTerm)) → fieldsOf (map rawField r) ≡ r
-back [] = refl
-back (f ∷ fs) = ap₂ (λ (a : List OurTerm) (b : List (List OurTerm)). a ∷ b) (back-field f) (back fs)
+pub back : (r : List (List OurTerm)) → All (All TermOk) r → fieldsOf (map rawField r) ≡ r
+back [] h = refl
+back (f ∷ fs) h = ap₂ (λ (a : List OurTerm) (b : List (List OurTerm)). a ∷ b) (back-field f (h .0)) (back fs (h .1))
 
 -- the plain text says the rule
 pub plain-parse : (r : List (List OurTerm)) → RuleOk r → parse (plain r) ≡ some (map rawField r)
 plain-parse r h = parse-complete (plain r) (map rawField r) (plain-says r h)
 
 pub plain-said : (r : List (List OurTerm)) → RuleOk r → fieldsOf (said (plain r)) ≡ r
-plain-said r h = ap (λ (a : Option (List (List Raw))). fieldsOf (Option·getD a [])) (plain-parse r h) ∙ back r
+plain-said r h = ap (λ (a : Option (List (List Raw))). fieldsOf (Option·getD a [])) (plain-parse r h) ∙ back r (h .1)
 
 -- THE PLAIN TEXT determines the rule
 pub plain-one : (r s : List (List OurTerm)) → RuleOk r → RuleOk s → plain r ≡ plain s → r ≡ s
@@ -65,8 +64,7 @@ plain-one r s p q e = sym (plain-said r p) ∙ ap (λ (t : List ℕ). fieldsOf (
 
 -- a text that has no `empty` beside other terms and no leading zeros is the plain text of what it says
 abbrev pub Lean : Raw → Type 0
-Lean (raw-int ds) = Number ds
-Lean (raw-str s) = Unit {0}
+Lean (raw-con r) = LeanCon r
 Lean (raw-var k ds) = Unit {0}
 Lean raw-empty = ⊥
 
@@ -74,13 +72,11 @@ abbrev pub LeanField : List Raw → Type 0
 LeanField [] = ⊥
 LeanField (raw-empty ∷ []) = Unit {0}
 LeanField (raw-empty ∷ (r ∷ rs)) = ⊥
-LeanField (raw-int ds ∷ rs) = Number ds × All Lean rs
-LeanField (raw-str s ∷ rs) = All Lean rs
+LeanField (raw-con r ∷ rs) = LeanCon r × All Lean rs
 LeanField (raw-var k ds ∷ rs) = All Lean rs
 
 lean-term : (r : Raw) → Proper r → Lean r → map rawOf (termOf r) ≡ r ∷ []
-lean-term (raw-int ds) p l = ap (λ (w : List ℕ). raw-int w ∷ []) (digits-one ds l)
-lean-term (raw-str s) p l = refl
+lean-term (raw-con r) p l = ap (λ (s : RawCon). raw-con s ∷ []) (lean-con r l)
 lean-term (raw-var k ds) p l = ap (λ (w : List ℕ). raw-var k w ∷ []) (digits-one ds p)
 lean-term raw-empty p l = absurd l
 
@@ -96,8 +92,7 @@ lean-field : (f : List Raw) → All Proper f → LeanField f → rawField (field
 lean-field [] p l = absurd l
 lean-field (raw-empty ∷ []) p l = refl
 lean-field (raw-empty ∷ (r ∷ rs)) p l = absurd l
-lean-field (raw-int ds ∷ rs) p l = lean-terms (raw-int ds ∷ rs) p l
-lean-field (raw-str s ∷ rs) p l = lean-terms (raw-str s ∷ rs) p (tt, l)
+lean-field (raw-con r ∷ rs) p l = lean-terms (raw-con r ∷ rs) p l
 lean-field (raw-var k ds ∷ rs) p l = lean-terms (raw-var k ds ∷ rs) p (tt, l)
 
 lean-fields : (x : List (List Raw)) → All FieldOk x → All LeanField x → map rawField (fieldsOf x) ≡ x
@@ -108,21 +103,19 @@ pub lean-is-plain : (t : List ℕ) (x : List (List Raw)) → Says t x → All Le
 lean-is-plain t x s l = s .1 ∙ ap spellT (sym (lean-fields x (s .0 .1) l))
 
 -- and the plain text is such a text
-lean-raw : (t : OurTerm) → Lean (rawOf t)
-lean-raw (con (int n)) = digits-number n
-lean-raw (con (str s)) = tt
-lean-raw (var k n) = tt
+lean-raw : (t : OurTerm) → TermOk t → Lean (rawOf t)
+lean-raw (con c) h = con-lean c h
+lean-raw (var k n) h = tt
 
-lean-raws : (ts : List OurTerm) → All Lean (map rawOf ts)
-lean-raws [] = tt
-lean-raws (t ∷ ts) = (lean-raw t, lean-raws ts)
+lean-raws : (ts : List OurTerm) → All TermOk ts → All Lean (map rawOf ts)
+lean-raws [] h = tt
+lean-raws (t ∷ ts) h = (lean-raw t (h .0), lean-raws ts (h .1))
 
-pub plain-lean : (r : List (List OurTerm)) → All LeanField (map rawField r)
-plain-lean [] = tt
-plain-lean (f ∷ fs) = (one f, plain-lean fs)
+pub plain-lean : (r : List (List OurTerm)) → All (All TermOk) r → All LeanField (map rawField r)
+plain-lean [] h = tt
+plain-lean (f ∷ fs) h = (one f (h .0), plain-lean fs (h .1))
   where
-    one : (f : List OurTerm) → LeanField (rawField f)
-    one [] = tt
-    one (con (int n) ∷ ts) = (digits-number n, lean-raws ts)
-    one (con (str s) ∷ ts) = lean-raws ts
-    one (var k n ∷ ts) = lean-raws ts
+    one : (f : List OurTerm) → All TermOk f → LeanField (rawField f)
+    one [] h = tt
+    one (con c ∷ ts) h = (con-lean c (h .0), lean-raws ts (h .1))
+    one (var k n ∷ ts) h = lean-raws ts (h .1)

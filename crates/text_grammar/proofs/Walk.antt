@@ -7,14 +7,16 @@ use native.Mathlib.Omega.{arith}
 use native.Mathlib.Decide.{ℕ-discrete, decLe}
 use lib.ListN.{length, length-append, drop}
 use lib.Seq.{drop-at}
-use Rattle.base_lists.specs.Seqs.{All, IsCons}
+use Rattle.base_lists.specs.Seqs.{All, IsCons, cons-is}
 use Rattle.math_types.specs.Types.{Kind}
 use Rattle.text_grammar.specs.Bytes.{Digit, Inside, letter, digit?, Begins, begins}
-use Rattle.text_grammar.specs.Grammar.{Raw, raw-int, raw-str, raw-var, raw-empty, spell, Proper, colons, spellF, bars, spellT, FieldOk, TextOk, Says}
+use Rattle.text_grammar.specs.Grammar.{Raw, raw-var, raw-empty, spell, Proper, colons, spellF, bars, spellT, FieldOk, TextOk, Says, raw-con}
+use Rattle.text_grammar.specs.constants.Constants.{raw-int, raw-str, RawCon, spellCon, ProperCon}
 use Rattle.text_grammar.specs.Tokens.{Token, tokensF, tokensT, tokens}
 use Rattle.text_grammar.specs.Walk.{digits1, leadingDigits, quote1, untilQuote, frontB, front, walkOn, walk, walked}
 use Rattle.text_grammar.proofs.Begun.{begun-digit, begun-letter}
 use Rattle.text_grammar.proofs.Numbers.{number-digits}
+use Rattle.text_grammar.proofs.constants.Constants.{con-some}
 
 -- what stands behind a term begins with no digit
 abbrev pub NoDigit : List ℕ → Type 0
@@ -49,13 +51,13 @@ quote-is (b ∷ s) z a = go (ℕ-discrete b 34) ∙ ap (λ (l : List ℕ). b ∷
     go (yes x) = absurd (a .0 .2 x)
     go (no n) = refl
 
-pub front-digit : (b : ℕ) (z : List ℕ) (c : Begins b) → Digit b → frontB b z c ≡ raw-int (b ∷ leadingDigits z)
+pub front-digit : (b : ℕ) (z : List ℕ) (c : Begins b) → Digit b → frontB b z c ≡ raw-con (raw-int (b ∷ leadingDigits z))
 front-digit b z c d = ap (frontB b z) (begun-digit b c d .1)
 
 front-letter : (k : Kind) (z : List ℕ) → front (letter k ∷ z) ≡ raw-var k (leadingDigits z)
 front-letter k z = ap (frontB (letter k) z) (begun-letter k (begins (letter k)) .1)
 
-front-quote : (z : List ℕ) → front (34 ∷ z) ≡ raw-str (untilQuote z)
+front-quote : (z : List ℕ) → front (34 ∷ z) ≡ raw-con (raw-str (untilQuote z))
 unfolding begins digit? decLe ℕ-discrete
 front-quote z = refl
 
@@ -63,11 +65,16 @@ front-e : (z : List ℕ) → front (101 ∷ z) ≡ raw-empty
 unfolding begins digit? decLe ℕ-discrete
 front-e z = refl
 
+front-con : (r : RawCon) (z : List ℕ) → ProperCon r → NoDigit z → front (spellCon r ++ z) ≡ raw-con r
+front-con (raw-int []) z p h = absurd (p .0)
+front-con (raw-int (d ∷ ds)) z p h =
+    front-digit d (ds ++ z) (begins d) (p .1 .0) ∙ ap (λ (l : List ℕ). raw-con (raw-int (d ∷ l))) (digits-are ds z (p .1 .1) h)
+front-con (raw-str s) z p h =
+    ap (λ (l : List ℕ). front (34 ∷ l)) (append-assoc s (34 ∷ []) z) ∙ front-quote (s ++ 34 ∷ z) ∙ ap (λ (l : List ℕ). raw-con (raw-str l)) (quote-is s z p)
+
 -- THE FRONT of a text is its first term
 pub front-is : (r : Raw) (z : List ℕ) → Proper r → NoDigit z → front (spell r ++ z) ≡ r
-front-is (raw-int []) z p h = absurd (p .0)
-front-is (raw-int (d ∷ ds)) z p h = front-digit d (ds ++ z) (begins d) (p .1 .0) ∙ ap (λ (l : List ℕ). raw-int (d ∷ l)) (digits-are ds z (p .1 .1) h)
-front-is (raw-str s) z p h = ap (λ (l : List ℕ). front (34 ∷ l)) (append-assoc s (34 ∷ []) z) ∙ front-quote (s ++ 34 ∷ z) ∙ ap raw-str (quote-is s z p)
+front-is (raw-con r) z p h = front-con r z p h
 front-is (raw-var k ds) z p h = front-letter k (ds ++ z) ∙ ap (raw-var k) (digits-are ds z (number-digits ds p .1) h)
 front-is raw-empty z p h = front-e (109 ∷ 112 ∷ 116 ∷ 121 ∷ z)
 
@@ -85,9 +92,11 @@ walk-step room [] p n i h = absurd h
 walk-step room (b ∷ z) p n i h = refl
 
 spell-cons : (r : Raw) (z : List ℕ) → Proper r → IsCons (spell r ++ z)
-spell-cons (raw-int []) z p = absurd (p .0)
-spell-cons (raw-int (d ∷ ds)) z p = tt
-spell-cons (raw-str s) z p = tt
+spell-cons (raw-con r) z p = go (spellCon r) (con-some r p)
+  where
+    go : (l : List ℕ) → IsCons l → IsCons (l ++ z)
+    go [] c = absurd c
+    go (b ∷ l) c = tt
 spell-cons (raw-var k ds) z p = tt
 spell-cons raw-empty z p = tt
 
@@ -140,9 +149,7 @@ walk-is ((r ∷ rs) ∷ fs) room ok h = walk-from room r rs fs 0 1 1 (ok .1 .0 .
 
 -- as many rounds as the text has bytes are enough
 pub spell-some : (r : Raw) → Proper r → 1 ≤ length (spell r)
-spell-some (raw-int []) h = absurd (h .0)
-spell-some (raw-int (d ∷ ds)) h = omega arith
-spell-some (raw-str s) h = omega arith
+spell-some (raw-con r) h = cons-is (spellCon r) .1 (con-some r h)
 spell-some (raw-var k ds) h = omega arith
 spell-some raw-empty h = omega arith
 

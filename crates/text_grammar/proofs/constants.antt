@@ -1,3 +1,4 @@
+pub mod Constants
 pub mod Linear
 pub mod Matching
 pub mod Written

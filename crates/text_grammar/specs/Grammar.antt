@@ -1,34 +1,26 @@
 -- The grammar of rules and slips, without limits on sizes: terms as they are written, and how they are spelled.
 use mathlib.Core.Path.{_≡_}
-use mathlib.Core.Logic.{_≢_}
 use mathlib.Core.List.{List, [], _∷_, _++_}
 use Prim.Native.Nat.{ℕ}
 use Rattle.base_lists.specs.Seqs.{All, IsCons}
 use Rattle.math_types.specs.Types.{Kind}
-use Rattle.text_grammar.specs.Bytes.{Digit, Inside, letter}
+use Rattle.text_grammar.specs.Bytes.{letter}
+use Rattle.text_grammar.specs.Numbers.{Number}
+use Rattle.text_grammar.specs.constants.Constants.{RawCon, spellCon, ProperCon}
 
--- a term as it is written: an integer's digits, a string's bytes, a variable's type and digits, or `empty`
+-- a term as it is written: a constant, a variable's type and digits, or `empty`
 pub data Raw : Type 0 where
-  raw-int : List ℕ → Raw
-  raw-str : List ℕ → Raw
+  raw-con : RawCon → Raw
   raw-var : Kind → List ℕ → Raw
   raw-empty : Raw
 
 abbrev pub spell : Raw → List ℕ
-spell (raw-int ds) = ds
-spell (raw-str s) = 34 ∷ (s ++ 34 ∷ [])
+spell (raw-con r) = spellCon r
 spell (raw-var k ds) = letter k ∷ ds
 spell raw-empty = 101 ∷ 109 ∷ 112 ∷ 116 ∷ 121 ∷ []
 
--- document 01: "a number .. without leading zeros"
-abbrev pub Number : List ℕ → Type 0
-Number [] = ⊥
-Number (d ∷ []) = Digit d
-Number (d ∷ (e ∷ ds)) = Digit d × (d ≢ 48) × All Digit (e ∷ ds)
-
 abbrev pub Proper : Raw → Type 0
-Proper (raw-int ds) = IsCons ds × All Digit ds
-Proper (raw-str s) = All Inside s
+Proper (raw-con r) = ProperCon r
 Proper (raw-var k ds) = Number ds
 Proper raw-empty = Unit {0}
 

@@ -2,20 +2,19 @@
 use mathlib.Core.List.{List, [], _∷_, _++_}
 use Prim.Native.Nat.{ℕ, suc, _≤_}
 use lib.ListN.{length}
-use Rattle.base_limits.specs.Limits.{mostFields, largestInteger, longestString, largestNumber}
+use Rattle.base_limits.specs.Limits.{mostFields, largestNumber}
 use Rattle.base_lists.specs.Seqs.{All, Any, IsCons}
 use Rattle.math_types.specs.Order.{basic, list}
 use Rattle.math_terms.specs.Terms.{con, var}
-use Rattle.text_grammar.specs.Bytes.{Inside}
 use Rattle.text_grammar.specs.Leftmost.{NoneOf}
 use Rattle.text_grammar.specs.Tokens.{Occ, Clash}
-use Rattle.text_grammar.specs.Terms.{OurTerm, int, str}
+use Rattle.text_grammar.specs.Terms.{OurTerm}
 use Rattle.text_grammar.specs.Read.{rule, slip}
+use Rattle.text_grammar.specs.constants.Constants.{ConIn}
 
 -- a term within its limits
 abbrev pub TermIn : OurTerm → Type 0
-TermIn (con (int n)) = n ≤ largestInteger
-TermIn (con (str s)) = All Inside s × (length s ≤ longestString)
+TermIn (con c) = ConIn c
 TermIn (var k n) = n ≤ largestNumber
 
 -- at least one field, not too many, none with too many terms, and each term within its limits

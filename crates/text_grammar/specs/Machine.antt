@@ -9,7 +9,8 @@ use native.Mathlib.Decide.{ℕ-discrete}
 use Rattle.text_grammar.specs.Bytes.{Begins, b-digit, b-quote, b-letter, b-e, b-none, begins, Follows, f-digit, f-colon, f-bar}
 use Rattle.text_grammar.specs.Bytes.{f-none}
 use Rattle.text_grammar.specs.Bytes.{follows, First, n-zero, n-more, n-none, first, Holds, h-quote, h-in, h-none, holds}
-use Rattle.text_grammar.specs.Grammar.{Raw, raw-int, raw-str, raw-var, raw-empty}
+use Rattle.text_grammar.specs.Grammar.{Raw, raw-var, raw-empty, raw-con}
+use Rattle.text_grammar.specs.constants.Constants.{raw-int, raw-str}
 
 -- before a term; in an integer's or a variable's digits; before a variable's number; behind a term; in a string;
 -- in `empty`, with the bytes that must come
@@ -38,8 +39,8 @@ abbrev pub term : (List ℕ → Raw) → Rest → Rest
 term f o = ([], f (o .0) ∷ o .1, o .2)
 
 abbrev pub goA : (b : ℕ) → Begins b → Move
-goA b (b-digit h) = some (digits, term (λ w. raw-int (b ∷ w)))
-goA b (b-quote h) = some (quoted, term raw-str)
+goA b (b-digit h) = some (digits, term (λ w. raw-con (raw-int (b ∷ w))))
+goA b (b-quote h) = some (quoted, term (λ w. raw-con (raw-str w)))
 goA b (b-letter k h) = some (number, term (raw-var k))
 goA b (b-e h) = some (must 109 (112 ∷ 116 ∷ 121 ∷ []), term (λ w. raw-empty))
 goA b (b-none d q l e) = none

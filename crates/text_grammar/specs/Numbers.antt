@@ -1,7 +1,16 @@
 -- Decimal numbers: the value of digits, and the digits of a number.
+use mathlib.Core.Logic.{_≢_}
 use mathlib.Core.List.{List, [], _∷_, _++_}
 use Prim.Native.Nat.{ℕ, zero, suc, _+_, _*_, _-_, _/_, _%_, _<_}
 use native.Mathlib.Decide.{decLt}
+use Rattle.base_lists.specs.Seqs.{All}
+use Rattle.text_grammar.specs.Bytes.{Digit}
+
+-- document 01: "a number .. without leading zeros"
+abbrev pub Number : List ℕ → Type 0
+Number [] = ⊥
+Number (d ∷ []) = Digit d
+Number (d ∷ (e ∷ ds)) = Digit d × (d ≢ 48) × All Digit (e ∷ ds)
 
 -- the value of digits behind others of value v
 abbrev pub val : ℕ → List ℕ → ℕ

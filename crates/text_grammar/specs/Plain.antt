@@ -4,14 +4,13 @@ use mathlib.Core.List.{List, [], _∷_, map}
 use Prim.Native.Nat.{ℕ}
 use Rattle.base_lists.specs.Seqs.{All, IsCons}
 use Rattle.math_terms.specs.Terms.{con, var}
-use Rattle.text_grammar.specs.Bytes.{Inside}
-use Rattle.text_grammar.specs.Grammar.{Raw, raw-int, raw-str, raw-var, raw-empty, spell, spellF, spellT}
+use Rattle.text_grammar.specs.Grammar.{Raw, raw-var, raw-empty, spell, spellF, spellT, raw-con}
 use Rattle.text_grammar.specs.Numbers.{digitsOf}
-use Rattle.text_grammar.specs.Terms.{OurTerm, int, str}
+use Rattle.text_grammar.specs.Terms.{OurTerm}
+use Rattle.text_grammar.specs.constants.Constants.{rawOfCon, ConOk}
 
 abbrev pub rawOf : OurTerm → Raw
-rawOf (con (int n)) = raw-int (digitsOf n)
-rawOf (con (str s)) = raw-str s
+rawOf (con c) = raw-con (rawOfCon c)
 rawOf (var k n) = raw-var k (digitsOf n)
 
 abbrev pub rawField : List OurTerm → List Raw
@@ -30,8 +29,7 @@ plain r = spellT (map rawField r)
 
 -- a term that can be written at all
 abbrev pub TermOk : OurTerm → Type 0
-TermOk (con (int n)) = Unit {0}
-TermOk (con (str s)) = All Inside s
+TermOk (con c) = ConOk c
 TermOk (var k n) = Unit {0}
 
 abbrev pub RuleOk : List (List OurTerm) → Type 0

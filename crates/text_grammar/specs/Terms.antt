@@ -3,21 +3,16 @@ use mathlib.Core.List.{List, [], _∷_, _++_, map}
 use Prim.Native.Nat.{ℕ}
 use Rattle.math_types.specs.Types.{Kind}
 use Rattle.math_terms.specs.Terms.{Term, con, var}
-use Rattle.text_grammar.specs.Grammar.{Raw, raw-int, raw-str, raw-var, raw-empty}
+use Rattle.text_grammar.specs.Grammar.{Raw, raw-var, raw-empty, raw-con}
 use Rattle.text_grammar.specs.Numbers.{value}
-
--- document 01: "Integers are equal when their values are equal"; strings are "compared byte by byte"
-pub data Con : Type 0 where
-  int : ℕ → Con
-  str : List ℕ → Con
+use Rattle.text_grammar.specs.constants.Constants.{Con, conOf}
 
 -- a variable is its type and its number
 abbrev pub OurTerm : Type 0
 OurTerm = Term Con Kind ℕ
 
 abbrev pub termOf : Raw → List OurTerm
-termOf (raw-int ds) = con (int (value ds)) ∷ []
-termOf (raw-str s) = con (str s) ∷ []
+termOf (raw-con r) = con (conOf r) ∷ []
 termOf (raw-var k ds) = var k (value ds) ∷ []
 -- document 01: "`empty`: counted as a term in the text, then dropped"
 termOf raw-empty = []

@@ -6,11 +6,12 @@ use mathlib.Core.List.{List, [], _∷_, _++_}
 use Prim.Native.Nat.{ℕ, suc, _+_, _<_}
 use native.Mathlib.Decide.{ℕ-discrete, decLt}
 use lib.ListN.{length}
-use Rattle.base_limits.specs.Limits.{mostFields, mostDigits, largestInteger, longestString, largestNumber}
+use Rattle.base_limits.specs.Limits.{mostFields, largestNumber}
 use Rattle.base_lists.specs.Seqs.{Any, any?}
 use Rattle.math_types.specs.Order.{basic, list}
-use Rattle.text_grammar.specs.Grammar.{Raw, raw-int, raw-str, raw-var, raw-empty, spell, spellF}
+use Rattle.text_grammar.specs.Grammar.{Raw, raw-var, raw-empty, spell, spellF, raw-con}
 use Rattle.text_grammar.specs.Numbers.{value}
+use Rattle.text_grammar.specs.constants.Constants.{OverCon, overCon?}
 
 -- a term with the place of its first byte, the number of its field, and its number in the field, both from 1
 pub record Token : Type 0 where
@@ -40,8 +41,7 @@ TooMany limit m = limit < m .index
 
 -- 5: "a value, digit count, variable number or string length over its limit"
 abbrev pub Over : Raw → Type 0
-Over (raw-int ds) = (mostDigits < length ds) ⊎ (largestInteger < value ds)
-Over (raw-str s) = longestString < length s
+Over (raw-con r) = OverCon r
 Over (raw-var k ds) = largestNumber < value ds
 Over raw-empty = ⊥
 
@@ -50,8 +50,7 @@ TokenOver m = Over (m .raw)
 
 -- the number of a list variable
 abbrev pub listNo : Raw → Option ℕ
-listNo (raw-int ds) = none
-listNo (raw-str s) = none
+listNo (raw-con r) = none
 listNo (raw-var (basic k) ds) = none
 listNo (raw-var list ds) = some (value ds)
 listNo raw-empty = none
@@ -82,8 +81,7 @@ NotLinear before m = ClashOf (occs before) (m .inField) (listNo (m .raw))
 
 -- 7: "a variable", in a slip
 abbrev pub IsVar : Raw → Type 0
-IsVar (raw-int ds) = ⊥
-IsVar (raw-str s) = ⊥
+IsVar (raw-con r) = ⊥
 IsVar (raw-var k ds) = Unit {0}
 IsVar raw-empty = ⊥
 
@@ -100,18 +98,8 @@ unfolding decLt
 many? limit before m = decLt limit (m .index)
 
 unfoldable pub over? : (r : Raw) → Dec (Over r)
-unfolding decLt
-over? (raw-int ds) = go (decLt mostDigits (length ds)) (decLt largestInteger (value ds))
-  where
-    neither : (mostDigits < length ds → ⊥) → (largestInteger < value ds → ⊥) → Over (raw-int ds) → ⊥
-    neither n k (inl p) = n p
-    neither n k (inr p) = k p
-
-    go : Dec (mostDigits < length ds) → Dec (largestInteger < value ds) → Dec (Over (raw-int ds))
-    go (yes p) c = yes (inl p)
-    go (no n) (yes p) = yes (inr p)
-    go (no n) (no k) = no (neither n k)
-over? (raw-str s) = decLt longestString (length s)
+unfolding overCon? decLt
+over? (raw-con r) = overCon? r
 over? (raw-var k ds) = decLt largestNumber (value ds)
 over? raw-empty = no (λ h. h)
 
@@ -140,8 +128,7 @@ abbrev pub notLinear? : (before : List Token) (m : Token) → Dec (NotLinear bef
 notLinear? before m = clashOf? (occs before) (m .inField) (listNo (m .raw))
 
 abbrev pub isVar? : (r : Raw) → Dec (IsVar r)
-isVar? (raw-int ds) = no (λ h. h)
-isVar? (raw-str s) = no (λ h. h)
+isVar? (raw-con r) = no (λ h. h)
 isVar? (raw-var k ds) = yes tt
 isVar? raw-empty = no (λ h. h)
 

@@ -7,7 +7,8 @@ use Prim.Native.Nat.{ℕ, zero, suc, _+_}
 use native.Mathlib.Decide.{ℕ-discrete}
 use lib.ListN.{length, drop}
 use Rattle.text_grammar.specs.Bytes.{Digit, digit?, Begins, b-digit, b-quote, b-letter, b-e, b-none, begins}
-use Rattle.text_grammar.specs.Grammar.{Raw, raw-int, raw-str, raw-var, raw-empty, spell}
+use Rattle.text_grammar.specs.Grammar.{Raw, raw-var, raw-empty, spell, raw-con}
+use Rattle.text_grammar.specs.constants.Constants.{raw-int, raw-str}
 use Rattle.text_grammar.specs.Tokens.{Token}
 
 -- the digits that z begins with
@@ -30,8 +31,8 @@ untilQuote (b ∷ z) = quote1 (ℕ-discrete b 34) b (untilQuote z)
 
 -- the term at the front, told by its first byte; what begins no term counts as `empty`
 abbrev pub frontB : (b : ℕ) (z : List ℕ) → Begins b → Raw
-frontB b z (b-digit h) = raw-int (b ∷ leadingDigits z)
-frontB b z (b-quote h) = raw-str (untilQuote z)
+frontB b z (b-digit h) = raw-con (raw-int (b ∷ leadingDigits z))
+frontB b z (b-quote h) = raw-con (raw-str (untilQuote z))
 frontB b z (b-letter k h) = raw-var k (leadingDigits z)
 frontB b z (b-e h) = raw-empty
 frontB b z (b-none d q l e) = raw-empty

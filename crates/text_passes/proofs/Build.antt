@@ -13,7 +13,8 @@ use lib.Seq.{take-all}
 use Rattle.base_limits.specs.Limits.{mostFields, largestInteger, longestString, largestNumber}
 use Rattle.base_lists.specs.Seqs.{All}
 use Rattle.math_types.specs.Values.{kindFrom}
-use Rattle.text_grammar.specs.Grammar.{Raw, raw-int, raw-str, raw-var, raw-empty, spell, spellF, FieldOk, TextOk}
+use Rattle.text_grammar.specs.Grammar.{Raw, raw-var, raw-empty, spell, spellF, FieldOk, TextOk}
+use Rattle.text_grammar.specs.constants.Constants.{raw-int, raw-str}
 use Rattle.text_grammar.specs.Numbers.{value}
 use Rattle.text_grammar.specs.Tokens.{Token, tokens, tokensF, tokensT, Over}
 use Rattle.text_grammar.specs.Terms.{OurTerm, termOf, fieldOf, fieldsOf}

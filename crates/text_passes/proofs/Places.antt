@@ -13,7 +13,8 @@ use lib.ListN.{length, getD, drop, length-append, length-drop, drop-of-length-le
 use lib.Seq.{drop-cons, drop-drop}
 use Rattle.base_lists.specs.Seqs.{cons-is}
 use Rattle.text_grammar.specs.Bytes.{Digit, digit?, Begins, b-digit, b-quote, b-letter, b-e, b-none, begins}
-use Rattle.text_grammar.specs.Grammar.{Raw, raw-int, raw-str, raw-var, raw-empty, spell}
+use Rattle.text_grammar.specs.Grammar.{Raw, raw-var, raw-empty, spell}
+use Rattle.text_grammar.specs.constants.Constants.{raw-int, raw-str}
 use Rattle.text_grammar.specs.Tokens.{Token}
 use Rattle.text_grammar.specs.Walk.{digits1, leadingDigits, quote1, untilQuote, frontB, front, walkOn, walk}
 use Rattle.text_grammar.proofs.Walk.{walk-step}

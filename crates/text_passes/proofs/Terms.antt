@@ -1,6 +1,7 @@
 -- Whether a written term is `empty`, as code tells it from its lexeme.
 use mathlib.Core.Path.{_≡_, refl, _∙_, ap}
-use Rattle.text_grammar.specs.Grammar.{Raw, raw-int, raw-str, raw-var, raw-empty}
+use Rattle.text_grammar.specs.Grammar.{Raw, raw-var, raw-empty}
+use Rattle.text_grammar.specs.constants.Constants.{raw-int, raw-str}
 use Rattle.text_scan.specs.declared.Lexeme.{Lexeme}
 use Rattle.text_scan.specs.Lexemes.{lexemeOf}
 use Rattle.text_passes.specs.Build.{isEmpty, emptyBy}

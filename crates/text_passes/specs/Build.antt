@@ -6,7 +6,8 @@ use Prim.Native.Nat.{ℕ, _+_}
 use lib.Dec.{eqb, ltb}
 use lib.ListN.{set}
 use Rattle.base_limits.specs.Limits.{mostFields}
-use Rattle.text_grammar.specs.Grammar.{Raw, raw-int, raw-str, raw-var, raw-empty}
+use Rattle.text_grammar.specs.Grammar.{Raw, raw-var, raw-empty}
+use Rattle.text_grammar.specs.constants.Constants.{raw-int, raw-str}
 use Rattle.text_grammar.specs.Tokens.{Token}
 use Rattle.text_grammar.specs.Read.{rule, slip}
 use Rattle.text_values.specs.declared.Term.{Term}

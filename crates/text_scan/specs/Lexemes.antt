@@ -7,7 +7,8 @@ use lib.ListN.{length}
 use Rattle.base_limits.specs.Limits.{largestInteger}
 use Rattle.math_types.specs.Values.{kindFrom}
 use Rattle.text_grammar.specs.Bytes.{digit?, Begins, b-digit, b-quote, b-letter, b-e, b-none}
-use Rattle.text_grammar.specs.Grammar.{Raw, raw-int, raw-str, raw-var, raw-empty}
+use Rattle.text_grammar.specs.Grammar.{Raw, raw-var, raw-empty}
+use Rattle.text_grammar.specs.constants.Constants.{raw-int, raw-str}
 use Rattle.text_grammar.specs.Numbers.{value}
 use Rattle.text_scan.specs.declared.Digits.{Digits}
 use Rattle.text_scan.specs.declared.Lexeme.{Lexeme}

@@ -5,7 +5,8 @@ use lib.ListN.{length, take, replicate}
 use Rattle.base_limits.specs.Limits.{mostFields, longestString}
 use Rattle.math_types.specs.Values.{kindOf, kindFrom}
 use Rattle.math_terms.specs.Terms.{con, var}
-use Rattle.text_grammar.specs.Terms.{OurTerm, int, str}
+use Rattle.text_grammar.specs.Terms.{OurTerm}
+use Rattle.text_grammar.specs.constants.Constants.{int, str}
 use Rattle.text_grammar.specs.Read.{rule, slip, OurFields}
 use Rattle.text_values.specs.declared.Form.{Form}
 use Rattle.text_values.specs.declared.Form.the-variants.{Int, Str, Var}

@@ -9,7 +9,8 @@ use Rattle.base_limits.specs.Limits.{longestString}
 use Rattle.math_types.specs.declared.Kind.{Kind}
 use Rattle.math_types.specs.Values.{kindOf}
 use Rattle.text_grammar.specs.Letters.{letter}
-use Rattle.text_grammar.specs.Grammar.{raw-str, spell}
+use Rattle.text_grammar.specs.Grammar.{spell}
+use Rattle.text_grammar.specs.constants.Constants.{raw-str}
 use Rattle.text_grammar.specs.Numbers.{digitsOf}
 use Rattle.text_grammar.specs.Plain.{termText}
 use Rattle.text_values.specs.declared.Form.{Form}

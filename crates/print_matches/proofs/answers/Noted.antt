@@ -16,7 +16,8 @@ use Rattle.math_types.specs.declared.Kind.{Kind as KindValue}
 use Rattle.math_types.specs.Types.{Kind, rank, rank-kinds, same}
 use Rattle.math_types.specs.Values.{kindOf}
 use Rattle.math_terms.specs.Terms.{con}
-use Rattle.text_grammar.specs.Terms.{Con, OurTerm}
+use Rattle.text_grammar.specs.Terms.{OurTerm}
+use Rattle.text_grammar.specs.constants.Constants.{Con}
 use Rattle.text_values.specs.declared.Form.{Form}
 use Rattle.text_values.specs.declared.Form.the-variants.{Var}
 use Rattle.text_values.specs.declared.Term.{Term}

@@ -11,7 +11,8 @@ use Rattle.math_terms.specs.Terms.{con}
 use Rattle.math_terms.specs.Fillings.{Filling, value}
 use Rattle.text_grammar.specs.Bytes.{digit?, begins, follows, first, holds}
 use Rattle.text_grammar.specs.Tokens.{fifth?, many?, over?, clash?, clashOf?}
-use Rattle.text_grammar.specs.Terms.{Con, OurTerm}
+use Rattle.text_grammar.specs.Terms.{OurTerm}
+use Rattle.text_grammar.specs.constants.Constants.{Con}
 use Rattle.text_grammar.specs.Read.{Outcome, refused, accepted, readSide, readSlip}
 use Rattle.text_grammar.specs.Plain.{plain}
 use Rattle.text_grammar.proofs.Examples.{bytes}

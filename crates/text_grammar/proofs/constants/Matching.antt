@@ -12,9 +12,9 @@ use Rattle.math_terms.specs.Fillings.{Filling, Typed, fill, Occurs}
 use Rattle.math_terms.specs.Matcher.{complete}
 use Rattle.math_terms.proofs.Matching as unique
 use Rattle.math_terms.proofs.Matcher as right
-use Rattle.text_grammar.specs.Terms.{Con, OurTerm}
+use Rattle.text_grammar.specs.Terms.{OurTerm}
+use Rattle.text_grammar.specs.constants.Constants.{Con, consts}
 use Rattle.text_grammar.specs.Limits.{Linear, IsCon}
-use Rattle.text_grammar.specs.constants.Constants.{consts}
 use Rattle.text_grammar.specs.constants.Matching.{constants, Matches, matcher}
 use Rattle.text_grammar.proofs.constants.Linear.{left-linear}
 

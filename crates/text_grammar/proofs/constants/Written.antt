@@ -8,17 +8,16 @@ use Rattle.math_terms.specs.Terms.{con}
 use Rattle.math_terms.specs.Laws.{Expr, flat, expr}
 use Rattle.math_terms.specs.Matching.{MatchesByLaws}
 use Rattle.math_terms.proofs.Laws.{flat-expr, matches-laws}
-use Rattle.text_grammar.specs.Grammar.{Raw, raw-int, raw-str, raw-var, raw-empty}
+use Rattle.text_grammar.specs.Grammar.{Raw, raw-var, raw-empty, raw-con}
+use Rattle.text_grammar.specs.constants.Constants.{consts}
 use Rattle.text_grammar.specs.Terms.{OurTerm, termOf, fieldOf, fieldsOf}
 use Rattle.text_grammar.specs.Limits.{IsCon}
-use Rattle.text_grammar.specs.constants.Constants.{consts}
 use Rattle.text_grammar.specs.constants.Matching.{constants, Matches}
 use Rattle.text_grammar.specs.constants.Written.{writtenTerm, writtenField}
 use Rattle.text_grammar.proofs.constants.Matching.{constants-are}
 
 flat-term : (r : Raw) → flat (writtenTerm r) ≡ termOf r
-flat-term (raw-int ds) = refl
-flat-term (raw-str s) = refl
+flat-term (raw-con r) = refl
 flat-term (raw-var k ds) = refl
 flat-term raw-empty = refl
 

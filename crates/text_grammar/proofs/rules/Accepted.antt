@@ -6,12 +6,13 @@ use Prim.Native.Nat.{ℕ, suc, _+_, _*_, _≤_}
 use native.Mathlib.Omega.{arith}
 use lib.ListN.{length, length-append}
 use Rattle.base_limits.specs.Limits.{mostTerms, mostRuleBytes, longestField, longestSide, longestRule}
+use Rattle.base_lists.specs.Seqs.{All}
 use Rattle.text_grammar.specs.Grammar.{Raw, spellT, TextOk}
 use Rattle.text_grammar.specs.Leftmost.{NoneOf}
 use Rattle.text_grammar.specs.Tokens.{tokens, NotLinear}
 use Rattle.text_grammar.specs.Terms.{OurTerm, fieldsOf}
 use Rattle.text_grammar.specs.Read.{fields, terms, limits, linear, unknown, NoReason, accepted, OurFields}
-use Rattle.text_grammar.specs.Plain.{rawField, plain}
+use Rattle.text_grammar.specs.Plain.{rawField, plain, TermOk}
 use Rattle.text_grammar.specs.Limits.{Within, Linear, IsLeft}
 use Rattle.text_grammar.proofs.Plain.{plain-says, back}
 use Rattle.text_grammar.proofs.Fields.{linear-tokens}
@@ -90,21 +91,29 @@ rule-read t w e =
 right-within : (f : List OurTerm) (y : OurFields) → IsRight (f ∷ y) → Within mostTerms (f ∷ y)
 right-within f y h = (tt, h .0, h .1, h .2)
 
+-- a side within the limits can be written
+pub left-ok : (x : OurFields) → IsLeft x → All (All TermOk) x
+left-ok x h = rule-ok mostTerms x (h .0) .1
+
+pub right-ok : (y : OurFields) → IsRight y → All (All TermOk) y
+right-ok [] h = tt
+right-ok (f ∷ y) h = rule-ok mostTerms (f ∷ y) (right-within f y h) .1
+
 module _ (x : OurFields) (h : IsLeft x) where
   left-clean : Clean (map rawField x)
   left-clean = clean-plain x (h .0 .1) (h .0 .2) (h .0 .3)
 
   left-linear : NoneOf NotLinear [] (tokens (map rawField x))
-  left-linear = linear-tokens (map rawField x) .1 (subst Linear (sym (back x)) (h .1))
+  left-linear = linear-tokens (map rawField x) .1 (subst Linear (sym (back x (left-ok x h))) (h .1))
 
 pub sides-says : (x y : OurFields) → IsLeft x → IsRight y → SaysRule (plainSides x y) (rawSides x y)
-sides-says x [] h r = plain-says x (rule-ok 16 x (h .0))
+sides-says x [] h r = plain-says x (rule-ok mostTerms x (h .0))
 sides-says x (f ∷ y) h r =
-    ((plain-says x (rule-ok 16 x (h .0)) .0, plain-says (f ∷ y) (rule-ok 16 (f ∷ y) (right-within f y r)) .0), refl)
+    ((plain-says x (rule-ok mostTerms x (h .0)) .0, plain-says (f ∷ y) (rule-ok mostTerms (f ∷ y) (right-within f y r)) .0), refl)
 
-pub sides-back : (x y : OurFields) → bothFields (rawSides x y) ≡ (x, y)
-sides-back x [] = ap (λ (l : OurFields). (l, [])) (back x)
-sides-back x (f ∷ y) = ap₂ (λ (l r : OurFields). (l, r)) (back x) (back (f ∷ y))
+pub sides-back : (x y : OurFields) → IsLeft x → IsRight y → bothFields (rawSides x y) ≡ (x, y)
+sides-back x [] h r = ap (λ (l : OurFields). (l, [])) (back x (left-ok x h))
+sides-back x (f ∷ y) h r = ap₂ (λ (l r : OurFields). (l, r)) (back x (left-ok x h)) (back (f ∷ y) (right-ok (f ∷ y) r))
 
 -- the longest plain text has 2,304 bytes at most
 pub rule-length : (x y : OurFields) → IsLeft x → IsRight y → length (plainSides x y) ≤ longestRule
@@ -121,8 +130,8 @@ sides-leave x (f ∷ y) h = (
   left-clean x (h .0),
   clean-plain (f ∷ y) (h .1 .0) (h .1 .1) (h .1 .2),
   left-linear x (h .0),
-  unknown-tokens (map rawField x) (map rawField (f ∷ y)) .1 (subst (λ (l : OurFields). VarsIn l (fieldsOf (map rawField x))) (sym (back (f ∷ y)))
-      (subst (VarsIn (f ∷ y)) (sym (back x)) (h .2))),
+  unknown-tokens (map rawField x) (map rawField (f ∷ y)) .1 (subst (λ (l : OurFields). VarsIn l (fieldsOf (map rawField x))) (sym (back (f ∷ y) (right-ok (f ∷ y) (h .1))))
+      (subst (VarsIn (f ∷ y)) (sym (back x (left-ok x (h .0)))) (h .2))),
 )
 
 -- ROUND TRIP: a rule within the limits is read from its plain text
@@ -134,7 +143,7 @@ rule-plain w h =
     let l = sides-leave x y h in
     let n = rule-length x y (h .0) (h .1) in
     rule-accepted (plainBoth w) w .1
-    (reasons-none (plainSides x y) (rawSides x y) s (omega arith) (l .0) (l .1) (l .2) (l .3), (rawSides x y, s, sides-back x y))
+    (reasons-none (plainSides x y) (rawSides x y) s (omega arith) (l .0) (l .1) (l .2) (l .3), (rawSides x y, s, sides-back x y (h .0) (h .1)))
 
 -- WHICH rules reading returns
 pub rule-iff : (w : OurRule) → ((t : List ℕ) × (readRule t ≡ accepted w)) ↔ IsRule w

@@ -10,7 +10,7 @@ use Rattle.base_limits.specs.Limits.{mostFields, mostTerms}
 use Rattle.base_lists.specs.Seqs.{All, all-append, all-left, all-right}
 use Rattle.math_types.specs.Types.{Kind}
 use Rattle.math_terms.specs.Fillings.{Occurs}
-use Rattle.text_grammar.specs.Grammar.{Raw, raw-int, raw-str, raw-var, raw-empty, spell, spellF}
+use Rattle.text_grammar.specs.Grammar.{Raw, raw-var, raw-empty, spell, spellF, raw-con}
 use Rattle.text_grammar.specs.Numbers.{value}
 use Rattle.text_grammar.specs.Leftmost.{NoneOf, leftmost, LeftmostAt}
 use Rattle.text_grammar.specs.Tokens.{Token, tokens, tokensF, tokensT, FifthField, TooMany, Over, TokenOver}
@@ -140,8 +140,7 @@ module _ (l : OurFields) where
 
   known-field : (rs : List Raw) → All (λ r. Lacks l r → ⊥) rs ↔ ((k : Kind) (n : ℕ) → Occurs k n (fieldOf rs) → Has k n l)
   known-field [] = (λ h k n o. absurd o, λ h. tt)
-  known-field (raw-int ds ∷ rs) = let e = known-field rs in (λ h. e .0 (h .1), λ h. (λ z. z, e .1 h))
-  known-field (raw-str s ∷ rs) = let e = known-field rs in (λ h. e .0 (h .1), λ h. (λ z. z, e .1 h))
+  known-field (raw-con r ∷ rs) = let e = known-field rs in (λ h. e .0 (h .1), λ h. (λ z. z, e .1 h))
   known-field (raw-empty ∷ rs) = let e = known-field rs in (λ h. e .0 (h .1), λ h. (λ z. z, e .1 h))
   known-field (raw-var j ds ∷ rs) =
       let e = known-field rs in

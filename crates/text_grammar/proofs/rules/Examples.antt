@@ -11,7 +11,7 @@ use Rattle.math_terms.specs.Terms.{con, var}
 use Rattle.text_grammar.specs.Ascii.{ascii}
 use Rattle.text_grammar.specs.Bytes.{digit?, begins, follows, first, holds}
 use Rattle.text_grammar.specs.Tokens.{fifth?, many?, over?, clash?, clashOf?}
-use Rattle.text_grammar.specs.Terms.{int, str}
+use Rattle.text_grammar.specs.constants.Constants.{int, str}
 use Rattle.text_grammar.specs.Read.{Reason, long, grammar, fields, terms, limits, linear, unknown, OutcomeOf, refused, accepted, readSide, readSlip}
 use Rattle.text_grammar.specs.rules.Tokens.{occurs?, has?}
 use Rattle.text_grammar.specs.rules.Sides.{joined}

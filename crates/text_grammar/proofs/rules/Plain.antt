@@ -4,16 +4,17 @@ use mathlib.Core.List.{List, [], _∷_}
 use Prim.Native.Nat.{ℕ}
 use Rattle.base_lists.specs.Seqs.{All}
 use Rattle.text_grammar.specs.Grammar.{spellT}
+use Rattle.text_grammar.specs.Limits.{IsLeft}
 use Rattle.text_grammar.specs.Read.{OutcomeOf, accepted, OurFields}
 use Rattle.text_grammar.proofs.Plain.{LeanField, lean-is-plain, plain-lean}
 use Rattle.text_grammar.specs.rules.Sides.{Sides, one, two, joined, SaysRule}
 use Rattle.text_grammar.specs.rules.Read.{OurRule, bothFields, readRule}
 use Rattle.text_grammar.specs.rules.Plain.{plainBoth, rawSides}
-use Rattle.text_grammar.specs.rules.Limits.{IsRule}
+use Rattle.text_grammar.specs.rules.Limits.{IsRight, IsRule}
 use Rattle.text_grammar.proofs.rules.Read.{rule-accepted}
-use Rattle.text_grammar.proofs.rules.Accepted.{rule-read, rule-plain}
+use Rattle.text_grammar.proofs.rules.Accepted.{left-ok, right-ok, rule-read, rule-plain}
 
--- no `empty` beside other terms, no leading zeros
+-- no byte that the plain text would not have: no `empty` beside other terms, no leading zeros
 abbrev pub LeanSides : Sides → Type 0
 LeanSides (one x) = All LeanField x
 LeanSides (two x y) = All LeanField x × All LeanField y
@@ -31,9 +32,9 @@ one-plain t w e l =
     lean-sides t (a .0) (a .1) (l (a .0) (a .1)) ∙ ap plainBoth (a .2)
 
 -- and it is lean
-pub raw-lean : (x y : OurFields) → LeanSides (rawSides x y)
-raw-lean x [] = plain-lean x
-raw-lean x (f ∷ y) = (plain-lean x, plain-lean (f ∷ y))
+pub raw-lean : (x y : OurFields) → IsLeft x → IsRight y → LeanSides (rawSides x y)
+raw-lean x [] h r = plain-lean x (left-ok x h)
+raw-lean x (f ∷ y) h r = (plain-lean x (left-ok x h), plain-lean (f ∷ y) (right-ok (f ∷ y) r))
 
 -- READING THE PLAIN TEXT of what was read returns it
 pub read-again : (t : List ℕ) (w : OurRule) → readRule t ≡ accepted w → readRule (plainBoth w) ≡ accepted w

@@ -4,7 +4,8 @@ use mathlib.Core.Logic.{_⊎_, inl, inr}
 use mathlib.Core.List.{List, [], _∷_, _++_, append-assoc, append-nil, nil≢cons, head-eq-of-cons-eq, tail-eq-of-cons-eq}
 use Prim.Native.Nat.{ℕ}
 use native.Mathlib.Omega.{arith}
-use Rattle.text_grammar.specs.Grammar.{raw-int, spellT, Grammar}
+use Rattle.text_grammar.specs.Grammar.{spellT, Grammar, raw-con}
+use Rattle.text_grammar.specs.constants.Constants.{raw-int}
 use Rattle.text_grammar.specs.Place.{ViableOf, Viable}
 use Rattle.text_grammar.specs.rules.Sides.{one, two, joined, RuleGrammar}
 use Rattle.text_grammar.proofs.rules.Splits.{equals, grammar-viable, no-viable, grammar-split}
@@ -43,7 +44,7 @@ pub data Shape (p : List ℕ) : Type 0 where
   in-right : (a u : List ℕ) → Grammar a → Viable u → p ≡ joined a u → Shape p
 
 zero-text : Grammar (48 ∷ [])
-zero-text = ((raw-int (48 ∷ []) ∷ []) ∷ [], ((tt, ((tt, ((tt, ((omega arith, omega arith), tt)), tt)), tt)), refl))
+zero-text = ((raw-con (raw-int (48 ∷ [])) ∷ []) ∷ [], ((tt, ((tt, ((tt, ((omega arith, omega arith), tt)), tt)), tt)), refl))
 
 pub shape-viable : (p : List ℕ) → Shape p → ViableOf RuleGrammar p
 shape-viable p (in-left v) = (v .0, one-grammar (p ++ v .0) (v .1))

@@ -13,7 +13,7 @@ use Rattle.math_types.specs.Types.{Kind}
 use Rattle.text_grammar.specs.Bytes.{letter}
 use Rattle.text_grammar.specs.Numbers.{value}
 use Rattle.text_grammar.specs.Terms.{fieldsOf}
-use Rattle.text_grammar.specs.Grammar.{Raw, raw-int, raw-str, raw-var, raw-empty, spell, spellF, bars, spellT}
+use Rattle.text_grammar.specs.Grammar.{Raw, raw-var, raw-empty, spell, spellF, bars, spellT, raw-con}
 use Rattle.text_grammar.specs.Leftmost.{NoneOf, FirstOf}
 use Rattle.text_grammar.specs.Tokens.{Token, tokens, tokensF, tokensT, FifthField, TooMany}
 use Rattle.text_grammar.specs.Read.{Reason, long, grammar, fields, terms, limits, linear, variable, unknown, FirstReason, refused, OurFields}
@@ -246,8 +246,7 @@ unknown-is t p (two x y, h, l) = go (m .raw) refl (l .1 .3)
     go : (r : Raw) → m .raw ≡ r → Lacks (fieldsOf x) r
         → (x y : List (List Raw)) × SaysRule t (two x y) × (k : Kind) × (ds pre post : List ℕ) × (t ≡ pre ++ letter k ∷ (ds ++ post)) × (length pre ≡ p)
         × (rightPlace x ≤ p) × (Has k (value ds) (fieldsOf x) → ⊥)
-    go (raw-int ds) e b = absurd b
-    go (raw-str s) e b = absurd b
+    go (raw-con r) e b = absurd b
     go (raw-var k ds) e b =
         let place = l .2 in
         let here = stood .there ∙ ap (λ (r : Raw). stood .before ++ (spell r ++ stood .after)) e in
@@ -290,8 +289,7 @@ numbered-for unknown s = numbered-right s
 -- ---- WHAT STANDS AT THE PLACE of a refusal from 3 to 6, or of 10
 
 lacking-is : (l : OurFields) (r : Raw) → Lacks l r → (k : Kind) × (ds : List ℕ) × (r ≡ raw-var k ds) × (Has k (value ds) l → ⊥)
-lacking-is l (raw-int ds) h = absurd h
-lacking-is l (raw-str s) h = absurd h
+lacking-is l (raw-con r) h = absurd h
 lacking-is l (raw-var k ds) h = (k, ds, refl, h)
 lacking-is l raw-empty h = absurd h
 

@@ -9,8 +9,8 @@ use Rattle.math_terms.specs.Fillings.{Filling}
 use Rattle.math_terms.specs.Matching as definition
 use Rattle.math_terms.specs.Matcher as executable
 use Rattle.math_terms.specs.Compared as counted
-use Rattle.text_grammar.specs.Terms.{Con, OurTerm}
-use Rattle.text_grammar.specs.constants.Constants.{consts}
+use Rattle.text_grammar.specs.Terms.{OurTerm}
+use Rattle.text_grammar.specs.constants.Constants.{Con, consts}
 
 -- a slip's field as it is read, without variables: its constants
 abbrev pub constants : List OurTerm → List Con

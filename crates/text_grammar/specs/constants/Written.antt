@@ -3,13 +3,13 @@
 use mathlib.Core.List.{List, [], _∷_}
 use Rattle.math_terms.specs.Terms.{con, var}
 use Rattle.math_terms.specs.Laws.{Expr, empty, term, _⦂_}
-use Rattle.text_grammar.specs.Grammar.{Raw, raw-int, raw-str, raw-var, raw-empty}
+use Rattle.text_grammar.specs.Grammar.{Raw, raw-var, raw-empty, raw-con}
 use Rattle.text_grammar.specs.Numbers.{value}
-use Rattle.text_grammar.specs.Terms.{int, str, OurTerm}
+use Rattle.text_grammar.specs.Terms.{OurTerm}
+use Rattle.text_grammar.specs.constants.Constants.{conOf}
 
 abbrev pub writtenTerm : Raw → Expr OurTerm
-writtenTerm (raw-int ds) = term (con (int (value ds)))
-writtenTerm (raw-str s) = term (con (str s))
+writtenTerm (raw-con r) = term (con (conOf r))
 writtenTerm (raw-var k ds) = term (var k (value ds))
 writtenTerm raw-empty = empty
 

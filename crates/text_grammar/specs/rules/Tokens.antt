@@ -10,7 +10,7 @@ use Rattle.math_types.specs.Order.{full-eq}
 use Rattle.math_types.specs.Types.{Kind, basic-eq}
 use Rattle.math_terms.specs.Terms.{con, var}
 use Rattle.math_terms.specs.Fillings.{Occurs}
-use Rattle.text_grammar.specs.Grammar.{Raw, raw-int, raw-str, raw-var, raw-empty, spellT}
+use Rattle.text_grammar.specs.Grammar.{Raw, raw-var, raw-empty, spellT, raw-con}
 use Rattle.text_grammar.specs.Numbers.{value}
 use Rattle.text_grammar.specs.Tokens.{Token, tokens, tokensT}
 use Rattle.text_grammar.specs.Terms.{OurTerm, fieldsOf}
@@ -64,14 +64,12 @@ unfolding any? occurs?
 has? k n r = any? (Occurs k n) (occurs? k n) r
 
 abbrev pub Lacks : OurFields → Raw → Type 0
-Lacks l (raw-int ds) = ⊥
-Lacks l (raw-str s) = ⊥
+Lacks l (raw-con r) = ⊥
 Lacks l (raw-var k ds) = Has k (value ds) l → ⊥
 Lacks l raw-empty = ⊥
 
 abbrev pub lacks? : (l : OurFields) (r : Raw) → Dec (Lacks l r)
-lacks? l (raw-int ds) = no (λ h. h)
-lacks? l (raw-str s) = no (λ h. h)
+lacks? l (raw-con r) = no (λ h. h)
 lacks? l (raw-var k ds) = go (has? k (value ds) l)
   where
     go : Dec (Has k (value ds) l) → Dec (Has k (value ds) l → ⊥)

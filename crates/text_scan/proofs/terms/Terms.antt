@@ -11,7 +11,8 @@ use Rattle.base_limits.specs.Limits.{longestString}
 use Rattle.math_types.specs.declared.Kind.{Kind}
 use Rattle.math_types.specs.Values.{kindFrom}
 use Rattle.text_grammar.specs.Bytes.{Begins, b-digit, b-quote, b-letter, b-e, b-none, begins}
-use Rattle.text_grammar.specs.Grammar.{Raw, raw-int, raw-str, raw-var, raw-empty}
+use Rattle.text_grammar.specs.Grammar.{Raw, raw-var, raw-empty}
+use Rattle.text_grammar.specs.constants.Constants.{raw-int, raw-str}
 use Rattle.text_grammar.specs.Walk.{leadingDigits, quote1, untilQuote, frontB, front}
 use Rattle.text_values.specs.declared.Form.the-variants as form
 use Rattle.text_values.specs.Values.{pad, blankTerm}

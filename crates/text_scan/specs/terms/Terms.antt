@@ -3,7 +3,8 @@ use Prim.Native.Nat.{_%_, min}
 use lib.ListN.{length, take, replicate}
 use Rattle.base_limits.specs.Limits.{longestString}
 use Rattle.math_types.specs.Values.{kindFrom}
-use Rattle.text_grammar.specs.Grammar.{Raw, raw-int, raw-str, raw-var, raw-empty}
+use Rattle.text_grammar.specs.Grammar.{Raw, raw-var, raw-empty}
+use Rattle.text_grammar.specs.constants.Constants.{raw-int, raw-str}
 use Rattle.text_grammar.specs.Numbers.{value}
 use Rattle.text_values.specs.declared.Form.the-variants.{Int, Str, Var}
 use Rattle.text_values.specs.declared.Term.{Term}

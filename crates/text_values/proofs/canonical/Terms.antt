@@ -13,7 +13,8 @@ use Rattle.base_lists.specs.Seqs.{All}
 use Rattle.math_types.specs.Values.{kindOf-from, kind-from-of}
 use Rattle.math_terms.specs.Terms.{con, var}
 use Rattle.text_grammar.specs.Bytes.{Inside}
-use Rattle.text_grammar.specs.Terms.{OurTerm, int, str}
+use Rattle.text_grammar.specs.Terms.{OurTerm}
+use Rattle.text_grammar.specs.constants.Constants.{int, str}
 use Rattle.text_grammar.specs.Limits.{TermIn, IsCon}
 use Rattle.text_values.specs.declared.Form.{Form}
 use Rattle.text_values.specs.declared.Form.the-variants.{Int, Str, Var}
