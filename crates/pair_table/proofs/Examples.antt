@@ -9,7 +9,6 @@ use Rattle.math_terms.specs.Terms.{con}
 use Rattle.text_grammar.specs.Ascii.{ascii}
 use Rattle.text_grammar.specs.Bytes.{digit?, begins, follows, first, holds}
 use Rattle.text_grammar.specs.Tokens.{fifth?, many?, over?, clash?, clashOf?}
-use Rattle.text_grammar.specs.Terms.{OurTerm}
 use Rattle.text_grammar.specs.constants.Constants.{int}
 use Rattle.text_grammar.specs.Read.{OurFields, accepted, readSide}
 use Rattle.math_codes.specs.Whole.{spotsOf}

@@ -9,7 +9,7 @@ use native.Mathlib.Decide.{ℕ-discrete, decLe}
 use lib.Dec.{eqb, leb}
 use lib.ListN.{length, getD, set, List·getD-eq-default}
 use lib.Seq.{sets}
-use Rattle.base_lists.specs.Seqs.{tabulate, tabulate-same}
+use Rattle.base_lists.specs.Seqs.{tabulate-same}
 use Rattle.base_lists.specs.Truths.{both-is}
 use Rattle.math_codes.specs.Texts.{zeros}
 use borrow.Author.Tests.{eq-eqb, leb-true}

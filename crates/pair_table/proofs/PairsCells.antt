@@ -15,8 +15,8 @@ use Rattle.base_lists.specs.Truths.{both-is}
 use Rattle.math_types.specs.Order.{basic}
 use Rattle.math_types.specs.Types.{rank}
 use Rattle.text_grammar.specs.Numbers.{value, digitsOf}
-use Rattle.text_grammar.specs.constants.Constants.{Con, int, str, kind-of}
-use Rattle.text_grammar.proofs.Numbers.{digits-value}
+use Rattle.text_grammar.specs.constants.Constants.{Con, int, str, kind-of, ConIn}
+use Rattle.text_grammar.proofs.Numbers.{digits-value, digits-ten}
 use Rattle.pair_row.specs.Row.{kindsAt, membersAt, textsBytes, bytesIn, cellBytes}
 use Rattle.pair_table.specs.Notes.{celled, sameFrom, sameConstant, memberFrom}
 
@@ -132,6 +132,10 @@ same-from texts (suc k) a b h =
 abbrev pub bytesOf : Con → List ℕ
 bytesOf (int n) = digitsOf n
 bytesOf (str s) = s
+
+pub bytes-short : (c : Con) → ConIn c → length (bytesOf c) ≤ longestString
+bytes-short (int n) h = omega (arith, digits-ten n h)
+bytes-short (str s) h = h .1
 
 -- equal types and bytes, equal constants
 bytes-once : (c d : Con) → rank (basic (kind-of c)) ≡ rank (basic (kind-of d)) → bytesOf c ≡ bytesOf d → c ≡ d

@@ -10,20 +10,21 @@ use lib.Dec.{leb, ltb}
 use lib.ListN.{length, getD, drop, length-append, length-drop, List·getD-append}
 use lib.Seq.{getD-append-add, getD-drop}
 use borrow.Author.Tests.{lt-ltb, le-leb}
-use Rattle.base_limits.specs.Limits.{mostTerms, mostDigits, largestInteger, longestString, largestNumber, numbersOfSide, fieldPlaces, pairFields}
+use Rattle.base_limits.specs.Limits.{mostTerms, mostDigits, longestString, largestNumber, numbersOfSide, fieldPlaces, pairFields}
 use Rattle.base_lists.specs.Seqs.{All, all-append, tabulated}
 use Rattle.math_types.specs.Order.{basic}
-use Rattle.math_types.specs.Types.{Kind, rank, isList}
+use Rattle.math_types.specs.Types.{Basic, Kind, rank, isList}
 use Rattle.base_lists.specs.Arrays.{shift-length, shift-eq}
 use Rattle.math_types.specs.Values.{kindOf-from}
 use Rattle.math_terms.specs.Terms.{con}
-use Rattle.text_grammar.specs.Grammar.{Raw, raw-var, raw-empty, spell, Proper, colons, spellF, bars, spellT}
-use Rattle.text_grammar.specs.constants.Constants.{raw-int, raw-str, Con, int, str, kind-of}
+use Rattle.text_grammar.specs.Grammar.{Raw, raw-var, raw-empty, spell, Proper, colons, spellF, bars, spellT, raw-con}
+use Rattle.text_grammar.specs.constants.Constants.{raw-int, raw-str, Con, kind-of, RawCon, spellCon, ProperCon, OverCon, conOf}
 use Rattle.text_grammar.specs.Numbers.{value, digitsOf}
 use Rattle.text_grammar.specs.Tokens.{Token, tokensF, tokensT, tokens, Over}
 use Rattle.text_grammar.specs.Terms.{OurTerm, termOf, fieldOf}
 use Rattle.text_grammar.proofs.Walk.{spell-some}
 use Rattle.text_grammar.proofs.Numbers.{digits-one, digits-ten}
+use Rattle.text_grammar.proofs.constants.Constants.{con-in}
 use Rattle.math_overlaps.specs.Shapes.{Side}
 use Rattle.math_codes.specs.Texts.{zeros}
 use Rattle.math_codes.specs.Entries.{atomOf}
@@ -31,10 +32,10 @@ use Rattle.math_codes.specs.Lines.{OurAtom}
 use Rattle.math_codes.proofs.Places.{Stands}
 use Rattle.math_codes.proofs.Texts.{plain-digits}
 use Rattle.text_scan.specs.declared.Lexeme.{Lexeme}
-use Rattle.text_scan.specs.Lexemes.{capped, lexemeOf}
+use Rattle.text_scan.specs.Lexemes.{capped, literalOf, literalSize, lexemeOf}
 use Rattle.pair_row.specs.Row as row
-use Rattle.pair_table.specs.Notes.{partOf, celled, constantNoted, variableNoted, shapeNoted, isField, termsIn, noteBy, noteLexeme, noteToken}
-use Rattle.pair_table.proofs.PairsCells.{bytesOf}
+use Rattle.pair_table.specs.Notes.{partOf, celled, constantNoted, literalCell, literalKind, variableNoted, shapeNoted, isField, termsIn, noteBy, noteLexeme, noteToken}
+use Rattle.pair_table.proofs.PairsCells.{bytesOf, bytes-short}
 use Rattle.pair_table.proofs.PairsIndexes.{sideIn}
 use Rattle.pair_table.proofs.PairsTerms.{Noted, terms-noted, constant-next, variable-next}
 
@@ -92,7 +93,7 @@ part-drop text q z b h =
     (λ i l. getD-drop z b i 0 ∙ sym (h (z + i) (omega arith)) ∙ ap (λ (j : ℕ). getD text j 0) (let e : q + (z + i) ≡ q + z + i = omega arith in e)))
 
 -- the digits of an integer behind its leading zeros
-digits-part : (text : List ℕ) (q : ℕ) (ds : List ℕ) → Proper (raw-int ds) → StandsAt text q ds
+digits-part : (text : List ℕ) (q : ℕ) (ds : List ℕ) → ProperCon (raw-int ds) → StandsAt text q ds
     → partOf text (q + zeros (partOf text q (length ds))) (length ds - zeros (partOf text q (length ds))) ≡ digitsOf (value ds)
 digits-part text q ds p h =
     ap (λ (b : List ℕ). partOf text (q + zeros b) (length ds - zeros b)) (part-is text q ds (h .1))
@@ -100,12 +101,29 @@ digits-part text q ds p h =
     ∙ sym (plain-digits ds (p .0) (p .1))
 
 -- the bytes between the quotes
-string-part : (text : List ℕ) (q : ℕ) (b : List ℕ) → StandsAt text q (spell (raw-str b)) → partOf text (q + 1) (length b) ≡ b
+string-part : (text : List ℕ) (q : ℕ) (b : List ℕ) → StandsAt text q (spellCon (raw-str b)) → partOf text (q + 1) (length b) ≡ b
 string-part text q b h =
     part-is text (q + 1) b (λ i l.
     ap (λ (j : ℕ). getD text j 0) (let e : q + 1 + i ≡ q + suc i = omega arith in e)
     ∙ h .1 (suc i) (omega (arith, length-append b (34 ∷ [])))
     ∙ List·getD-append b (34 ∷ []) 0 i l)
+
+-- ---- one written constant
+
+literal-cell : (text : List ℕ) (q : ℕ) (r : RawCon) → ProperCon r → StandsAt text q (spellCon r)
+    → literalCell (literalOf r) text q (literalSize r) ≡ bytesOf (conOf r)
+literal-cell text q (raw-int ds) p h = digits-part text q ds p h
+literal-cell text q (raw-str b) p h = string-part text q b h
+
+literal-kind : (r : RawCon) → literalKind (literalOf r) ≡ kind-of (conOf r)
+literal-kind (raw-int ds) = refl
+literal-kind (raw-str b) = refl
+
+literal-size : (r : RawCon) → (OverCon r → ⊥) → literalSize r ≤ longestString
+literal-size (raw-int ds) o = omega (arith, by-contra (length ds) mostDigits (λ h. o (inl h)))
+literal-size (raw-str b) o = omega arith
+
+-- ---- a field's terms
 
 stands-append : (t : List (Option OurAtom)) (z : Side) (us vs : List OurTerm) (p : ℕ) → Stands t z p (us ++ vs)
     → Stands t z p us × Stands t z (p + length us) vs
@@ -173,17 +191,13 @@ module _ (t : List (Option OurAtom)) (G : ℕ → List OurTerm) (s : Bool) (text
       pub raw-noted : (r : Raw) → Proper r → (Over r → ⊥) → StandsAt text q (spell r) → Stands t (sideIn s) p (termOf r)
           → length fs + length (termOf r) ≤ mostTerms
           → NotedBy f (fs ++ termOf r) (d ++ termOf r) (p + length (termOf r)) (noteLexeme s text q n (lexemeOf r) (x .0) (x .1))
-      raw-noted (raw-int ds) pr o st k m =
-          let few : value ds ≤ largestInteger = by-contra (value ds) largestInteger (λ h. o (inr h)) in
-          constant-read (int (value ds)) (partOf text (q + zeros (partOf text q (length ds))) (length ds - zeros (partOf text q (length ds))))
-          (lexemeOf (raw-int ds)) (omega arith) (omega (arith, st .0, spell-some (raw-int ds) pr)) (short (λ h. o (inl h))) (k .0)
-          (omega (arith, digits-ten (value ds) few)) (digits-part text q ds pr st) refl
+      raw-noted (raw-con r) pr o st k m =
+          constant-read (conOf r) (literalCell (literalOf r) text q (literalSize r)) (lexemeOf (raw-con r)) (omega arith)
+          (omega (arith, st .0, spell-some (raw-con r) pr)) (literal-size r o) (k .0) (bytes-short (conOf r) (con-in r pr o)) (literal-cell text q r pr st)
+          (ap (λ (k : Basic). (constantNoted p (rank (basic k)) cells (shapeNoted f false 0 (x .0)), cells)) (sym (literal-kind r)))
         where
-          short : (mostDigits < length ds → ⊥) → length ds ≤ longestString
-          short h = omega arith
-      raw-noted (raw-str b) pr o st k m =
-          constant-read (str b) (partOf text (q + 1) (length b)) (lexemeOf (raw-str b)) (omega arith) (omega (arith, st .0, spell-some (raw-str b) pr))
-          (omega arith) (k .0) (omega arith) (string-part text q b st) refl
+          cells : List ℕ
+          cells = celled p (literalCell (literalOf r) text q (literalSize r)) (x .1)
       raw-noted (raw-var j ds) pr o st k m =
           let few : value ds ≤ largestNumber = omega arith in
           let v : capped (value ds) % numbersOfSide ≡ value ds = omega arith in

@@ -10,12 +10,13 @@ ghost use Rattle.math_types.specs.Values.{kindOf};
 ghost use Rattle.math_codes.specs.Texts.{zeros};
 ghost use Rattle.pair_row.specs.Row.{fieldOf};
 ghost use Rattle.pair_table.specs.Notes.{partOf, isField, termsIn, classed, celled, sameConstant, codeIn, joinedMember};
-ghost use Rattle.pair_table.specs.Notes.{constantNoted, sideOf, indexed, topped, variableNoted, more, shapeNoted, noteBy};
+ghost use Rattle.pair_table.specs.Notes.{constantNoted, literalNoted, sideOf, indexed, topped, variableNoted, more, shapeNoted, noteBy};
 ghost use Rattle.pair_table.specs.Notes.{noteLexeme};
 use math_types::Kind;
 use pair_row::byte_at;
 use pair_row::put_at;
 use text_scan::Lexeme;
+use text_scan::Literal;
 use text_scan::Spelled;
 
 // Sizes of the types that the tables have.
@@ -139,6 +140,29 @@ fn leading_zeros(text: &[u8], at: usize, n: usize) -> usize
         i += 1;
     }
     i
+}
+
+// The constant that is written at a place of the text as l, with n digits or bytes, stands at place p.
+fn note_literal(
+    row: &mut [u8],
+    texts: &mut [u8],
+    p: u8,
+    text: &[u8],
+    at: usize,
+    l: Literal,
+    n: usize,
+)
+    requires { ⌜ (n ≤ longestString) × (at < length (now text)) ⌝ }
+    ensures { λ _. ⌜ now (row .exit) ≡ (literalNoted (now (text .entry)) at p l n (now (row .entry)) (now (texts .entry))) .0 ⌝ }
+    ensures { λ _. ⌜ now (texts .exit) ≡ (literalNoted (now (text .entry)) at p l n (now (row .entry)) (now (texts .entry))) .1 ⌝ }
+{
+    match l {
+        Literal::Int => {
+            let z = leading_zeros(text, at, n);
+            note_constant(row, texts, p, 0, text, at + z, n - z);
+        }
+        Literal::Str => note_constant(row, texts, p, 1, text, at + 1, n),
+    }
 }
 
 // ---- variables
@@ -287,14 +311,9 @@ fn note_term(
 {
     let what = t.what;
     match what {
-        Spelled::Int => {
-            let z = leading_zeros(text, at, t.size);
+        Spelled::Con(l) => {
             note_shape(row, f, false, 0);
-            note_constant(row, texts, p, 0, text, at + z, t.size - z);
-        }
-        Spelled::Str => {
-            note_shape(row, f, false, 0);
-            note_constant(row, texts, p, 1, text, at + 1, t.size);
+            note_literal(row, texts, p, text, at, l, t.size);
         }
         Spelled::Var(k) => {
             let n = (t.value % NUMBERS_OF_SIDE) as u8;

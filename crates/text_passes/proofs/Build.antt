@@ -13,7 +13,7 @@ use lib.Seq.{take-all}
 use Rattle.base_limits.specs.Limits.{mostFields, largestInteger, longestString, largestNumber}
 use Rattle.base_lists.specs.Seqs.{All}
 use Rattle.math_types.specs.Values.{kindFrom}
-use Rattle.text_grammar.specs.Grammar.{Raw, raw-var, raw-empty, spell, spellF, FieldOk, TextOk}
+use Rattle.text_grammar.specs.Grammar.{Raw, raw-var, raw-empty, spell, spellF, FieldOk, TextOk, raw-con}
 use Rattle.text_grammar.specs.constants.Constants.{raw-int, raw-str}
 use Rattle.text_grammar.specs.Numbers.{value}
 use Rattle.text_grammar.specs.Tokens.{Token, tokens, tokensF, tokensT, Over}
@@ -151,15 +151,15 @@ module _ (w : ℕ) (ts : List OurTerm) (h : length ts < w) where
       (add-empty : add (make (held ts)) raw-empty ≡ make (held ts))
       (add-other : (r : Raw) → isEmpty r ≡ false → add (make (held ts)) r ≡ make (with (termFrom r))) where
     pub adds-one : (r : Raw) → (Over r → ⊥) → add (make (held ts)) r ≡ make (held (ts ++ termOf r))
-    adds-one (raw-int ds) o =
-        add-other (raw-int ds) refl
-        ∙ ap make (with-one _ (termFrom (raw-int ds))
+    adds-one (raw-con (raw-int ds)) o =
+        add-other (raw-con (raw-int ds)) refl
+        ∙ ap make (with-one _ (termFrom (raw-con (raw-int ds)))
         (ap (λ (n : ℕ). record { form = Int n; text = replicate longestString 0 }) (int-is (value ds) (by-contra (value ds) largestInteger (λ k. o (inr k))))))
-    adds-one (raw-str s) o =
+    adds-one (raw-con (raw-str s)) o =
         let l : length s ≤ longestString = omega arith in
         let e : min (length s) longestString ≡ length s = omega arith in
-        add-other (raw-str s) refl
-        ∙ ap make (with-one _ (termFrom (raw-str s))
+        add-other (raw-con (raw-str s)) refl
+        ∙ ap make (with-one _ (termFrom (raw-con (raw-str s)))
         (ap₂ (λ (n : ℕ) (z : List ℕ). record { form = Str n; text = pad longestString 0 z }) e (take-all longestString s l)))
     adds-one (raw-var k ds) o =
         add-other (raw-var k ds) refl

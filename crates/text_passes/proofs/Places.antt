@@ -13,22 +13,23 @@ use lib.ListN.{length, getD, drop, length-append, length-drop, drop-of-length-le
 use lib.Seq.{drop-cons, drop-drop}
 use Rattle.base_lists.specs.Seqs.{cons-is}
 use Rattle.text_grammar.specs.Bytes.{Digit, digit?, Begins, b-digit, b-quote, b-letter, b-e, b-none, begins}
-use Rattle.text_grammar.specs.Grammar.{Raw, raw-var, raw-empty, spell}
+use Rattle.text_grammar.specs.Grammar.{Raw, raw-var, raw-empty, spell, raw-con}
 use Rattle.text_grammar.specs.constants.Constants.{raw-int, raw-str}
 use Rattle.text_grammar.specs.Tokens.{Token}
 use Rattle.text_grammar.specs.Walk.{digits1, leadingDigits, quote1, untilQuote, frontB, front, walkOn, walk}
 use Rattle.text_grammar.proofs.Walk.{walk-step}
 use Rattle.text_scan.specs.declared.Lexeme.{Lexeme}
 use Rattle.text_scan.specs.declared.Spelled.{Spelled}
-use Rattle.text_scan.specs.declared.Spelled.the-variants.{Int, Str, Var, Empty}
+use Rattle.text_scan.specs.declared.Literal.the-variants.{Int, Str}
+use Rattle.text_scan.specs.declared.Spelled.the-variants.{Con, Var, Empty}
 use Rattle.text_scan.specs.Lexemes.{lexemeOf}
 use Rattle.text_refusals.specs.declared.At.{At}
 use Rattle.text_passes.specs.Places.{spelledBy, spelled, colonAt, behind, tokenAt, termAt, tokensFrom}
 
 -- the length of a written term, from its lexeme
 pub spelled-is : (r : Raw) → spelled (lexemeOf r) ≡ length (spell r)
-spelled-is (raw-int ds) = refl
-spelled-is (raw-str s) = let e = length-append s (34 ∷ []) in omega arith
+spelled-is (raw-con (raw-int ds)) = refl
+spelled-is (raw-con (raw-str s)) = let e = length-append s (34 ∷ []) in omega arith
 spelled-is (raw-var k ds) = omega arith
 spelled-is raw-empty = refl
 
@@ -36,8 +37,8 @@ pub spelled-small : (p : Lexeme) → spelled p ≤ p .size + 5
 spelled-small p = go (p .what) (p .size)
   where
     go : (w : Spelled) (n : ℕ) → spelledBy w n ≤ n + 5
-    go Int n = omega arith
-    go Str n = omega arith
+    go (Con Int) n = omega arith
+    go (Con Str) n = omega arith
     go (Var k) n = omega arith
     go Empty n = omega arith
 

@@ -6,8 +6,7 @@ use Prim.Native.Nat.{ℕ, _+_}
 use lib.Dec.{eqb, ltb}
 use lib.ListN.{set}
 use Rattle.base_limits.specs.Limits.{mostFields}
-use Rattle.text_grammar.specs.Grammar.{Raw, raw-var, raw-empty}
-use Rattle.text_grammar.specs.constants.Constants.{raw-int, raw-str}
+use Rattle.text_grammar.specs.Grammar.{Raw, raw-var, raw-empty, raw-con}
 use Rattle.text_grammar.specs.Tokens.{Token}
 use Rattle.text_grammar.specs.Read.{rule, slip}
 use Rattle.text_values.specs.declared.Term.{Term}
@@ -21,14 +20,12 @@ use Rattle.text_scan.specs.declared.Spelled.the-variants as spelled
 use Rattle.text_scan.specs.terms.Terms.{termFrom}
 
 abbrev pub isEmpty : Raw → Bool
-isEmpty (raw-int ds) = false
-isEmpty (raw-str s) = false
+isEmpty (raw-con r) = false
 isEmpty (raw-var k ds) = false
 isEmpty raw-empty = true
 
 abbrev pub emptyBy : Spelled → Bool
-emptyBy spelled.Int = false
-emptyBy spelled.Str = false
+emptyBy (spelled.Con l) = false
 emptyBy (spelled.Var k) = false
 emptyBy spelled.Empty = true
 

@@ -9,7 +9,9 @@ use Rattle.text_grammar.specs.Tokens.{Token}
 use Rattle.text_grammar.specs.Walk.{front, walk}
 use Rattle.text_scan.specs.declared.Lexeme.{Lexeme}
 use Rattle.text_scan.specs.declared.Spelled.{Spelled}
-use Rattle.text_scan.specs.declared.Spelled.the-variants.{Int, Str, Var, Empty}
+use Rattle.text_scan.specs.declared.Literal.{Literal}
+use Rattle.text_scan.specs.declared.Literal.the-variants.{Int, Str}
+use Rattle.text_scan.specs.declared.Spelled.the-variants.{Con, Var, Empty}
 use denote.Ref.{RefT, now}
 use Rattle.text_refusals.specs.declared.At.{At}
 use Rattle.text_passes.specs.declared.Reader.{Reader}
@@ -19,9 +21,12 @@ abbrev pub first : At
 first = record { place = 0; field = 1; index = 1 }
 
 -- how many bytes a written term has
+abbrev pub literalBytes : Literal → ℕ → ℕ
+literalBytes Int n = n
+literalBytes Str n = n + 2
+
 abbrev pub spelledBy : Spelled → ℕ → ℕ
-spelledBy Int n = n
-spelledBy Str n = n + 2
+spelledBy (Con l) n = literalBytes l n
 spelledBy (Var k) n = n + 1
 spelledBy Empty n = 5
 

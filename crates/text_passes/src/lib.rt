@@ -13,7 +13,7 @@ ghost use Rattle.text_scan.specs.declared.Found.the-variants.{Nothing};
 ghost use Rattle.text_scan.specs.Lexemes.{lexemeOf};
 ghost use Rattle.text_refusals.specs.verdicts.Verdicts.{sortOf};
 ghost use Rattle.text_refusals.specs.Refusals.{surveyToken, nothingYet};
-ghost use Rattle.text_passes.specs.Places.{first, spelled, colonAt, behind, termAt, started, passed};
+ghost use Rattle.text_passes.specs.Places.{first, literalBytes, spelled, colonAt, behind, termAt, started, passed};
 ghost use Rattle.text_passes.specs.Build.{emptyBy, pushTerm, addRaw, pushField, pushItem, addItem, pushSlipField, turns};
 ghost use Rattle.text_passes.specs.Build.{builtSide, builtSlip};
 ghost use Rattle.text_passes.specs.Unknown.{unknownWith, unknownToken};
@@ -26,6 +26,7 @@ use text_refusals::Survey;
 use text_refusals::verdicts::Verdict;
 use text_scan::Found;
 use text_scan::Lexeme;
+use text_scan::Literal;
 use text_scan::Spelled;
 use text_values::Field;
 use text_values::RuleSide;
@@ -39,6 +40,17 @@ struct Reader<'a> {
     at: At,
 }
 
+// The number of bytes of a constant of n digits or bytes.
+fn literal_bytes(l: Literal, n: usize) -> usize
+    requires { ⌜ n ≤ mostSlipBytes ⌝ }
+    ensures { λ r. ⌜ r ≡ literalBytes l n ⌝ }
+{
+    match l {
+        Literal::Int => n,
+        Literal::Str => n + 2,
+    }
+}
+
 // The number of bytes of a written term.
 fn spelled(p: Lexeme) -> usize
     requires { ⌜ p .size ≤ mostSlipBytes ⌝ }
@@ -47,8 +59,7 @@ fn spelled(p: Lexeme) -> usize
     let what = p.what;
     let n = p.size;
     match what {
-        Spelled::Int => n,
-        Spelled::Str => n + 2,
+        Spelled::Con(l) => literal_bytes(l, n),
         Spelled::Var(_) => n + 1,
         Spelled::Empty => 5,
     }
@@ -191,8 +202,7 @@ fn is_empty(p: Lexeme) -> bool
 {
     let what = p.what;
     match what {
-        Spelled::Int => false,
-        Spelled::Str => false,
+        Spelled::Con(_) => false,
         Spelled::Var(_) => false,
         Spelled::Empty => true,
     }

@@ -15,8 +15,8 @@ use Rattle.base_lists.specs.Seqs.{All, Any}
 use Rattle.math_types.specs.Order.{basic, list}
 use Rattle.math_types.specs.Types.{isList}
 use Rattle.math_types.specs.Values.{kindOf, kindFrom, kindOf-from}
-use Rattle.text_grammar.specs.Grammar.{Raw, raw-var, raw-empty, spell, spellF, FieldOk}
-use Rattle.text_grammar.specs.constants.Constants.{raw-int, raw-str}
+use Rattle.text_grammar.specs.Grammar.{Raw, raw-var, raw-empty, spell, spellF, FieldOk, raw-con}
+use Rattle.text_grammar.specs.constants.Constants.{raw-int, raw-str, RawCon, OverCon}
 use Rattle.text_grammar.specs.Numbers.{value}
 use Rattle.text_grammar.specs.Leftmost.{leftmost}
 use Rattle.text_grammar.specs.Tokens.{Token, tokens, tokensF, tokensT, FifthField, TooMany, Over, over?, fifth?, many?, IsVar, isVar?}
@@ -26,7 +26,7 @@ use Rattle.text_grammar.proofs.Fields.{occs-append}
 use Rattle.text_accepted.specs.declared.linearity.Lists.{Lists}
 use Rattle.text_accepted.specs.linearity.Lists.{noLists, nextField, stillOk, addList}
 use Rattle.text_accepted.proofs.linearity.Linear.{Tracks, tracks-none, tracks-next, tracks-add, tracks-clash}
-use Rattle.text_scan.specs.Lexemes.{capped, lexemeOf}
+use Rattle.text_scan.specs.Lexemes.{capped, literalOf, literalSize, literalValue, lexemeOf}
 use Rattle.text_refusals.specs.declared.verdicts.Reason as values
 use Rattle.text_refusals.specs.declared.verdicts.Reason.the-variants.{Fields, Terms, Limits, Linear, Variable}
 use Rattle.text_refusals.specs.declared.verdicts.Verdict.{Verdict}
@@ -35,7 +35,7 @@ use Rattle.text_refusals.specs.verdicts.Verdicts.{numberOf, reasonFrom, 
 use Rattle.text_refusals.proofs.verdicts.Verdicts.{first-former, first-latter, first-none, first-assoc, first-keeps, first-takes}
 use Rattle.text_refusals.proofs.verdicts.Verdicts.{refusedBy, verdictBy, verdict-chain, Behind, behind-less, Rising, verdict-behind}
 use Rattle.text_refusals.specs.declared.Survey.{Survey}
-use Rattle.text_refusals.specs.Refusals.{overLexeme, clashBy, variableBy, lastBad, lastReason, met, addBy, listsAt, atOf, surveyToken, nothingYet}
+use Rattle.text_refusals.specs.Refusals.{overLiteral, overLexeme, clashBy, variableBy, lastBad, lastReason, met, addBy, listsAt, atOf, surveyToken, nothingYet}
 
 -- ---- the tests of the code and the decisions of the definition
 
@@ -54,10 +54,10 @@ lt-same a b c f g = go (decLt a b)
 capped-test : (a v : ℕ) → a ≤ largestInteger → ltb a (capped v) ≡ ltb a v
 capped-test a v h = lt-same a (capped v) v (λ k. omega arith) (λ k. omega arith)
 
-over-cond : {A : Type 0} (r : Raw) (d : Dec (Over r)) (x y : A) → cond (overLexeme (lexemeOf r)) x y ≡ ite d x y
-over-cond (raw-int ds) d x y = rw (capped-test largestInteger (value ds) (omega arith)) (go (decLt mostDigits (length ds)) (decLt largestInteger (value ds)) d)
+literal-cond : {A : Type 0} (r : RawCon) (d : Dec (OverCon r)) (x y : A) → cond (overLiteral (literalOf r) (literalSize r) (literalValue r)) x y ≡ ite d x y
+literal-cond (raw-int ds) d x y = rw (capped-test largestInteger (value ds) (omega arith)) (go (decLt mostDigits (length ds)) (decLt largestInteger (value ds)) d)
   where
-    go : Dec (mostDigits < length ds) → Dec (largestInteger < value ds) → (d : Dec (Over (raw-int ds)))
+    go : Dec (mostDigits < length ds) → Dec (largestInteger < value ds) → (d : Dec (OverCon (raw-int ds)))
         → cond (ltb mostDigits (length ds) || ltb largestInteger (value ds)) x y ≡ ite d x y
     go (yes h) e (yes o) = rw (lt-ltb mostDigits (length ds) h)
     go (yes h) e (no o) = absurd (o (inl h))
@@ -66,7 +66,10 @@ over-cond (raw-int ds) d x y = rw (capped-test largestInteger (value ds) (omega 
     go (no n) (no k) (yes (inl o)) = absurd (n o)
     go (no n) (no k) (yes (inr o)) = absurd (k o)
     go (no n) (no k) (no o) = rw (le-ltb mostDigits (length ds) (omega arith), le-ltb largestInteger (value ds) (omega arith))
-over-cond (raw-str s) d x y = lt-cond longestString (length s) d x y
+literal-cond (raw-str s) d x y = lt-cond longestString (length s) d x y
+
+over-cond : {A : Type 0} (r : Raw) (d : Dec (Over r)) (x y : A) → cond (overLexeme (lexemeOf r)) x y ≡ ite d x y
+over-cond (raw-con r) d x y = literal-cond r d x y
 over-cond (raw-var k ds) d x y = rw (capped-test largestNumber (value ds) (omega arith)) (lt-cond largestNumber (value ds) d x y)
 over-cond raw-empty (yes o) x y = absurd o
 over-cond raw-empty (no n) x y = refl
@@ -169,10 +172,8 @@ Valid false b n l v = Late v ⊎ (Tracks (occs b) n l × (l .ok ≡ true))
 
 module _ (w : ℕ) where
   variable-last : {A : Type 0} (r : Raw) (d : Dec (IsVar r)) (x y : A) → cond (variableBy ((lexemeOf r) .what)) x y ≡ ite d x y
-  variable-last (raw-int ds) (yes h) x y = absurd h
-  variable-last (raw-int ds) (no h) x y = refl
-  variable-last (raw-str s) (yes h) x y = absurd h
-  variable-last (raw-str s) (no h) x y = refl
+  variable-last (raw-con r) (yes h) x y = absurd h
+  variable-last (raw-con r) (no h) x y = refl
   variable-last (raw-var k ds) (yes h) x y = refl
   variable-last (raw-var k ds) (no h) x y = absurd (h tt)
   variable-last raw-empty (yes h) x y = absurd h
@@ -181,10 +182,8 @@ module _ (w : ℕ) where
   linear-last : {A : Type 0} (b : List Occ) (n : ℕ) (l : Lists) (r : Raw) (d : Dec (ClashOf b n (listNo r))) (x y : A)
       → Tracks b n l → l .ok ≡ true → (Over r → ⊥)
       → cond (clashBy ((lexemeOf r) .what) ((lexemeOf r) .value) l) x y ≡ ite d x y
-  linear-last b n l (raw-int ds) (yes h) x y t o v = absurd h
-  linear-last b n l (raw-int ds) (no h) x y t o v = refl
-  linear-last b n l (raw-str s) (yes h) x y t o v = absurd h
-  linear-last b n l (raw-str s) (no h) x y t o v = refl
+  linear-last b n l (raw-con r) (yes h) x y t o v = absurd h
+  linear-last b n l (raw-con r) (no h) x y t o v = refl
   linear-last b n l (raw-var (basic k) ds) (yes h) x y t o v = absurd h
   linear-last b n l (raw-var (basic k) ds) (no h) x y t o v = rw (list-kind (basic k))
   linear-last {A} b n l (raw-var list ds) d x y t o v =
@@ -289,8 +288,7 @@ module _ (w : ℕ) where
     plain-then = (subst (λ (z : List Occ). Tracks z (m .inField) l) (sym (append-nil (occs b))) t, o)
 
     added : (r : Raw) → (Over r → ⊥) → (ClashOf (occs b) (m .inField) (listNo r) → ⊥) → Follows r
-    added (raw-int ds) u c = plain-then
-    added (raw-str s) u c = plain-then
+    added (raw-con r) u c = plain-then
     added (raw-var (basic k) ds) u c = rw (list-kind (basic k)) plain-then
     added (raw-var list ds) u c =
         let small : value ds ≤ largestNumber = omega arith in

@@ -10,8 +10,10 @@ use Rattle.text_grammar.specs.Tokens.{Token}
 use Rattle.text_accepted.specs.declared.linearity.Lists.{Lists}
 use Rattle.text_accepted.specs.linearity.Lists.{noLists, nextField, stillOk, addList}
 use Rattle.text_scan.specs.declared.Lexeme.{Lexeme}
+use Rattle.text_scan.specs.declared.Literal.{Literal}
+use Rattle.text_scan.specs.declared.Literal.the-variants.{Int, Str}
 use Rattle.text_scan.specs.declared.Spelled.{Spelled}
-use Rattle.text_scan.specs.declared.Spelled.the-variants.{Int, Str, Var, Empty}
+use Rattle.text_scan.specs.declared.Spelled.the-variants.{Con, Var, Empty}
 use Rattle.text_scan.specs.Lexemes.{lexemeOf}
 use Rattle.text_refusals.specs.declared.verdicts.Reason.{Reason}
 use Rattle.text_refusals.specs.declared.verdicts.Reason.the-variants.{Fields, Terms, Limits, Linear, Variable}
@@ -22,9 +24,12 @@ use Rattle.text_refusals.specs.declared.At.{At}
 use Rattle.text_refusals.specs.declared.Survey.{Survey}
 
 -- refusal 5
+abbrev pub overLiteral : Literal → ℕ → ℕ → Bool
+overLiteral Int n v = ltb mostDigits n || ltb largestInteger v
+overLiteral Str n v = ltb longestString n
+
 abbrev pub overBy : Spelled → ℕ → ℕ → Bool
-overBy Int n v = ltb mostDigits n || ltb largestInteger v
-overBy Str n v = ltb longestString n
+overBy (Con l) n v = overLiteral l n v
 overBy (Var k) n v = ltb largestNumber v
 overBy Empty n v = false
 
@@ -33,15 +38,13 @@ overLexeme p = overBy (p .what) (p .size) (p .value)
 
 -- refusal 6: a list variable with which left-linearity is lost
 abbrev pub clashBy : Spelled → ℕ → Lists → Bool
-clashBy Int v l = false
-clashBy Str v l = false
+clashBy (Con x) v l = false
 clashBy (Var k) v l = cond (isList (kindOf k)) (not (stillOk l v)) false
 clashBy Empty v l = false
 
 -- refusal 7: a variable
 abbrev pub variableBy : Spelled → Bool
-variableBy Int = false
-variableBy Str = false
+variableBy (Con x) = false
 variableBy (Var k) = true
 variableBy Empty = false
 
@@ -63,8 +66,7 @@ met slip w a p l =
 
 -- the list variables with this term
 abbrev pub addBy : Spelled → ℕ → Lists → Lists
-addBy Int v l = l
-addBy Str v l = l
+addBy (Con x) v l = l
 addBy (Var k) v l = cond (isList (kindOf k)) (addList l v) l
 addBy Empty v l = l
 

@@ -1,7 +1,7 @@
 // Which refusal from 3 on a written term meets, and the first that is tried over the terms of a text so far.
 ghost use mathlib.Core.Path.{_≡_};
 ghost use Rattle.text_refusals.specs.verdicts.Verdicts.{sortOf};
-ghost use Rattle.text_refusals.specs.Refusals.{overLexeme, clashBy, variableBy, lastBad, lastReason, met, addBy, listsAt};
+ghost use Rattle.text_refusals.specs.Refusals.{overLiteral, overLexeme, clashBy, variableBy, lastBad, lastReason, met, addBy, listsAt};
 ghost use Rattle.text_refusals.specs.Refusals.{surveyed};
 
 pub mod unknown; // refusal 10
@@ -11,6 +11,7 @@ use crate::verdicts::Reason;
 use crate::verdicts::Verdict;
 use text_accepted::linearity::Lists;
 use text_scan::Lexeme;
+use text_scan::Literal;
 use text_scan::Spelled;
 
 // Where a term stands: its first byte, the number of its field and its number there, both from 1.
@@ -29,6 +30,21 @@ pub struct Survey {
 // The largest number as a lexeme's value.
 const LARGEST_NUMBER: u32 = base_limits::LARGEST_NUMBER as u32;
 
+// A constant with a value, a digit count or a string length over its limit.
+fn is_literal_over(l: Literal, n: usize, v: u32) -> bool
+    ensures { λ r. ⌜ r ≡ overLiteral l n v ⌝ }
+{
+    match l {
+        Literal::Int => {
+            if base_limits::MOST_DIGITS < n {
+                return true;
+            }
+            base_limits::LARGEST_INTEGER < v
+        }
+        Literal::Str => base_limits::LONGEST_STRING < n,
+    }
+}
+
 // Refusal 5: a value, digit count, variable number or string length over its limit.
 fn is_over(p: Lexeme) -> bool
     ensures { λ r. ⌜ r ≡ overLexeme p ⌝ }
@@ -37,13 +53,7 @@ fn is_over(p: Lexeme) -> bool
     let n = p.size;
     let v = p.value;
     match what {
-        Spelled::Int => {
-            if base_limits::MOST_DIGITS < n {
-                return true;
-            }
-            base_limits::LARGEST_INTEGER < v
-        }
-        Spelled::Str => base_limits::LONGEST_STRING < n,
+        Spelled::Con(l) => is_literal_over(l, n, v),
         Spelled::Var(_) => LARGEST_NUMBER < v,
         Spelled::Empty => false,
     }
@@ -56,8 +66,7 @@ fn is_clash(p: Lexeme, l: Lists) -> bool
     let what = p.what;
     let v = p.value;
     match what {
-        Spelled::Int => false,
-        Spelled::Str => false,
+        Spelled::Con(_) => false,
         Spelled::Var(k) => {
             if !math_types::is_list(k) {
                 return false;
@@ -74,8 +83,7 @@ fn is_variable(p: Lexeme) -> bool
 {
     let what = p.what;
     match what {
-        Spelled::Int => false,
-        Spelled::Str => false,
+        Spelled::Con(_) => false,
         Spelled::Var(_) => true,
         Spelled::Empty => false,
     }
@@ -126,8 +134,7 @@ fn add_lexeme(l: Lists, p: Lexeme) -> Lists
     let what = p.what;
     let v = p.value;
     match what {
-        Spelled::Int => l,
-        Spelled::Str => l,
+        Spelled::Con(_) => l,
         Spelled::Var(k) => {
             if math_types::is_list(k) {
                 return l.add(v as usize);

@@ -16,8 +16,7 @@ pub fn is_unknown(left: RuleSide, p: Lexeme) -> bool
     let what = p.what;
     let v = p.value;
     match what {
-        Spelled::Int => false,
-        Spelled::Str => false,
+        Spelled::Con(_) => false,
         Spelled::Var(k) => {
             if LARGEST_NUMBER < v {
                 return true;

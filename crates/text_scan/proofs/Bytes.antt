@@ -22,7 +22,8 @@ use Rattle.text_grammar.specs.Bytes.{Digit, digit?, Begins, b-digit, b-quote, b
 use Rattle.text_scan.specs.Classes.{within, fineOf}
 use Rattle.text_scan.specs.Lexemes.{begun, isDigit}
 use Rattle.text_scan.specs.declared.Spelled.{Spelled}
-use Rattle.text_scan.specs.declared.Spelled.the-variants.{Int, Str, Var, Empty}
+use Rattle.text_scan.specs.declared.Literal.the-variants.{Int, Str}
+use Rattle.text_scan.specs.declared.Spelled.the-variants.{Con, Var, Empty}
 
 -- ---- the number of classes
 
@@ -41,23 +42,23 @@ kindNamed b [] = list
 kindNamed b (k ∷ s) = cond (eqb b (letter k)) k (kindNamed b s)
 
 abbrev pub begunClass : ℕ → ℕ → Spelled
-begunClass c b = cond (within 1 2 c) Int (cond (eqb c 3) (Var (kindFrom (kindNamed b kinds))) (cond (eqb c 4) Str Empty))
+begunClass c b = cond (within 1 2 c) (Con Int) (cond (eqb c 3) (Var (kindFrom (kindNamed b kinds))) (cond (eqb c 4) (Con Str) Empty))
 
 abbrev number : Spelled → ℕ
-number Int = 0
-number Str = 1
+number (Con Int) = 0
+number (Con Str) = 1
 number Empty = 2
 number (Var k) = suc (suc (suc (rank (kindOf k))))
 
 abbrev numbered : ℕ → Spelled
-numbered zero = Int
-numbered (suc zero) = Str
+numbered zero = Con Int
+numbered (suc zero) = Con Str
 numbered (suc (suc zero)) = Empty
 numbered (suc (suc (suc n))) = Var (kindFrom (kindAt n))
 
 numbered-number : (s : Spelled) → numbered (number s) ≡ s
-numbered-number Int = refl
-numbered-number Str = refl
+numbered-number (Con Int) = refl
+numbered-number (Con Str) = refl
 numbered-number Empty = refl
 numbered-number (Var k) = ap Var (ap kindFrom (kind-at-rank (kindOf k)) ∙ kind-from-of k)
 
@@ -76,20 +77,20 @@ begun-is b h =
 
 -- ---- what the code answers of a byte b
 
-quote-begun : Str ≡ begun (begins 34)
+quote-begun : Con Str ≡ begun (begins 34)
 unfolding begins digit? decLe ℕ-discrete
 quote-begun = refl
 
 module _ (b : ℕ) where
-  pub starts-int : isDigit b ≡ true → Int ≡ begun (begins b)
+  pub starts-int : isDigit b ≡ true → Con Int ≡ begun (begins b)
   unfolding decide
   starts-int e = go (digit? b) e
     where
-      go : (d : Dec (Digit b)) → decide d ≡ true → Int ≡ begun (begins b)
+      go : (d : Dec (Digit b)) → decide d ≡ true → Con Int ≡ begun (begins b)
       go (yes p) t = sym (ap begun (begun-digit b (begins b) p .1))
       go (no n) t = absurd (false≢true t)
 
-  pub starts-str : b ≡ 34 → Str ≡ begun (begins b)
+  pub starts-str : b ≡ 34 → Con Str ≡ begun (begins b)
   starts-str h = quote-begun ∙ ap (λ (n : ℕ). begun (begins n)) (sym h)
 
   pub starts-var : (k : types.Kind) → b ≡ letter k → Var (kindFrom k) ≡ begun (begins b)

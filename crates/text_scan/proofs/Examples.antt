@@ -11,7 +11,8 @@ use Rattle.text_grammar.proofs.Examples.{bytes}
 use Rattle.text_scan.specs.Lexemes.{lexemeOf}
 use Rattle.text_scan.specs.declared.Lexeme.{Lexeme}
 use Rattle.text_scan.specs.declared.Spelled.{Spelled}
-use Rattle.text_scan.specs.declared.Spelled.the-variants.{Int, Str, Var, Empty}
+use Rattle.text_scan.specs.declared.Literal.the-variants.{Int, Str}
+use Rattle.text_scan.specs.declared.Spelled.the-variants.{Con, Var, Empty}
 
 abbrev made : Spelled → ℕ → ℕ → Lexeme
 made w n v = record { what = w; size = n; value = v }
@@ -32,12 +33,12 @@ pub lexemes :
     ∷ ""
     ∷ []
     )
-    ≡ made Int 10 2147483647
-    ∷ made Int 10 2147483648
-    ∷ made Int 23 2147483648
-    ∷ made Int 3 7
-    ∷ made Str 0 0
-    ∷ made Str 2 0
+    ≡ made (Con Int) 10 2147483647
+    ∷ made (Con Int) 10 2147483648
+    ∷ made (Con Int) 23 2147483648
+    ∷ made (Con Int) 3 7
+    ∷ made (Con Str) 0 0
+    ∷ made (Con Str) 2 0
     ∷ made (Var Integer) 2 1
     ∷ made (Var List) 2 15
     ∷ made Empty 0 0

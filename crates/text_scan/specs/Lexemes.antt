@@ -3,26 +3,41 @@
 use mathlib.Core.Bool.{Bool, decide}
 use mathlib.Core.List.{List}
 use Prim.Native.Nat.{ℕ, suc, min}
-use lib.ListN.{length}
+use lib.ListN.{length, drop}
 use Rattle.base_limits.specs.Limits.{largestInteger}
 use Rattle.math_types.specs.Values.{kindFrom}
 use Rattle.text_grammar.specs.Bytes.{digit?, Begins, b-digit, b-quote, b-letter, b-e, b-none}
-use Rattle.text_grammar.specs.Grammar.{Raw, raw-var, raw-empty}
-use Rattle.text_grammar.specs.constants.Constants.{raw-int, raw-str}
+use Rattle.text_grammar.specs.Grammar.{Raw, raw-var, raw-empty, raw-con}
+use Rattle.text_grammar.specs.constants.Constants.{raw-int, raw-str, RawCon}
 use Rattle.text_grammar.specs.Numbers.{value}
+use Rattle.text_grammar.specs.Walk.{leadingDigits, untilQuote}
 use Rattle.text_scan.specs.declared.Digits.{Digits}
 use Rattle.text_scan.specs.declared.Lexeme.{Lexeme}
+use Rattle.text_scan.specs.declared.Literal.{Literal}
+use Rattle.text_scan.specs.declared.Literal.the-variants.{Int, Str}
 use Rattle.text_scan.specs.declared.Spelled.{Spelled}
-use Rattle.text_scan.specs.declared.Spelled.the-variants.{Int, Str, Var, Empty}
+use Rattle.text_scan.specs.declared.Spelled.the-variants.{Con, Var, Empty}
 
 -- A value is exact up to the largest integer, and stops one above it:
 -- it never overflows, and one that is too large is still told from those that are not.
 abbrev pub capped : ℕ → ℕ
 capped n = min n (suc largestInteger)
 
+-- a written constant: what it is written as, how many digits or bytes, and the digits' value
+abbrev pub literalOf : RawCon → Literal
+literalOf (raw-int ds) = Int
+literalOf (raw-str s) = Str
+
+abbrev pub literalSize : RawCon → ℕ
+literalSize (raw-int ds) = length ds
+literalSize (raw-str s) = length s
+
+abbrev pub literalValue : RawCon → ℕ
+literalValue (raw-int ds) = capped (value ds)
+literalValue (raw-str s) = 0
+
 abbrev pub lexemeOf : Raw → Lexeme
-lexemeOf (raw-int ds) = record { what = Int; size = length ds; value = capped (value ds) }
-lexemeOf (raw-str s) = record { what = Str; size = length s; value = 0 }
+lexemeOf (raw-con r) = record { what = Con (literalOf r); size = literalSize r; value = literalValue r }
 lexemeOf (raw-var k ds) = record { what = Var (kindFrom k); size = length ds; value = capped (value ds) }
 lexemeOf raw-empty = record { what = Empty; size = 0; value = 0 }
 
@@ -34,10 +49,15 @@ counted ds = record { count = length ds; value = capped (value ds) }
 abbrev pub withDigits : Spelled → Digits → Lexeme
 withDigits w d = record { what = w; size = d .count; value = d .value }
 
+-- the constant at the front of z, which begins as one that is written so
+abbrev pub literalAt : Literal → List ℕ → Lexeme
+literalAt Int z = withDigits (Con Int) (counted (leadingDigits z))
+literalAt Str z = record { what = Con Str; size = length (untilQuote (drop 1 z)); value = 0 }
+
 -- what a byte begins; one that begins no term counts as beginning `empty`, as in `front`
 abbrev pub begun : {b : ℕ} → Begins b → Spelled
-begun (b-digit h) = Int
-begun (b-quote h) = Str
+begun (b-digit h) = Con Int
+begun (b-quote h) = Con Str
 begun (b-letter k h) = Var (kindFrom k)
 begun (b-e h) = Empty
 begun (b-none d q l e) = Empty

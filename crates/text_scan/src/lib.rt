@@ -7,7 +7,7 @@ ghost use Rattle.text_grammar.specs.Bytes.{begins};
 ghost use Rattle.text_grammar.specs.Machine.{place2};
 ghost use Rattle.text_grammar.specs.Walk.{leadingDigits, untilQuote, front};
 ghost use Rattle.text_scan.specs.Classes.{fineOf};
-ghost use Rattle.text_scan.specs.Lexemes.{capped, counted, withDigits, lexemeOf, begun, isDigit};
+ghost use Rattle.text_scan.specs.Lexemes.{capped, counted, withDigits, literalAt, lexemeOf, begun, isDigit};
 ghost use Rattle.text_scan.specs.Places.{foundOf};
 ghost use Rattle.text_scan.specs.Steps.{next};
 
@@ -30,10 +30,15 @@ pub enum Found {
     Nothing,
 }
 
-// What a term is written as.
-pub enum Spelled {
+// What a constant is written as.
+pub enum Literal {
     Int,
     Str,
+}
+
+// What a term is written as.
+pub enum Spelled {
+    Con(Literal),
     Var(Kind),
     Empty,
 }
@@ -136,10 +141,10 @@ fn begun_by(b: u8) -> Spelled
     ensures { λ r. ⌜ r ≡ begun (begins b) ⌝ }
 {
     if is_digit(b) {
-        return Spelled::Int;
+        return Spelled::Con(Literal::Int);
     }
     match b {
-        b'"' => Spelled::Str,
+        b'"' => Spelled::Con(Literal::Str),
         b'i' => Spelled::Var(Kind::Integer),
         b's' => Spelled::Var(Kind::String),
         b'a' => Spelled::Var(Kind::Atom),
@@ -158,6 +163,21 @@ fn with_digits(what: Spelled, d: Digits) -> Lexeme
     }
 }
 
+// The constant that stands at a place.
+fn literal_at(text: &[u8], at: usize, l: Literal) -> Lexeme
+    requires { ⌜ at < length (now text) ⌝ }
+    ensures { λ r. ⌜ r ≡ literalAt l (drop at (now (text .entry))) ⌝ }
+{
+    match l {
+        Literal::Int => with_digits(Spelled::Con(l), digits_from(text, at)),
+        Literal::Str => Lexeme {
+            what: Spelled::Con(l),
+            size: quoted_from(text, at + 1),
+            value: 0,
+        },
+    }
+}
+
 // The term that stands at a place, told by its first byte. Where none begins, as past the end, it counts as `empty`.
 pub fn lexeme_at(text: &[u8], at: usize) -> Lexeme
     ensures { λ r. ⌜ r ≡ lexemeOf (front (drop at (now (text .entry)))) ⌝ }
@@ -171,13 +191,8 @@ pub fn lexeme_at(text: &[u8], at: usize) -> Lexeme
     }
     let what = begun_by(text[at]);
     match what {
-        Spelled::Int => with_digits(what, digits_from(text, at)),
+        Spelled::Con(l) => literal_at(text, at, l),
         Spelled::Var(_) => with_digits(what, digits_from(text, at + 1)),
-        Spelled::Str => Lexeme {
-            what,
-            size: quoted_from(text, at + 1),
-            value: 0,
-        },
         Spelled::Empty => Lexeme {
             what,
             size: 0,

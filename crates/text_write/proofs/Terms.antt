@@ -9,8 +9,7 @@ use Rattle.base_limits.specs.Limits.{longestString}
 use Rattle.math_types.specs.declared.Kind.{Kind}
 use Rattle.math_types.specs.Values.{kindOf}
 use Rattle.text_grammar.specs.Letters.{letter}
-use Rattle.text_grammar.specs.Grammar.{spell}
-use Rattle.text_grammar.specs.constants.Constants.{raw-str}
+use Rattle.text_grammar.specs.constants.Constants.{raw-str, spellCon}
 use Rattle.text_grammar.specs.Numbers.{digitsOf}
 use Rattle.text_grammar.specs.Plain.{termText}
 use Rattle.text_values.specs.declared.Form.{Form}
@@ -21,24 +20,24 @@ use Rattle.text_write.proofs.Arrays.{take-most}
 use Rattle.text_write.proofs.Stores.{put-behind, put-cons, put-as}
 
 module _ (k : ℕ) (s : List ℕ) (long : length s ≡ longestString) where
-  pub quoted-length : length (spell (raw-str (take k s))) ≡ min k longestString + 2
+  pub quoted-length : length (spellCon (raw-str (take k s))) ≡ min k longestString + 2
   quoted-length = omega (arith, length-append (take k s) (34 ∷ []), length-take k s)
 
   -- a quote, the bytes, a quote
   pub put-quoted : (n : ℕ) (l : List ℕ) (at : ℕ) {p : ℕ} {m : List ℕ} → n ≡ min k longestString
       → p ≡ at + 1 + length (take n s) → m ≡ sets (set l at 34) (at + 1) (take n s)
-      → Put (spell (raw-str (take k s))) at l (p + 1) (set m p 34)
+      → Put (spellCon (raw-str (take k s))) at l (p + 1) (set m p 34)
   put-quoted n l at h hp hm =
       let b = put-behind (take n s) (34 ∷ []) (set l at 34) (at + 1) hp hm refl refl in (
         omega (arith, quoted-length, length-take n s),
-        b .1 ∙ put-cons 34 (take n s ++ 34 ∷ []) l at ∙ ap (λ (t : List ℕ). sets l at (spell (raw-str t))) (sym (take-most k n longestString s long h)),
+        b .1 ∙ put-cons 34 (take n s ++ 34 ∷ []) l at ∙ ap (λ (t : List ℕ). sets l at (spellCon (raw-str t))) (sym (take-most k n longestString s long h)),
       )
 
 module _ (f : Form) (s : List ℕ) where
   pub int-text : (n : ℕ) → f ≡ Int n → termText (viewForm f s) ≡ digitsOf n
   int-text n e = rw e
 
-  pub str-text : (k : ℕ) → f ≡ Str k → termText (viewForm f s) ≡ spell (raw-str (take k s))
+  pub str-text : (k : ℕ) → f ≡ Str k → termText (viewForm f s) ≡ spellCon (raw-str (take k s))
   str-text k e = rw e
 
   pub var-text : (k : Kind) (n : ℕ) → f ≡ Var k n → termText (viewForm f s) ≡ letter (kindOf k) ∷ digitsOf n

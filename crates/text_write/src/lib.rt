@@ -8,8 +8,7 @@ ghost use Rattle.base_limits.specs.Limits.{longestTerm};
 ghost use Rattle.text_write.specs.Sizes.{longestNumber};
 ghost use Rattle.math_types.specs.Values.{kindOf};
 ghost use Rattle.text_grammar.specs.Letters.{letter};
-ghost use Rattle.text_grammar.specs.Grammar.{spell};
-ghost use Rattle.text_grammar.specs.constants.Constants.{raw-str};
+ghost use Rattle.text_grammar.specs.constants.Constants.{raw-str, spellCon};
 ghost use Rattle.text_grammar.specs.Numbers.{digitsOf};
 ghost use Rattle.text_grammar.specs.Plain.{termText};
 ghost use Rattle.text_values.specs.Values.{viewTerm};
@@ -89,8 +88,8 @@ fn put_bytes(bytes: &[u8], out: &mut [u8], at: usize) -> usize
 
 // A string between its quotes.
 fn put_string(text: [u8; base_limits::LONGEST_STRING], k: u8, out: &mut [u8], at: usize) -> usize
-    requires { ⌜ Room (spell (raw-str (take k text))) at (now out) ⌝ }
-    ensures { λ r. ⌜ Put (spell (raw-str (take k text))) at (now (out .entry)) r (now (out .exit)) ⌝ }
+    requires { ⌜ Room (spellCon (raw-str (take k text))) at (now out) ⌝ }
+    ensures { λ r. ⌜ Put (spellCon (raw-str (take k text))) at (now (out .entry)) r (now (out .exit)) ⌝ }
 {
     let n = at_most(k as usize, base_limits::LONGEST_STRING);
     out[at] = b'"';

@@ -3,47 +3,39 @@ use borrow.Author.Needs.{needs}
 use Rattle.text_passes.proofs.spelled.Statement.{statement}
 use Rattle.text_passes.proofs.spelled.Tie as tie
 
+enum-known-what : tie.Need-enum-known-what
+enum-known-what c = search needs
+
+literal-bytes-requires : tie.Need-literal-bytes-requires
+literal-bytes-requires c κs = search needs
+
 enum-told : tie.Need-enum-told
 enum-told c = search needs
-
-enum-told-2 : tie.Need-enum-told-2
-enum-told-2 c = search needs
 
 add-result : tie.Need-add-result
 add-result c = search needs
 
-enum-told-3 : tie.Need-enum-told-3
-enum-told-3 c = search needs
-
-add-result-2 : tie.Need-add-result-2
-add-result-2 c = search needs
-
-enum-told-4 : tie.Need-enum-told-4
-enum-told-4 c = search needs
+enum-told-2 : tie.Need-enum-told-2
+enum-told-2 c = search needs
 
 returns : tie.Need-returns
-returns c = search needs
+returns c = rw (c .before .before .what .given .1) (c .literal-bytes .ensures)
 
 returns-2 : tie.Need-returns-2
-returns-2 c = rw (c .enum-told2 .given .1)
+returns-2 c = rw (c .enum-told .given .1)
 
 returns-3 : tie.Need-returns-3
-returns-3 c = rw (c .enum-told3 .given .1)
-
-returns-4 : tie.Need-returns-4
-returns-4 c = search needs
+returns-3 c = search needs
 
 pub spelled-spec : {M : Type 1} → statement M
 spelled-spec =
     tie.close
     (tie.spec
+    enum-known-what
+    literal-bytes-requires
     enum-told
-    enum-told-2
     add-result
-    enum-told-3
-    add-result-2
-    enum-told-4
+    enum-told-2
     returns
     returns-2
-    returns-3
-    returns-4)
+    returns-3)

@@ -6,9 +6,6 @@ use Rattle.text_refusals.proofs.add_lexeme.Tie as tie
 enum-told : tie.Need-enum-told
 enum-told c = search needs
 
-enum-told-2 : tie.Need-enum-told-2
-enum-told-2 c = search needs
-
 enum-known-what : tie.Need-enum-known-what
 enum-known-what c = search needs
 
@@ -24,8 +21,8 @@ add-requires c κs = search needs
 returns : tie.Need-returns
 returns c = rw (c .before .before .before .before .what .given .1, ← c .before .before .is-list .ensures, c .before .if1 .taken) (c .add .ensures)
 
-enum-told-3 : tie.Need-enum-told-3
-enum-told-3 c = search needs
+enum-told-2 : tie.Need-enum-told-2
+enum-told-2 c = search needs
 
 returns-2 : tie.Need-returns-2
 returns-2 c = search needs
@@ -36,22 +33,17 @@ returns-3 c = search needs
 returns-4 : tie.Need-returns-4
 returns-4 c = search needs
 
-returns-5 : tie.Need-returns-5
-returns-5 c = search needs
-
 pub add-lexeme-spec : {M : Type 1} → statement M
 add-lexeme-spec =
     tie.close
     (tie.spec
     enum-told
-    enum-told-2
     enum-known-what
     is-list-requires
     cast-add
     add-requires
     returns
-    enum-told-3
+    enum-told-2
     returns-2
     returns-3
-    returns-4
-    returns-5)
+    returns-4)

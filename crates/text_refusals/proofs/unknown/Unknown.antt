@@ -12,8 +12,7 @@ use borrow.Author.Tests.{lt-ltb, le-ltb}
 use Rattle.base_limits.specs.Limits.{largestNumber}
 use Rattle.math_types.specs.Types.{Kind}
 use Rattle.math_types.specs.Values.{kindOf, kindFrom, kindOf-from}
-use Rattle.text_grammar.specs.Grammar.{Raw, raw-var, raw-empty}
-use Rattle.text_grammar.specs.constants.Constants.{raw-int, raw-str}
+use Rattle.text_grammar.specs.Grammar.{Raw, raw-var, raw-empty, raw-con}
 use Rattle.text_grammar.specs.Numbers.{value}
 use Rattle.text_grammar.specs.Leftmost.{leftmost}
 use Rattle.text_grammar.specs.Tokens.{Token, tokens}
@@ -42,10 +41,8 @@ module _ (l : OurFields) (small : NumbersIn l) where
 
   -- the test of the code is the decision of the definition
   pub lacks-is : (r : Raw) (d : Dec (Lacks l r)) {A : Type 0} (x y : A) → cond (unknownLexeme l (lexemeOf r)) x y ≡ ite d x y
-  lacks-is (raw-int ds) (yes h) x y = absurd h
-  lacks-is (raw-int ds) (no n) x y = refl
-  lacks-is (raw-str s) (yes h) x y = absurd h
-  lacks-is (raw-str s) (no n) x y = refl
+  lacks-is (raw-con r) (yes h) x y = absurd h
+  lacks-is (raw-con r) (no n) x y = refl
   lacks-is (raw-var k ds) d {A} x y = go (decLt largestNumber (value ds)) d
     where
       go : Dec (largestNumber < value ds) → (d : Dec (Has k (value ds) l → ⊥))

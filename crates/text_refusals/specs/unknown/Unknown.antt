@@ -11,13 +11,12 @@ use Rattle.text_grammar.specs.Read.{OurFields}
 use Rattle.overlap_spec.specs.Variables.{occurs}
 use Rattle.text_scan.specs.declared.Lexeme.{Lexeme}
 use Rattle.text_scan.specs.declared.Spelled.{Spelled}
-use Rattle.text_scan.specs.declared.Spelled.the-variants.{Int, Str, Var, Empty}
+use Rattle.text_scan.specs.declared.Spelled.the-variants.{Con, Var, Empty}
 use Rattle.text_scan.specs.Lexemes.{lexemeOf}
 
 -- a written variable that l lacks, by its type and its number
 abbrev pub unknownBy : OurFields → Spelled → ℕ → Bool
-unknownBy l Int v = false
-unknownBy l Str v = false
+unknownBy l (Con x) v = false
 unknownBy l (Var k) v = cond (ltb largestNumber v) true (not (occurs (kindOf k) v l))
 unknownBy l Empty v = false
 

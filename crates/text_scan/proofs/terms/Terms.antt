@@ -11,14 +11,15 @@ use Rattle.base_limits.specs.Limits.{longestString}
 use Rattle.math_types.specs.declared.Kind.{Kind}
 use Rattle.math_types.specs.Values.{kindFrom}
 use Rattle.text_grammar.specs.Bytes.{Begins, b-digit, b-quote, b-letter, b-e, b-none, begins}
-use Rattle.text_grammar.specs.Grammar.{Raw, raw-var, raw-empty}
+use Rattle.text_grammar.specs.Grammar.{Raw, raw-var, raw-empty, raw-con}
 use Rattle.text_grammar.specs.constants.Constants.{raw-int, raw-str}
 use Rattle.text_grammar.specs.Walk.{leadingDigits, quote1, untilQuote, frontB, front}
 use Rattle.text_values.specs.declared.Form.the-variants as form
 use Rattle.text_values.specs.Values.{pad, blankTerm}
 use Rattle.text_scan.specs.declared.Lexeme.{Lexeme}
 use Rattle.text_scan.specs.declared.Spelled.{Spelled}
-use Rattle.text_scan.specs.declared.Spelled.the-variants.{Int, Str, Var, Empty}
+use Rattle.text_scan.specs.declared.Literal.the-variants.{Int, Str}
+use Rattle.text_scan.specs.declared.Spelled.the-variants.{Con, Var, Empty}
 use Rattle.text_scan.specs.Lexemes.{lexemeOf}
 use Rattle.text_scan.specs.terms.Terms.{termFrom}
 
@@ -31,16 +32,16 @@ what-of p r w e h = ap (λ (x : Lexeme). x .what) (sym e) ∙ h
 pub term-past : (t : List ℕ) (place : ℕ) → length t ≤ place → blankTerm ≡ termFrom (front (drop place t))
 term-past t place h = ap (λ (l : List ℕ). termFrom (front l)) (sym (drop-of-length-le t {i = place} h))
 
-pub term-int : (p : Lexeme) (r : Raw) → p ≡ lexemeOf r → p .what ≡ Int → record { form = form.Int (p .value); text = replicate longestString 0 } ≡ termFrom r
-term-int p (raw-int ds) e h = ap (λ (x : Lexeme). record { form = form.Int (x .value); text = replicate longestString 0 }) e
-term-int p (raw-str s) e h = let q = what-of p (raw-str s) Int e h in never 0 (cc)
-term-int p (raw-var k ds) e h = let q = what-of p (raw-var k ds) Int e h in never 0 (cc)
-term-int p raw-empty e h = let q = what-of p raw-empty Int e h in never 0 (cc)
+pub term-int : (p : Lexeme) (r : Raw) → p ≡ lexemeOf r → p .what ≡ Con Int → record { form = form.Int (p .value); text = replicate longestString 0 } ≡ termFrom r
+term-int p (raw-con (raw-int ds)) e h = ap (λ (x : Lexeme). record { form = form.Int (x .value); text = replicate longestString 0 }) e
+term-int p (raw-con (raw-str s)) e h = let q = what-of p (raw-con (raw-str s)) (Con Int) e h in never 0 (cc)
+term-int p (raw-var k ds) e h = let q = what-of p (raw-var k ds) (Con Int) e h in never 0 (cc)
+term-int p raw-empty e h = let q = what-of p raw-empty (Con Int) e h in never 0 (cc)
 
 pub term-var : (p : Lexeme) (r : Raw) (k : Kind) → p ≡ lexemeOf r → p .what ≡ Var k
     → record { form = form.Var k (p .value % 256); text = replicate longestString 0 } ≡ termFrom r
-term-var p (raw-int ds) k e h = let q = what-of p (raw-int ds) (Var k) e h in never 0 (cc)
-term-var p (raw-str s) k e h = let q = what-of p (raw-str s) (Var k) e h in never 0 (cc)
+term-var p (raw-con (raw-int ds)) k e h = let q = what-of p (raw-con (raw-int ds)) (Var k) e h in never 0 (cc)
+term-var p (raw-con (raw-str s)) k e h = let q = what-of p (raw-con (raw-str s)) (Var k) e h in never 0 (cc)
 term-var p (raw-var j ds) k e h =
     let q = what-of p (raw-var j ds) (Var k) e h in
     let s : kindFrom j ≡ k = cc in
@@ -48,8 +49,8 @@ term-var p (raw-var j ds) k e h =
 term-var p raw-empty k e h = let q = what-of p raw-empty (Var k) e h in never 0 (cc)
 
 pub term-empty : (p : Lexeme) (r : Raw) → p ≡ lexemeOf r → p .what ≡ Empty → blankTerm ≡ termFrom r
-term-empty p (raw-int ds) e h = let q = what-of p (raw-int ds) Empty e h in never 0 (cc)
-term-empty p (raw-str s) e h = let q = what-of p (raw-str s) Empty e h in never 0 (cc)
+term-empty p (raw-con (raw-int ds)) e h = let q = what-of p (raw-con (raw-int ds)) Empty e h in never 0 (cc)
+term-empty p (raw-con (raw-str s)) e h = let q = what-of p (raw-con (raw-str s)) Empty e h in never 0 (cc)
 term-empty p (raw-var k ds) e h = let q = what-of p (raw-var k ds) Empty e h in never 0 (cc)
 term-empty p raw-empty e h = refl
 
@@ -72,9 +73,9 @@ take-least s w = go (ℕ-discrete (min (length s) w) w)
     go (no n) = take-all (min (length s) w) s (omega arith) ∙ sym (take-all w s (omega arith))
 
 string-is : (b : ℕ) (z : List ℕ) (c : Begins b) (p : Lexeme) (n : ℕ) (bytes : List ℕ) → p ≡ lexemeOf (frontB b z c)
-    → p .what ≡ Str → n ≡ min (p .size) longestString → bytes ≡ pad longestString 0 (take n z)
+    → p .what ≡ Con Str → n ≡ min (p .size) longestString → bytes ≡ pad longestString 0 (take n z)
     → record { form = form.Str n; text = bytes } ≡ termFrom (frontB b z c)
-string-is b z (b-digit h) p n bytes e w k q = let x = what-of p (raw-int (b ∷ leadingDigits z)) Str e w in never 0 (cc)
+string-is b z (b-digit h) p n bytes e w k q = let x = what-of p (raw-con (raw-int (b ∷ leadingDigits z))) (Con Str) e w in never 0 (cc)
 string-is b z (b-quote h) p n bytes e w k q =
     let s = untilQuote z in
     let size : p .size ≡ length s = ap (λ (x : Lexeme). x .size) e in
@@ -83,12 +84,12 @@ string-is b z (b-quote h) p n bytes e w k q =
     (q
     ∙ ap (λ (x : ℕ). pad longestString 0 (take x z)) m
     ∙ ap (pad longestString 0) (until-take z (min (length s) longestString) (omega arith) ∙ take-least s longestString))
-string-is b z (b-letter j h) p n bytes e w k q = let x = what-of p (raw-var j (leadingDigits z)) Str e w in never 0 (cc)
-string-is b z (b-e h) p n bytes e w k q = let x = what-of p raw-empty Str e w in never 0 (cc)
-string-is b z (b-none d x l y) p n bytes e w k q = let x = what-of p raw-empty Str e w in never 0 (cc)
+string-is b z (b-letter j h) p n bytes e w k q = let x = what-of p (raw-var j (leadingDigits z)) (Con Str) e w in never 0 (cc)
+string-is b z (b-e h) p n bytes e w k q = let x = what-of p raw-empty (Con Str) e w in never 0 (cc)
+string-is b z (b-none d x l y) p n bytes e w k q = let x = what-of p raw-empty (Con Str) e w in never 0 (cc)
 
 pub term-str : (t : List ℕ) (place : ℕ) (p : Lexeme) (n : ℕ) (bytes : List ℕ) → place < length t
-    → p ≡ lexemeOf (front (drop place t)) → p .what ≡ Str → n ≡ min (p .size) longestString
+    → p ≡ lexemeOf (front (drop place t)) → p .what ≡ Con Str → n ≡ min (p .size) longestString
     → bytes ≡ pad longestString 0 (take n (drop (place + 1) t)) → record { form = form.Str n; text = bytes } ≡ termFrom (front (drop place t))
 term-str t place p n bytes h e w k q = go (getD t place 0) (drop place t) (drop-cons t place 0 h) e
   where

@@ -7,9 +7,6 @@ use Rattle.text_refusals.proofs.unknown.is_unknown.Tie as tie
 enum-told : tie.Need-enum-told
 enum-told c = search needs
 
-enum-told-2 : tie.Need-enum-told-2
-enum-told-2 c = search needs
-
 enum-known-what : tie.Need-enum-known-what
 enum-known-what c = search needs
 
@@ -22,33 +19,28 @@ cast-has-variable c = search needs
 has-variable-requires : tie.Need-has-variable-requires
 has-variable-requires c κs = search needs
 
-enum-told-3 : tie.Need-enum-told-3
-enum-told-3 c = search needs
+enum-told-2 : tie.Need-enum-told-2
+enum-told-2 c = search needs
 
 returns-2 : tie.Need-returns-2
 returns-2 c = search needs
 
 returns-3 : tie.Need-returns-3
-returns-3 c = search needs
+returns-3 c = rw (c .before .before .before .what .given .1, le-ltb _ _ (c .before .if1 .left), ← c .has-variable .ensures)
 
 returns-4 : tie.Need-returns-4
-returns-4 c = rw (c .before .before .before .what .given .1, le-ltb _ _ (c .before .if1 .left), ← c .has-variable .ensures)
-
-returns-5 : tie.Need-returns-5
-returns-5 c = search needs
+returns-4 c = search needs
 
 pub is-unknown-spec : {M : Type 1} → statement M
 is-unknown-spec =
     tie.close
     (tie.spec
     enum-told
-    enum-told-2
     enum-known-what
     returns
     cast-has-variable
     has-variable-requires
-    enum-told-3
+    enum-told-2
     returns-2
     returns-3
-    returns-4
-    returns-5)
+    returns-4)

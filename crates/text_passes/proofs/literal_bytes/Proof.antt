@@ -1,0 +1,22 @@
+-- `text_passes::literal_bytes` meets its contract.
+use borrow.Author.Needs.{needs}
+use Rattle.text_passes.proofs.literal_bytes.Statement.{statement}
+use Rattle.text_passes.proofs.literal_bytes.Tie as tie
+
+enum-told : tie.Need-enum-told
+enum-told c = search needs
+
+enum-told-2 : tie.Need-enum-told-2
+enum-told-2 c = search needs
+
+add-result : tie.Need-add-result
+add-result c = search needs
+
+returns : tie.Need-returns
+returns c = search needs
+
+returns-2 : tie.Need-returns-2
+returns-2 c = rw (c .enum-told2 .given .1)
+
+pub literal-bytes-spec : {M : Type 1} → statement M
+literal-bytes-spec = tie.close (tie.spec enum-told enum-told-2 add-result returns returns-2)

@@ -1,0 +1,56 @@
+-- `text_scan::terms::constant_at` meets its contract. Assumes nothing.
+use mathlib.Core.Path.{_∙_, ap}
+use lib.ListN.{drop}
+use Rattle.text_grammar.specs.Walk.{front}
+use Rattle.text_scan.specs.declared.Literal.{Literal}
+use Rattle.text_scan.specs.declared.Spelled.the-variants.{Con}
+use Rattle.text_scan.proofs.terms.Terms.{term-int, term-str}
+use borrow.Author.Needs.{needs}
+use Rattle.text_scan.proofs.terms.constant_at.Statement.{statement}
+use Rattle.text_scan.proofs.terms.constant_at.Tie as tie
+
+enum-told : tie.Need-enum-told
+enum-told c = search needs
+
+enum-told-2 : tie.Need-enum-told-2
+enum-told-2 c = search needs
+
+at-most-requires : tie.Need-at-most-requires
+at-most-requires c κs = search needs
+
+add-string-at : tie.Need-add-string-at
+add-string-at c = search needs
+
+string-at-requires : tie.Need-string-at-requires
+string-at-requires c κs = search needs
+
+cast-t11 : tie.Need-cast-t11
+cast-t11 c = search needs
+
+returns : tie.Need-returns
+returns c =
+    let b = c .before .before .before in
+    let z = b .args in
+    let h = b .pre in
+    term-int (z .p) (front (drop (z .place) (z .text .now))) (h .2) (h .1 ∙ ap Con (c .enum-told .given .1))
+
+returns-2 : tie.Need-returns-2
+returns-2 c =
+    let b = c .before .before .before .before .before in
+    let z = b .args in
+    let h = b .pre in
+    term-str (z .text .now) (z .place) (z .p) (c .before .at-most .result) (c .string-at .result) (h .0) (h .2)
+    (h .1 ∙ ap Con (c .before .before .enum-told2 .given .1)) (c .before .at-most .ensures) (c .string-at .ensures)
+
+pub constant-at-spec : {M : Type 1} → statement M
+constant-at-spec =
+    tie.close
+    (tie.spec
+    enum-told
+    enum-told-2
+    at-most-requires
+    add-string-at
+    string-at-requires
+    cast-t11
+    returns
+    returns-2)
