@@ -5,14 +5,16 @@ use Rattle.base_limits.specs.Limits.{longestString}
 use Rattle.math_types.specs.Values.{kindFrom}
 use Rattle.text_grammar.specs.Grammar.{Raw, raw-int, raw-str, raw-var, raw-empty}
 use Rattle.text_grammar.specs.Numbers.{value}
-use Rattle.text_values.specs.declared.Form.the-variants.{Int, Str, Var}
+use Rattle.text_values.specs.declared.constants.Constant.the-variants.{Int, Str}
+use Rattle.text_values.specs.declared.Form.the-variants.{Con, Var}
 use Rattle.text_values.specs.declared.Term.{Term}
-use Rattle.text_values.specs.Values.{pad, blankTerm}
+use Rattle.text_values.specs.canonical.Filled.{pad}
+use Rattle.text_values.specs.Values.{blankTerm}
 use Rattle.text_scan.specs.Lexemes.{capped}
 
 -- one over its limits, which refusal 5 has met, is cut to what the value can hold
 abbrev pub termFrom : Raw → Term
-termFrom (raw-int ds) = record { form = Int (capped (value ds)); text = replicate longestString 0 }
-termFrom (raw-str s) = record { form = Str (min (length s) longestString); text = pad longestString 0 (take longestString s) }
+termFrom (raw-int ds) = record { form = Con (Int (capped (value ds))); text = replicate longestString 0 }
+termFrom (raw-str s) = record { form = Con (Str (min (length s) longestString)); text = pad longestString 0 (take longestString s) }
 termFrom (raw-var k ds) = record { form = Var (kindFrom k) (capped (value ds) % 256); text = replicate longestString 0 }
 termFrom raw-empty = blankTerm

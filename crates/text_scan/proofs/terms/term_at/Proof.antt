@@ -32,14 +32,14 @@ add-string-at c = search needs
 string-at-requires : tie.Need-string-at-requires
 string-at-requires c κs = search needs
 
-cast-t14 : tie.Need-cast-t14
-cast-t14 c = search needs
+cast-t15 : tie.Need-cast-t15
+cast-t15 c = search needs
 
 enum-known-what : tie.Need-enum-known-what
 enum-known-what c = search needs
 
-cast-t17 : tie.Need-cast-t17
-cast-t17 c = search needs
+cast-t19 : tie.Need-cast-t19
+cast-t19 c = search needs
 
 enum-told-3 : tie.Need-enum-told-3
 enum-told-3 c = search needs
@@ -83,9 +83,9 @@ term-at-spec =
     at-most-requires
     add-string-at
     string-at-requires
-    cast-t14
+    cast-t15
     enum-known-what
-    cast-t17
+    cast-t19
     enum-told-3
     blank-term-requires-2
     returns-2
