@@ -75,7 +75,12 @@ fn same_bytes(a: [u8; base_limits::LONGEST_STRING], b: [u8; base_limits::LONGEST
 // ---- a constant, each with the bytes beside it
 
 // Whether two constants are one.
-pub fn same(a: Constant, s: [u8; base_limits::LONGEST_STRING], b: Constant, t: [u8; base_limits::LONGEST_STRING]) -> bool
+pub fn same(
+    a: Constant,
+    s: [u8; base_limits::LONGEST_STRING],
+    b: Constant,
+    t: [u8; base_limits::LONGEST_STRING],
+) -> bool
     ensures { λ r. ⌜ r ≡ sameConstant a b s t ⌝ }
 {
     match a {

@@ -34,7 +34,12 @@ fn put_string(text: [u8; base_limits::LONGEST_STRING], k: u8, out: &mut [u8], at
     p + 1
 }
 
-pub(crate) fn put(c: Constant, text: [u8; base_limits::LONGEST_STRING], out: &mut [u8], at: usize) -> usize
+pub(crate) fn put(
+    c: Constant,
+    text: [u8; base_limits::LONGEST_STRING],
+    out: &mut [u8],
+    at: usize,
+) -> usize
     requires { ⌜ Room (termText (con (viewConstant c text))) at (now out) ⌝ }
     ensures { λ r. ⌜ Put (termText (con (viewConstant c text))) at (now (out .entry)) r (now (out .exit)) ⌝ }
 {

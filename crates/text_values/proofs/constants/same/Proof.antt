@@ -38,7 +38,9 @@ returns-4 : tie.Need-returns-4
 returns-4 c = search needs
 
 returns-5 : tie.Need-returns-5
-returns-5 c = rw (c .before .before .before .before .before .before .a2 .given .1, c .before .before .before .b2 .given .1, eq-eqb _ _ (c .before .if1 .left)) (c .same-bytes .ensures)
+returns-5 c =
+    rw (c .before .before .before .before .before .before .a2 .given .1, c .before .before .before .b2 .given .1, eq-eqb _ _ (c .before .if1 .left))
+    (c .same-bytes .ensures)
 
 pub same-spec : {M : Type 1} → statement M
 same-spec =

@@ -33,7 +33,8 @@ same-length c = search needs
 returns : tie.Need-returns
 returns c =
     let z = c .before .before .before .before .before .before .before .before .args in
-    put-as (z .out .now) (z .at) (int-text (z .c) (z .text) _ (c .before .before .before .before .before .c .given .1)) (c .before .before .put-digits .ensures)
+    put-as (z .out .now) (z .at) (int-text (z .c) (z .text) _ (c .before .before .before .before .before .c .given .1))
+    (c .before .before .put-digits .ensures)
 
 same-length-2 : tie.Need-same-length-2
 same-length-2 c = search needs
@@ -41,7 +42,8 @@ same-length-2 c = search needs
 returns-2 : tie.Need-returns-2
 returns-2 c =
     let z = c .before .before .before .before .before .before .before .before .args in
-    put-as (z .out .now) (z .at) (str-text (z .c) (z .text) _ (c .before .before .before .before .before .c2 .given .1)) (c .before .before .put-string .ensures)
+    put-as (z .out .now) (z .at) (str-text (z .c) (z .text) _ (c .before .before .before .before .before .c2 .given .1))
+    (c .before .before .put-string .ensures)
 
 pub put-spec : {M : Type 1} → statement M
 put-spec =
