@@ -82,8 +82,7 @@ fn push_term(w: SlipField, t: Term, x: Filling, s: Slip) -> SlipField
 {
     let form = t.form;
     match form {
-        Form::Int(_) => push(w, t),
-        Form::Str(_) => push(w, t),
+        Form::Con(_) => push(w, t),
         Form::Var(k, n) => {
             if math_types::is_list(k) {
                 return push_run(w, s, match_fields::bindings::run_of(x, n));

@@ -13,16 +13,13 @@ use Rattle.math_terms.specs.Terms.{con, var}
 use Rattle.math_terms.specs.Matcher.{atoms, hasRoom, room}
 use Rattle.math_terms.specs.Linear.{lists}
 use Rattle.text_grammar.specs.Terms.{OurTerm}
-use Rattle.text_grammar.specs.constants.Constants.{int, str}
 use Rattle.text_values.specs.Values.{encodeTerm}
 use Rattle.match_fields.specs.declared.Shape.{Shape}
 use Rattle.match_fields.specs.Fields.{shapeWith, noShape, shapeOf, fitsLength}
 
 shape-from : (f : List OurTerm) (x : Shape) → foldl shapeWith x (map encodeTerm f) ≡ record { atoms = x .atoms + atoms f; lists = x .lists + length (lists f) }
 shape-from [] x = ap₂ (λ (a b : ℕ). record { atoms = a; lists = b }) (omega arith) (omega arith)
-shape-from (con (int n) ∷ f) x =
-    shape-from f (record { atoms = x .atoms + 1; lists = x .lists }) ∙ ap (λ (a : ℕ). record { atoms = a; lists = x .lists + length (lists f) }) (omega arith)
-shape-from (con (str s) ∷ f) x =
+shape-from (con c ∷ f) x =
     shape-from f (record { atoms = x .atoms + 1; lists = x .lists }) ∙ ap (λ (a : ℕ). record { atoms = a; lists = x .lists + length (lists f) }) (omega arith)
 shape-from (var (basic k) n ∷ f) x =
     rw (kindOf-from (basic k), foldl)

@@ -14,8 +14,9 @@ use Rattle.math_types.specs.Order.{basic, list}
 use Rattle.math_types.specs.Types.{Kind, isList}
 use Rattle.math_types.specs.Values.{kindOf}
 use Rattle.text_values.specs.declared.Form.{Form}
-use Rattle.text_values.specs.declared.Form.the-variants.{Int, Str, Var}
+use Rattle.text_values.specs.declared.Form.the-variants.{Con, Var}
 use Rattle.text_values.specs.declared.Term.{Term}
+use Rattle.text_values.specs.constants.Constants.{blankConstant}
 use Rattle.text_values.specs.Values.{blankTerm}
 use Rattle.match_fields.specs.declared.bindings.Values.{Values}
 use Rattle.match_fields.specs.declared.items.Tested.{Tested}
@@ -27,7 +28,7 @@ use Rattle.match_fields.specs.Fields.{countOn, walkCompared, walkProgres
 
 -- what an array of terms is read as beyond its end
 abbrev pub absent : Term
-absent = record { form = Int 0; text = [] }
+absent = record { form = Con blankConstant; text = [] }
 
 -- the item at p of the first n of s
 pub item-none : (n : ℕ) (s : List Term) (p w : ℕ) → length s ≡ w → (n ≤ p) → getD (take n s) p blankTerm ≡ blankTerm
@@ -73,8 +74,7 @@ list-passes t item v e = go (t .form) e
     var list n e = refl
 
     go : (f : Form) → isListForm f ≡ true → testBy f t item v ≡ record { ok = true; values = v }
-    go (Int m) e = absurd (false≢true e)
-    go (Str k) e = absurd (false≢true e)
+    go (Con c) e = absurd (false≢true e)
     go (Var k n) e = var (kindOf k) n e
 
 module _ (gap : ℕ) (items : List Term) (n : ℕ) (s : List Term) (w : ℕ) (v₀ : Values) where

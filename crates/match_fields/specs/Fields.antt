@@ -7,7 +7,7 @@ use lib.ListN.{length, getD, take}
 use Rattle.math_types.specs.Types.{isList}
 use Rattle.math_types.specs.Values.{kindOf}
 use Rattle.text_values.specs.declared.Form.{Form}
-use Rattle.text_values.specs.declared.Form.the-variants.{Int, Str, Var}
+use Rattle.text_values.specs.declared.Form.the-variants.{Con, Var}
 use Rattle.text_values.specs.declared.Term.{Term}
 use Rattle.text_values.specs.declared.Field.{Field}
 use Rattle.text_values.specs.declared.SlipField.{SlipField}
@@ -21,8 +21,7 @@ use Rattle.match_fields.specs.declared.Progress.{Progress}
 -- ---- the terms of a field from the left, the first at item p; a list variable takes `gap` items
 
 abbrev pub isListForm : Form → Bool
-isListForm (Int m) = false
-isListForm (Str k) = false
+isListForm (Con c) = false
 isListForm (Var k n) = isList (kindOf k)
 
 abbrev pub isListTerm : Term → Bool

@@ -4,7 +4,7 @@ ghost use mathlib.Core.Bool.{false};
 ghost use lib.ListN.{getD};
 ghost use Rattle.math_types.specs.Values.{kindOf, kindFrom};
 ghost use Rattle.match_fields.specs.bindings.Values.{slot};
-ghost use Rattle.match_fields.specs.items.Tests.{sameBytes, sameTerm, itemKind, bound, met, tested};
+ghost use Rattle.match_fields.specs.items.Tests.{sameTerm, itemKind, bound, met, tested};
 use crate::bindings::Values;
 use math_types::Kind;
 use text_values::Form;
@@ -16,19 +16,6 @@ pub struct Tested {
     pub values: Values,
 }
 
-fn same_bytes(a: [u8; base_limits::LONGEST_STRING], b: [u8; base_limits::LONGEST_STRING]) -> bool
-    ensures { λ r. ⌜ r ≡ sameBytes a b ⌝ }
-{
-    let mut i: usize = 0;
-    while i < base_limits::LONGEST_STRING {
-        if a[i] != b[i] {
-            return false;
-        }
-        i += 1;
-    }
-    true
-}
-
 // Whether two constants are one. (A variable is none.)
 fn same_term(a: Term, b: Term) -> bool
     ensures { λ r. ⌜ r ≡ sameTerm a b ⌝ }
@@ -38,19 +25,8 @@ fn same_term(a: Term, b: Term) -> bool
     let s = a.text;
     let t = b.text;
     match x {
-        Form::Int(m) => match y {
-            Form::Int(n) => m == n,
-            Form::Str(_) => false,
-            Form::Var(_, _) => false,
-        },
-        Form::Str(k) => match y {
-            Form::Int(_) => false,
-            Form::Str(l) => {
-                if k != l {
-                    return false;
-                }
-                same_bytes(s, t)
-            }
+        Form::Con(c) => match y {
+            Form::Con(d) => text_values::constants::same(c, s, d, t),
             Form::Var(_, _) => false,
         },
         Form::Var(_, _) => false,
@@ -63,8 +39,7 @@ fn item_kind(t: Term) -> Kind
 {
     let form = t.form;
     match form {
-        Form::Int(_) => Kind::Integer,
-        Form::Str(_) => Kind::String,
+        Form::Con(c) => text_values::constants::kind_of(c),
         Form::Var(k, _) => k,
     }
 }
@@ -119,11 +94,7 @@ pub(crate) fn test_term(t: Term, item: Term, v: Values) -> Tested
 {
     let form = t.form;
     match form {
-        Form::Int(_) => Tested {
-            ok: same_term(t, item),
-            values: v,
-        },
-        Form::Str(_) => Tested {
+        Form::Con(_) => Tested {
             ok: same_term(t, item),
             values: v,
         },

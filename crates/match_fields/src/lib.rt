@@ -36,8 +36,7 @@ pub fn is_list_term(t: Term) -> bool
 {
     let form = t.form;
     match form {
-        Form::Int(_) => false,
-        Form::Str(_) => false,
+        Form::Con(_) => false,
         Form::Var(k, _) => math_types::is_list(k),
     }
 }

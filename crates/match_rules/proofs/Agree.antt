@@ -1,21 +1,19 @@
 -- The tests on values are the matcher's tests, where the values are those of terms and constants.
 use mathlib.Core.Path.{_≡_, refl, sym, _∙_, ap, ap₂, subst}
 use mathlib.Core.Logic.{_≢_, ite}
-use mathlib.Core.Bool.{Bool, true, false, cond, _&&_, false≢true}
+use mathlib.Core.Bool.{Bool, true, false, cond}
 use mathlib.Core.Option.{Option, none, some}
 use mathlib.Core.List.{List, [], _∷_, map, map-map}
 use Prim.Native.Nat.{ℕ, _+_, _-_, _<_, _≤_}
 use native.Mathlib.Omega.{arith}
 use native.Mathlib.Decide.{ℕ-discrete}
-use borrow.Author.Tests.{eq-eqb, ne-eqb, eqb-true}
-use lib.Dec.{eqb}
-use lib.ListN.{length, getD, set, take, drop, replicate, length-set, length-map, getD-replicate}
-use lib.Seq.{getD-set-same, getD-set-other, take-at}
-use Rattle.base_limits.specs.Limits.{mostTerms, longestString, largestNumber, mostItems, atomPlaces}
+use lib.ListN.{length, getD, set, take, drop, length-set, length-map, getD-replicate}
+use lib.Seq.{getD-set-same, getD-set-other}
+use Rattle.base_limits.specs.Limits.{mostTerms, largestNumber, mostItems, atomPlaces}
 use Rattle.base_lists.specs.Seqs.{All, both?}
 use Rattle.base_lists.specs.Arrays.{mapped-at}
 use Rattle.math_types.specs.Order.{basic, list, full-eq}
-use Rattle.math_types.specs.Types.{Basic, basic-eq, Kind, rank, rank-basic, rank-once, le, basics}
+use Rattle.math_types.specs.Types.{Basic, atom, basic-eq, Kind, rank, rank-basic, rank-once, le, basics}
 use Rattle.math_types.specs.Values.{kindOf, kindFrom, kindOf-from}
 use Rattle.math_terms.specs.Terms.{con, var}
 use Rattle.math_terms.specs.Fillings.{Filling}
@@ -24,16 +22,19 @@ use Rattle.math_terms.specs.Linear.{OneList}
 use Rattle.math_terms.proofs.Slices.{span, room-span}
 use Rattle.math_terms.proofs.Seqs.{item-at}
 use Rattle.text_grammar.specs.Terms.{OurTerm}
-use Rattle.text_grammar.specs.constants.Constants.{Con, int, str, con-eq, kind-of, consts}
+use Rattle.text_grammar.specs.constants.Constants.{Con, con-eq, kind-of, consts}
 use Rattle.text_grammar.specs.Limits.{TermIn}
+use Rattle.text_grammar.specs.constants.Constants.{con-eq, kind-of, some-of, consts}
 use Rattle.text_values.specs.declared.SlipField.{SlipField}
-use Rattle.text_values.specs.Values.{pad, blankTerm, encodeTerm, encodeField, encodeSlipField}
+use Rattle.text_values.specs.constants.Constants.{encodeConstant}
+use Rattle.text_values.specs.Values.{blankTerm, encodeTerm, encodeField, encodeSlipField}
 use Rattle.text_values.specs.declared.Term.{Term as TermValue}
 use Rattle.text_values.proofs.Pads.{unpadded}
+use Rattle.text_values.proofs.constants.Constants.{view-encode-constant, same-constant-is, constant-kind}
 use Rattle.match_fields.specs.declared.bindings.Values.{Values}
 use Rattle.match_fields.specs.bindings.Values.{slot}
 use Rattle.match_fields.specs.declared.items.Tested.{Tested}
-use Rattle.match_fields.specs.items.Tests.{sameBytes, sameTerm, itemKind, bound, met, testVar, tested}
+use Rattle.match_fields.specs.items.Tests.{sameTerm, itemKind, bound, met, testVar, tested}
 use Rattle.match_fields.specs.Fields.{pick, goOn, widthOf, walked, shapeOf, fieldTested, termsOf, itemsOf}
 use Rattle.match_fields.proofs.Shapes.{fits-room, gap-is}
 use Rattle.match_rules.specs.Tests.{noValues, fieldsTested}
@@ -41,46 +42,6 @@ use Rattle.match_rules.specs.Tests.{noValues, fieldsTested}
 -- the value of a constant
 abbrev pub enc : Con → TermValue
 enc c = encodeTerm (con c)
-
--- ---- equality
-
-same-bytes : (s : List ℕ) → sameBytes s s ≡ true
-same-bytes [] = refl
-same-bytes (x ∷ s) = ap₂ (λ (a b : Bool). a && b) (eq-eqb x x refl) (same-bytes s)
-
-bytes-same : (s t : List ℕ) → sameBytes s t ≡ true → s ≡ t
-bytes-same [] [] e = refl
-bytes-same [] (y ∷ t) e = absurd (false≢true e)
-bytes-same (x ∷ s) [] e = absurd (false≢true e)
-bytes-same (x ∷ s) (y ∷ t) e = go (ℕ-discrete x y) e (bytes-same s t)
-  where
-    go : Dec (x ≡ y) → (eqb x y && sameBytes s t) ≡ true → (sameBytes s t ≡ true → s ≡ t) → x ∷ s ≡ y ∷ t
-    go (yes q) e rec = ap₂ (λ (a : ℕ) (l : List ℕ). a ∷ l) q (rec (ap (λ (b : Bool). b && sameBytes s t) (sym (eq-eqb x y q)) ∙ e))
-    go (no n) e rec = absurd (false≢true (ap (λ (b : Bool). b && sameBytes s t) (sym (ne-eqb x y n)) ∙ e))
-
--- a constant's value is the same as itself only
-same-self : (c : Con) → sameTerm (enc c) (enc c) ≡ true
-same-self (int n) = eq-eqb n n refl
-same-self (str s) = ap₂ (λ (a b : Bool). a && b) (eq-eqb (length s) (length s) refl) (same-bytes (pad longestString 0 s))
-
-pad-once : (s t : List ℕ) → length s ≡ length t → pad longestString 0 s ≡ pad longestString 0 t → s ≡ t
-pad-once s t l e =
-    sym (take-at s (replicate (longestString - length s) 0) (length s) refl)
-    ∙ ap (take (length s)) e
-    ∙ take-at t (replicate (longestString - length t) 0) (length s) (sym l)
-
-same-only : (d c : Con) → sameTerm (enc d) (enc c) ≡ true → c ≡ d
-same-only (int m) (int n) e = ap int (sym (eqb-true m n e))
-same-only (int m) (str t) e = absurd (false≢true e)
-same-only (str s) (int n) e = absurd (false≢true e)
-same-only (str s) (str t) e = go (ℕ-discrete (length s) (length t)) e
-  where
-    go : Dec (length s ≡ length t) → (eqb (length s) (length t) && sameBytes (pad longestString 0 s) (pad longestString 0 t)) ≡ true → str t ≡ str s
-    go (yes q) e =
-        ap str (sym (pad-once s t q (bytes-same (pad longestString 0 s) (pad longestString 0 t)
-        (ap (λ (b : Bool). b && sameBytes (pad longestString 0 s) (pad longestString 0 t)) (sym (eq-eqb (length s) (length t) q)) ∙ e))))
-    go (no n) e =
-        absurd (false≢true (ap (λ (b : Bool). b && sameBytes (pad longestString 0 s) (pad longestString 0 t)) (sym (ne-eqb (length s) (length t) n)) ∙ e))
 
 -- ---- the values hold the filling so far
 
@@ -155,16 +116,15 @@ module _ (v : Values) (φ : Filling Con Kind ℕ) (k : Basic) (n : ℕ) (c : Con
 
 same-agrees : (v : Values) (φ : Filling Con Kind ℕ) (d c : Con) (q : Dec (c ≡ d)) (b : Bool)
     → b ≡ sameTerm (enc d) (enc c) → Holds v φ → Agrees (record { ok = b; values = v }) (ite q (some φ) none)
-same-agrees v φ d c (yes e) b s h = (s ∙ ap (λ (x : Con). sameTerm (enc d) (enc x)) e ∙ same-self d, h)
+same-agrees v φ d c (yes e) b s h = (s ∙ same-constant-is d c .1 (sym e), h)
 same-agrees v φ d c (no n) b s h = go b refl
   where
     go : (x : Bool) → b ≡ x → b ≡ false
-    go true e = absurd (n (same-only d c (sym s ∙ e)))
+    go true e = absurd (n (sym (same-constant-is d c .0 (sym s ∙ e))))
     go false e = e
 
 item-kind : (c : Con) → itemKind ((enc c) .form) ≡ basic (kind-of c)
-item-kind (int n) = refl
-item-kind (str s) = refl
+item-kind c = constant-kind (encodeConstant c .0) (encodeConstant c .1) ∙ ap (λ (d : Con). basic (kind-of d)) (view-encode-constant c)
 
 meets-agrees : (v : Values) (φ : Filling Con Kind ℕ) (k : Basic) (n : ℕ) (c : Con) → Holds v φ → n ≤ largestNumber
     → Agrees (met (getD (v .known) (slot (basic k) n) false) (basic k) (slot (basic k) n) (enc c) v) (meets basics consts ℕ-discrete k n (φ (basic k) n) c φ)
@@ -197,38 +157,32 @@ go-on r none k g a f = subst (λ (b : Bool). (pick b (k (r .values)) r) .ok ≡ 
 go-on r (some ψ) k g a f = subst (λ (b : Bool). Agrees (pick b (k (r .values)) r) (g ψ)) (sym (a .0)) (f (r .values) ψ (a .1))
 
 pub width-enc : (gap : ℕ) (u : OurTerm) → widthOf gap (encodeTerm u) ≡ width gap u
-width-enc gap (con (int n)) = refl
-width-enc gap (con (str s)) = refl
+width-enc gap (con c) = refl
 width-enc gap (var (basic k) n) = rw (kindOf-from (basic k))
 width-enc gap (var list n) = refl
 
-zero-con : Con
-zero-con = int 0
+-- what no item past the last is read as
+abbrev no-item : Con
+no-item = some-of atom
 
 -- a term at item p of w, where the item is there if the term is an atom
 pub test-agrees : (gap : ℕ) (w : List Con) (p : ℕ) (u : OurTerm) (v : Values) (φ : Filling Con Kind ℕ) → TermIn u → Holds v φ → p + width gap u ≤ length w
     → Agrees (tested (encodeTerm u) (getD (map enc w) p blankTerm) v) (test basics consts ℕ-discrete gap w p u φ)
-test-agrees gap w p (con (int m)) v φ i h l =
-    let e = mapped-at enc w p (int 0) blankTerm (omega arith) in
-    let q = item-at w p (int 0) (omega arith) in
-    subst (λ (o : Option Con). Agrees (record { ok = sameTerm (enc (int m)) (getD (map enc w) p blankTerm); values = v })
-    (andThen o (λ c. same basics consts ℕ-discrete (int m) c φ))) (sym q)
-    (same-agrees v φ (int m) (getD w p (int 0)) (con-eq (getD w p (int 0)) (int m)) _ (ap (sameTerm (enc (int m))) e) h)
-test-agrees gap w p (con (str s)) v φ i h l =
-    let e = mapped-at enc w p (int 0) blankTerm (omega arith) in
-    let q = item-at w p (int 0) (omega arith) in
-    subst (λ (o : Option Con). Agrees (record { ok = sameTerm (enc (str s)) (getD (map enc w) p blankTerm); values = v })
-    (andThen o (λ c. same basics consts ℕ-discrete (str s) c φ))) (sym q)
-    (same-agrees v φ (str s) (getD w p (int 0)) (con-eq (getD w p (int 0)) (str s)) _ (ap (sameTerm (enc (str s))) e) h)
+test-agrees gap w p (con d) v φ i h l =
+    let e = mapped-at enc w p no-item blankTerm (omega arith) in
+    let q = item-at w p no-item (omega arith) in
+    subst (λ (o : Option Con). Agrees (record { ok = sameTerm (enc d) (getD (map enc w) p blankTerm); values = v })
+    (andThen o (λ c. same basics consts ℕ-discrete d c φ))) (sym q)
+    (same-agrees v φ d (getD w p no-item) (con-eq (getD w p no-item) d) _ (ap (sameTerm (enc d)) e) h)
 test-agrees gap w p (var (basic k) n) v φ i h l =
-    let e = mapped-at enc w p (int 0) blankTerm (omega arith) in
-    let q = item-at w p (int 0) (omega arith) in
+    let e = mapped-at enc w p no-item blankTerm (omega arith) in
+    let q = item-at w p no-item (omega arith) in
     subst (λ (o : Option Con). Agrees (testVar (kindOf (kindFrom (basic k))) n (getD (map enc w) p blankTerm) v)
     (andThen o (λ c. meets basics consts ℕ-discrete k n (φ (basic k) n) c φ))) (sym q)
-    (subst (λ (j : Kind). Agrees (testVar j n (getD (map enc w) p blankTerm) v) (meets basics consts ℕ-discrete k n (φ (basic k) n) (getD w p (int 0)) φ))
+    (subst (λ (j : Kind). Agrees (testVar j n (getD (map enc w) p blankTerm) v) (meets basics consts ℕ-discrete k n (φ (basic k) n) (getD w p no-item) φ))
     (sym (kindOf-from (basic k)))
-    (subst (λ (t : TermValue). Agrees (testVar (basic k) n t v) (meets basics consts ℕ-discrete k n (φ (basic k) n) (getD w p (int 0)) φ)) (sym e)
-    (meets-agrees v φ k n (getD w p (int 0)) h i)))
+    (subst (λ (t : TermValue). Agrees (testVar (basic k) n t v) (meets basics consts ℕ-discrete k n (φ (basic k) n) (getD w p no-item) φ)) (sym e)
+    (meets-agrees v φ k n (getD w p no-item) h i)))
 test-agrees gap w p (var list n) v φ i h l = (refl, holds-list v φ n (take gap (drop p w)) h)
 
 walk-agrees : (gap : ℕ) (w : List Con) (f : List OurTerm) (p : ℕ) (v : Values) (φ : Filling Con Kind ℕ) → All TermIn f → Holds v φ → p + span gap f ≤ length w

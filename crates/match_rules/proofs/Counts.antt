@@ -18,7 +18,7 @@ use Rattle.math_terms.specs.Matcher.{atoms, width, hasRoom, test, matchField}
 use Rattle.math_terms.proofs.Compared.{countThen, comparedWalk, comparedField, comparedFields}
 use Rattle.math_terms.proofs.Slices.{span, room-span}
 use Rattle.text_grammar.specs.Terms.{OurTerm}
-use Rattle.text_grammar.specs.constants.Constants.{Con, int, str, consts}
+use Rattle.text_grammar.specs.constants.Constants.{Con, consts}
 use Rattle.text_grammar.specs.Limits.{TermIn}
 use Rattle.text_values.specs.declared.Term.{Term as TermValue}
 use Rattle.text_values.specs.Values.{blankTerm, encodeTerm, encodeField}
@@ -36,8 +36,7 @@ count-on r none k g a f = ap (λ (b : Bool). cond b (k (r .values)) 0) a
 count-on r (some ψ) k g a f = ap (λ (b : Bool). cond b (k (r .values)) 0) (a .0) ∙ f (r .values) ψ (a .1)
 
 atoms-enc : (u : OurTerm) → atomsIn (encodeTerm u) ≡ atoms (u ∷ [])
-atoms-enc (con (int n)) = refl
-atoms-enc (con (str s)) = refl
+atoms-enc (con c) = refl
 atoms-enc (var (basic k) n) = rw (kindOf-from (basic k))
 atoms-enc (var list n) = refl
 

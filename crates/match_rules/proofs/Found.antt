@@ -21,7 +21,7 @@ use Rattle.math_terms.specs.Matcher.{atoms, blank, matchFields}
 use Rattle.math_terms.specs.Linear.{lists, OneList}
 use Rattle.math_terms.proofs.Compared.{compared-none, compared-walked}
 use Rattle.text_grammar.specs.Terms.{OurTerm}
-use Rattle.text_grammar.specs.constants.Constants.{Con, int, str, consts}
+use Rattle.text_grammar.specs.constants.Constants.{Con, consts}
 use Rattle.text_grammar.specs.Limits.{TermIn}
 use Rattle.text_grammar.specs.constants.Matching.{matcher, compared}
 use Rattle.text_values.specs.declared.Term.{Term as TermValue}
@@ -94,8 +94,7 @@ none-set j gap i (var list m ∷ f) rs e = absurd (cons≢nil e)
 runs-over : (j gap i : ℕ) (f : List OurTerm) (x : FillingValue)
     → runsOver j gap i (map encodeTerm f) x ≡ record { values = x .values; runs = runsField j gap i f (x .runs) }
 runs-over j gap i [] x = refl
-runs-over j gap i (con (int n) ∷ f) x = runs-over j gap (i + 1) f x
-runs-over j gap i (con (str s) ∷ f) x = runs-over j gap (i + 1) f x
+runs-over j gap i (con c ∷ f) x = runs-over j gap (i + 1) f x
 runs-over j gap i (var (basic k) n ∷ f) x = rw (kindOf-from (basic k), runsOver) (runs-over j gap (i + 1) f x)
 runs-over j gap i (var list n ∷ f) x =
     runs-over j gap (i + 1) f (record { values = x .values; runs = set (x .runs) n (record { field = j; start = i; count = gap }) })

@@ -9,7 +9,7 @@ use lib.ListN.{length, getD, set, take, drop, length-take, drop-of-length-le}
 use Rattle.base_limits.specs.Limits.{mostTerms, numbersOfSide}
 use Rattle.base_lists.specs.Arrays.{here, no-more}
 use Rattle.text_values.specs.declared.Form.{Form}
-use Rattle.text_values.specs.declared.Form.the-variants.{Int, Str, Var}
+use Rattle.text_values.specs.declared.Form.the-variants.{Con, Var}
 use Rattle.text_values.specs.declared.Term.{Term}
 use Rattle.text_values.specs.declared.Field.{Field}
 use Rattle.text_values.specs.declared.SlipField.{SlipField}
@@ -101,8 +101,7 @@ module _ (fs : List Field) (ws : List SlipField) (t : Tested) where
 -- ---- the runs of list variables
 
 no-run : (f : Form) (r : Run) (rs : List Run) → isListForm f ≡ false → rs ≡ runBy f r rs
-no-run (Int m) r rs e = refl
-no-run (Str k) r rs e = refl
+no-run (Con c) r rs e = refl
 no-run (Var k n) r rs e = sym (ap (λ (b : Bool). cond b (set rs n r) rs) e)
 
 module _ (j gap n : ℕ) (s : List Term) (w : ℕ) (x₀ : Filling) where

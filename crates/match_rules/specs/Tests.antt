@@ -7,7 +7,7 @@ use Rattle.math_types.specs.Types.{isList}
 use Rattle.base_limits.specs.Limits.{atomPlaces}
 use Rattle.math_types.specs.Values.{kindOf}
 use Rattle.text_values.specs.declared.Form.{Form}
-use Rattle.text_values.specs.declared.Form.the-variants.{Int, Str, Var}
+use Rattle.text_values.specs.declared.Form.the-variants.{Con, Var}
 use Rattle.text_values.specs.declared.Term.{Term}
 use Rattle.text_values.specs.declared.Field.{Field}
 use Rattle.text_values.specs.declared.SlipField.{SlipField}
@@ -43,8 +43,7 @@ fieldsProgress fs ws v = record { tested = fieldsTested fs ws v; compared = fiel
 -- ---- the runs of list variables
 
 abbrev pub runBy : Form → Run → List Run → List Run
-runBy (Int m) r rs = rs
-runBy (Str k) r rs = rs
+runBy (Con c) r rs = rs
 runBy (Var k n) r rs = cond (isList (kindOf k)) (set rs n r) rs
 
 abbrev pub withRun : Term → Run → Filling → Filling

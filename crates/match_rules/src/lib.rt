@@ -85,8 +85,7 @@ fn with_run(x: Filling, t: Term, r: Run) -> Filling
 {
     let form = t.form;
     match form {
-        Form::Int(_) => x,
-        Form::Str(_) => x,
+        Form::Con(_) => x,
         Form::Var(k, n) => {
             if !math_types::is_list(k) {
                 return x;

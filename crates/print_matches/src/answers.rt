@@ -44,8 +44,7 @@ fn note_term(v: Variables, t: Term) -> Variables
 {
     let form = t.form;
     match form {
-        Form::Int(_) => v,
-        Form::Str(_) => v,
+        Form::Con(_) => v,
         Form::Var(k, n) => {
             if NUMBERS_OF_SIDE <= n {
                 return v;

@@ -70,8 +70,7 @@ fn add_term(l: Lists, t: Term) -> Lists
 {
     let form = t.form;
     match form {
-        Form::Int(_) => l,
-        Form::Str(_) => l,
+        Form::Con(_) => l,
         Form::Var(k, v) => {
             if math_types::is_list(k) {
                 return l.add(v as usize);

@@ -16,8 +16,7 @@ fn knows_term(x: RuleSide, t: Term) -> bool
 {
     let form = t.form;
     match form {
-        Form::Int(_) => true,
-        Form::Str(_) => true,
+        Form::Con(_) => true,
         Form::Var(k, n) => crate::variables::has_variable(x, k, n),
     }
 }

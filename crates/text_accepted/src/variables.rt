@@ -15,8 +15,7 @@ fn is_variable(t: Term, k: Kind, n: u8) -> bool
 {
     let form = t.form;
     match form {
-        Form::Int(_) => false,
-        Form::Str(_) => false,
+        Form::Con(_) => false,
         Form::Var(j, m) => {
             if !math_types::same_kind(k, j) {
                 return false;

@@ -21,10 +21,12 @@ use Rattle.text_grammar.specs.Terms.{OurTerm, termOf, fieldOf, fieldsOf}
 use Rattle.text_grammar.specs.Read.{rule, slip}
 use Rattle.text_grammar.proofs.Accepted.{term-short}
 use Rattle.text_values.specs.declared.Term.{Term}
-use Rattle.text_values.specs.declared.Form.the-variants.{Int, Str, Var}
+use Rattle.text_values.specs.declared.constants.Constant.the-variants.{Int, Str}
+use Rattle.text_values.specs.declared.Form.the-variants.{Con, Var}
 use Rattle.text_values.specs.declared.Field.{Field}
 use Rattle.text_values.specs.declared.SlipField.{SlipField}
-use Rattle.text_values.specs.Values.{pad, blankTerm, blankField, blankSlipField, encodeTerm, encodeField, encodeSide, encodeSlipField, encodeSlip}
+use Rattle.text_values.specs.canonical.Filled.{pad}
+use Rattle.text_values.specs.Values.{blankTerm, blankField, blankSlipField, encodeTerm, encodeField, encodeSide, encodeSlipField, encodeSlip}
 use Rattle.text_values.proofs.Pads.{pad-set}
 use Rattle.text_scan.specs.Lexemes.{capped}
 use Rattle.text_scan.specs.terms.Terms.{termFrom}
@@ -154,13 +156,14 @@ module _ (w : ℕ) (ts : List OurTerm) (h : length ts < w) where
     adds-one (raw-con (raw-int ds)) o =
         add-other (raw-con (raw-int ds)) refl
         ∙ ap make (with-one _ (termFrom (raw-con (raw-int ds)))
-        (ap (λ (n : ℕ). record { form = Int n; text = replicate longestString 0 }) (int-is (value ds) (by-contra (value ds) largestInteger (λ k. o (inr k))))))
+        (ap (λ (n : ℕ). record { form = Con (Int n); text = replicate longestString 0 })
+        (int-is (value ds) (by-contra (value ds) largestInteger (λ k. o (inr k))))))
     adds-one (raw-con (raw-str s)) o =
         let l : length s ≤ longestString = omega arith in
         let e : min (length s) longestString ≡ length s = omega arith in
         add-other (raw-con (raw-str s)) refl
         ∙ ap make (with-one _ (termFrom (raw-con (raw-str s)))
-        (ap₂ (λ (n : ℕ) (z : List ℕ). record { form = Str n; text = pad longestString 0 z }) e (take-all longestString s l)))
+        (ap₂ (λ (n : ℕ) (z : List ℕ). record { form = Con (Str n); text = pad longestString 0 z }) e (take-all longestString s l)))
     adds-one (raw-var k ds) o =
         add-other (raw-var k ds) refl
         ∙ ap make (with-one _ (termFrom (raw-var k ds))

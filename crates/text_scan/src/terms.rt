@@ -4,7 +4,7 @@ ghost use Prim.Native.Nat.{_≤_, _<_};
 ghost use lib.ListN.{length, take, drop};
 ghost use Rattle.base_limits.specs.Limits.{longestString};
 ghost use Rattle.text_grammar.specs.Walk.{front};
-ghost use Rattle.text_values.specs.Values.{pad};
+ghost use Rattle.text_values.specs.canonical.Filled.{pad};
 ghost use Rattle.text_scan.specs.declared.Spelled.the-variants.{Con};
 ghost use Rattle.text_scan.specs.Lexemes.{lexemeOf};
 ghost use Rattle.text_scan.specs.terms.Terms.{termFrom};
@@ -14,6 +14,7 @@ use crate::Spelled;
 use base_numbers::at_most;
 use text_values::Form;
 use text_values::Term;
+use text_values::constants::Constant;
 
 // The bytes of a string: n of the text from `from` on, as far as there are any.
 fn string_at(text: &[u8], from: usize, n: usize) -> [u8; base_limits::LONGEST_STRING]
@@ -39,14 +40,14 @@ fn constant_at(text: &[u8], place: usize, p: Lexeme, l: Literal) -> Term
 {
     match l {
         Literal::Int => Term {
-            form: Form::Int(p.value),
+            form: Form::Con(Constant::Int(p.value)),
             text: [0; base_limits::LONGEST_STRING],
         },
         Literal::Str => {
             let n = at_most(p.size, base_limits::LONGEST_STRING);
             let bytes = string_at(text, place + 1, n);
             Term {
-                form: Form::Str(n as u8),
+                form: Form::Con(Constant::Str(n as u8)),
                 text: bytes,
             }
         }

@@ -5,7 +5,7 @@ use Prim.Native.Nat.{ℕ, suc, _+_, _-_, _<_}
 use native.Mathlib.Omega.{arith}
 use lib.ListN.{length, take, set, replicate, length-append, length-map}
 use lib.Seq.{set-append-seam, take-at}
-use Rattle.text_values.specs.Values.{pad}
+use Rattle.text_values.specs.canonical.Filled.{pad}
 
 -- one more in the place behind the used ones
 pub pad-set : {A : Type 0} (w : ℕ) (d : A) (s : List A) (a : A) → length s < w → set (pad w d s) (length s) a ≡ pad w d (s ++ a ∷ [])

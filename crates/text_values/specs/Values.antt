@@ -1,27 +1,27 @@
 -- Values and what they stand for: the view of a value in the mathematics, and the one value of each term, field, rule and slip.
-use mathlib.Core.List.{List, [], _∷_, _++_, map}
-use Prim.Native.Nat.{ℕ, _-_}
+use mathlib.Core.List.{List, [], _∷_, map}
+use Prim.Native.Nat.{ℕ}
 use lib.ListN.{length, take, replicate}
 use Rattle.base_limits.specs.Limits.{mostFields, longestString}
 use Rattle.math_types.specs.Values.{kindOf, kindFrom}
 use Rattle.math_terms.specs.Terms.{con, var}
 use Rattle.text_grammar.specs.Terms.{OurTerm}
-use Rattle.text_grammar.specs.constants.Constants.{int, str}
 use Rattle.text_grammar.specs.Read.{rule, slip, OurFields}
 use Rattle.text_values.specs.declared.Form.{Form}
-use Rattle.text_values.specs.declared.Form.the-variants.{Int, Str, Var}
+use Rattle.text_values.specs.declared.Form.the-variants.{Con, Var}
 use Rattle.text_values.specs.declared.Term.{Term}
 use Rattle.text_values.specs.declared.Field.{Field}
 use Rattle.text_values.specs.declared.RuleSide.{RuleSide}
 use Rattle.text_values.specs.declared.Rule.{Rule}
 use Rattle.text_values.specs.declared.SlipField.{SlipField}
 use Rattle.text_values.specs.declared.Slip.{Slip}
+use Rattle.text_values.specs.canonical.Filled.{pad}
+use Rattle.text_values.specs.constants.Constants.{viewConstant, encodeConstant, blankConstant}
 
 -- ---- what a value stands for
 
 abbrev pub viewForm : Form → List ℕ → OurTerm
-viewForm (Int n) s = con (int n)
-viewForm (Str k) s = con (str (take k s))
+viewForm (Con c) s = con (viewConstant c s)
 viewForm (Var k n) s = var (kindOf k) n
 
 abbrev pub viewTerm : Term → OurTerm
@@ -48,13 +48,9 @@ viewSlip s = map viewSlipField (take (s .n) (s .fields))
 
 -- ---- the one value for each
 
--- s, then as many d as the array of w places has left
-abbrev pub pad : {A : Type 0} → ℕ → A → List A → List A
-pad w d s = s ++ replicate (w - length s) d
-
 -- document 01: "every number zero"
 abbrev pub blankTerm : Term
-blankTerm = record { form = Int 0; text = replicate longestString 0 }
+blankTerm = record { form = Con blankConstant; text = replicate longestString 0 }
 
 abbrev pub blankField : Field
 blankField = record { n = 0; terms = replicate (rule .width) blankTerm }
@@ -72,8 +68,7 @@ abbrev pub blankSlip : Slip
 blankSlip = record { n = 0; fields = replicate mostFields blankSlipField }
 
 abbrev pub encodeTerm : OurTerm → Term
-encodeTerm (con (int n)) = record { form = Int n; text = replicate longestString 0 }
-encodeTerm (con (str s)) = record { form = Str (length s); text = pad longestString 0 s }
+encodeTerm (con c) = record { form = Con (encodeConstant c .0); text = encodeConstant c .1 }
 encodeTerm (var k n) = record { form = Var (kindFrom k) n; text = replicate longestString 0 }
 
 abbrev pub encodeTerms : ℕ → List OurTerm → List Term

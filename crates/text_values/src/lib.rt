@@ -3,14 +3,14 @@ ghost use mathlib.Core.Path.{_≡_};
 ghost use Rattle.text_values.specs.Values.{blankTerm, blankField, blankSide, blankRule, blankSlipField, blankSlip, oneField};
 
 pub mod canonical; // which terms reading can return, and the blank of unused places
+pub mod constants; // what a constant is
 
+use crate::constants::Constant;
 use math_types::Kind;
 
-// What a term is: an integer's value, a string's length (its bytes stand beside, since an enum holds no array),
-// or a variable's type and number.
+// What a term is: a constant, or a variable's type and number.
 pub enum Form {
-    Int(u32),
-    Str(u8),
+    Con(Constant),
     Var(Kind, u8),
 }
 
@@ -50,7 +50,7 @@ pub fn blank_term() -> Term
     ensures { λ r. ⌜ r ≡ blankTerm ⌝ }
 {
     Term {
-        form: Form::Int(0),
+        form: Form::Con(constants::blank()),
         text: [0; base_limits::LONGEST_STRING],
     }
 }

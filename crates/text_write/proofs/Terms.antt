@@ -8,12 +8,16 @@ use lib.Seq.{sets}
 use Rattle.base_limits.specs.Limits.{longestString}
 use Rattle.math_types.specs.declared.Kind.{Kind}
 use Rattle.math_types.specs.Values.{kindOf}
+use Rattle.math_terms.specs.Terms.{con}
 use Rattle.text_grammar.specs.Letters.{letter}
 use Rattle.text_grammar.specs.constants.Constants.{raw-str, spellCon}
 use Rattle.text_grammar.specs.Numbers.{digitsOf}
 use Rattle.text_grammar.specs.Plain.{termText}
+use Rattle.text_values.specs.declared.constants.Constant.{Constant}
+use Rattle.text_values.specs.declared.constants.Constant.the-variants.{Int, Str}
 use Rattle.text_values.specs.declared.Form.{Form}
-use Rattle.text_values.specs.declared.Form.the-variants.{Int, Str, Var}
+use Rattle.text_values.specs.declared.Form.the-variants.{Con, Var}
+use Rattle.text_values.specs.constants.Constants.{viewConstant}
 use Rattle.text_values.specs.Values.{viewForm}
 use Rattle.text_write.specs.Room.{Put}
 use Rattle.text_write.proofs.Arrays.{take-most}
@@ -33,12 +37,16 @@ module _ (k : ℕ) (s : List ℕ) (long : length s ≡ longestString) where
         b .1 ∙ put-cons 34 (take n s ++ 34 ∷ []) l at ∙ ap (λ (t : List ℕ). sets l at (spellCon (raw-str t))) (sym (take-most k n longestString s long h)),
       )
 
-module _ (f : Form) (s : List ℕ) where
-  pub int-text : (n : ℕ) → f ≡ Int n → termText (viewForm f s) ≡ digitsOf n
+module _ (c : Constant) (s : List ℕ) where
+  pub int-text : (n : ℕ) → c ≡ Int n → termText (con (viewConstant c s)) ≡ digitsOf n
   int-text n e = rw e
 
-  pub str-text : (k : ℕ) → f ≡ Str k → termText (viewForm f s) ≡ spellCon (raw-str (take k s))
+  pub str-text : (k : ℕ) → c ≡ Str k → termText (con (viewConstant c s)) ≡ spellCon (raw-str (take k s))
   str-text k e = rw e
+
+module _ (f : Form) (s : List ℕ) where
+  pub con-text : (c : Constant) → f ≡ Con c → termText (viewForm f s) ≡ termText (con (viewConstant c s))
+  con-text c e = rw e
 
   pub var-text : (k : Kind) (n : ℕ) → f ≡ Var k n → termText (viewForm f s) ≡ letter (kindOf k) ∷ digitsOf n
   var-text k n e = rw e

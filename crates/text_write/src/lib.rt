@@ -3,21 +3,20 @@
 // then they are written into room that is known.
 ghost use mathlib.Core.Path.{_≡_};
 ghost use Prim.Native.Nat.{_≤_};
-ghost use lib.ListN.{length, take};
+ghost use lib.ListN.{length};
 ghost use Rattle.base_limits.specs.Limits.{longestTerm};
 ghost use Rattle.text_write.specs.Sizes.{longestNumber};
 ghost use Rattle.math_types.specs.Values.{kindOf};
 ghost use Rattle.text_grammar.specs.Letters.{letter};
-ghost use Rattle.text_grammar.specs.constants.Constants.{raw-str, spellCon};
 ghost use Rattle.text_grammar.specs.Numbers.{digitsOf};
 ghost use Rattle.text_grammar.specs.Plain.{termText};
 ghost use Rattle.text_values.specs.Values.{viewTerm};
 ghost use Rattle.text_write.specs.Room.{Room, Put};
 ghost use Rattle.text_write.specs.Answers.{Writes};
 
+mod constants; // a constant's text
 pub mod pieces; // pieces of a text, one behind the other
 
-use base_numbers::at_most;
 use math_types::Kind;
 use text_values::Form;
 use text_values::Term;
@@ -53,8 +52,7 @@ fn term_size(t: Term) -> usize
 {
     let form = t.form;
     match form {
-        Form::Int(n) => digits_size(n as u64),
-        Form::Str(k) => at_most(k as usize, base_limits::LONGEST_STRING) + 2,
+        Form::Con(c) => constants::size(c),
         Form::Var(_, n) => digits_size(n as u64) + 1,
     }
 }
@@ -86,18 +84,6 @@ fn put_bytes(bytes: &[u8], out: &mut [u8], at: usize) -> usize
     at + i
 }
 
-// A string between its quotes.
-fn put_string(text: [u8; base_limits::LONGEST_STRING], k: u8, out: &mut [u8], at: usize) -> usize
-    requires { ⌜ Room (spellCon (raw-str (take k text))) at (now out) ⌝ }
-    ensures { λ r. ⌜ Put (spellCon (raw-str (take k text))) at (now (out .entry)) r (now (out .exit)) ⌝ }
-{
-    let n = at_most(k as usize, base_limits::LONGEST_STRING);
-    out[at] = b'"';
-    let p = put_bytes(&text[..n], out, at + 1);
-    out[p] = b'"';
-    p + 1
-}
-
 // A type's letter.
 fn letter(k: Kind) -> u8
     ensures { λ r. ⌜ r ≡ letter (kindOf k) ⌝ }
@@ -111,10 +97,9 @@ fn put_term(t: Term, out: &mut [u8], at: usize) -> usize
 {
     let form = t.form;
     match form {
-        Form::Int(n) => put_digits(n as u64, out, at),
-        Form::Str(k) => {
+        Form::Con(c) => {
             let text = t.text;
-            put_string(text, k, out, at)
+            constants::put(c, text, out, at)
         }
         Form::Var(k, n) => {
             out[at] = letter(k);

@@ -15,12 +15,13 @@ use Rattle.math_terms.specs.Terms.{con, var}
 use Rattle.math_terms.specs.Seqs.{concat-map}
 use Rattle.math_terms.specs.Fillings.{Filling, fill, Occurs}
 use Rattle.text_grammar.specs.Terms.{OurTerm}
-use Rattle.text_grammar.specs.constants.Constants.{Con, int, str}
+use Rattle.text_grammar.specs.constants.Constants.{Con}
 use Rattle.text_values.specs.declared.Term.{Term}
 use Rattle.text_values.specs.declared.Field.{Field}
 use Rattle.text_values.specs.declared.SlipField.{SlipField}
 use Rattle.text_values.specs.declared.Slip.{Slip}
-use Rattle.text_values.specs.Values.{pad, blankTerm, blankField, blankSlipField, blankSlip, encodeTerm, encodeField, encodeSide, encodeSlipField, encodeSlip}
+use Rattle.text_values.specs.canonical.Filled.{pad}
+use Rattle.text_values.specs.Values.{blankTerm, blankField, blankSlipField, blankSlip, encodeTerm, encodeField, encodeSide, encodeSlipField, encodeSlip}
 use Rattle.text_values.proofs.Pads.{unpadded}
 use Rattle.match_fields.specs.declared.bindings.Filling.{Filling as FillingValue}
 use Rattle.apply_rules.specs.declared.filling.Filled.{Filled}
@@ -65,13 +66,9 @@ module _ (x : FillingValue) (s : Slip) (θ : Filling Con Kind ℕ) where
   abbrev pub Gives : Kind → ℕ → Type 0
   Gives k n = valueItems x s k n ≡ map enc (θ k n)
 
-  constant-filled : (c : Con) → filledTerm x s (enc c) ≡ enc c ∷ []
-  constant-filled (int n) = refl
-  constant-filled (str l) = refl
-
   field-filled : (f : List OurTerm) → ((k : Kind) (n : ℕ) → Occurs k n f → Gives k n) → concat-map (filledTerm x s) (map encodeTerm f) ≡ map enc (fill θ f)
   field-filled [] g = refl
-  field-filled (con c ∷ f) g = ap₂ (λ (a b : List Term). a ++ b) (constant-filled c) (field-filled f g)
+  field-filled (con c ∷ f) g = ap (λ (l : List Term). enc c ∷ l) (field-filled f g)
   field-filled (var k n ∷ f) g =
       ap₂ (λ (a b : List Term). a ++ b) (ap (λ (j : Kind). valueItems x s j n) (kindOf-from k) ∙ g k n (inl (refl, refl)))
       (field-filled f (λ j m o. g j m (inr o)))

@@ -14,7 +14,8 @@ use Rattle.text_values.specs.declared.Term.{Term}
 use Rattle.text_values.specs.declared.Field.{Field}
 use Rattle.text_values.specs.declared.SlipField.{SlipField}
 use Rattle.text_values.specs.declared.Slip.{Slip}
-use Rattle.text_values.specs.Values.{pad, blankSlipField, blankSlip}
+use Rattle.text_values.specs.canonical.Filled.{pad}
+use Rattle.text_values.specs.Values.{blankSlipField, blankSlip}
 use Rattle.text_values.proofs.Pads.{pad-set}
 use Rattle.match_fields.specs.Fields.{itemsOf}
 use Rattle.apply_rules.specs.declared.filling.Filled.{Filled}

@@ -12,13 +12,14 @@ use Rattle.math_types.specs.Values.{kindOf}
 use Rattle.math_terms.specs.Seqs.{concat-map}
 use Rattle.text_grammar.specs.Read.{slip}
 use Rattle.text_values.specs.declared.Form.{Form}
-use Rattle.text_values.specs.declared.Form.the-variants.{Int, Str, Var}
+use Rattle.text_values.specs.declared.Form.the-variants.{Con, Var}
 use Rattle.text_values.specs.declared.Term.{Term}
 use Rattle.text_values.specs.declared.Field.{Field}
 use Rattle.text_values.specs.declared.RuleSide.{RuleSide}
 use Rattle.text_values.specs.declared.SlipField.{SlipField}
 use Rattle.text_values.specs.declared.Slip.{Slip}
-use Rattle.text_values.specs.Values.{pad, blankTerm, blankSlipField, blankSlip}
+use Rattle.text_values.specs.canonical.Filled.{pad}
+use Rattle.text_values.specs.Values.{blankTerm, blankSlipField, blankSlip}
 use Rattle.match_fields.specs.declared.bindings.Run.{Run}
 use Rattle.match_fields.specs.declared.bindings.Filling.{Filling}
 use Rattle.match_fields.specs.bindings.Values.{atomOf, runOf}
@@ -39,8 +40,7 @@ valueItems x s (basic k) n = atomOf (x .values) (basic k) n ∷ []
 valueItems x s list n = runItems s (runOf x n)
 
 abbrev pub filledForm : Filling → Slip → Term → Form → List Term
-filledForm x s t (Int m) = t ∷ []
-filledForm x s t (Str k) = t ∷ []
+filledForm x s t (Con c) = t ∷ []
 filledForm x s t (Var k n) = valueItems x s (kindOf k) n
 
 abbrev pub filledTerm : Filling → Slip → Term → List Term

@@ -6,9 +6,6 @@ use Rattle.match_fields.proofs.is_list_term.Tie as tie
 enum-told : tie.Need-enum-told
 enum-told c = search needs
 
-enum-told-2 : tie.Need-enum-told-2
-enum-told-2 c = search needs
-
 enum-known-form : tie.Need-enum-known-form
 enum-known-form c = search needs
 
@@ -19,11 +16,8 @@ returns : tie.Need-returns
 returns c = search needs
 
 returns-2 : tie.Need-returns-2
-returns-2 c = search needs
-
-returns-3 : tie.Need-returns-3
-returns-3 c = let x = c .before .before .form .given in rw (x .1) (c .is-list .ensures)
+returns-2 c = let x = c .before .before .form .given in rw (x .1) (c .is-list .ensures)
 
 pub is-list-term-spec : {M : Type 1} → statement M
 is-list-term-spec =
-    tie.close (tie.spec enum-told enum-told-2 enum-known-form is-list-requires returns returns-2 returns-3)
+    tie.close (tie.spec enum-told enum-known-form is-list-requires returns returns-2)

@@ -1,15 +1,15 @@
 -- The test of a term against an item on values, as code makes it. `test-agrees` of matching's proofs/Agree says that it is the matcher's.
-use mathlib.Core.Bool.{Bool, true, false, cond, _&&_}
-use mathlib.Core.List.{List, [], _∷_}
+use mathlib.Core.Bool.{Bool, true, false, cond}
+use mathlib.Core.List.{List}
 use Prim.Native.Nat.{ℕ}
-use lib.Dec.{eqb}
 use lib.ListN.{getD, set}
 use Rattle.math_types.specs.Order.{basic, list}
-use Rattle.math_types.specs.Types.{leaf, integer, string, Kind, le}
+use Rattle.math_types.specs.Types.{Kind, le}
 use Rattle.math_types.specs.Values.{kindOf}
 use Rattle.text_values.specs.declared.Form.{Form}
-use Rattle.text_values.specs.declared.Form.the-variants.{Int, Str, Var}
+use Rattle.text_values.specs.declared.Form.the-variants.{Con, Var}
 use Rattle.text_values.specs.declared.Term.{Term}
+use Rattle.text_values.specs.constants.Constants.{sameConstant, constantKind}
 use Rattle.text_values.specs.Values.{blankTerm}
 use Rattle.match_fields.specs.declared.bindings.Values.{Values}
 use Rattle.match_fields.specs.bindings.Values.{slot}
@@ -17,19 +17,9 @@ use Rattle.match_fields.specs.declared.items.Tested.{Tested}
 
 -- ---- equality of constants: their values have one form each
 
-abbrev pub sameBytes : List ℕ → List ℕ → Bool
-sameBytes [] [] = true
-sameBytes [] (y ∷ t) = false
-sameBytes (x ∷ s) [] = false
-sameBytes (x ∷ s) (y ∷ t) = eqb x y && sameBytes s t
-
 abbrev pub sameForm : Form → Form → List ℕ → List ℕ → Bool
-sameForm (Int m) (Int n) s t = eqb m n
-sameForm (Int m) (Str l) s t = false
-sameForm (Int m) (Var j n) s t = false
-sameForm (Str k) (Int n) s t = false
-sameForm (Str k) (Str l) s t = eqb k l && sameBytes s t
-sameForm (Str k) (Var j n) s t = false
+sameForm (Con c) (Con d) s t = sameConstant c d s t
+sameForm (Con c) (Var j n) s t = false
 sameForm (Var j m) g s t = false
 
 abbrev pub sameTerm : Term → Term → Bool
@@ -37,8 +27,7 @@ sameTerm a b = sameForm (a .form) (b .form) (a .text) (b .text)
 
 -- the kind of a constant
 abbrev pub itemKind : Form → Kind
-itemKind (Int n) = basic (leaf integer)
-itemKind (Str k) = basic (leaf string)
+itemKind (Con c) = constantKind c
 itemKind (Var k n) = kindOf k
 
 -- ---- a term of the rule against an item of the slip
@@ -56,8 +45,7 @@ testVar (basic k) n item v = met (getD (v .known) (slot (basic k) n) false) (bas
 testVar list n item v = record { ok = true; values = v }
 
 abbrev pub testBy : Form → Term → Term → Values → Tested
-testBy (Int m) t item v = record { ok = sameTerm t item; values = v }
-testBy (Str k) t item v = record { ok = sameTerm t item; values = v }
+testBy (Con c) t item v = record { ok = sameTerm t item; values = v }
 testBy (Var k n) t item v = testVar (kindOf k) n item v
 
 abbrev pub tested : Term → Term → Values → Tested

@@ -27,9 +27,6 @@ byList n r x b = record { values = x .values; runs = cond b (set (x .runs) n r) 
 enum-told : tie.Need-enum-told
 enum-told c = search needs
 
-enum-told-2 : tie.Need-enum-told-2
-enum-told-2 c = search needs
-
 enum-known-form : tie.Need-enum-known-form
 enum-known-form c = search needs
 
@@ -68,10 +65,7 @@ returns-3 : tie.Need-returns-3
 returns-3 c = sym (ap (byForm (c .before .before .args .r) (c .before .before .args .x)) (c .enum-told .given .1))
 
 returns-4 : tie.Need-returns-4
-returns-4 c = sym (ap (byForm (c .before .before .args .r) (c .before .before .args .x)) (c .enum-told2 .given .1))
-
-returns-5 : tie.Need-returns-5
-returns-5 c =
+returns-4 c =
     let z = c .before .before .before .before .before .before in
     let f = c .before .before .before .before .form in
     sym (ap (byForm (z .args .r) (z .args .x)) (f .given .1)
@@ -83,7 +77,6 @@ with-run-spec =
     tie.close
     (tie.spec
     enum-told
-    enum-told-2
     enum-known-form
     is-list-requires
     returns
@@ -92,5 +85,4 @@ with-run-spec =
     mul-r
     element-set-from-r
     returns-3
-    returns-4
-    returns-5)
+    returns-4)

@@ -24,9 +24,6 @@ module _ (l : Lists) (v : ℕ) where
 enum-told : tie.Need-enum-told
 enum-told c = search needs
 
-enum-told-2 : tie.Need-enum-told-2
-enum-told-2 c = search needs
-
 enum-known-form : tie.Need-enum-known-form
 enum-known-form c = search needs
 
@@ -49,13 +46,10 @@ returns-2 : tie.Need-returns-2
 returns-2 c = search needs
 
 returns-3 : tie.Need-returns-3
-returns-3 c = search needs
-
-returns-4 : tie.Need-returns-4
-returns-4 c =
+returns-3 c =
     let z = c .before .before .before .before .before .args in
     let f = c .before .before .before .form .given in
     rw (f .1) (passed (z .l) (f .0 .1 .0) (kindOf (f .0 .0)) (sym (c .before .is-list .ensures) ∙ c .if1 .left))
 
 pub add-term-spec : {M : Type 1} → statement M
-add-term-spec = tie.close (tie.spec enum-told enum-told-2 enum-known-form is-list-requires cast-add add-requires returns returns-2 returns-3 returns-4)
+add-term-spec = tie.close (tie.spec enum-told enum-known-form is-list-requires cast-add add-requires returns returns-2 returns-3)

@@ -7,7 +7,7 @@ use native.Mathlib.Numerals.{add-one}
 use native.Mathlib.Omega.{arith}
 use lib.ListN.{length, getD, take, drop, set, length-drop}
 use lib.Seq.{take-all, take-suc, length-take-le, getD-drop}
-use Rattle.text_values.specs.Values.{pad}
+use Rattle.text_values.specs.canonical.Filled.{pad}
 use Rattle.text_values.proofs.Pads.{pad-set}
 
 -- A LOOP that copies the bytes of z into an array of w

@@ -14,8 +14,10 @@ use Rattle.text_grammar.specs.Bytes.{Begins, b-digit, b-quote, b-letter, b-e, b
 use Rattle.text_grammar.specs.Grammar.{Raw, raw-var, raw-empty, raw-con}
 use Rattle.text_grammar.specs.constants.Constants.{raw-int, raw-str}
 use Rattle.text_grammar.specs.Walk.{leadingDigits, quote1, untilQuote, frontB, front}
+use Rattle.text_values.specs.declared.constants.Constant.the-variants as constant
 use Rattle.text_values.specs.declared.Form.the-variants as form
-use Rattle.text_values.specs.Values.{pad, blankTerm}
+use Rattle.text_values.specs.canonical.Filled.{pad}
+use Rattle.text_values.specs.Values.{blankTerm}
 use Rattle.text_scan.specs.declared.Lexeme.{Lexeme}
 use Rattle.text_scan.specs.declared.Spelled.{Spelled}
 use Rattle.text_scan.specs.declared.Literal.the-variants.{Int, Str}
@@ -32,8 +34,9 @@ what-of p r w e h = ap (λ (x : Lexeme). x .what) (sym e) ∙ h
 pub term-past : (t : List ℕ) (place : ℕ) → length t ≤ place → blankTerm ≡ termFrom (front (drop place t))
 term-past t place h = ap (λ (l : List ℕ). termFrom (front l)) (sym (drop-of-length-le t {i = place} h))
 
-pub term-int : (p : Lexeme) (r : Raw) → p ≡ lexemeOf r → p .what ≡ Con Int → record { form = form.Int (p .value); text = replicate longestString 0 } ≡ termFrom r
-term-int p (raw-con (raw-int ds)) e h = ap (λ (x : Lexeme). record { form = form.Int (x .value); text = replicate longestString 0 }) e
+pub term-int : (p : Lexeme) (r : Raw) → p ≡ lexemeOf r → p .what ≡ Con Int
+    → record { form = form.Con (constant.Int (p .value)); text = replicate longestString 0 } ≡ termFrom r
+term-int p (raw-con (raw-int ds)) e h = ap (λ (x : Lexeme). record { form = form.Con (constant.Int (x .value)); text = replicate longestString 0 }) e
 term-int p (raw-con (raw-str s)) e h = let q = what-of p (raw-con (raw-str s)) (Con Int) e h in never 0 (cc)
 term-int p (raw-var k ds) e h = let q = what-of p (raw-var k ds) (Con Int) e h in never 0 (cc)
 term-int p raw-empty e h = let q = what-of p raw-empty (Con Int) e h in never 0 (cc)
@@ -74,13 +77,13 @@ take-least s w = go (ℕ-discrete (min (length s) w) w)
 
 string-is : (b : ℕ) (z : List ℕ) (c : Begins b) (p : Lexeme) (n : ℕ) (bytes : List ℕ) → p ≡ lexemeOf (frontB b z c)
     → p .what ≡ Con Str → n ≡ min (p .size) longestString → bytes ≡ pad longestString 0 (take n z)
-    → record { form = form.Str n; text = bytes } ≡ termFrom (frontB b z c)
+    → record { form = form.Con (constant.Str n); text = bytes } ≡ termFrom (frontB b z c)
 string-is b z (b-digit h) p n bytes e w k q = let x = what-of p (raw-con (raw-int (b ∷ leadingDigits z))) (Con Str) e w in never 0 (cc)
 string-is b z (b-quote h) p n bytes e w k q =
     let s = untilQuote z in
     let size : p .size ≡ length s = ap (λ (x : Lexeme). x .size) e in
     let m : n ≡ min (length s) longestString = k ∙ ap (λ (i : ℕ). min i longestString) size in
-    ap₂ (λ (x : ℕ) (y : List ℕ). record { form = form.Str x; text = y }) m
+    ap₂ (λ (x : ℕ) (y : List ℕ). record { form = form.Con (constant.Str x); text = y }) m
     (q
     ∙ ap (λ (x : ℕ). pad longestString 0 (take x z)) m
     ∙ ap (pad longestString 0) (until-take z (min (length s) longestString) (omega arith) ∙ take-least s longestString))
@@ -90,10 +93,11 @@ string-is b z (b-none d x l y) p n bytes e w k q = let x = what-of p raw-empty (
 
 pub term-str : (t : List ℕ) (place : ℕ) (p : Lexeme) (n : ℕ) (bytes : List ℕ) → place < length t
     → p ≡ lexemeOf (front (drop place t)) → p .what ≡ Con Str → n ≡ min (p .size) longestString
-    → bytes ≡ pad longestString 0 (take n (drop (place + 1) t)) → record { form = form.Str n; text = bytes } ≡ termFrom (front (drop place t))
+    → bytes ≡ pad longestString 0 (take n (drop (place + 1) t)) → record { form = form.Con (constant.Str n); text = bytes } ≡ termFrom (front (drop place t))
 term-str t place p n bytes h e w k q = go (getD t place 0) (drop place t) (drop-cons t place 0 h) e
   where
-    go : (b : ℕ) (y : List ℕ) → y ≡ b ∷ drop (suc place) t → p ≡ lexemeOf (front y) → record { form = form.Str n; text = bytes } ≡ termFrom (front y)
+    go : (b : ℕ) (y : List ℕ) → y ≡ b ∷ drop (suc place) t → p ≡ lexemeOf (front y)
+        → record { form = form.Con (constant.Str n); text = bytes } ≡ termFrom (front y)
     go b y s e′ =
         string-is b (drop (suc place) t) (begins b) p n bytes (e′ ∙ ap (λ (l : List ℕ). lexemeOf (front l)) s) w k
         (q ∙ ap (λ (i : ℕ). pad longestString 0 (take n (drop i t))) (add-one place))

@@ -12,8 +12,7 @@ use lib.Dec.{eqb}
 use lib.ListN.{length, take, replicate, length-append, length-map, length-replicate, length-take}
 use lib.Seq.{take-at}
 use Rattle.base_lists.specs.Seqs.{All}
-use Rattle.text_values.specs.canonical.Filled.{filled, filledTo}
-use Rattle.text_values.specs.Values.{pad}
+use Rattle.text_values.specs.canonical.Filled.{pad, filled, filledTo}
 use Rattle.base_lists.specs.Truths.{both-is}
 
 -- `good` accepts exactly the values `encode y` with In y, and `view` takes them back; `blank` accepts d only

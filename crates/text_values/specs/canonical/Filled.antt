@@ -1,9 +1,13 @@
 -- Arrays that are filled up to a place and blank behind it.
 use mathlib.Core.Bool.{Bool, true, false, _&&_}
-use mathlib.Core.List.{List, [], _∷_}
-use Prim.Native.Nat.{ℕ, zero, suc}
+use mathlib.Core.List.{List, [], _∷_, _++_}
+use Prim.Native.Nat.{ℕ, zero, suc, _-_}
 use lib.Dec.{eqb}
-use lib.ListN.{length}
+use lib.ListN.{length, replicate}
+
+-- s, then as many d as the array of w places has left
+abbrev pub pad : {A : Type 0} → ℕ → A → List A → List A
+pad w d s = s ++ replicate (w - length s) d
 
 module _ {A : Type 0} where
   -- the first n pass `good`, the rest pass `blank`, and there are n

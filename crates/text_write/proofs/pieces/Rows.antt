@@ -6,8 +6,9 @@ use Prim.Native.Nat.{ℕ, _+_, _≤_, _<_, min}
 use native.Mathlib.Omega.{arith}
 use lib.ListN.{length, take, drop, getD, length-take, drop-of-length-le}
 use Rattle.base_lists.specs.Arrays.{here}
-use Rattle.text_values.specs.declared.Form.the-variants.{Int}
+use Rattle.text_values.specs.declared.Form.the-variants.{Con}
 use Rattle.text_values.specs.declared.Term.{Term}
+use Rattle.text_values.specs.constants.Constants.{blankConstant}
 use Rattle.text_write.proofs.Arrays.{take-most}
 use Rattle.text_write.proofs.Rows.{Row}
 use Rattle.text_write.specs.pieces.Placed.{Placed}
@@ -15,7 +16,7 @@ use Rattle.text_write.proofs.pieces.Pieces.{Left, all-left, none-left, 
 
 -- what an index past an array's end would read; no index goes there
 abbrev pub no-term : Term
-no-term = record { form = Int 0; text = [] }
+no-term = record { form = Con blankConstant; text = [] }
 
 abbrev pub left : {A : Type 0} → Row A → List A → ℕ → ℕ → List ℕ
 left R xs n i = R .rest (drop i (take n xs))

@@ -16,12 +16,6 @@ enum-told c = search needs
 push-requires : tie.Need-push-requires
 push-requires c κs = search needs
 
-enum-told-2 : tie.Need-enum-told-2
-enum-told-2 c = search needs
-
-push-requires-2 : tie.Need-push-requires-2
-push-requires-2 c κs = search needs
-
 enum-known-form : tie.Need-enum-known-form
 enum-known-form c = search needs
 
@@ -47,8 +41,8 @@ returns c =
 value-of-requires : tie.Need-value-of-requires
 value-of-requires c κs = search needs
 
-push-requires-3 : tie.Need-push-requires-3
-push-requires-3 c κs = search needs
+push-requires-2 : tie.Need-push-requires-2
+push-requires-2 c κs = search needs
 
 returns-2 : tie.Need-returns-2
 returns-2 c =
@@ -57,15 +51,10 @@ returns-2 c =
 
 returns-3 : tie.Need-returns-3
 returns-3 c =
-    let z = c .before .before .before .args in
-    c .push2 .ensures ∙ sym (ap (λ (f : Form). foldl pushed (z .w) (filledForm (z .x) (z .s) (z .t) f)) (c .before .enum-told2 .given .1))
-
-returns-4 : tie.Need-returns-4
-returns-4 c =
     let z = c .before .before .before .before .before .before .before .args in
     let f = c .before .before .before .before .before .form in
     let b = c .before .before .before .is-list in
-    c .push3 .ensures
+    c .push2 .ensures
     ∙ ap (pushed (z .w)) (c .before .value-of .ensures)
     ∙ ap (foldl pushed (z .w))
     (atom-filled (z .x) (z .s) (z .t) (f .given .0 .0) (f .given .0 .1 .0) (f .given .1) (b .result) (b .ensures) (c .before .before .if1 .left))
@@ -76,15 +65,12 @@ push-term-spec =
     (tie.spec
     enum-told
     push-requires
-    enum-told-2
-    push-requires-2
     enum-known-form
     is-list-requires
     run-of-requires
     push-run-requires
     returns
     value-of-requires
-    push-requires-3
+    push-requires-2
     returns-2
-    returns-3
-    returns-4)
+    returns-3)

@@ -15,12 +15,6 @@ enum-told c = search needs
 same-term-requires : tie.Need-same-term-requires
 same-term-requires c κs = search needs
 
-enum-told-2 : tie.Need-enum-told-2
-enum-told-2 c = search needs
-
-same-term-requires-2 : tie.Need-same-term-requires-2
-same-term-requires-2 c κs = search needs
-
 enum-known-form : tie.Need-enum-known-form
 enum-known-form c = search needs
 
@@ -45,12 +39,6 @@ returns-2 c =
 
 returns-3 : tie.Need-returns-3
 returns-3 c =
-    let z = c .before .before .before .args in
-    ap (λ (b : Bool). record { ok = b; values = z .v }) (c .same-term2 .ensures)
-    ∙ sym (ap (λ (f : Form). testBy f (z .t) (z .item) (z .v)) (c .before .enum-told2 .given .1))
-
-returns-4 : tie.Need-returns-4
-returns-4 c =
     let z = c .before .before .before .before .before .before .args in
     let x = c .before .before .before .before .form .given in
     rw (x .1)
@@ -64,12 +52,9 @@ test-term-spec =
     (tie.spec
     enum-told
     same-term-requires
-    enum-told-2
-    same-term-requires-2
     enum-known-form
     is-list-requires
     returns
     test-atom-requires
     returns-2
-    returns-3
-    returns-4)
+    returns-3)

@@ -13,9 +13,6 @@ use Rattle.print_matches.proofs.answers.note_term.Tie as tie
 enum-told : tie.Need-enum-told
 enum-told c = search needs
 
-enum-told-2 : tie.Need-enum-told-2
-enum-told-2 c = search needs
-
 enum-known-form : tie.Need-enum-known-form
 enum-known-form c = search needs
 
@@ -40,11 +37,6 @@ returns-2 c =
 
 returns-3 : tie.Need-returns-3
 returns-3 c =
-    let z = c .before .before .args in
-    with-con (z .v .has) (z .t .form) (z .t .text) _ (ap (λ (f : Form). viewForm f (z .t .text)) (c .enum-told2 .given .1))
-
-returns-4 : tie.Need-returns-4
-returns-4 c =
     let z = c .before .before .before .before .before .args in
     let long : length (z .v .has) ≡ variablePlaces = search needs in
     with-variable (z .v .has) (z .t .form) (z .t .text) _ _ (c .before .before .before .form .given .1)
@@ -55,11 +47,9 @@ note-term-spec =
     tie.close
     (tie.spec
     enum-told
-    enum-told-2
     enum-known-form
     returns
     slot-requires
     element-write-w
     returns-2
-    returns-3
-    returns-4)
+    returns-3)

@@ -6,9 +6,6 @@ use Rattle.text_accepted.proofs.rules.knows_term.Tie as tie
 enum-told : tie.Need-enum-told
 enum-told c = search needs
 
-enum-told-2 : tie.Need-enum-told-2
-enum-told-2 c = search needs
-
 enum-known-form : tie.Need-enum-known-form
 enum-known-form c = search needs
 
@@ -19,19 +16,14 @@ returns : tie.Need-returns
 returns c = search needs
 
 returns-2 : tie.Need-returns-2
-returns-2 c = search needs
-
-returns-3 : tie.Need-returns-3
-returns-3 c = rw (c .before .before .form .given .1) (c .has-variable .ensures)
+returns-2 c = rw (c .before .before .form .given .1) (c .has-variable .ensures)
 
 pub knows-term-spec : {M : Type 1} → statement M
 knows-term-spec =
     tie.close
     (tie.spec
     enum-told
-    enum-told-2
     enum-known-form
     has-variable-requires
     returns
-    returns-2
-    returns-3)
+    returns-2)

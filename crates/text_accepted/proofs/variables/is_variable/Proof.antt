@@ -8,9 +8,6 @@ use Rattle.text_accepted.proofs.variables.is_variable.Tie as tie
 enum-told : tie.Need-enum-told
 enum-told c = search needs
 
-enum-told-2 : tie.Need-enum-told-2
-enum-told-2 c = search needs
-
 enum-known-form : tie.Need-enum-known-form
 enum-known-form c = search needs
 
@@ -27,10 +24,7 @@ returns-2 : tie.Need-returns-2
 returns-2 c = search needs
 
 returns-3 : tie.Need-returns-3
-returns-3 c = search needs
-
-returns-4 : tie.Need-returns-4
-returns-4 c =
+returns-3 c =
     let z = c .before .before .before .before .before .args in
     let S = c .before .same-kind in
     same-kind (kindOf (z .k)) (z .n) (z .t .form) (z .t .text) _ _ (S .result) (c .before .before .before .form .given .1) (S .ensures) (c .if1 .left)
@@ -40,10 +34,8 @@ is-variable-spec =
     tie.close
     (tie.spec
     enum-told
-    enum-told-2
     enum-known-form
     same-kind-requires
     returns
     returns-2
-    returns-3
-    returns-4)
+    returns-3)

@@ -24,8 +24,8 @@ add-string-at c = search needs
 string-at-requires : tie.Need-string-at-requires
 string-at-requires c κs = search needs
 
-cast-t11 : tie.Need-cast-t11
-cast-t11 c = search needs
+cast-t12 : tie.Need-cast-t12
+cast-t12 c = search needs
 
 returns : tie.Need-returns
 returns c =
@@ -51,6 +51,6 @@ constant-at-spec =
     at-most-requires
     add-string-at
     string-at-requires
-    cast-t11
+    cast-t12
     returns
     returns-2)

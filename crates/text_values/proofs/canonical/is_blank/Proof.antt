@@ -1,5 +1,4 @@
 -- `text_values::canonical::is_blank` meets its contract.
-use borrow.Author.Tests.{eq-eqb, ne-eqb}
 use borrow.Author.Needs.{needs}
 use Rattle.text_values.proofs.canonical.is_blank.Statement.{statement}
 use Rattle.text_values.proofs.canonical.is_blank.Tie as tie
@@ -7,36 +6,17 @@ use Rattle.text_values.proofs.canonical.is_blank.Tie as tie
 enum-known-form : tie.Need-enum-known-form
 enum-known-form c = search needs
 
-returns : tie.Need-returns
-returns c = rw (c .before .before .form .given .1, ne-eqb _ _ (c .if1 .taken))
-
-is-text-requires : tie.Need-is-text-requires
-is-text-requires c κs = search needs
+is-blank-requires : tie.Need-is-blank-requires
+is-blank-requires c κs = search needs
 
 enum-told : tie.Need-enum-told
 enum-told c = search needs
 
-enum-told-2 : tie.Need-enum-told-2
-enum-told-2 c = search needs
+returns : tie.Need-returns
+returns c = rw (c .before .before .form .given .1) (c .is-blank .ensures)
 
 returns-2 : tie.Need-returns-2
-returns-2 c = rw (c .before .before .before .form .given .1, eq-eqb _ _ (c .before .if1 .left)) (c .is-text .ensures)
-
-returns-3 : tie.Need-returns-3
-returns-3 c = search needs
-
-returns-4 : tie.Need-returns-4
-returns-4 c = search needs
+returns-2 c = search needs
 
 pub is-blank-spec : {M : Type 1} → statement M
-is-blank-spec =
-    tie.close
-    (tie.spec
-    enum-known-form
-    returns
-    is-text-requires
-    enum-told
-    enum-told-2
-    returns-2
-    returns-3
-    returns-4)
+is-blank-spec = tie.close (tie.spec enum-known-form is-blank-requires enum-told returns returns-2)

@@ -1,7 +1,7 @@
--- `text_values::canonical::is_inside` meets its contract.
+-- `text_values::constants::is_inside` meets its contract.
 use borrow.Author.Tests.{lt-leb, le-leb}
-use Rattle.text_values.proofs.canonical.is_inside.Statement.{statement}
-use Rattle.text_values.proofs.canonical.is_inside.Tie as tie
+use Rattle.text_values.proofs.constants.is_inside.Statement.{statement}
+use Rattle.text_values.proofs.constants.is_inside.Tie as tie
 
 returns : tie.Need-returns
 returns c = rw (lt-leb _ _ (c .if1 .taken))

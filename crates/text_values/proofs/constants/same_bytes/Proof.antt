@@ -1,12 +1,12 @@
--- `match_fields::items::same_bytes` meets its contract. Assumes nothing.
+-- `text_values::constants::same_bytes` meets its contract. Assumes nothing.
 use borrow.Author.Needs.{needs}
 use mathlib.Core.Path.{_≡_}
 use Prim.Native.Nat.{_-_}
 use lib.ListN.{length}
 use Rattle.base_limits.specs.Limits.{longestString}
-use Rattle.match_fields.proofs.items.Bytes.{Same, same-none, same-one, same-not, same-all}
-use Rattle.match_fields.proofs.items.same_bytes.Statement.{statement}
-use Rattle.match_fields.proofs.items.same_bytes.Tie as tie
+use Rattle.text_values.proofs.constants.Bytes.{Same, same-none, same-one, same-not, same-all}
+use Rattle.text_values.proofs.constants.same_bytes.Statement.{statement}
+use Rattle.text_values.proofs.constants.same_bytes.Tie as tie
 
 abbrev Inv-loop : tie.InvT-loop
 Inv-loop a b i₀ i = Same longestString a b i

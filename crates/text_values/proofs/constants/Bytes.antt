@@ -8,7 +8,7 @@ use native.Mathlib.Omega.{arith}
 use borrow.Author.Tests.{eq-eqb, ne-eqb}
 use lib.ListN.{length, getD, drop, drop-of-length-le}
 use lib.Seq.{drop-cons}
-use Rattle.match_fields.specs.items.Tests.{sameBytes}
+use Rattle.text_values.specs.constants.Constants.{sameBytes}
 
 module _ (w : ℕ) (a b : List ℕ) where
   -- the first i bytes are the same

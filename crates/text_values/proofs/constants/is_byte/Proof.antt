@@ -1,7 +1,7 @@
--- `text_values::canonical::is_byte` meets its contract.
+-- `text_values::constants::is_byte` meets its contract.
 use borrow.Author.Needs.{needs}
-use Rattle.text_values.proofs.canonical.is_byte.Statement.{statement}
-use Rattle.text_values.proofs.canonical.is_byte.Tie as tie
+use Rattle.text_values.proofs.constants.is_byte.Statement.{statement}
+use Rattle.text_values.proofs.constants.is_byte.Tie as tie
 
 is-inside-requires : tie.Need-is-inside-requires
 is-inside-requires c κs = search needs

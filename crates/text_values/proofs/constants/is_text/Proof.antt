@@ -1,13 +1,13 @@
--- `text_values::canonical::is_text` meets its contract. The loop's invariant says what is left to do.
+-- `text_values::constants::is_text` meets its contract. The loop's invariant says what is left to do.
 use borrow.Author.Needs.{needs}
 use mathlib.Core.Path.{_≡_}
 use Prim.Native.Nat.{_-_}
 use lib.ListN.{length}
 use Rattle.base_limits.specs.Limits.{longestString}
-use Rattle.text_values.specs.canonical.Terms.{isInside, isZero}
+use Rattle.text_values.specs.constants.Constants.{isInside, isZero}
 use Rattle.text_values.proofs.canonical.Filled.{Passed, passed-none, passed-one, passed-not, passed-all, passed-over}
-use Rattle.text_values.proofs.canonical.is_text.Statement.{statement}
-use Rattle.text_values.proofs.canonical.is_text.Tie as tie
+use Rattle.text_values.proofs.constants.is_text.Statement.{statement}
+use Rattle.text_values.proofs.constants.is_text.Tie as tie
 
 abbrev Inv-loop : tie.InvT-loop
 Inv-loop n text i₀ i = Passed isInside isZero longestString n text i

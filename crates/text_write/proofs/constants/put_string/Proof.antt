@@ -1,4 +1,4 @@
--- `text_write::put_string` meets its contract: a quote, the bytes, a quote. Assumes nothing.
+-- `text_write::constants::put_string` meets its contract: a quote, the bytes, a quote. Assumes nothing.
 use mathlib.Core.Path.{_≡_, _∙_}
 use Prim.Native.Nat.{_<_}
 use native.Mathlib.Omega.{arith}
@@ -6,8 +6,8 @@ use lib.ListN.{length, length-set, length-take}
 use borrow.Author.Needs.{needs}
 use Rattle.base_limits.specs.Limits.{longestString}
 use Rattle.text_write.proofs.Terms.{quoted-length, put-quoted}
-use Rattle.text_write.proofs.put_string.Statement.{statement}
-use Rattle.text_write.proofs.put_string.Tie as tie
+use Rattle.text_write.proofs.constants.put_string.Statement.{statement}
+use Rattle.text_write.proofs.constants.put_string.Tie as tie
 
 -- the array has its length
 long : (c : tie.Start) → length (c .args .t1) ≡ longestString
