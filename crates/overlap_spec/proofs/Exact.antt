@@ -8,17 +8,18 @@ use native.Mathlib.Omega.{arith}
 use native.Mathlib.Decide.{ℕ-discrete}
 use lib.ListN.{length, getElem?, length-map}
 use Rattle.base_lists.specs.Seqs.{All, IsCons, all-map, cons-map}
-use Rattle.math_types.specs.Types.{leaf, Basic, integer, string, atom, Kind, basics}
+use Rattle.math_types.specs.Types.{Kind, basics}
 use Rattle.math_terms.specs.Terms.{con, var}
 use Rattle.math_terms.specs.Fillings.{Filling, Typed, fill}
 use Rattle.math_terms.specs.Linear.{LeftLinear}
 use Rattle.math_terms.proofs.Matching.{match-unique}
 use Rattle.text_grammar.specs.Terms.{OurTerm}
-use Rattle.text_grammar.specs.constants.Constants.{Con, int, str, consts, some-of}
+use Rattle.text_grammar.specs.constants.Constants.{Con, consts}
 use Rattle.text_grammar.specs.Limits.{TermIn, IsLeft}
 use Rattle.text_grammar.specs.Plain.{TermOk}
 use Rattle.text_grammar.specs.constants.Matching.{Matches}
 use Rattle.text_grammar.proofs.constants.Linear.{left-linear}
+use Rattle.text_grammar.proofs.constants.Constants.{in-ok, some-in}
 use Rattle.math_overlaps.specs.Substitutions.{Subst, substitute}
 use Rattle.math_overlaps.specs.Constants.{ConstantIn}
 use Rattle.math_overlaps.specs.Overlaps.{overlaps}
@@ -55,19 +56,13 @@ module _ {A B : Type 0} (f : A → B) where
 
 -- ---- document 01's constants
 
-some-ours : (k : Basic) → OurCon (some-of k)
-some-ours (leaf integer) = omega arith
-some-ours (leaf string) = (tt, omega arith)
-some-ours atom = omega arith
-
 constant-in : (t : OurTerm) → TermIn t → ConstantIn OurCon t
 constant-in (con c) h = h
 constant-in (var k n) h = tt
 
 -- what is within its limits can be written
 term-ok : (t : OurTerm) → ConstantIn OurCon t → TermOk t
-term-ok (con (int n)) h = tt
-term-ok (con (str s)) h = h .0
+term-ok (con c) h = in-ok c h
 term-ok (var k n) h = tt
 
 terms-ok : (f : List OurTerm) → All (ConstantIn OurCon) f → All TermOk f
@@ -185,14 +180,14 @@ module _ (r₁ r₂ : List (List OurTerm)) (is₁ : IsLeft r₁) (is₂ : IsLeft
   lines-slips i l p =
       let e = entry-at i l p in
       let s =
-      list.has-slip basics consts ℕ-discrete r₁ r₂ lin₁ lin₂ OurCon some-ours (in-ours r₁ is₁) (in-ours r₂ is₂) (e .0) (at-in entries i (e .0) (e .1)) in
+      list.has-slip basics consts ℕ-discrete r₁ r₂ lin₁ lin₂ OurCon some-in (in-ours r₁ is₁) (in-ours r₂ is₂) (e .0) (at-in entries i (e .0) (e .1)) in
       (s .0, s .1, subst (λ (x : Line). Fits x (s .0)) (e .2) (s .2))
 
   pub lines-least : (B : Type 0) (xs : List (Solution r₁ r₂ B))
       → ((w : List (List Con)) → OurSlip w → Matches r₁ w → Matches r₂ w → (x : Solution r₁ r₂ B) × List·Memᴰ x xs × Covers r₁ r₂ B x w)
       → length (linesOf r₁ r₂) ≤ length xs
   lines-least B xs cover = subst (λ (n : ℕ). n ≤ length xs) (sym (ap length lines-are ∙ length-map entries (lineOf r₁ r₂)))
-      (list.minimal basics consts ℕ-discrete r₁ r₂ lin₁ lin₂ OurCon some-ours (in-ours r₁ is₁) (in-ours r₂ is₂) B xs cover)
+      (list.minimal basics consts ℕ-discrete r₁ r₂ lin₁ lin₂ OurCon some-in (in-ours r₁ is₁) (in-ours r₂ is₂) B xs cover)
 
   -- every line can be written, so the bytes determine the lines
   pub lines-writable : All WritableLine (linesOf r₁ r₂)
@@ -200,7 +195,7 @@ module _ (r₁ r₂ : List (List OurTerm)) (is₁ : IsLeft r₁) (is₂ : IsLeft
     where
       one : (e : OurEntry) → List·Memᴰ e entries → WritableLine (lineOf r₁ r₂ e)
       one e i =
-          let c = list.entry-constants basics consts ℕ-discrete r₁ r₂ lin₁ lin₂ OurCon some-ours (in-ours r₁ is₁) (in-ours r₂ is₂) e i in
+          let c = list.entry-constants basics consts ℕ-discrete r₁ r₂ lin₁ lin₂ OurCon some-in (in-ours r₁ is₁) (in-ours r₂ is₂) e i in
           let s = list.entry-solves basics consts ℕ-discrete r₁ r₂ lin₁ lin₂ e i in (
             (
               subst IsCons (s .3) (cons-map (substitute (s .0 .left)) r₁ (is₁ .0 .0)),

@@ -18,7 +18,7 @@ use Rattle.math_terms.specs.Constants.{TermOver}
 use Rattle.math_terms.specs.Fillings.{Filling, Typed, fill, Occurs}
 use Rattle.text_grammar.specs.Ascii.{newline}
 use Rattle.text_grammar.specs.Terms.{OurTerm}
-use Rattle.text_grammar.specs.constants.Constants.{Con, int, str, consts}
+use Rattle.text_grammar.specs.constants.Constants.{Con, consts}
 use Rattle.text_grammar.specs.Plain.{TermOk, plain}
 use Rattle.text_grammar.specs.Limits.{TermIn, IsLeft}
 use Rattle.math_overlaps.specs.Substitutions.{Subst}
@@ -39,6 +39,7 @@ use Rattle.search_spec.specs.Answers.{Gives, InstanceOfLine, answerLine}
 use Rattle.search_spec.proofs.Search.{equation-linear}
 use Rattle.search_spec.proofs.Short.{Ours}
 use Rattle.search_spec.proofs.Shown.{termOn, stands-on, value-on, shown-solves, shown-left, shown-right, shown-complete}
+use Rattle.text_grammar.proofs.constants.Constants.{in-ok}
 
 -- ---- the bytes determine the lines
 
@@ -100,8 +101,7 @@ answer-lines-one (l ∷ ls) (m ∷ ms) p q e =
 
 -- a term of document 01's can be written under any number
 term-ok : (ν : Kind → Origin ℕ → ℕ) (t : Tm setting) → Ours t → TermOk (rename ν (originOf t))
-term-ok ν (atomic (fixed (int n))) o = tt
-term-ok ν (atomic (fixed (str s))) o = o .0
+term-ok ν (atomic (fixed c)) o = in-ok c o
 term-ok ν (atomic (free (of d k n))) o = tt
 term-ok ν (listvar n) o = tt
 

@@ -16,11 +16,12 @@ use Rattle.math_terms.specs.Constants.{TermOver}
 use Rattle.math_terms.specs.Seqs.{concat-map}
 use Rattle.math_terms.specs.Fillings.{Occurs}
 use Rattle.text_grammar.specs.Terms.{OurTerm}
-use Rattle.text_grammar.specs.constants.Constants.{int, str, consts}
+use Rattle.text_grammar.specs.constants.Constants.{consts}
 use Rattle.text_grammar.specs.Grammar.{colons}
 use Rattle.text_grammar.specs.Plain.{rawOf, termText, fieldText}
 use Rattle.text_grammar.specs.Limits.{TermIn}
 use Rattle.text_grammar.proofs.Numbers.{digits-ten}
+use Rattle.text_grammar.proofs.constants.Constants.{con-short}
 use Rattle.math_overlaps.specs.Shapes.{fixed, free, Side, left, right, side-eq, of}
 use Rattle.math_overlaps.specs.Overlaps.{placeOf, without, firsts, namesOf, rename, Origin, named, place, origin-eq}
 use Rattle.overlap_spec.specs.Lines.{Binding, leftTag, rightTag, bindingText, bindingsText}
@@ -98,8 +99,7 @@ module _ (ν : Kind → Origin ℕ → ℕ) (few : (k : Kind) (b : Origin ℕ) �
   behind L = colons (map rawOf (map (rename ν) (map originOf L)))
 
   term-short : (t : Tm setting) → Ours t → length (termText (shownTerm t)) ≤ longestTerm
-  term-short (atomic (fixed (int n))) o = omega (arith, digits-ten n o)
-  term-short (atomic (fixed (str s))) o = omega (arith, length-append s (34 ∷ []), o .1)
+  term-short (atomic (fixed c)) o = con-short c o
   term-short (atomic (free (of d k n))) o = omega (arith, digits-ten (ν (basic k) (named d n)) (few (basic k) (named d n)))
   term-short (listvar n) o = omega (arith, digits-ten (ν list (place n)) (few list (place n)))
 

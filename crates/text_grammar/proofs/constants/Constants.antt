@@ -7,9 +7,10 @@ use native.Mathlib.Omega.{arith, by-contra}
 use lib.ListN.{length, length-append}
 use Rattle.base_limits.specs.Limits.{mostDigits, largestInteger, longestTerm}
 use Rattle.base_lists.specs.Seqs.{IsCons}
+use Rattle.math_types.specs.Types.{leaf, Basic, integer, string, atom}
 use Rattle.text_grammar.specs.Numbers.{value, digitsOf}
 use Rattle.text_grammar.specs.constants.Constants.{Con, int, str, RawCon, raw-int, raw-str, spellCon, ProperCon, OverCon, LeanCon, conOf, rawOfCon}
-use Rattle.text_grammar.specs.constants.Constants.{ConIn, ConOk}
+use Rattle.text_grammar.specs.constants.Constants.{ConIn, ConOk, some-of}
 use Rattle.text_grammar.proofs.Numbers.{digits-value, digits-number, number-digits, digits-one, digits-ten}
 
 -- ---- plain text: it says the constant, is of the grammar, and has no needless byte
@@ -40,6 +41,12 @@ con-in (raw-str s) p n = (p, omega arith)
 pub in-ok : (c : Con) → ConIn c → ConOk c
 in-ok (int n) h = tt
 in-ok (str s) h = h .0
+
+-- a constant of each kind is within them
+pub some-in : (k : Basic) → ConIn (some-of k)
+some-in (leaf integer) = omega arith
+some-in (leaf string) = (tt, omega arith)
+some-in atom = omega arith
 
 pub in-not-over : (c : Con) → ConIn c → OverCon (rawOfCon c) → ⊥
 in-not-over (int n) h (inl k) = omega (arith, digits-ten n h)
