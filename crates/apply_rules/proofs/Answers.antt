@@ -3,7 +3,7 @@ use mathlib.Core.Path.{_≡_, refl, sym, ap, ap₂, _∙_, subst}
 use mathlib.Core.Logic.{if-pos, if-neg}
 use mathlib.Core.Bool.{Bool, true, false, cond, false≢true}
 use mathlib.Core.Option.{Option, none, some}
-use mathlib.Core.List.{List, [], _∷_, map}
+use mathlib.Core.List.{[], _∷_, map}
 use Prim.Native.Nat.{ℕ}
 use borrow.Author.Tests.{le-leb, leb-true}
 use lib.Dec.{eqb, leb}
@@ -15,13 +15,13 @@ use Rattle.math_types.specs.Types.{Kind, basics}
 use Rattle.math_terms.specs.Terms.{con}
 use Rattle.math_terms.specs.Fillings.{Filling, fill}
 use Rattle.math_terms.specs.Matcher.{complete}
-use Rattle.text_grammar.specs.Terms.{OurTerm}
+use Rattle.text_grammar.specs.Terms.{OurFields, SlipFields}
 use Rattle.text_grammar.specs.constants.Constants.{Con, consts}
 use Rattle.text_grammar.specs.constants.Matching.{constants, matcher}
 use Rattle.text_grammar.specs.rules.Read.{OurRule}
 use Rattle.text_grammar.specs.rules.Limits.{IsRule}
 use Rattle.apply_spec.specs.Carrying.{Short, short?, result, unmatched, tooLong, limited}
-use Rattle.apply_spec.specs.Rules.{OurSlip, carried}
+use Rattle.apply_spec.specs.Rules.{carried}
 use Rattle.text_values.specs.declared.Rule.{Rule}
 use Rattle.text_values.specs.declared.RuleSide.{RuleSide}
 use Rattle.text_values.specs.declared.Slip.{Slip}
@@ -45,11 +45,11 @@ use Rattle.apply_rules.proofs.Gives.{filled}
 
 -- ---- the limit
 
-short-true : (w : List (List Con)) → Short mostItems w → allShort w ≡ true
+short-true : (w : SlipFields) → Short mostItems w → allShort w ≡ true
 short-true [] h = refl
 short-true (f ∷ w) h = both-is (leb (length f) mostItems) (allShort w) .1 (le-leb (length f) mostItems (h .0), short-true w (h .1))
 
-true-short : (w : List (List Con)) → allShort w ≡ true → Short mostItems w
+true-short : (w : SlipFields) → allShort w ≡ true → Short mostItems w
 true-short [] e = tt
 true-short (f ∷ w) e = let b = both-is (leb (length f) mostItems) (allShort w) .0 e in (leb-true (length f) mostItems (b .0), true-short w (b .1))
 
@@ -57,7 +57,7 @@ true-short (f ∷ w) e = let b = both-is (leb (length f) mostItems) (allShort w)
 abbrev byFilled : Slip → Filled → CarriedValue
 byFilled s f = cond (f .ok) (record { answer = Yes; slip = f .slip }) (record { answer = TooLong; slip = s })
 
-limited-filled : (s : Slip) (w : List (List Con)) → byFilled s (filledWith w) ≡ answerOf s (limited mostItems w)
+limited-filled : (s : Slip) (w : SlipFields) → byFilled s (filledWith w) ≡ answerOf s (limited mostItems w)
 limited-filled s w = go (allShort w) refl
   where
     go : (b : Bool) → allShort w ≡ b
@@ -73,11 +73,11 @@ none-either true = refl
 none-either false = refl
 
 -- no rule matches a slip with no fields
-pub none-matches : (x : List (List OurTerm)) → IsCons x → matcher x [] ≡ none
+pub none-matches : (x : OurFields) → IsCons x → matcher x [] ≡ none
 none-matches [] i = absurd i
 none-matches (f ∷ x) i = none-either (eqb (length (f ∷ x)) 0)
 
-match-none : (x w : List (List OurTerm)) → IsCons x → matchOf x w .yes ≡ false → matcher x (map constants w) ≡ none
+match-none : (x w : OurFields) → IsCons x → matchOf x w .yes ≡ false → matcher x (map constants w) ≡ none
 match-none [] w i e = absurd i
 match-none (f ∷ x) [] i e = none-matches (f ∷ x) i
 match-none (f ∷ x) (v ∷ w) i e = go (matcher (f ∷ x) (map constants (v ∷ w))) e
@@ -86,10 +86,10 @@ match-none (f ∷ x) (v ∷ w) i e = go (matcher (f ∷ x) (map constants (v ∷
     go none q = refl
     go (some φ) q = absurd (false≢true (sym q))
 
-abbrev Found : List (List OurTerm) → List (List OurTerm) → FillingValue → Type 0
+abbrev Found : OurFields → OurFields → FillingValue → Type 0
 Found x w v = (φ : Filling Con Kind ℕ) × (matcher x (map constants w) ≡ some φ) × (v ≡ record { values = encodeValues φ; runs = runsOf x (map constants w) })
 
-match-some : (x w : List (List OurTerm)) → matchOf x w .yes ≡ true → IsCons w × Found x w (matchOf x w .filling)
+match-some : (x w : OurFields) → matchOf x w .yes ≡ true → IsCons w × Found x w (matchOf x w .filling)
 match-some [] w e = absurd (false≢true e)
 match-some (f ∷ x) [] e = absurd (false≢true e)
 match-some (f ∷ x) (v ∷ w) e = (tt, go (matcher (f ∷ x) (map constants (v ∷ w))) refl e)
@@ -110,10 +110,10 @@ slip-read s i = go (acceptedSlip s) i
 -- ---- the answers
 
 module _ (r : Rule) (s : Slip) where
-  abbrev x : List (List OurTerm)
+  abbrev x : OurFields
   x = viewSide (r .left)
 
-  abbrev y : List (List OurTerm)
+  abbrev y : OurFields
   y = viewSide (r .right)
 
   abbrev no : CarriedValue
@@ -145,23 +145,23 @@ module _ (r : Rule) (s : Slip) where
       has-right : IsCons y
       has-right = go y (ap (λ (v : RuleSide). v .n) right-is)
         where
-          go : (l : List (List OurTerm)) → length l ≡ r .right .n → IsCons l
+          go : (l : OurFields) → length l ≡ r .right .n → IsCons l
           go [] e = absurd (n (sym e))
           go (f ∷ l) e = tt
 
       -- where there is a right side
-      by-match : (l : List (List OurTerm)) (w : OurSlip) → IsCons l → matcher x w ≡ none → carried (x, l) w ≡ unmatched
+      by-match : (l : OurFields) (w : SlipFields) → IsCons l → matcher x w ≡ none → carried (x, l) w ≡ unmatched
       by-match [] w i e = absurd i
       by-match (g ∷ l) w i e = rw e
 
-      by-filling : (l : List (List OurTerm)) (w : OurSlip) (φ : Filling Con Kind ℕ) → IsCons l → matcher x w ≡ some φ
+      by-filling : (l : OurFields) (w : SlipFields) (φ : Filling Con Kind ℕ) → IsCons l → matcher x w ≡ some φ
           → carried (x, l) w ≡ limited mostItems (map (fill (complete basics consts φ)) l)
       by-filling [] w φ i e = absurd i
       by-filling (g ∷ l) w φ i e = rw e
 
       module _ (m : Match) (is-m : m ≡ matchOf (countedLeft (r .left)) (countedSlip s)) where
         m-is : m ≡ matchOf x (countedSlip s)
-        m-is = is-m ∙ ap (λ (l : List (List OurTerm)). matchOf l (countedSlip s)) left-counted
+        m-is = is-m ∙ ap (λ (l : OurFields). matchOf l (countedSlip s)) left-counted
 
         pub no-match : m .yes ≡ false → no ≡ carriedOf r s
         no-match e =
@@ -181,7 +181,7 @@ module _ (r : Rule) (s : Slip) where
           the-filling : Found x (viewSlip s) (m .filling)
           the-filling =
               subst (λ (v : FillingValue). Found x (viewSlip s) v) (sym (ap (λ (a : Match). a .filling) m-is))
-              (subst (λ (w : List (List OurTerm)). Found x w (matchOf x (countedSlip s) .filling)) slip-counted (matched .1))
+              (subst (λ (w : OurFields). Found x w (matchOf x (countedSlip s) .filling)) slip-counted (matched .1))
 
           both : byFilled s f ≡ carriedOf r s
           both =
@@ -193,7 +193,7 @@ module _ (r : Rule) (s : Slip) where
               ∙ filled x (viewSlip s) (is-rule .0) (i .0) (h .0) (h .1) y (is-rule .2))
               ∙ limited-filled s (map (fill (complete basics consts (h .0))) y)
               ∙ ap (answerOf s) (sym (by-filling y (map constants (viewSlip s)) (h .0) has-right (h .1)))
-              ∙ ap (λ (w : List (List OurTerm)). answerOf s (carried (x, y) (map constants w))) (sym slip-counted)
+              ∙ ap (λ (w : OurFields). answerOf s (carried (x, y) (map constants w))) (sym slip-counted)
               ∙ sym counted
 
           abbrev by-ok : Bool → CarriedValue

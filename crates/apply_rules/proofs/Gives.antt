@@ -13,7 +13,7 @@ use Rattle.math_types.specs.Types.{Kind, basics}
 use Rattle.math_terms.specs.Terms.{con, var}
 use Rattle.math_terms.specs.Fillings.{Filling, fill, Occurs}
 use Rattle.math_terms.specs.Matcher.{complete, orSome}
-use Rattle.text_grammar.specs.Terms.{OurTerm}
+use Rattle.text_grammar.specs.Terms.{OurTerm, OurFields, SlipFields}
 use Rattle.text_grammar.specs.constants.Constants.{Con, consts}
 use Rattle.text_grammar.specs.Limits.{TermIn, IsLeft, IsSlip}
 use Rattle.text_grammar.specs.constants.Matching.{constants, matcher}
@@ -34,13 +34,13 @@ field-number k n (con c ∷ f) i o = field-number k n f (i .1) o
 field-number k n (var j m ∷ f) i (inl p) = omega (arith, i .0, p .1)
 field-number k n (var j m ∷ f) i (inr o) = field-number k n f (i .1) o
 
-side-number : (k : Kind) (n : ℕ) (r : List (List OurTerm)) → All (All TermIn) r → Any (Occurs k n) r → n ≤ largestNumber
+side-number : (k : Kind) (n : ℕ) (r : OurFields) → All (All TermIn) r → Any (Occurs k n) r → n ≤ largestNumber
 side-number k n [] i o = absurd o
 side-number k n (f ∷ r) i (inl o) = field-number k n f (i .0) o
 side-number k n (f ∷ r) i (inr o) = side-number k n r (i .1) o
 
-module _ (x w : List (List OurTerm)) (is-left : IsLeft x) (is-slip : IsSlip w) (φ : Filling Con Kind ℕ) (yes-φ : matcher x (map constants w) ≡ some φ) where
-  abbrev items : List (List Con)
+module _ (x w : OurFields) (is-left : IsLeft x) (is-slip : IsSlip w) (φ : Filling Con Kind ℕ) (yes-φ : matcher x (map constants w) ≡ some φ) where
+  abbrev items : SlipFields
   items = map constants w
 
   -- the filling's value
@@ -55,6 +55,6 @@ module _ (x w : List (List OurTerm)) (is-left : IsLeft x) (is-slip : IsSlip w) (
   gives list n o h = run-terms w (is-slip .1) (runOf shown n) ∙ ap (map enc) (run-items x (is-left .1) items φ yes-φ n h o)
 
   -- FILLING IN a side whose variables the rule has, with the filling of a match
-  pub filled : (y : List (List OurTerm)) → ((k : Kind) (n : ℕ) → Any (Occurs k n) y → Any (Occurs k n) x)
+  pub filled : (y : OurFields) → ((k : Kind) (n : ℕ) → Any (Occurs k n) y → Any (Occurs k n) x)
       → filledSide (encodeSide y) shown (encodeSlip w) ≡ filledWith (map (fill (complete basics consts φ)) y)
   filled y vars = fills shown (encodeSlip w) (complete basics consts φ) y (λ k n o. gives k n (vars k n o) (side-number k n x (is-left .0 .3) (vars k n o)))

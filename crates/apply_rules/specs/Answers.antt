@@ -4,10 +4,11 @@
 use mathlib.Core.List.{[], map}
 use mathlib.Core.Option.{none, some}
 use Rattle.math_terms.specs.Terms.{con}
+use Rattle.text_grammar.specs.Terms.{SlipFields}
 use Rattle.text_grammar.specs.Told.{Told}
 use Rattle.text_grammar.specs.constants.Matching.{constants}
 use Rattle.apply_spec.specs.Carrying.{Carried, result, unmatched, tooLong}
-use Rattle.apply_spec.specs.Rules.{OurSlip, carried}
+use Rattle.apply_spec.specs.Rules.{carried}
 use Rattle.text_values.specs.declared.Rule.{Rule}
 use Rattle.text_values.specs.declared.Slip.{Slip}
 use Rattle.text_values.specs.Values.{encodeSlip}
@@ -24,7 +25,7 @@ told No = record { number = none; values = [] }
 told TooLong = record { number = some 11; values = [] }
 
 -- the answer's value, where the slip given is the value s
-abbrev pub answerOf : Slip → Carried OurSlip → CarriedValue
+abbrev pub answerOf : Slip → Carried SlipFields → CarriedValue
 answerOf s (result w) = record { answer = Yes; slip = encodeSlip (map (map con) w) }
 answerOf s unmatched = record { answer = No; slip = s }
 answerOf s tooLong = record { answer = TooLong; slip = s }

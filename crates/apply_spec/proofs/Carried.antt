@@ -6,13 +6,13 @@ use Prim.Native.Nat.{ℕ}
 use Rattle.base_lists.specs.Seqs.{IsCons}
 use Rattle.math_types.specs.Types.{Kind, basics}
 use Rattle.math_terms.specs.Fillings.{Filling, Typed, fill}
-use Rattle.text_grammar.specs.Terms.{OurTerm}
-use Rattle.text_grammar.specs.constants.Constants.{Con, consts}
+use Rattle.text_grammar.specs.Terms.{SlipFields}
+use Rattle.text_grammar.specs.constants.Constants.{consts}
 use Rattle.text_grammar.specs.constants.Matching.{Matches}
 use Rattle.text_grammar.specs.rules.Read.{OurRule}
 use Rattle.text_grammar.specs.rules.Limits.{IsRule}
 use Rattle.apply_spec.specs.Carrying.{Carried, result, unmatched, tooLong, limited, Short, Over}
-use Rattle.apply_spec.specs.Rules.{OurSlip, carried}
+use Rattle.apply_spec.specs.Rules.{carried}
 use Rattle.apply_spec.specs.Carried.{CarriesOut}
 use Rattle.apply_spec.proofs.Rules.{no-right, matches?, carried-by, yes-iff, over-iff, no-iff, yes-right, over-right, result-readable}
 
@@ -20,7 +20,7 @@ cons? : {X : Type 0} (l : List X) → Dec (IsCons l)
 cons? [] = no (λ h. h)
 cons? (x ∷ l) = yes tt
 
-module _ (r : OurRule) (w : OurSlip) (is : IsRule r) where
+module _ (r : OurRule) (w : SlipFields) (is : IsRule r) where
   -- a no needs no more than one of the two
   no-given : (IsCons (r .1) × Matches (r .0) w → ⊥) → carried r w ≡ unmatched
   no-given n = go (cons? (r .1))
@@ -39,11 +39,11 @@ module _ (r : OurRule) (w : OurSlip) (is : IsRule r) where
   }
 
 -- THE THEOREM
-pub carries-out : (r : OurRule) (w : OurSlip) → IsRule r → (answer : Carried OurSlip) → answer ≡ carried r w → CarriesOut r w answer
+pub carries-out : (r : OurRule) (w : SlipFields) → IsRule r → (answer : Carried SlipFields) → answer ≡ carried r w → CarriesOut r w answer
 carries-out r w is answer e = subst (CarriesOut r w) (sym e) (carries r w is)
 
 -- it says which answer is given
-pub carries-one : (r : OurRule) (w : OurSlip) → IsRule r → (answer : Carried OurSlip) → CarriesOut r w answer → answer ≡ carried r w
+pub carries-one : (r : OurRule) (w : SlipFields) → IsRule r → (answer : Carried SlipFields) → CarriesOut r w answer → answer ≡ carried r w
 carries-one r w is answer c = go (cons? (r .1)) (matches? r is w)
   where
     go : Dec (IsCons (r .1)) → Dec (Matches (r .0) w) → answer ≡ carried r w

@@ -7,6 +7,7 @@ use native.Mathlib.Decide.{ℕ-discrete, decLe, decLt}
 use lib.ListN.{length, replicate}
 use Rattle.base_lists.specs.Seqs.{all?, any?}
 use Rattle.math_terms.specs.Terms.{con}
+use Rattle.text_grammar.specs.Terms.{SlipFields}
 use Rattle.text_grammar.specs.Ascii.{ascii}
 use Rattle.text_grammar.specs.Bytes.{digit?, begins, follows, first, holds}
 use Rattle.text_grammar.specs.Tokens.{fifth?, many?, over?, clash?, clashOf?}
@@ -17,13 +18,13 @@ use Rattle.text_grammar.specs.constants.Matching.{constants}
 use Rattle.text_grammar.specs.rules.Tokens.{occurs?, has?}
 use Rattle.text_grammar.specs.rules.Read.{OurRule, readRule}
 use Rattle.apply_spec.specs.Carrying.{Carried, result, unmatched, tooLong}
-use Rattle.apply_spec.specs.Rules.{OurSlip, carried}
+use Rattle.apply_spec.specs.Rules.{carried}
 
 -- a rule, a slip, and the answer: the result, `no` or `11`
 abbrev Case : Type 0
 Case = record { rule : String; slip : String; answer : String }
 
-abbrev answerText : Carried OurSlip → List ℕ
+abbrev answerText : Carried SlipFields → List ℕ
 answerText (result s) = plain (map (map con) s)
 answerText unmatched = ascii "no"
 answerText tooLong = ascii "11"
@@ -71,7 +72,7 @@ pub data Said : Type 0 where
   said-11 : Said
 
 -- how many items the result's fields have
-abbrev said : Carried OurSlip → Said
+abbrev said : Carried SlipFields → Said
 said (result s) = lengths (map length s)
 said unmatched = said-no
 said tooLong = said-11

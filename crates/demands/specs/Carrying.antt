@@ -14,7 +14,7 @@ use Rattle.base_lists.specs.Seqs.{IsCons}
 use Rattle.math_types.specs.Types.{Kind}
 use Rattle.math_terms.specs.Terms.{con}
 use Rattle.math_terms.specs.Fillings.{Filling, fill}
-use Rattle.text_grammar.specs.Terms.{OurTerm}
+use Rattle.text_grammar.specs.Terms.{OurFields, termsOf, SlipFields}
 use Rattle.text_grammar.specs.constants.Constants.{Con}
 use Rattle.text_grammar.specs.Limits.{IsSlip}
 use Rattle.text_grammar.specs.Read.{Reason, refused, accepted, readSlip}
@@ -24,7 +24,7 @@ use Rattle.text_grammar.specs.rules.Limits.{IsRule}
 use Rattle.text_grammar.proofs.rules.Accepted.{rule-read}
 use Rattle.text_grammar.specs.constants.Matching.{constants}
 use Rattle.apply_spec.specs.Carrying.{result}
-use Rattle.apply_spec.specs.Rules.{OurSlip, carried}
+use Rattle.apply_spec.specs.Rules.{carried}
 use Rattle.apply_spec.specs.Carried.{CarriesOut}
 use Rattle.apply_spec.proofs.Carrying.{limited-result}
 use Rattle.apply_spec.proofs.Carried.{carries-out}
@@ -54,7 +54,7 @@ refusing s = record { answer = No; slip = s }
 -- what is answered of two texts t and u, with the values that reading them returns
 pub record CarriesTexts (t u : List ℕ) (s : Slip) (c : Carried) : Type 0 where
   -- of a text that is read as the rule w, with its two sides, and one that is read as the slip y
-  pub read : (w : OurRule) (y : List (List OurTerm)) → readRule t ≡ accepted w → readSlip u ≡ accepted y
+  pub read : (w : OurRule) (y : OurFields) → readRule t ≡ accepted w → readSlip u ≡ accepted y
       → CarriesOn (w .0) (w .1) (map constants y) c
   -- where one of them is refused, the value with no fields stands for it: "the slip unchanged and a no"
   pub rule-refused : (o : Reason) (p : ℕ) → readRule t ≡ refused o p → c ≡ refusing s
@@ -76,7 +76,7 @@ pub record Carrying (v : Rule) (s : Slip) (c : Carried) : Type 0 where
   -- the slip that is returned stands for "the right side with the filling put in", term for term
   pub shows : acceptedRule v ≡ true → acceptedSlip s ≡ true → c .answer ≡ Yes
       → (θ : Filling Con Kind ℕ) → Makes (viewSide (v .left)) (map constants (viewSlip s)) θ
-      → countedSlip (c .slip) ≡ map (map con) (map (fill θ) (viewSide (v .right)))
+      → countedSlip (c .slip) ≡ map (map con) (map (fill θ) (termsOf (viewSide (v .right))))
 
 -- ---- that it holds
 
@@ -104,14 +104,14 @@ module _ (v : Rule) (s : Slip) (c : Carried) (h : Carries v s c) where
       slip-of : s ≡ slipRead (readSlip u) .slip
       slip-of = sym is-s ∙ ap (λ (a : SlipRead). a .slip) reads-u
 
-      both : (w : OurRule) (y : List (List OurTerm)) → IsRule w → IsSlip y → v ≡ encodeRule w → s ≡ encodeSlip y
+      both : (w : OurRule) (y : OurFields) → IsRule w → IsSlip y → v ≡ encodeRule w → s ≡ encodeSlip y
           → CarriesOn (w .0) (w .1) (map constants y) c
       both w y i j e f =
           let a : viewRule v ≡ w = ap viewRule e ∙ view-encode-rule w i in
           let b : viewSlip s ≡ y = ap viewSlip f ∙ view-encode-slip y j in
           let k = h .carried (ap acceptedRule e ∙ rule-accepts w i) (ap acceptedSlip f ∙ encode-accepted-slip y j) in
           subst (λ (x : OurRule). CarriesOn (x .0) (x .1) (map constants y) c) a
-          (subst (λ (l : List (List OurTerm)). CarriesOn (viewSide (v .left)) (viewSide (v .right)) (map constants l) c) b k)
+          (subst (λ (l : OurFields). CarriesOn (viewSide (v .left)) (viewSide (v .right)) (map constants l) c) b k)
 
   -- by what matching answers of the same values
   of-matching : (m : Match) → m ≡ matchOf (countedRule v .0) (countedSlip s) → NoExactly v m c
@@ -136,17 +136,17 @@ module _ (v : Rule) (s : Slip) (c : Carried) (h : Carries v s c) where
 
   of-result : acceptedRule v ≡ true → acceptedSlip s ≡ true → c .answer ≡ Yes
       → (θ : Filling Con Kind ℕ) → Makes (viewSide (v .left)) (map constants (viewSlip s)) θ
-      → countedSlip (c .slip) ≡ map (map con) (map (fill θ) (viewSide (v .right)))
+      → countedSlip (c .slip) ≡ map (map con) (map (fill θ) (termsOf (viewSide (v .right))))
   of-result e f is-yes θ m =
       ap (λ (b : Bool). cond b (viewSlip (c .slip)) []) (on .readable)
       ∙ ap viewSlip (on .result is-yes θ m)
       ∙ view-encode-slip (map (map con) u) in-limits
     where
-      w : OurSlip
+      w : SlipFields
       w = map constants (viewSlip s)
 
-      u : OurSlip
-      u = map (fill θ) (viewSide (v .right))
+      u : SlipFields
+      u = map (fill θ) (termsOf (viewSide (v .right)))
 
       on : CarriesOn (viewSide (v .left)) (viewSide (v .right)) w c
       on = h .carried e f
@@ -161,7 +161,7 @@ module _ (v : Rule) (s : Slip) (c : Carried) (h : Carries v s c) where
       found : carried (viewRule v) w ≡ result u
       found =
           let k = on .yes .0 is-yes in
-          let z = map (fill (k .1 .0)) (viewSide (v .right)) in
+          let z = map (fill (k .1 .0)) (termsOf (viewSide (v .right))) in
           let a = out .yes z .1 (k .0, (k .1 .0, k .1 .1 .0, k .1 .1 .1, refl, k .1 .2)) in
           a ∙ ap result (sym (limited-result mostItems u z (sym (out .any-filling (k .0) θ (m .0) (m .1)) ∙ a) .0))
 

@@ -6,7 +6,7 @@ use mathlib.Core.Path.{_≡_, refl, sym, _∙_, ap, subst}
 use mathlib.Core.Logic.{_↔_, _≢_, Iff·trans}
 use mathlib.Core.Bool.{Bool, true, false, cond}
 use mathlib.Core.Option.{IsSome}
-use mathlib.Core.List.{List, [], map}
+use mathlib.Core.List.{[], map}
 use Prim.Native.Nat.{ℕ, _≤_}
 use native.Mathlib.Omega.{arith}
 use native.Mathlib.Decide.{ℕ-discrete}
@@ -15,8 +15,8 @@ use Rattle.base_lists.specs.Seqs.{All}
 use Rattle.math_types.specs.Types.{basics}
 use Rattle.math_terms.specs.Compared.{Passes, CountIs, allAtoms}
 use Rattle.math_terms.proofs.Compared.{compared-exactly, compared-none, compared-yes, compared-most, yes-passes}
-use Rattle.text_grammar.specs.Terms.{OurTerm}
-use Rattle.text_grammar.specs.constants.Constants.{Con, consts}
+use Rattle.text_grammar.specs.Terms.{OurFields, termsOf, SlipFields}
+use Rattle.text_grammar.specs.constants.Constants.{consts}
 use Rattle.text_grammar.specs.Limits.{Linear}
 use Rattle.text_grammar.specs.constants.Matching.{constants, matcher, tests, compared}
 use Rattle.text_grammar.proofs.constants.Matching.{match-iff}
@@ -44,8 +44,8 @@ pub record Comparing (v : Rule) (w : Slip) (c : Comparison) : Type 0 where
   pub passing : acceptedRule v ≡ true → acceptedSlip w ≡ true
       → (c .found .yes ≡ true) ↔ All Passes (tests (viewSide (v .left)) (map constants (viewSlip w)))
   -- a yes has compared as many items as the left side has atoms, and a no never more
-  pub yes-all : acceptedRule v ≡ true → acceptedSlip w ≡ true → c .found .yes ≡ true → c .compared ≡ allAtoms (viewSide (v .left))
-  pub at-most : acceptedRule v ≡ true → acceptedSlip w ≡ true → c .compared ≤ allAtoms (viewSide (v .left))
+  pub yes-all : acceptedRule v ≡ true → acceptedSlip w ≡ true → c .found .yes ≡ true → c .compared ≡ allAtoms (termsOf (viewSide (v .left)))
+  pub at-most : acceptedRule v ≡ true → acceptedSlip w ≡ true → c .compared ≤ allAtoms (termsOf (viewSide (v .left)))
   -- "0 where the field counts differ or a side has no fields", and for a value that no reading returns
   pub counts-differ : length (countedRule v .0) ≢ length (countedSlip w) → c .compared ≡ 0
   pub unread-rule : acceptedRule v ≡ false → c ≡ noComparison
@@ -60,10 +60,10 @@ module _ (v : Rule) (w : Slip) where
 
   -- accepted values
   module _ (accepted-v : acceptedRule v ≡ true) (accepted-w : acceptedSlip w ≡ true) where
-    abbrev rule : List (List OurTerm)
+    abbrev rule : OurFields
     rule = viewSide (v .left)
 
-    abbrev slip : List (List Con)
+    abbrev slip : SlipFields
     slip = map constants (viewSlip w)
 
     count-is : answer .compared ≡ compared rule slip
@@ -85,10 +85,10 @@ module _ (v : Rule) (w : Slip) where
     passes : (answer .found .yes ≡ true) ↔ All Passes (tests rule slip)
     passes = Iff·trans yes-iff (yes-passes basics consts ℕ-discrete rule slip)
 
-    all-of : answer .found .yes ≡ true → answer .compared ≡ allAtoms rule
+    all-of : answer .found .yes ≡ true → answer .compared ≡ allAtoms (termsOf rule)
     all-of e = count-is ∙ compared-yes basics consts ℕ-discrete rule slip (yes-iff .0 e)
 
-    most : answer .compared ≤ allAtoms rule
+    most : answer .compared ≤ allAtoms (termsOf rule)
     most = omega (arith, count-is, compared-most basics consts ℕ-discrete rule slip)
 
   none-rule : acceptedRule v ≡ false → answer ≡ noComparison

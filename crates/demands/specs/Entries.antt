@@ -16,7 +16,7 @@ use Rattle.math_terms.specs.Terms.{Term, con, var}
 use Rattle.math_terms.specs.Fillings.{Filling, Typed, fill, Occurs}
 use Rattle.math_terms.specs.Linear.{LeftLinear}
 use Rattle.math_terms.proofs.Fillings.{fills-agree}
-use Rattle.text_grammar.specs.Terms.{OurTerm}
+use Rattle.text_grammar.specs.Terms.{OurFields, termsOf, SlipFields, itemsOf}
 use Rattle.text_grammar.specs.constants.Constants.{Con, consts, some-of, some-of-le}
 use Rattle.text_grammar.specs.Limits.{IsLeft}
 use Rattle.text_grammar.proofs.constants.Linear.{left-linear}
@@ -40,15 +40,16 @@ Gives bs ψ φ = (b : Binding) → List·Memᴰ b bs → φ (b .kind) (b .number
 
 -- "That filling, put into the values that the entry's line shows, gives the fillings of the two rules": every filling that has the values
 -- shown, whatever it gives to other variables, makes the rule the slip w, and one that has them is typed
-pub record Filled (rule : List (List OurTerm)) (bs : List Binding) (ψ : Filling Con Kind ℕ) (w : List (List Con)) : Type 0 where
-  pub makes : (φ : Filling Con Kind ℕ) → Gives bs ψ φ → map (fill φ) rule ≡ w
+pub record Filled (rule : OurFields) (bs : List Binding) (ψ : Filling Con Kind ℕ) (w : SlipFields) : Type 0 where
+  pub makes : (φ : Filling Con Kind ℕ) → Gives bs ψ φ → map (fill φ) (termsOf rule) ≡ itemsOf w
   pub one : (φ : Filling Con Kind ℕ) × Typed basics consts φ × Gives bs ψ φ
 
 abbrev bound : Subst Con Kind ℕ ℕ → Variable → Binding
 bound σ v = record { kind = v .0; number = v .1; value = σ (v .0) (v .1) }
 
-filled-by : (rule : List (List OurTerm)) → IsLeft rule → (σ : Subst Con Kind ℕ ℕ) (ψ : Filling Con Kind ℕ) (w : List (List Con))
-    → Typed basics consts (λ k n. fill ψ (σ k n)) → map (fill (λ k n. fill ψ (σ k n))) rule ≡ w → Filled rule (bindingsOf rule σ) ψ w
+filled-by : (rule : OurFields) → IsLeft rule → (σ : Subst Con Kind ℕ ℕ) (ψ : Filling Con Kind ℕ) (w : SlipFields)
+    → Typed basics consts (λ k n. fill ψ (σ k n)) → map (fill (λ k n. fill ψ (σ k n))) (termsOf rule) ≡ itemsOf w
+    → Filled rule (bindingsOf (termsOf rule) σ) ψ w
 filled-by rule is σ ψ w t h =
     record {
       makes = λ φ g. fills-agree φ (λ k n. fill ψ (σ k n)) rule
@@ -56,28 +57,28 @@ filled-by rule is σ ψ w t h =
       one = (λ k n. fill ψ (σ k n), t, gives);
     }
   where
-    gives : Gives (bindingsOf rule σ) ψ (λ k n. fill ψ (σ k n))
+    gives : Gives (bindingsOf (termsOf rule) σ) ψ (λ k n. fill ψ (σ k n))
     gives b i =
-        let v = Memᴰ·of-map (bound σ) (variables rule) i in
+        let v = Memᴰ·of-map (bound σ) (variables (termsOf rule)) i in
         subst (λ (c : Binding). fill ψ (σ (c .kind) (c .number)) ≡ fill ψ (c .value)) (v .2) refl
 
 -- ---- the numbers and the lengths
 
 -- "their numbers may reach 31 and its fields 31 terms"
 pub record Sized (l : Line) : Type 0 where
-  pub short : All (λ f. length f ≤ entryTerms) (l .fields)
-  pub small : (k : Kind) (n : ℕ) → Any (Occurs k n) (l .fields) → n ≤ largestEntryNumber
+  pub short : All (λ f. length f ≤ entryTerms) (termsOf (l .fields))
+  pub small : (k : Kind) (n : ℕ) → Any (Occurs k n) (termsOf (l .fields)) → n ≤ largestEntryNumber
 
-module _ (r₁ r₂ : List (List OurTerm)) (is₁ : IsLeft r₁) (is₂ : IsLeft r₂) where
-  lin₁ : LeftLinear r₁
+module _ (r₁ r₂ : OurFields) (is₁ : IsLeft r₁) (is₂ : IsLeft r₂) where
+  lin₁ : LeftLinear (termsOf r₁)
   lin₁ = left-linear r₁ (is₁ .1)
 
-  lin₂ : LeftLinear r₂
+  lin₂ : LeftLinear (termsOf r₂)
   lin₂ = left-linear r₂ (is₂ .1)
 
   -- the line at a place is that of an entry
-  pub lines-filled : (i : ℕ) (l : Line) → getElem? (linesOf r₁ r₂) i ≡ some l → (w : List (List Con)) (ψ : Filling Con Kind ℕ)
-      → Typed basics consts ψ → map (fill ψ) (l .fields) ≡ w → Filled r₁ (l .left) ψ w × Filled r₂ (l .right) ψ w
+  pub lines-filled : (i : ℕ) (l : Line) → getElem? (linesOf r₁ r₂) i ≡ some l → (w : SlipFields) (ψ : Filling Con Kind ℕ)
+      → Typed basics consts ψ → map (fill ψ) (termsOf (l .fields)) ≡ itemsOf w → Filled r₁ (l .left) ψ w × Filled r₂ (l .right) ψ w
   lines-filled i l p w ψ t h =
       let e = entry-fills r₁ r₂ is₁ is₂ i l p w ψ t h in
       subst (λ (x : Line). Filled r₁ (x .left) ψ w × Filled r₂ (x .right) ψ w) (e .1) (
@@ -86,16 +87,16 @@ module _ (r₁ r₂ : List (List OurTerm)) (is₁ : IsLeft r₁) (is₂ : IsLeft
       )
 
   -- a rule's variables have the numbers 0 to 15
-  number-in : (r : List (List OurTerm)) → IsLeft r → (k : Kind) (n : ℕ) → Any (Occurs k n) r → List·Memᴰ n numbers
+  number-in : (r : OurFields) → IsLeft r → (k : Kind) (n : ℕ) → Any (Occurs k n) (termsOf r) → List·Memᴰ n numbers
   number-in r is k n o =
-      let v = keep-mem (λ (v : Variable). occurs (v .0) (v .1) r) (k, n) every .0 (in-variables r (is .0 .3) k n .1 o) in
+      let v = keep-mem (λ (v : Variable). occurs (v .0) (v .1) (termsOf r)) (k, n) every .0 (in-variables r (is .0 .3) k n .1 o) in
       let h : n ≤ largestNumber = every-mem k n .0 (v .0) in
       numbers-mem (suc largestNumber) 0 n .1 (omega arith, omega arith)
 
   pub lines-sized : (i : ℕ) (l : Line) → getElem? (linesOf r₁ r₂) i ≡ some l → Sized l
   lines-sized i l p = subst Sized (e .2) (record { short = short; small = small })
     where
-      e : (e : OurEntry) × List·Memᴰ e (overlaps basics consts ℕ-discrete r₁ r₂) × (lineOf r₁ r₂ e ≡ l)
+      e : (e : OurEntry) × List·Memᴰ e (overlaps basics consts ℕ-discrete (termsOf r₁) (termsOf r₂)) × (lineOf r₁ r₂ e ≡ l)
       e = entry-of r₁ r₂ is₁ is₂ i l p
 
       short : All (λ f. length f ≤ entryTerms) (e .0 .fields)
@@ -137,28 +138,29 @@ module _ (B : Type 0) where
   any-typed (basic k) = (con (some-of k), refl, some-of-le k)
   any-typed list = tt
 
-  module _ (rule : List (List OurTerm)) (σ : Subst Con Kind ℕ B) where
+  module _ (rule : OurFields) (σ : Subst Con Kind ℕ B) where
     -- the same on the rule's variables, and some value of its type elsewhere
     abbrev elsewhere : Subst Con Kind ℕ B
-    elsewhere k n = cond (occurs k n rule) (σ k n) (anyOf k)
+    elsewhere k n = cond (occurs k n (termsOf rule)) (σ k n) (anyOf k)
 
-    elsewhere-typed : ((k : Kind) (n : ℕ) → Any (Occurs k n) rule → TermsOf basics consts k (σ k n)) → TypedSubst basics consts elsewhere
-    elsewhere-typed h k n = go (occurs k n rule) refl
+    elsewhere-typed : ((k : Kind) (n : ℕ) → Any (Occurs k n) (termsOf rule) → TermsOf basics consts k (σ k n))
+        → TypedSubst basics consts elsewhere
+    elsewhere-typed h k n = go (occurs k n (termsOf rule)) refl
       where
-        go : (b : Bool) → occurs k n rule ≡ b → TermsOf basics consts k (cond b (σ k n) (anyOf k))
+        go : (b : Bool) → occurs k n (termsOf rule) ≡ b → TermsOf basics consts k (cond b (σ k n) (anyOf k))
         go true e = h k n (occurs-is k n rule .0 e)
         go false e = any-typed k
 
-    elsewhere-same : map (substitute elsewhere) rule ≡ map (substitute σ) rule
+    elsewhere-same : map (substitute elsewhere) (termsOf rule) ≡ map (substitute σ) (termsOf rule)
     elsewhere-same = substitutes-agree elsewhere σ rule (λ k n o. ap (λ (b : Bool). cond b (σ k n) (anyOf k)) (occurs-is k n rule .1 o))
 
 -- "A solution gives every variable of both rules .. a value of its type": values that are typed on the rules' own variables and turn both
 -- into the same fields are those of a solution with these fields, so that `Solution`'s typedness at every name leaves none out
-pub solution-extends : (r₁ r₂ : List (List OurTerm)) (B : Type 0) (σ τ : Subst Con Kind ℕ B)
-    → ((k : Kind) (n : ℕ) → Any (Occurs k n) r₁ → TermsOf basics consts k (σ k n))
-    → ((k : Kind) (n : ℕ) → Any (Occurs k n) r₂ → TermsOf basics consts k (τ k n))
-    → map (substitute σ) r₁ ≡ map (substitute τ) r₂
-    → (x : Solution r₁ r₂ B) × (theory.fieldsOf basics consts r₁ r₂ B x ≡ map (substitute σ) r₁)
+pub solution-extends : (r₁ r₂ : OurFields) (B : Type 0) (σ τ : Subst Con Kind ℕ B)
+    → ((k : Kind) (n : ℕ) → Any (Occurs k n) (termsOf r₁) → TermsOf basics consts k (σ k n))
+    → ((k : Kind) (n : ℕ) → Any (Occurs k n) (termsOf r₂) → TermsOf basics consts k (τ k n))
+    → map (substitute σ) (termsOf r₁) ≡ map (substitute τ) (termsOf r₂)
+    → (x : Solution r₁ r₂ B) × (theory.fieldsOf basics consts (termsOf r₁) (termsOf r₂) B x ≡ map (substitute σ) (termsOf r₁))
 solution-extends r₁ r₂ B σ τ h k e = (
   record {
     left = elsewhere B r₁ σ;

@@ -12,7 +12,7 @@ use native.Mathlib.Omega.{arith}
 use lib.Dec.{leb}
 use lib.ListN.{length, take, drop}
 use borrow.Author.Tests.{le-leb, lt-leb, leb-false}
-use Rattle.text_grammar.specs.Terms.{OurTerm}
+use Rattle.text_grammar.specs.Terms.{OurFields}
 use Rattle.text_grammar.specs.Limits.{IsLeft}
 use Rattle.text_grammar.specs.Read.{Reason, long, grammar, fields, terms, limits, linear, variable, unknown, number}
 use Rattle.text_grammar.specs.Read.{OutcomeOf, refused, accepted, earlier, NoReason}
@@ -80,7 +80,7 @@ reading-accepted t = go (readRule t)
 
 -- DEMAND 3 OF THE LIBRARY, of texts that are read as rules with the left sides x and y, in lent bytes that have room for the list: nothing
 -- is refused, the counts are the list's, the first bytes, as many as are counted, are the list of demand 3, and the others are the old ones
-pub record LibraryShared (B : Type 0) (x y : List (List OurTerm)) (old : List ℕ) (r : Listing) (new : List ℕ) : Type 0 where
+pub record LibraryShared (B : Type 0) (x y : OurFields) (old : List ℕ) (r : Listing) (new : List ℕ) : Type 0 where
   pub left : r .left ≡ accepting
   pub right : r .right ≡ accepting
   pub refusal : r .refusal ≡ 0
@@ -111,10 +111,10 @@ eight-numbered true = (λ e. absurd (omega (arith, e)), λ e. absurd (false≢tr
 eight-numbered false = (λ e. refl, λ e. refl)
 
 module _ {t u old : List ℕ} {r : Listing} {new : List ℕ} (is : LibraryLists t u old r new) where
-  abbrev x₀ : List (List OurTerm)
+  abbrev x₀ : OurFields
   x₀ = leftSaid (readRule t)
 
-  abbrev y₀ : List (List OurTerm)
+  abbrev y₀ : OurFields
   y₀ = leftSaid (readRule u)
 
   abbrev size : ℕ
@@ -145,7 +145,7 @@ module _ {t u old : List ℕ} {r : Listing} {new : List ℕ} (is : LibraryLists 
       let a : IsLeft x₀ = subst IsLeft (sym e) (rule-read t x reads-t .0) in
       let b : IsLeft y₀ = subst IsLeft (sym f) (rule-read u y reads-u .0) in
       let l = rules-3 (lists fits) B a b fits in
-      subst₂ (λ (a b : List (List OurTerm)). LibraryShared B a b old r new) e f (
+      subst₂ (λ (a b : OurFields). LibraryShared B a b old r new) e f (
       record {
         left = ap (λ (a : Listing). a .left) (is .answer) ∙ ap readingOf reads-t;
         right = ap (λ (a : Listing). a .right) (is .answer) ∙ ap readingOf reads-u;

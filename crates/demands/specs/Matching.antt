@@ -22,7 +22,7 @@ use Rattle.math_terms.specs.Laws.{expr}
 use Rattle.math_terms.specs.Matching.{MatchesByLaws}
 use Rattle.math_terms.specs.Matcher.{complete}
 use Rattle.text_grammar.specs.Grammar.{Raw, Says}
-use Rattle.text_grammar.specs.Terms.{OurTerm, fieldsOf}
+use Rattle.text_grammar.specs.Terms.{OurFields, termsOf, SlipFields, itemsOf, fieldsOf}
 use Rattle.text_grammar.specs.constants.Constants.{Con, consts}
 use Rattle.text_grammar.specs.Limits.{IsCon, IsLeft, IsSlip}
 use Rattle.text_grammar.specs.Read.{OutcomeOf, Outcome, refused, accepted, readSide, readSlip}
@@ -65,34 +65,34 @@ use Rattle.match_rules.proofs.Runs.{atom-at, known-at, run-blank, run-items, ru
 -- ---- the answer's filling
 
 -- WHAT AN ANSWER SHOWS of a rule's fields and a slip's constants: its value, as the filling φ
-pub record Shows (rule : List (List OurTerm)) (slip : List (List Con)) (value : FillingValue) (φ : Filling Con Kind ℕ) : Type 0 where
+pub record Shows (rule : OurFields) (slip : SlipFields) (value : FillingValue) (φ : Filling Con Kind ℕ) : Type 0 where
   -- φ makes the two equal, each variable by its type; any constants complete it for the variables that the rule lacks
   pub typed : Typed basics consts (complete basics consts φ)
-  pub fills : map (fill (complete basics consts φ)) rule ≡ slip
+  pub fills : map (fill (complete basics consts φ)) (termsOf rule) ≡ itemsOf slip
   -- "There is never more than one filling, and that is to be shown": those that make the two equal give the rule's variables φ's values
   pub one : (θ : Filling Con Kind ℕ) → Typed basics consts θ
-      → (map (fill θ) rule ≡ slip) ↔ ((k : Kind) (n : ℕ) → Any (Occurs k n) rule → θ k n ≡ φ k n)
+      → (map (fill θ) (termsOf rule) ≡ itemsOf slip) ↔ ((k : Kind) (n : ℕ) → Any (Occurs k n) (termsOf rule) → θ k n ≡ φ k n)
   -- "yes with the value of every variable": an atom variable of the rule is known, and its term is the constant that φ gives
-  pub atoms : (k : Basic) (n : ℕ) → Any (Occurs (basic k) n) rule
+  pub atoms : (k : Basic) (n : ℕ) → Any (Occurs (basic k) n) (termsOf rule)
       → (c : Con) × (φ (basic k) n ≡ c ∷ []) × (getD (value .values .known) (slot (basic k) n) false ≡ true)
       × (atomOf (value .values) (basic k) n ≡ encodeTerm (con c))
   -- "a list variable's value is a run of the slip's terms": the items there are the value that φ gives, and it lies within its field
-  pub runs : (n : ℕ) → Any (Occurs list n) rule → (itemsAt slip (runOf value n) ≡ φ list n) × LiesIn slip (runOf value n)
+  pub runs : (n : ℕ) → Any (Occurs list n) (termsOf rule) → (itemsAt slip (runOf value n) ≡ φ list n) × LiesIn slip (runOf value n)
   -- "blank for those the rule lacks", "every number zero": in φ, and in the value
-  pub lacking : (k : Kind) (n : ℕ) → (Any (Occurs k n) rule → ⊥) → φ k n ≡ []
-  pub blank-atoms : (k : Basic) (n : ℕ) → n ≤ largestNumber → (Any (Occurs (basic k) n) rule → ⊥)
+  pub lacking : (k : Kind) (n : ℕ) → (Any (Occurs k n) (termsOf rule) → ⊥) → φ k n ≡ []
+  pub blank-atoms : (k : Basic) (n : ℕ) → n ≤ largestNumber → (Any (Occurs (basic k) n) (termsOf rule) → ⊥)
       → (getD (value .values .known) (slot (basic k) n) false ≡ false) × (atomOf (value .values) (basic k) n ≡ blankTerm)
-  pub blank-runs : (n : ℕ) → (Any (Occurs list n) rule → ⊥) → runOf value n ≡ blankRun
+  pub blank-runs : (n : ℕ) → (Any (Occurs list n) (termsOf rule) → ⊥) → runOf value n ≡ blankRun
   -- so the value is that of φ
   pub settled : value ≡ record { values = encodeValues φ; runs = runsOf rule slip }
 
-module _ (rule : List (List OurTerm)) (is-rule : IsLeft rule) (slip : List (List Con)) (φ : Filling Con Kind ℕ)
+module _ (rule : OurFields) (is-rule : IsLeft rule) (slip : SlipFields) (φ : Filling Con Kind ℕ)
     (yes-φ : matcher rule slip ≡ some φ)
   where
     abbrev shown : FillingValue
     shown = record { values = encodeValues φ; runs = runsOf rule slip }
 
-    number-of : (k : Kind) (n : ℕ) → Any (Occurs k n) rule → n ≤ largestNumber
+    number-of : (k : Kind) (n : ℕ) → Any (Occurs k n) (termsOf rule) → n ≤ largestNumber
     number-of k n o = number-rule k n rule (is-rule .0 .3) o
 
     shows : Shows rule slip shown φ
@@ -129,13 +129,13 @@ abbrev pub ReadAsSlip : List ℕ → Slip → Type 0
 ReadAsSlip u w = ReadsSlip u (record { verdict = Accepted; slip = w })
 
 abbrev pub ReadAsSide : List ℕ → RuleSide → Type 0
-ReadAsSide t v = (r : List (List OurTerm)) × (readSide t ≡ accepted r) × (v ≡ encodeSide r)
+ReadAsSide t v = (r : OurFields) × (readSide t ≡ accepted r) × (v ≡ encodeSide r)
 
 -- WHAT MATCHING ANSWERS of the value v of one side and a slip value w
 pub record SideMatching (v : RuleSide) (w : Slip) (m : Match) : Type 0 where
   -- DEMAND 2's sentence, of values that reading returns: their fields as one writes them, equal by the laws
   pub exactly : acceptedLeft v ≡ true → acceptedSlip w ≡ true
-      → (m .yes ≡ true) ↔ MatchesByLaws basics consts (map expr (viewSide v)) (map expr (viewSlip w))
+      → (m .yes ≡ true) ↔ MatchesByLaws basics consts (map expr (termsOf (viewSide v))) (map expr (termsOf (viewSlip w)))
   -- the same as they are written: whatever texts t and u are read as the two, which say x and y
   pub as-written : (t u : List ℕ) → ReadAsSide t v → ReadAsSlip u w → (x y : List (List Raw)) → Says t x → Says u y
       → (m .yes ≡ true) ↔ MatchesByLaws basics consts (map writtenField x) (map writtenField y)
@@ -150,16 +150,16 @@ pub record SideMatching (v : RuleSide) (w : Slip) (m : Match) : Type 0 where
   pub unread-rule : acceptedLeft v ≡ false → m ≡ noMatch
   pub unread-slip : acceptedSlip w ≡ false → m ≡ noMatch
 
-found-yes : (r : List (List OurTerm)) (ws : List (List Con)) (m : Option (Filling Con Kind ℕ)) → (found r ws m .yes ≡ true) ↔ IsSome m
+found-yes : (r : OurFields) (ws : SlipFields) (m : Option (Filling Con Kind ℕ)) → (found r ws m .yes ≡ true) ↔ IsSome m
 found-yes r ws none = (λ e. absurd (false≢true e), λ h. absurd h)
 found-yes r ws (some φ) = (λ e. tt, λ h. refl)
 
 -- accepted values
 module _ (v : RuleSide) (w : Slip) (accepted-v : acceptedLeft v ≡ true) (accepted-w : acceptedSlip w ≡ true) where
-  abbrev rule : List (List OurTerm)
+  abbrev rule : OurFields
   rule = viewSide v
 
-  abbrev slip : List (List Con)
+  abbrev slip : SlipFields
   slip = map constants (viewSlip w)
 
   is-rule : IsLeft rule
@@ -182,7 +182,7 @@ module _ (v : RuleSide) (w : Slip) (accepted-v : acceptedLeft v ≡ true) (accep
       let m = match-iff rule (is-rule .1) slip in
       (λ e. m .1 (f .0 (sym (ap (λ a. a .yes) answer-is) ∙ e)), λ h. ap (λ a. a .yes) answer-is ∙ f .1 (m .0 h))
 
-  yes-laws : (answer .yes ≡ true) ↔ MatchesByLaws basics consts (map expr rule) (map expr (viewSlip w))
+  yes-laws : (answer .yes ≡ true) ↔ MatchesByLaws basics consts (map expr (termsOf rule)) (map expr (termsOf (viewSlip w)))
   yes-laws = let l = terms-matches rule (viewSlip w) (is-slip .1) in Iff·trans yes-iff (l .1, l .0)
 
   abbrev ByLaws : List (List Raw) → List (List Raw) → Type 0
@@ -191,8 +191,8 @@ module _ (v : RuleSide) (w : Slip) (accepted-v : acceptedLeft v ≡ true) (accep
   yes-written : (x y : List (List Raw)) → fieldsOf x ≡ rule → fieldsOf y ≡ viewSlip w → (answer .yes ≡ true) ↔ ByLaws x y
   yes-written x y ex ey =
       let h = written-matches x y (subst (All (All IsCon)) (sym ey) (is-slip .1)) in
-      let k = subst (λ (r : List (List OurTerm)). ByLaws x y ↔ Matches r (map constants (fieldsOf y))) ex h in
-      let l = subst (λ (s : List (List OurTerm)). ByLaws x y ↔ Matches rule (map constants s)) ey k in
+      let k = subst (λ (r : OurFields). ByLaws x y ↔ Matches r (map constants (fieldsOf y))) ex h in
+      let l = subst (λ (s : OurFields). ByLaws x y ↔ Matches rule (map constants s)) ey k in
       Iff·trans yes-iff (l .1, l .0)
 
   the-filling : answer .yes ≡ true → (φ : Filling Con Kind ℕ) × Shows rule slip (answer .filling) φ
@@ -206,7 +206,7 @@ module _ (v : RuleSide) (w : Slip) (accepted-v : acceptedLeft v ≡ true) (accep
           (φ, subst (λ (x : FillingValue). Shows rule slip x φ) (sym same) (shows rule is-rule slip φ is))
 
 -- a text that is read as a value says its fields
-abbrev SaysFields : List ℕ → List (List OurTerm) → Type 0
+abbrev SaysFields : List ℕ → OurFields → Type 0
 SaysFields t r = (x : List (List Raw)) → Says t x → fieldsOf x ≡ r
 
 read-side : (t : List ℕ) (v : RuleSide) → ReadAsSide t v → (acceptedLeft v ≡ true) × SaysFields t (viewSide v)
@@ -235,7 +235,7 @@ read-slip u w reads = go (readSlip u) refl reads
         )
 
 -- document 01: "no with the blank filling (every number zero)"
-no-is-blank : (r s : List (List OurTerm)) → matchOf r s .yes ≡ false → matchOf r s ≡ noMatch
+no-is-blank : (r s : OurFields) → matchOf r s .yes ≡ false → matchOf r s ≡ noMatch
 no-is-blank [] s e = refl
 no-is-blank (f ∷ r) [] e = refl
 no-is-blank (f ∷ r) (w ∷ s) e = go (matcher (f ∷ r) (map constants (w ∷ s))) e
@@ -269,7 +269,7 @@ side-matching v w m is = subst (SideMatching v w) (sym is) of-answer
 pub record Matching (v : Rule) (w : Slip) (m : Match) : Type 0 where
   -- DEMAND 2's sentence, of values that reading returns: the left side's fields and the slip's as one writes them, equal by the laws
   pub exactly : acceptedRule v ≡ true → acceptedSlip w ≡ true
-      → (m .yes ≡ true) ↔ MatchesByLaws basics consts (map expr (viewSide (v .left))) (map expr (viewSlip w))
+      → (m .yes ≡ true) ↔ MatchesByLaws basics consts (map expr (termsOf (viewSide (v .left)))) (map expr (termsOf (viewSlip w)))
   -- the same as they are written: whatever texts t and u are read as the two, which say s and y
   pub as-written : (t u : List ℕ) → ReadAsRule t v → ReadAsSlip u w → (s : Sides) (y : List (List Raw)) → SaysRule t s → Says u y
       → (m .yes ≡ true) ↔ MatchesByLaws basics consts (map writtenField (leftSide s)) (map writtenField y)
@@ -308,13 +308,14 @@ left-read t v reads =
 pub matching : (v : Rule) (w : Slip) (m : Match) → m ≡ matchOf (countedRule v .0) (countedSlip w) → Matching v w m
 matching v w m is =
     record {
-      exactly = λ h. along (λ (r : List (List OurTerm)). acceptedSlip w ≡ true
-          → (m .yes ≡ true) ↔ MatchesByLaws basics consts (map expr r) (map expr (viewSlip w))) h (side .exactly (as-left h));
+      exactly = λ h. along (λ (r : OurFields). acceptedSlip w ≡ true
+          → (m .yes ≡ true) ↔ MatchesByLaws basics consts (map expr (termsOf r)) (map expr (termsOf (viewSlip w))))
+          h (side .exactly (as-left h));
       as-written = λ t u reads reads-slip s y says says-slip.
           side .as-written (leftText t) u (left-read t v reads) reads-slip (leftSide s) y (left-says t s says) says-slip;
-      on-terms = λ h. along (λ (r : List (List OurTerm)). acceptedSlip w ≡ true → (m .yes ≡ true) ↔ Matches r (map constants (viewSlip w)))
+      on-terms = λ h. along (λ (r : OurFields). acceptedSlip w ≡ true → (m .yes ≡ true) ↔ Matches r (map constants (viewSlip w)))
           h (side .on-terms (as-left h));
-      filling = λ h. along (λ (r : List (List OurTerm)). acceptedSlip w ≡ true → m .yes ≡ true
+      filling = λ h. along (λ (r : OurFields). acceptedSlip w ≡ true → m .yes ≡ true
           → (φ : Filling Con Kind ℕ) × Shows r (map constants (viewSlip w)) (m .filling) φ) h (side .filling (as-left h));
       no-blank = side .no-blank;
       unread-rule = λ h. side .unread-rule (left-accepted v ∙ h);
@@ -323,11 +324,11 @@ matching v w m is =
     }
   where
     side : SideMatching (leftValue v) w m
-    side = side-matching (leftValue v) w m (is ∙ ap (λ (r : List (List OurTerm)). matchOf r (countedSlip w)) (sym (left-counted v)))
+    side = side-matching (leftValue v) w m (is ∙ ap (λ (r : OurFields). matchOf r (countedSlip w)) (sym (left-counted v)))
 
     as-left : acceptedRule v ≡ true → acceptedLeft (leftValue v) ≡ true
     as-left h = left-accepted v ∙ h
 
     -- what is said of the left side's value is said of the rule's own
-    along : (P : List (List OurTerm) → Type 0) → acceptedRule v ≡ true → P (viewSide (leftValue v)) → P (viewSide (v .left))
+    along : (P : OurFields → Type 0) → acceptedRule v ≡ true → P (viewSide (leftValue v)) → P (viewSide (v .left))
     along P h = subst P (ap viewSide (left-yes v h))

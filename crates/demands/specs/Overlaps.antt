@@ -23,7 +23,7 @@ use Rattle.base_lists.specs.Seqs.{All}
 use Rattle.math_types.specs.Types.{Kind, basics}
 use Rattle.math_terms.specs.Fillings.{Filling, Typed, fill}
 use Rattle.text_grammar.specs.Told.{Told}
-use Rattle.text_grammar.specs.Terms.{OurTerm}
+use Rattle.text_grammar.specs.Terms.{OurFields, termsOf, SlipFields, itemsOf}
 use Rattle.text_grammar.specs.constants.Constants.{Con, consts}
 use Rattle.text_grammar.specs.Limits.{IsLeft}
 use Rattle.text_grammar.specs.Read.{Reason, OutcomeOf, refused, accepted}
@@ -56,7 +56,7 @@ use Rattle.demands.specs.Entries.{Filled, lines-filled}
 
 -- What demand 3 says of the bytes of a list of `count` entries of the rules r₁ and r₂. A slip's fields are of any length, and the
 -- solutions' variables have any names B.
-pub record Demand3 (B : Type 0) (r₁ r₂ : List (List OurTerm)) (count : ℕ) (bytes : List ℕ) : Type 0 where
+pub record Demand3 (B : Type 0) (r₁ r₂ : OurFields) (count : ℕ) (bytes : List ℕ) : Type 0 where
   -- the bytes are the text of some lines, and of no others: so "an entry of the list written" is said of the bytes
   pub lines : List Line
   pub writable : All WritableLine lines
@@ -65,34 +65,34 @@ pub record Demand3 (B : Type 0) (r₁ r₂ : List (List OurTerm)) (count : ℕ) 
   -- "the returned entry count"
   pub counted : length lines ≡ count
   -- "the slip fits an entry of the list written exactly when both rules match it"
-  pub exact : (w : List (List Con)) → (Matches r₁ w × Matches r₂ w) ↔ ((i : ℕ) × (l : Line) × (getElem? lines i ≡ some l) × Fits l w)
+  pub exact : (w : SlipFields) → (Matches r₁ w × Matches r₂ w) ↔ ((i : ℕ) × (l : Line) × (getElem? lines i ≡ some l) × Fits l w)
   -- "it then fits that entry only": entries at two places share no slip
   pub once : (i j : ℕ) (l m : Line) → getElem? lines i ≡ some l → getElem? lines j ≡ some m
-      → (w : List (List Con)) → Fits l w → Fits m w → i ≡ j
+      → (w : SlipFields) → Fits l w → Fits m w → i ≡ j
   -- "and both match it with the fillings that the entry shows": with no others
-  pub fillings : (i : ℕ) (l : Line) → getElem? lines i ≡ some l → (w : List (List Con)) (ψ : Filling Con Kind ℕ)
-      → Typed basics consts ψ → map (fill ψ) (l .fields) ≡ w → Shows r₁ (l .left) ψ w × Shows r₂ (l .right) ψ w
+  pub fillings : (i : ℕ) (l : Line) → getElem? lines i ≡ some l → (w : SlipFields) (ψ : Filling Con Kind ℕ)
+      → Typed basics consts ψ → map (fill ψ) (termsOf (l .fields)) ≡ itemsOf w → Shows r₁ (l .left) ψ w × Shows r₂ (l .right) ψ w
   -- and with these
-  pub filled : (i : ℕ) (l : Line) → getElem? lines i ≡ some l → (w : List (List Con)) (ψ : Filling Con Kind ℕ)
-      → Typed basics consts ψ → map (fill ψ) (l .fields) ≡ w → Filled r₁ (l .left) ψ w × Filled r₂ (l .right) ψ w
+  pub filled : (i : ℕ) (l : Line) → getElem? lines i ≡ some l → (w : SlipFields) (ψ : Filling Con Kind ℕ)
+      → Typed basics consts ψ → map (fill ψ) (termsOf (l .fields)) ≡ itemsOf w → Filled r₁ (l .left) ψ w × Filled r₂ (l .right) ψ w
   -- "Every entry has a slip", one of document 01's constants
-  pub slips : (i : ℕ) (l : Line) → getElem? lines i ≡ some l → (w : List (List Con)) × OurSlip w × Fits l w
+  pub slips : (i : ℕ) (l : Line) → getElem? lines i ≡ some l → (w : SlipFields) × OurSlip w × Fits l w
   -- "No list of solutions, written with our terms, that covers all shared slips has fewer solutions than the returned entry count":
   -- the shared slips that must be covered are those of document 01's constants
   pub least : (xs : List (Solution r₁ r₂ B))
-      → ((w : List (List Con)) → OurSlip w → Matches r₁ w → Matches r₂ w
+      → ((w : SlipFields) → OurSlip w → Matches r₁ w → Matches r₂ w
       → (x : Solution r₁ r₂ B) × List·Memᴰ x xs × Covers r₁ r₂ B x w)
       → count ≤ length xs
 
 -- WHAT A LISTING ANSWERS AND LEAVES where the lent bytes `old` have room for the whole list: the two counts, and no refusal; the first
 -- bytes, as many as are counted, are the list of demand 3, and the others are the old ones
-pub record SharedSlips (B : Type 0) (x y : List (List OurTerm)) (old : List ℕ) (r : Listed) (new : List ℕ) : Type 0 where
+pub record SharedSlips (B : Type 0) (x y : OurFields) (old : List ℕ) (r : Listed) (new : List ℕ) : Type 0 where
   pub answer : told r ≡ record { number = none; values = length (linesOf x y) ∷ length (overlapText x y) ∷ [] }
   pub list : Demand3 B x y (length (linesOf x y)) (take (length (overlapText x y)) new)
   pub behind : drop (length (overlapText x y)) new ≡ drop (length (overlapText x y)) old
 
 -- "8: as in searching, with the entry count and the needed byte count, the old bytes left .. No refusal besides."
-pub record RefusedByRoom (x y : List (List OurTerm)) (old : List ℕ) (r : Listed) (new : List ℕ) : Type 0 where
+pub record RefusedByRoom (x y : OurFields) (old : List ℕ) (r : Listed) (new : List ℕ) : Type 0 where
   -- more bytes are needed than lent
   pub eight-only : (told r .number ≡ some 8) ↔ (length old < length (overlapText x y))
   -- refused or not
@@ -102,7 +102,7 @@ pub record RefusedByRoom (x y : List (List OurTerm)) (old : List ℕ) (r : Liste
 
 -- ---- for the rules that reading returns
 
-pub of-rules : (B : Type 0) (r₁ r₂ : List (List OurTerm)) → IsLeft r₁ → IsLeft r₂
+pub of-rules : (B : Type 0) (r₁ r₂ : OurFields) → IsLeft r₁ → IsLeft r₂
     → Demand3 B r₁ r₂ (length (linesOf r₁ r₂)) (overlapText r₁ r₂)
 of-rules B r₁ r₂ a b =
     record {
@@ -119,7 +119,7 @@ of-rules B r₁ r₂ a b =
       least = lines-least r₁ r₂ a b B;
     }
 
-module _ {x y : List (List OurTerm)} {old : List ℕ} {r : Listed} {new : List ℕ} (lists : Lists x y old r new) where
+module _ {x y : OurFields} {old : List ℕ} {r : Listed} {new : List ℕ} (lists : Lists x y old r new) where
   abbrev text : List ℕ
   text = overlapText x y
 
@@ -181,7 +181,7 @@ pub record NoneListed (old : List ℕ) (r : Listed) (new : List ℕ) : Type 0 wh
   pub answer : told r ≡ record { number = none; values = 0 ∷ 0 ∷ [] }
   pub bytes : new ≡ old
 
-module _ {x y : List (List OurTerm)} {old : List ℕ} {r : Listed} {new : List ℕ} (lists : Lists x y old r new) where
+module _ {x y : OurFields} {old : List ℕ} {r : Listed} {new : List ℕ} (lists : Lists x y old r new) where
   none-of : linesOf x y ≡ [] → NoneListed old r new
   none-of e =
       let n = none-listed x y e old in
@@ -189,7 +189,7 @@ module _ {x y : List (List OurTerm)} {old : List ℕ} {r : Listed} {new : List �
 
   -- "A rule with no fields counts as having no entries"
   pub no-fields-left : x ≡ [] → NoneListed old r new
-  no-fields-left e = none-of (ap (λ (z : List (List OurTerm)). linesOf z y) e)
+  no-fields-left e = none-of (ap (λ (z : OurFields). linesOf z y) e)
 
   pub no-fields-right : y ≡ [] → NoneListed old r new
   no-fields-right e = none-of (ap (linesOf x) e ∙ no-right x)
@@ -233,14 +233,14 @@ pub values-demand-3 : (B : Type 0) (t u : List ℕ) (x y : OurRule) {old : List 
     → Lists (countedRule (encodeRule x) .0) (countedRule (encodeRule y) .0) old r new → length (overlapText (x .0) (y .0)) ≤ length old
     → SharedSlips B (x .0) (y .0) old r new
 values-demand-3 B t u x y {old} {r} {new} reads-t reads-u lists room =
-    rules-3 (subst (λ (z : List (List OurTerm)). Lists (x .0) z old r new) (read-is u y reads-u)
-    (subst (λ (z : List (List OurTerm)). Lists z (countedRule (encodeRule y) .0) old r new) (read-is t x reads-t) lists))
+    rules-3 (subst (λ (z : OurFields). Lists (x .0) z old r new) (read-is u y reads-u)
+    (subst (λ (z : OurFields). Lists z (countedRule (encodeRule y) .0) old r new) (read-is t x reads-t) lists))
     B (rule-read t x reads-t .0) (rule-read u y reads-u .0) room
 
 -- ---- of texts
 
 -- what is answered of two texts that are read as rules with the left sides x and y, and what the lent bytes hold
-pub record TextsShared (B : Type 0) (x y : List (List OurTerm)) (old : List ℕ) (r : TextsListed) (new : List ℕ) : Type 0 where
+pub record TextsShared (B : Type 0) (x y : OurFields) (old : List ℕ) (r : TextsListed) (new : List ℕ) : Type 0 where
   pub left : r .left ≡ Accepted
   pub right : r .right ≡ Accepted
   pub shared : SharedSlips B x y old (r .listed) new
@@ -286,8 +286,8 @@ left-sides-only t u x y {old} {r} {new} reads-t reads-u = (
     said : (s : List ℕ) (w : OurRule) → readRule s ≡ accepted w → leftSaid (readRule s) ≡ leftSaid (readRule (leftText s))
     said s w e = ap leftSaid e ∙ sym (ap leftSaid (alone s w e))
 
-    both : {a b c d : List (List OurTerm)} → a ≡ b → c ≡ d → Lists a c old (r .listed) new → Lists b d old (r .listed) new
-    both e f h = subst₂ (λ (k l : List (List OurTerm)). Lists k l old (r .listed) new) e f h
+    both : {a b c d : OurFields} → a ≡ b → c ≡ d → Lists a c old (r .listed) new → Lists b d old (r .listed) new
+    both e f h = subst₂ (λ (k l : OurFields). Lists k l old (r .listed) new) e f h
 
 -- ---- what src/ ensures
 

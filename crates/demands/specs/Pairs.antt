@@ -15,7 +15,7 @@ use Rattle.bytes.specs.Bytes.{indexOf}
 use Rattle.base_limits.specs.Limits.{mostListBytes, pairLine}
 use Rattle.text_grammar.specs.Ascii.{ascii, newline}
 use Rattle.text_grammar.specs.Numbers.{digitsOf}
-use Rattle.text_grammar.specs.Terms.{OurTerm}
+use Rattle.text_grammar.specs.Terms.{OurFields}
 use Rattle.text_grammar.specs.Read.{Reason, number, OutcomeOf, refused, accepted, rule}
 use Rattle.text_grammar.specs.rules.Read.{OurRule, readRule}
 use Rattle.text_grammar.proofs.rules.Read.{rule-accepted}
@@ -76,7 +76,7 @@ both-said t x y e f = short-said t (both-short t x y e f) ∙ ap₂ readText e f
 -- ---- the theorems, for line number k, the line t and lent bytes that have room for the answer
 
 -- the title, and under it the list of demand 3 of rules with the left sides x and y
-pub record PrintsShared (B : Type 0) (k : ℕ) (x y : List (List OurTerm)) (old : List ℕ) (r : Written) (new : List ℕ) : Type 0 where
+pub record PrintsShared (B : Type 0) (k : ℕ) (x y : OurFields) (old : List ℕ) (r : Written) (new : List ℕ) : Type 0 where
   pub list : List ℕ
   pub demanded : Demand3 B x y (length (linesOf x y)) list
   pub printed : Prints (titleText k ++ list) old r new

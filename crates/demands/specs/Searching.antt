@@ -29,7 +29,7 @@ use Rattle.math_terms.specs.Laws.{_≈_, flat, replace}
 use Rattle.math_terms.proofs.Laws.{laws, flat-replace, filled-terms, cons-once}
 use Rattle.text_grammar.specs.Told.{Told}
 use Rattle.text_grammar.specs.Grammar.{Raw, Says}
-use Rattle.text_grammar.specs.Terms.{OurTerm, fieldsOf}
+use Rattle.text_grammar.specs.Terms.{OurTerm, OurFields, fieldsOf}
 use Rattle.text_grammar.specs.constants.Constants.{Con, consts}
 use Rattle.text_grammar.specs.Limits.{IsLeft}
 use Rattle.text_grammar.specs.Read.{accepted}
@@ -226,7 +226,7 @@ told-more : (x : Found) (room : ℕ) → room < sizeOf x → searchedOf x room .
 told-more (lines ls) room h = eight-iff (sizeOf (lines ls)) room (length ls ∷ (sizeOf (lines ls) ∷ [])) .1 h
 told-more nine room h = absurd (omega arith)
 
-no-right : (room : ℕ) (r : List (List OurTerm)) → linesFor room r [] ≡ lines []
+no-right : (room : ℕ) (r : OurFields) → linesFor room r [] ≡ lines []
 no-right room [] = refl
 no-right room (f ∷ r) = refl
 
@@ -250,7 +250,7 @@ module _ (v w : Field) (records : List Problem) (old : List ℕ) (r : Searched) 
 
   there-is : BothAccepted v w → there ≡ linesOf (length records) f g
   there-is a =
-      ap₂ (λ (x y : List (List OurTerm)). linesFor (length records) x y)
+      ap₂ (λ (x y : OurFields). linesFor (length records) x y)
       (ap (λ (c : Bool). cond c (viewSide (oneField v)) []) (a .0))
       (ap (λ (c : Bool). cond c (viewSide (oneField w)) []) (a .1))
 

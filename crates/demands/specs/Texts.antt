@@ -20,7 +20,7 @@ use Rattle.math_types.specs.Types.{Kind}
 use Rattle.text_grammar.specs.Told.{Told}
 use Rattle.text_grammar.specs.Grammar.{Raw, raw-var, Says}
 use Rattle.text_grammar.specs.Numbers.{value}
-use Rattle.text_grammar.specs.Terms.{OurTerm, fieldsOf}
+use Rattle.text_grammar.specs.Terms.{OurFields, fieldsOf}
 use Rattle.text_grammar.specs.Read.{Reason, long, grammar, fields, terms, limits, linear, variable, unknown, number, slip, earlier}
 use Rattle.text_grammar.specs.Read.{OutcomeOf, Outcome, refused, accepted, readSide, readSlip, Refuses, NoReason}
 use Rattle.text_grammar.specs.Tokens.{Over, NotLinear, IsVar}
@@ -309,7 +309,7 @@ slip-read-written v h =
     let a = slips.read-written v h in
     ap slipRead (a .0) ∙ ap (λ (w : Slip). record { verdict = Accepted; slip = w }) (a .1)
 
-pub slip-written-once : (t : List ℕ) (x : List (List OurTerm)) → readSlip t ≡ accepted x → plain (countedSlip (encodeSlip x)) ≡ plain x
+pub slip-written-once : (t : List ℕ) (x : OurFields) → readSlip t ≡ accepted x → plain (countedSlip (encodeSlip x)) ≡ plain x
 slip-written-once = slips.written-once
 
 pub slip-written-injective : (v w : Slip) → acceptedSlip v ≡ true → acceptedSlip w ≡ true

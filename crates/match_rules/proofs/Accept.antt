@@ -11,8 +11,7 @@ use lib.ListN.{length, take, length-map}
 use Rattle.base_limits.specs.Limits.{mostFields}
 use Rattle.base_lists.specs.Seqs.{All, IsCons, all-map}
 use Rattle.math_terms.specs.Linear.{OneList}
-use Rattle.text_grammar.specs.Terms.{OurTerm}
-use Rattle.text_grammar.specs.constants.Constants.{Con}
+use Rattle.text_grammar.specs.Terms.{OurFields, SlipFields}
 use Rattle.text_grammar.specs.Limits.{TermIn, IsCon}
 use Rattle.text_grammar.specs.constants.Matching.{constants, matcher, compared}
 use Rattle.text_grammar.proofs.constants.Linear.{left-linear}
@@ -34,13 +33,13 @@ use Rattle.match_rules.proofs.Found.{comparison-on}
 
 -- ---- the fields of a value
 
-pub fields-of : (r : List (List OurTerm)) → take (length r) ((encodeSide r) .fields) ≡ map encodeField r
+pub fields-of : (r : OurFields) → take (length r) ((encodeSide r) .fields) ≡ map encodeField r
 fields-of r = unpadded mostFields blankField encodeField r
 
-slip-fields-of : (s : List (List OurTerm)) → take (length s) ((encodeSlip s) .fields) ≡ map encodeSlipField s
+slip-fields-of : (s : OurFields) → take (length s) ((encodeSlip s) .fields) ≡ map encodeSlipField s
 slip-fields-of s = unpadded mostFields blankSlipField encodeSlipField s
 
-pub fields-again : (s : List (List OurTerm)) → All (All IsCon) s → map encodeSlipField s ≡ map encodeItems (map constants s)
+pub fields-again : (s : OurFields) → All (All IsCon) s → map encodeSlipField s ≡ map encodeItems (map constants s)
 fields-again [] i = refl
 fields-again (f ∷ s) i = ap₂ (λ (w : SlipField) (ws : List SlipField). w ∷ ws) (ap encodeSlipField (sym (constants-are f (i .0)))) (fields-again s (i .1))
 
@@ -49,7 +48,7 @@ fields-again (f ∷ s) i = ap₂ (λ (w : SlipField) (ws : List SlipField). w �
 pub not-rule : (rule : RuleSide) (slip : Slip) → acceptedLeft rule ≡ false → noMatch ≡ matchOf (countedLeft rule) (countedSlip slip)
 not-rule rule slip e = sym (ap (λ (b : Bool). matchOf (cond b (viewSide rule) []) (countedSlip slip)) e)
 
-no-fields : (r : List (List OurTerm)) → matchOf r [] ≡ noMatch
+no-fields : (r : OurFields) → matchOf r [] ≡ noMatch
 no-fields [] = refl
 no-fields (f ∷ r) = refl
 
@@ -61,10 +60,10 @@ none-made : (b : Bool) → _≡_ {A = ℕ} (0 + cond b 0 0) 0
 none-made true = refl
 none-made false = refl
 
-pub no-left : (s : List (List OurTerm)) → comparison [] s ≡ noComparison
+pub no-left : (s : OurFields) → comparison [] s ≡ noComparison
 no-left s = ap (λ (n : ℕ). record { found = noMatch; compared = n }) (none-made (eqb 0 (length (map constants s))))
 
-pub no-slip : (r : List (List OurTerm)) → comparison r [] ≡ noComparison
+pub no-slip : (r : OurFields) → comparison r [] ≡ noComparison
 no-slip [] = no-left []
 no-slip (f ∷ r) = ap (λ (n : ℕ). record { found = noMatch; compared = n }) (none-made (eqb (length (f ∷ r)) 0))
 
@@ -77,16 +76,16 @@ nothing-slip rule slip e = sym (ap (λ (b : Bool). comparison (countedLeft rule)
 -- ---- accepted values
 
 -- the answer, where both have fields
-pub with-fields : (r s : List (List OurTerm)) → IsCons r → IsCons s → matchOf r s ≡ found r (map constants s) (matcher r (map constants s))
+pub with-fields : (r s : OurFields) → IsCons r → IsCons s → matchOf r s ≡ found r (map constants s) (matcher r (map constants s))
 with-fields (f ∷ r) (w ∷ s) i j = refl
 with-fields (f ∷ r) [] i j = absurd j
 with-fields [] s i j = absurd i
 
 module _ (rule : RuleSide) (slip : Slip) (a : acceptedLeft rule ≡ true) (b : acceptedSlip slip ≡ true) where
-  abbrev fs : List (List OurTerm)
+  abbrev fs : OurFields
   fs = viewSide rule
 
-  abbrev ws : List (List Con)
+  abbrev ws : SlipFields
   ws = map constants (viewSlip slip)
 
   rule-fields : take (rule .n) (rule .fields) ≡ map encodeField fs

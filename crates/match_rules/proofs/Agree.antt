@@ -21,10 +21,9 @@ use Rattle.math_terms.specs.Matcher.{andThen, atoms, width, blank, bind, same, 
 use Rattle.math_terms.specs.Linear.{OneList}
 use Rattle.math_terms.proofs.Slices.{span, room-span}
 use Rattle.math_terms.proofs.Seqs.{item-at}
-use Rattle.text_grammar.specs.Terms.{OurTerm}
-use Rattle.text_grammar.specs.constants.Constants.{Con, con-eq, kind-of, consts}
+use Rattle.text_grammar.specs.Terms.{OurTerm, OurFields, SlipFields}
+use Rattle.text_grammar.specs.constants.Constants.{Con, con-eq, kind-of, some-of, consts}
 use Rattle.text_grammar.specs.Limits.{TermIn}
-use Rattle.text_grammar.specs.constants.Constants.{con-eq, kind-of, some-of, consts}
 use Rattle.text_values.specs.declared.SlipField.{SlipField}
 use Rattle.text_values.specs.constants.Constants.{encodeConstant}
 use Rattle.text_values.specs.Values.{blankTerm, encodeTerm, encodeField, encodeSlipField}
@@ -228,7 +227,7 @@ encodeItems w = encodeSlipField (map con w)
 pub items-of : (w : List Con) → itemsOf (encodeItems w) ≡ map enc w
 items-of w = unpadded mostItems blankTerm encodeTerm (map con w) ∙ map-map encodeTerm con w
 
-pub fields-agree : (fs : List (List OurTerm)) (ws : List (List Con)) (v : Values) (φ : Filling Con Kind ℕ) → All (All TermIn) fs → All OneList fs → Holds v φ
+pub fields-agree : (fs : OurFields) (ws : SlipFields) (v : Values) (φ : Filling Con Kind ℕ) → All (All TermIn) fs → All OneList fs → Holds v φ
     → Agrees (fieldsTested (map encodeField fs) (map encodeItems ws) v) (matchFields basics consts ℕ-discrete fs ws φ)
 fields-agree [] [] v φ i o h = (refl, h)
 fields-agree [] (w ∷ ws) v φ i o h = refl

@@ -17,7 +17,7 @@ use Rattle.math_terms.specs.Linear.{OneList}
 use Rattle.math_terms.specs.Matcher.{atoms, width, hasRoom, test, matchField}
 use Rattle.math_terms.proofs.Compared.{countThen, comparedWalk, comparedField, comparedFields}
 use Rattle.math_terms.proofs.Slices.{span, room-span}
-use Rattle.text_grammar.specs.Terms.{OurTerm}
+use Rattle.text_grammar.specs.Terms.{OurTerm, OurFields, SlipFields}
 use Rattle.text_grammar.specs.constants.Constants.{Con, consts}
 use Rattle.text_grammar.specs.Limits.{TermIn}
 use Rattle.text_values.specs.declared.Term.{Term as TermValue}
@@ -68,7 +68,7 @@ field-counts f w v φ i o h =
     go true e = walk-counts (length w - atoms f) w f 0 v φ i h (omega (arith, room-span f o (length w) e))
     go false e = refl
 
-pub fields-counts : (fs : List (List OurTerm)) (ws : List (List Con)) (v : Values) (φ : Filling Con Kind ℕ) → All (All TermIn) fs → All OneList fs → Holds v φ
+pub fields-counts : (fs : OurFields) (ws : SlipFields) (v : Values) (φ : Filling Con Kind ℕ) → All (All TermIn) fs → All OneList fs → Holds v φ
     → fieldsCompared (map encodeField fs) (map encodeItems ws) v ≡ comparedFields basics consts ℕ-discrete fs ws φ
 fields-counts [] ws v φ i o h = refl
 fields-counts (f ∷ fs) [] v φ i o h = refl

@@ -20,7 +20,7 @@ use Rattle.math_terms.specs.Fillings.{Filling}
 use Rattle.math_terms.specs.Matcher.{atoms, blank, matchFields}
 use Rattle.math_terms.specs.Linear.{lists, OneList}
 use Rattle.math_terms.proofs.Compared.{compared-none, compared-walked}
-use Rattle.text_grammar.specs.Terms.{OurTerm}
+use Rattle.text_grammar.specs.Terms.{OurTerm, OurFields, SlipFields}
 use Rattle.text_grammar.specs.constants.Constants.{Con, consts}
 use Rattle.text_grammar.specs.Limits.{TermIn}
 use Rattle.text_grammar.specs.constants.Matching.{matcher, compared}
@@ -124,7 +124,7 @@ runs-in j f w x o =
     ∙ runs-over j (length w + 1 - length f) 0 f x
     ∙ ap (λ (rs : List Run). record { values = x .values; runs = rs }) (one-gap j f (length w) (x .runs) o)
 
-runs-all : (j : ℕ) (fs : List (List OurTerm)) (ws : List (List Con)) (x : FillingValue) → All OneList fs
+runs-all : (j : ℕ) (fs : OurFields) (ws : SlipFields) (x : FillingValue) → All OneList fs
     → runsAll j (map encodeField fs) (map encodeItems ws) x ≡ record { values = x .values; runs = runsFrom j fs ws (x .runs) }
 runs-all j [] ws x o = refl
 runs-all j (f ∷ fs) [] x o = refl
@@ -134,10 +134,10 @@ runs-all j (f ∷ fs) (w ∷ ws) x o =
 
 -- ---- the answer
 
-pub answer-counts : (fs : List (List OurTerm)) (ws : List (List Con)) → length fs ≢ length ws → noMatch ≡ found fs ws (matcher fs ws)
+pub answer-counts : (fs : OurFields) (ws : SlipFields) → length fs ≢ length ws → noMatch ≡ found fs ws (matcher fs ws)
 answer-counts fs ws n = sym (ap (λ (b : Bool). found fs ws (cond b (matchFields basics consts ℕ-discrete fs ws blank) none)) (ne-eqb (length fs) (length ws) n))
 
-module _ (fs : List (List OurTerm)) (ws : List (List Con)) (same : length fs ≡ length ws) (t : Tested)
+module _ (fs : OurFields) (ws : SlipFields) (same : length fs ≡ length ws) (t : Tested)
     (is-t : t ≡ fieldsTested (map encodeField fs) (map encodeItems ws) noValues) (i : All (All TermIn) fs) (o : All OneList fs) where
   agrees : Agrees t (matcher fs ws)
   agrees = rw (is-t, eq-eqb (length fs) (length ws) same) (fields-agree fs ws noValues blank i o holds-none)
@@ -159,7 +159,7 @@ module _ (fs : List (List OurTerm)) (ws : List (List Con)) (same : length fs ≡
 
 -- ---- THE COMPARISON on values is that of the rule and the slip
 
-module _ (fs : List (List OurTerm)) (ws : List (List Con)) (i : All (All TermIn) fs) (o : All OneList fs) where
+module _ (fs : OurFields) (ws : SlipFields) (i : All (All TermIn) fs) (o : All OneList fs) where
   abbrev rule-values : List Field
   rule-values = map encodeField fs
 

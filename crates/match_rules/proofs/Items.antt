@@ -7,7 +7,7 @@ use Rattle.base_limits.specs.Limits.{mostItems}
 use Rattle.base_lists.specs.Seqs.{All}
 use Rattle.base_lists.specs.Arrays.{map-take, map-drop, getD-blank}
 use Rattle.math_terms.specs.Terms.{con}
-use Rattle.text_grammar.specs.Terms.{OurTerm}
+use Rattle.text_grammar.specs.Terms.{OurFields}
 use Rattle.text_grammar.specs.Limits.{IsCon}
 use Rattle.text_grammar.specs.constants.Matching.{constants}
 use Rattle.text_grammar.proofs.constants.Matching.{constants-are}
@@ -33,14 +33,14 @@ all-at P d [] i p h = p
 all-at P d (x ∷ l) zero p h = h .0
 all-at P d (x ∷ l) (suc i) p h = all-at P d l i p (h .1)
 
-constants-at : (l : List (List OurTerm)) (i : ℕ) → getD (map constants l) i [] ≡ constants (getD l i [])
+constants-at : (l : OurFields) (i : ℕ) → getD (map constants l) i [] ≡ constants (getD l i [])
 constants-at [] i = refl
 constants-at (f ∷ l) zero = refl
 constants-at (f ∷ l) (suc i) = constants-at l i
 
 -- ---- the items of a slip's value
 
-module _ (y : List (List OurTerm)) (all-con : All (All IsCon) y) where
+module _ (y : OurFields) (all-con : All (All IsCon) y) where
   -- with any number of blank fields behind them
   padded-items : (n j : ℕ) → itemsOf (getD (map encodeSlipField y ++ replicate n blankSlipField) j blankSlipField) ≡ map enc (getD (map constants y) j [])
   padded-items n j =

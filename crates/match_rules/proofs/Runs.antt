@@ -19,7 +19,7 @@ use Rattle.math_terms.specs.Fillings.{Filling, Typed, fill, Occurs}
 use Rattle.math_terms.specs.Matcher.{atoms, complete, room, hasRoom}
 use Rattle.math_terms.specs.Linear.{lists, OneList}
 use Rattle.math_terms.proofs.Slices.{Slices, field-iff}
-use Rattle.text_grammar.specs.Terms.{OurTerm}
+use Rattle.text_grammar.specs.Terms.{OurTerm, OurFields, SlipFields}
 use Rattle.text_grammar.specs.constants.Constants.{Con, consts}
 use Rattle.text_grammar.specs.Limits.{Linear}
 use Rattle.text_grammar.specs.constants.Matching.{matcher}
@@ -58,7 +58,7 @@ room-least (a ∷ l) h n e = leb-true h n e
 
 -- each term's value is its part of the slip's field: so a run that is set lies there and has the items of its variable's value, and others
 -- are kept
-module _ (slip : List (List Con)) (ψ : Filling Con Kind ℕ) (n : ℕ) where
+module _ (slip : SlipFields) (ψ : Filling Con Kind ℕ) (n : ℕ) where
   abbrev GoodRun : Run → Type 0
   GoodRun r = (itemsAt slip r ≡ ψ list n) × LiesIn slip r
 
@@ -95,7 +95,7 @@ module _ (slip : List (List Con)) (ψ : Filling Con Kind ℕ) (n : ℕ) where
           kept (inr (inr x)) = absurd (none-occurs n f (no-more a (lists f) o) x)
 
   module _ (one : (k : Basic) (a : ℕ) → length (ψ (basic k) a) ≡ 1) where
-    fields-good : (j : ℕ) (fs : List (List OurTerm)) (ws : List (List Con)) (rs : List Run)
+    fields-good : (j : ℕ) (fs : OurFields) (ws : SlipFields) (rs : List Run)
         → map (fill ψ) fs ≡ ws → drop j slip ≡ ws → n < length rs → All OneList fs
         → Good rs ⊎ Any (Occurs list n) fs → Good (runsFrom j fs ws rs)
     fields-good j [] ws rs e d l o (inl g) = g
@@ -109,7 +109,7 @@ module _ (slip : List (List Con)) (ψ : Filling Con Kind ℕ) (n : ℕ) where
         gap = length w - atoms f
 
         at-j : getD slip j [] ≡ w
-        at-j = ap (λ (a : ℕ). getD slip a []) (let z : j ≡ j + 0 = omega arith in z) ∙ sym (getD-drop j slip 0 []) ∙ ap (λ (v : List (List Con)). getD v 0 []) d
+        at-j = ap (λ (a : ℕ). getD slip a []) (let z : j ≡ j + 0 = omega arith in z) ∙ sym (getD-drop j slip 0 []) ∙ ap (λ (v : SlipFields). getD v 0 []) d
 
         below : j < length slip
         below = omega (arith, length-drop j slip, ap length d)
@@ -134,7 +134,7 @@ field-kept j gap i n (var list a ∷ f) rs o =
     field-kept j gap (i + 1) n f (set rs a (record { field = j; start = i; count = gap })) (λ x. o (inr x))
     ∙ getD-set-other rs a n (record { field = j; start = i; count = gap }) blankRun (λ p. o (inl (refl, p)))
 
-fields-kept : (j n : ℕ) (fs : List (List OurTerm)) (ws : List (List Con)) (rs : List Run) → (Any (Occurs list n) fs → ⊥)
+fields-kept : (j n : ℕ) (fs : OurFields) (ws : SlipFields) (rs : List Run) → (Any (Occurs list n) fs → ⊥)
     → getD (runsFrom j fs ws rs) n blankRun ≡ getD rs n blankRun
 fields-kept j n [] ws rs o = refl
 fields-kept j n (f ∷ fs) [] rs o = refl
@@ -147,7 +147,7 @@ all-blank zero n = refl
 all-blank (suc m) zero = refl
 all-blank (suc m) (suc n) = all-blank m n
 
-pub run-blank : (rule : List (List OurTerm)) (slip : List (List Con)) (n : ℕ) → (Any (Occurs list n) rule → ⊥) → getD (runsOf rule slip) n blankRun ≡ blankRun
+pub run-blank : (rule : OurFields) (slip : SlipFields) (n : ℕ) → (Any (Occurs list n) rule → ⊥) → getD (runsOf rule slip) n blankRun ≡ blankRun
 run-blank rule slip n o = fields-kept 0 n rule slip (replicate numbersOfSide blankRun) o ∙ all-blank numbersOfSide n
 
 -- ---- values are parts of the slip's fields
@@ -168,12 +168,12 @@ module _ (ψ : Filling Con Kind ℕ) (k : Kind) (a : ℕ) where
       (subst (λ (i : ℕ). length (ψ j i) ≤ length (ψ j b ++ fill ψ f)) (sym (p .1)) (omega (arith, length-append (ψ j b) (fill ψ f))))
   fill-long (var j b ∷ f) (inr o) = omega (arith, length-append (ψ j b) (fill ψ f), fill-long f o)
 
-  fields-all : (P : Con → Type 0) (fs : List (List OurTerm)) → Any (Occurs k a) fs → All (All P) (map (fill ψ) fs) → All P (ψ k a)
+  fields-all : (P : Con → Type 0) (fs : OurFields) → Any (Occurs k a) fs → All (All P) (map (fill ψ) fs) → All P (ψ k a)
   fields-all P [] o h = absurd o
   fields-all P (f ∷ fs) (inl o) h = fill-all P f o (h .0)
   fields-all P (f ∷ fs) (inr o) h = fields-all P fs o (h .1)
 
-  fields-long : (m : ℕ) (fs : List (List OurTerm)) → Any (Occurs k a) fs → All (λ (w : List Con). length w ≤ m) (map (fill ψ) fs) → length (ψ k a) ≤ m
+  fields-long : (m : ℕ) (fs : OurFields) → Any (Occurs k a) fs → All (λ (w : List Con). length w ≤ m) (map (fill ψ) fs) → length (ψ k a) ≤ m
   fields-long m [] o h = absurd o
   fields-long m (f ∷ fs) (inl o) h = omega (arith, fill-long f o, h .0)
   fields-long m (f ∷ fs) (inr o) h = fields-long m fs o (h .1)
@@ -205,7 +205,7 @@ known-at φ k n h = at-slot isKnown false φ n h k
 
 -- ---- an answer of yes
 
-module _ (rule : List (List OurTerm)) (linear : Linear rule) (slip : List (List Con)) (φ : Filling Con Kind ℕ) (yes-φ : matcher rule slip ≡ some φ) where
+module _ (rule : OurFields) (linear : Linear rule) (slip : SlipFields) (φ : Filling Con Kind ℕ) (yes-φ : matcher rule slip ≡ some φ) where
   abbrev ψ : Filling Con Kind ℕ
   ψ = complete basics consts φ
 

@@ -13,7 +13,7 @@ use Rattle.math_types.specs.Types.{Kind, kindAt}
 use Rattle.math_terms.specs.Terms.{con, var}
 use Rattle.math_terms.specs.Fillings.{Filling}
 use Rattle.math_terms.specs.Matcher.{atoms}
-use Rattle.text_grammar.specs.Terms.{OurTerm}
+use Rattle.text_grammar.specs.Terms.{OurTerm, OurFields, termsOf, SlipFields, itemsOf}
 use Rattle.text_grammar.specs.constants.Constants.{Con}
 use Rattle.text_grammar.specs.constants.Matching.{constants, matcher, compared}
 use Rattle.text_values.specs.declared.Term.{Term}
@@ -59,15 +59,15 @@ runsFrom j [] ws rs = rs
 runsFrom j (f ∷ fs) [] rs = rs
 runsFrom j (f ∷ fs) (w ∷ ws) rs = runsFrom (j + 1) fs ws (runsField j (length w - atoms f) 0 f rs)
 
-abbrev pub runsOf : List (List OurTerm) → List (List Con) → List Run
-runsOf rule slip = runsFrom 0 rule slip (replicate numbersOfSide blankRun)
+abbrev pub runsOf : OurFields → SlipFields → List Run
+runsOf rule slip = runsFrom 0 (termsOf rule) (itemsOf slip) (replicate numbersOfSide blankRun)
 
 -- the items that a run names
-abbrev pub itemsAt : List (List Con) → Run → List Con
+abbrev pub itemsAt : SlipFields → Run → List Con
 itemsAt slip r = take (r .count) (drop (r .start) (getD slip (r .field) []))
 
 -- a run lies within the field that it names
-pub record LiesIn (slip : List (List Con)) (r : Run) : Type 0 where
+pub record LiesIn (slip : SlipFields) (r : Run) : Type 0 where
   pub there : r .field < length slip
   pub whole : r .start + r .count ≤ length (getD slip (r .field) [])
 
@@ -76,12 +76,12 @@ pub record LiesIn (slip : List (List Con)) (r : Run) : Type 0 where
 abbrev pub noMatch : Match
 noMatch = record { yes = false; filling = record { values = noValues; runs = replicate numbersOfSide blankRun } }
 
-abbrev pub found : List (List OurTerm) → List (List Con) → Option (Filling Con Kind ℕ) → Match
+abbrev pub found : OurFields → SlipFields → Option (Filling Con Kind ℕ) → Match
 found rule slip none = noMatch
 found rule slip (some φ) = record { yes = true; filling = record { values = encodeValues φ; runs = runsOf rule slip } }
 
 -- "A rule or slip with no fields gives no"
-abbrev pub matchOf : List (List OurTerm) → List (List OurTerm) → Match
+abbrev pub matchOf : OurFields → OurFields → Match
 matchOf [] slip = noMatch
 matchOf (f ∷ fs) [] = noMatch
 matchOf (f ∷ fs) (w ∷ ws) = found (f ∷ fs) (map constants (w ∷ ws)) (matcher (f ∷ fs) (map constants (w ∷ ws)))
@@ -92,7 +92,7 @@ fillingOf v = record { values = v; runs = replicate numbersOfSide blankRun }
 -- ---- the answer with the count
 
 -- Document 02, E2: "It also returns how many slip items it compared"; "No shop should see another yes, no or filling"
-abbrev pub comparison : List (List OurTerm) → List (List OurTerm) → Comparison
+abbrev pub comparison : OurFields → OurFields → Comparison
 comparison r s = record { found = matchOf r s; compared = compared r (map constants s) }
 
 abbrev pub noComparison : Comparison

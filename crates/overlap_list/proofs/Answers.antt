@@ -8,14 +8,14 @@ use Prim.Native.Nat.{ℕ, _≤_, _<_}
 use lib.ListN.{length, drop}
 use borrow.Author.Tests.{le-leb, lt-leb}
 use Rattle.text_grammar.specs.Told.{Told}
-use Rattle.text_grammar.specs.Terms.{OurTerm}
+use Rattle.text_grammar.specs.Terms.{OurFields}
 use Rattle.text_grammar.proofs.Told as told-by
 use Rattle.overlap_spec.specs.Overlaps.{linesOf, overlapText}
 use Rattle.overlap_list.specs.declared.Listed.{Listed}
 use Rattle.overlap_list.specs.declared.Listed.the-variants.{Lines, TooSmall}
 use Rattle.overlap_list.specs.Answers.{told, Lists}
 
-module _ {x y : List (List OurTerm)} {old : List ℕ} {r : Listed} {new : List ℕ} (is : Lists x y old r new) where
+module _ {x y : OurFields} {old : List ℕ} {r : Listed} {new : List ℕ} (is : Lists x y old r new) where
   abbrev text : List ℕ
   text = overlapText x y
 

@@ -11,7 +11,7 @@ use lib.Seq.{sets, sets-eq}
 use borrow.Author.Tests.{le-leb, lt-leb}
 use Rattle.base_limits.specs.Limits.{mostTerms, fieldPlaces}
 use Rattle.base_lists.specs.Seqs.{All, tabulate}
-use Rattle.text_grammar.specs.Terms.{OurTerm}
+use Rattle.text_grammar.specs.Terms.{OurFields}
 use Rattle.text_grammar.specs.Limits.{IsLeft}
 use Rattle.math_codes.specs.Spots.{Spot}
 use Rattle.math_codes.specs.Whole.{spotsOf}
@@ -101,7 +101,7 @@ module _ (row : List ℕ) (right : Bool) (n : ℕ) where
       go (some l) p = omega arith
   short-at (suc m) f a (suc j) h = short-at m (λ i. f (suc i)) (a .1) j (omega arith)
 
-  pub rule-short : (b : ℕ) (r : List (List OurTerm)) → IsLeft r → spotsIn row right n ≡ spotsOf fieldPlaces b r → Short row right n
+  pub rule-short : (b : ℕ) (r : OurFields) → IsLeft r → spotsIn row right n ≡ spotsOf fieldPlaces b r → Short row right n
   rule-short b r ok e =
       short-at n (spotIn row right) (subst (All (λ s. spotTerms s ≤ mostTerms)) (sym e) (spots-few fieldPlaces b r (ok .0 .2)))
 

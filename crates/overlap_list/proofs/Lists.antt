@@ -10,7 +10,7 @@ use native.Mathlib.Decide.{ℕ-discrete}
 use lib.ListN.{length}
 use Rattle.base_limits.specs.Limits.{fieldPlaces, rulePlaces}
 use Rattle.math_types.specs.Types.{basics, entry}
-use Rattle.text_grammar.specs.Terms.{OurTerm}
+use Rattle.text_grammar.specs.Terms.{OurFields}
 use Rattle.text_grammar.specs.Limits.{IsLeft}
 use Rattle.text_grammar.specs.constants.Constants.{consts}
 use Rattle.math_overlaps.specs.Shapes.{left, right, shapesOf}
@@ -50,7 +50,7 @@ module _ (row texts : List ℕ) (n : ℕ) where
       → lineIn row texts n (chosenBy noChoice 0 (spotsIn row false n) (spotsIn row true n) cs) last
       ≡ indexedBy (spotsIn row false n) (spotsIn row true n) cs last
 
-  pub all-lines : (r₁ r₂ : List (List OurTerm)) → IsLeft r₁ → IsLeft r₂ → spotsIn row false n ≡ spotsOf fieldPlaces 0 r₁
+  pub all-lines : (r₁ r₂ : OurFields) → IsLeft r₁ → IsLeft r₂ → spotsIn row false n ≡ spotsOf fieldPlaces 0 r₁
       → spotsIn row true n ≡ spotsOf fieldPlaces rulePlaces r₂
       → OurTables r₁ r₂ (tableIn row) (textIn row texts) → Indexes r₁ r₂ left r₁ (indexIn row false) → Indexes r₁ r₂ right r₂ (indexIn row true)
       → Tops r₁ (topIn row false) → Tops r₂ (topIn row true) → LineIs
@@ -97,12 +97,12 @@ listed-none none p h = refl
 listed-none (some Ss) none h = refl
 listed-none (some Ss) (some Ts) h = ap (map (shown basics consts ℕ-discrete Ss Ts)) (raw-none Ss Ts (start basics consts ourVars) (h Ss Ts refl refl))
 
-pub lines-none : (r₁ r₂ : List (List OurTerm)) → length r₁ ≢ length r₂ → linesOf r₁ r₂ ≡ []
+pub lines-none : (r₁ r₂ : OurFields) → length r₁ ≢ length r₂ → linesOf r₁ r₂ ≡ []
 lines-none [] r₂ n = refl
 lines-none (f ∷ r₁) r₂ n =
     ap (map (lineOf (f ∷ r₁) r₂)) (listed-none (shapesOf left (f ∷ r₁)) (shapesOf right r₂)
     (λ Ss Ts a b e. n (sym (shapes-count left (f ∷ r₁) Ss a) ∙ e ∙ shapes-count right r₂ Ts b)))
 
-pub no-right : (r : List (List OurTerm)) → linesOf r [] ≡ []
+pub no-right : (r : OurFields) → linesOf r [] ≡ []
 no-right [] = refl
 no-right (f ∷ r) = lines-none (f ∷ r) [] (λ e. absurd (omega (arith, e)))

@@ -10,9 +10,9 @@ use borrow.Author.Tests.{le-leb}
 use Rattle.base_limits.specs.Limits.{mostTerms, fieldPlaces, rulePlaces, entryLine}
 use Rattle.base_lists.specs.Seqs.{All}
 use Rattle.text_grammar.specs.Told.{byRoom}
-use Rattle.text_grammar.specs.Terms.{OurTerm}
+use Rattle.text_grammar.specs.Terms.{OurFields}
 use Rattle.text_grammar.specs.Limits.{IsLeft}
-use Rattle.text_grammar.specs.Read.{rule, accepted, OurFields, readSide}
+use Rattle.text_grammar.specs.Read.{rule, accepted, readSide}
 use Rattle.text_grammar.proofs.Read.{read-accepted}
 use Rattle.text_grammar.proofs.Accepted.{rule-read}
 use Rattle.overlap_spec.specs.Lines.{Line, lineText, listText}
@@ -42,7 +42,7 @@ use Rattle.overlap_list.proofs.Short.{pair-short}
 
 -- ---- no lines
 
-pub none-listed : (x y : List (List OurTerm)) → linesOf x y ≡ [] → (old : List ℕ) → Lists x y old (Lines 0 0) old
+pub none-listed : (x y : OurFields) → linesOf x y ≡ [] → (old : List ℕ) → Lists x y old (Lines 0 0) old
 none-listed x y e old =
     let z = le-leb 0 (length old) (omega arith) in
     record {
@@ -56,7 +56,7 @@ texts-are : (ls : List Line) → bytesOf (map lineText ls) ≡ listText ls
 texts-are [] = refl
 texts-are (l ∷ ls) = ap (λ (t : List ℕ). lineText l ++ t) (texts-are ls)
 
-module _ (x y : List (List OurTerm)) {ls : List (List ℕ)} (are : ls ≡ map lineText (linesOf x y)) where
+module _ (x y : OurFields) {ls : List (List ℕ)} (are : ls ≡ map lineText (linesOf x y)) where
   bytes-are : bytesOf ls ≡ overlapText x y
   bytes-are = ap bytesOf are ∙ texts-are (linesOf x y)
 
@@ -72,7 +72,7 @@ module _ (x y : List (List OurTerm)) {ls : List (List ℕ)} (are : ls ≡ map li
 
 -- ---- the tables of two rules
 
-module _ (r₁ r₂ : List (List OurTerm)) (ok₁ : IsLeft r₁) (ok₂ : IsLeft r₂) (row texts : List ℕ) (pair : PairIn r₁ r₂ row texts) (n : ℕ)
+module _ (r₁ r₂ : OurFields) (ok₁ : IsLeft r₁) (ok₂ : IsLeft r₂) (row texts : List ℕ) (pair : PairIn r₁ r₂ row texts) (n : ℕ)
     (is-left : n ≡ length r₁) (is-right : n ≡ length r₂) where
   at-most-four : n ≤ 4
   at-most-four = omega (arith, is-left, ok₁ .0 .1)
@@ -120,7 +120,7 @@ module _ (t u : List ℕ) (h : Accepts t u) where
 
   said-listed : {old : List ℕ} {r : Listed} {new : List ℕ} → Lists x y old r new → SidesList t u old r new
   said-listed {old} {r} {new} l =
-      subst₂ (λ (a b : List (List OurTerm)). Lists a b old r new) (sym (ap sideSaid (h .reads-left))) (sym (ap sideSaid (h .reads-right))) l
+      subst₂ (λ (a b : OurFields). Lists a b old r new) (sym (ap sideSaid (h .reads-left))) (sym (ap sideSaid (h .reads-right))) l
 
   module _ (n m : ℕ) (is-n : n ≡ fieldCount t) (is-m : m ≡ fieldCount u) where
     left-count : n ≡ length x

@@ -5,7 +5,7 @@ use mathlib.Core.List.{List, []}
 use Prim.Native.Nat.{ℕ}
 use native.Mathlib.Decide.{decLt}
 use lib.ListN.{take}
-use Rattle.text_grammar.specs.Terms.{OurTerm}
+use Rattle.text_grammar.specs.Terms.{OurFields}
 use Rattle.text_grammar.specs.Plain.{plain}
 use Rattle.text_grammar.proofs.Accepted.{rule-plain}
 use Rattle.text_grammar.specs.rules.Read.{readRule}
@@ -47,14 +47,14 @@ module _ (t u : List ℕ) (l r : LeftJudged) (is-l : JudgesLeft t l) (is-r : Jud
   pub texts-listed : {old : List ℕ} {x : Listed} {new : List ℕ} → SidesList (take (l .end) t) (take (r .end) u) old x new
       → TextsList t u old (record { left = l .verdict; right = r .verdict; listed = x }) new
   texts-listed {old} {x} {new} h =
-      judged (subst₂ (λ (a b : List (List OurTerm)). Lists a b old x new) (is-l .left) (is-r .left) h)
+      judged (subst₂ (λ (a b : OurFields). Lists a b old x new) (is-l .left) (is-r .left) h)
 
   -- a text that is refused says the rule with no fields
   pub left-refused : (q : values.Reason) (p : ℕ) → l .verdict ≡ Refused q p → (old : List ℕ)
       → TextsList t u old (record { left = l .verdict; right = r .verdict; listed = Lines 0 0 }) old
   left-refused q p e old =
       let no = ap leftSaid (judged-refused t l is-l q p e .1) in
-      judged (none-listed (leftSaid (readRule t)) (leftSaid (readRule u)) (ap (λ (a : List (List OurTerm)). linesOf a (leftSaid (readRule u))) no) old)
+      judged (none-listed (leftSaid (readRule t)) (leftSaid (readRule u)) (ap (λ (a : OurFields). linesOf a (leftSaid (readRule u))) no) old)
 
   pub right-refused : (q : values.Reason) (p : ℕ) → r .verdict ≡ Refused q p → (old : List ℕ)
       → TextsList t u old (record { left = l .verdict; right = r .verdict; listed = Lines 0 0 }) old
@@ -74,10 +74,10 @@ said-again v = go (acceptedLeft v) refl
     go true e =
         let c : countedLeft v ≡ viewSide v = ap (λ (b : Bool). cond b (viewSide v) []) e in
         let read = one-sided (plain (viewSide v)) (viewSide v) .1 (rule-plain (viewSide v) (accepted-rule v e .0)) in
-        ap (λ (x : List (List OurTerm)). leftSaid (readRule (plain x))) c ∙ ap leftSaid read ∙ sym c
+        ap (λ (x : OurFields). leftSaid (readRule (plain x))) c ∙ ap leftSaid read ∙ sym c
     go false e =
         let c : countedLeft v ≡ [] = ap (λ (b : Bool). cond b (viewSide v) []) e in
-        ap (λ (x : List (List OurTerm)). leftSaid (readRule (plain x))) c ∙ sym c
+        ap (λ (x : OurFields). leftSaid (readRule (plain x))) c ∙ sym c
 
 -- two texts that are the plain texts of values: their list is the list of the values
 module _ (v w : RuleSide) {t u : List ℕ} (is-t : t ≡ plain (countedLeft v)) (is-u : u ≡ plain (countedLeft w)) where
@@ -88,7 +88,7 @@ module _ (v w : RuleSide) {t u : List ℕ} (is-t : t ≡ plain (countedLeft v)) 
   right-again = ap (λ (z : List ℕ). leftSaid (readRule z)) is-u ∙ said-again w
 
   pub sides-listed : {old : List ℕ} {r : TextsListed} {new : List ℕ} → TextsList t u old r new → Lists (countedLeft v) (countedLeft w) old (r .listed) new
-  sides-listed {old} {r} {new} h = subst₂ (λ (x y : List (List OurTerm)). Lists x y old (r .listed) new) left-again right-again (h .listed)
+  sides-listed {old} {r} {new} h = subst₂ (λ (x y : OurFields). Lists x y old (r .listed) new) left-again right-again (h .listed)
 
 -- ---- values of rules, by the left sides of what they count as
 
@@ -101,4 +101,4 @@ module _ (v w : Rule) {x y : RuleSide} (is-x : x ≡ leftValue v) (is-y : y ≡ 
 
   pub values-listed : {old : List ℕ} {r : Listed} {new : List ℕ} → Lists (countedLeft x) (countedLeft y) old r new
       → Lists (countedRule v .0) (countedRule w .0) old r new
-  values-listed {old} {r} {new} h = subst₂ (λ (a b : List (List OurTerm)). Lists a b old r new) left-value right-value h
+  values-listed {old} {r} {new} h = subst₂ (λ (a b : OurFields). Lists a b old r new) left-value right-value h

@@ -7,8 +7,8 @@ use mathlib.Core.Option.{none, some}
 use Prim.Native.Nat.{ℕ}
 use lib.ListN.{length}
 use Rattle.text_grammar.specs.Told.{Told, byRoom}
-use Rattle.text_grammar.specs.Terms.{OurTerm}
-use Rattle.text_grammar.specs.Read.{OurFields, readSide, accepted}
+use Rattle.text_grammar.specs.Terms.{OurFields}
+use Rattle.text_grammar.specs.Read.{readSide, accepted}
 use Rattle.text_grammar.specs.rules.Read.{readRule}
 use Rattle.text_refusals.specs.verdicts.Verdicts.{verdictOf}
 use Rattle.text_read.specs.Answers.{leftSaid, sideSaid}
@@ -26,7 +26,7 @@ told (Lines n b) = record { number = none; values = n ∷ b ∷ [] }
 told (TooSmall n b) = record { number = some 8; values = n ∷ b ∷ [] }
 
 -- WHAT LISTING PROMISES of the rules with the left sides x and y and the lent bytes `old`: the answer, and what the bytes are afterwards
-pub record Lists (x y : List (List OurTerm)) (old : List ℕ) (r : Listed) (new : List ℕ) : Type 0 where
+pub record Lists (x y : OurFields) (old : List ℕ) (r : Listed) (new : List ℕ) : Type 0 where
   pub answer : told r ≡ byRoom (length (overlapText x y)) (length old) (length (linesOf x y) ∷ length (overlapText x y) ∷ [])
   pub bytes : new ≡ after (overlapText x y) old
 

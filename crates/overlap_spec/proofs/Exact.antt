@@ -13,7 +13,7 @@ use Rattle.math_terms.specs.Terms.{con, var}
 use Rattle.math_terms.specs.Fillings.{Filling, Typed, fill}
 use Rattle.math_terms.specs.Linear.{LeftLinear}
 use Rattle.math_terms.proofs.Matching.{match-unique}
-use Rattle.text_grammar.specs.Terms.{OurTerm}
+use Rattle.text_grammar.specs.Terms.{OurTerm, OurFields, termsOf, SlipFields, itemsOf}
 use Rattle.text_grammar.specs.constants.Constants.{Con, consts}
 use Rattle.text_grammar.specs.Limits.{TermIn, IsLeft}
 use Rattle.text_grammar.specs.Plain.{TermOk}
@@ -70,7 +70,7 @@ terms-ok f h = all-map (ConstantIn OurCon) TermOk term-ok f h
 
 -- ---- bindings
 
-names-are : (rule : List (List OurTerm)) (σ : Subst Con Kind ℕ ℕ) (vs : List Variable)
+names-are : (rule : OurFields) (σ : Subst Con Kind ℕ ℕ) (vs : List Variable)
     → map nameOf (map (λ (v : Variable). record { kind = v .0; number = v .1; value = σ (v .0) (v .1) }) vs) ≡ vs
 names-are rule σ [] = refl
 names-are rule σ (v ∷ vs) = ap (λ (l : List Variable). v ∷ l) (names-are rule σ vs)
@@ -81,35 +81,36 @@ bindings-writable σ h [] = tt
 bindings-writable σ h (v ∷ vs) = (terms-ok (σ (v .0) (v .1)) (h (v .0) (v .1)), bindings-writable σ h vs)
 
 -- a filling that gives the rule's variables what the values shown become by ψ is shown by the bindings
-shown-by : (rule : List (List OurTerm)) → IsLeft rule → (σ : Subst Con Kind ℕ ℕ) (ψ : Filling Con Kind ℕ) (w : List (List Con))
-    → Typed basics consts (λ k n. fill ψ (σ k n)) → map (fill (λ k n. fill ψ (σ k n))) rule ≡ w → Shows rule (bindingsOf rule σ) ψ w
-shown-by rule r σ ψ w t h = (names-are rule σ (variables rule), values)
+shown-by : (rule : OurFields) → IsLeft rule → (σ : Subst Con Kind ℕ ℕ) (ψ : Filling Con Kind ℕ) (w : SlipFields)
+    → Typed basics consts (λ k n. fill ψ (σ k n)) → map (fill (λ k n. fill ψ (σ k n))) (termsOf rule) ≡ itemsOf w
+    → Shows rule (bindingsOf (termsOf rule) σ) ψ w
+shown-by rule r σ ψ w t h = (names-are rule σ (variables (termsOf rule)), values)
   where
-    values : (φ : Filling Con Kind ℕ) → Typed basics consts φ → map (fill φ) rule ≡ w → (b : Binding)
-        → List·Memᴰ b (bindingsOf rule σ) → φ (b .kind) (b .number) ≡ fill ψ (b .value)
+    values : (φ : Filling Con Kind ℕ) → Typed basics consts φ → map (fill φ) (termsOf rule) ≡ itemsOf w → (b : Binding)
+        → List·Memᴰ b (bindingsOf (termsOf rule) σ) → φ (b .kind) (b .number) ≡ fill ψ (b .value)
     values φ u e b i =
-        let v = Memᴰ·of-map (λ (v : Variable). record { kind = v .0; number = v .1; value = σ (v .0) (v .1) }) (variables rule) i in
+        let v = Memᴰ·of-map (λ (v : Variable). record { kind = v .0; number = v .1; value = σ (v .0) (v .1) }) (variables (termsOf rule)) i in
         subst (λ (c : Binding). φ (c .kind) (c .number) ≡ fill ψ (c .value)) (v .2)
         (match-unique basics consts φ (λ k n. fill ψ (σ k n)) u t rule (left-linear rule (r .1) .1) (e ∙ sym h) (v .0 .0) (v .0 .1)
         (in-variables rule (r .0 .3) (v .0 .0) (v .0 .1) .0 (v .1)))
 
 -- ---- the theorems
 
-pub entries-cons : (r₁ r₂ : List (List OurTerm)) → IsCons r₁ → entriesOf r₁ r₂ ≡ overlaps basics consts ℕ-discrete r₁ r₂
+pub entries-cons : (r₁ r₂ : OurFields) → IsCons r₁ → entriesOf r₁ r₂ ≡ overlaps basics consts ℕ-discrete (termsOf r₁) (termsOf r₂)
 entries-cons [] r₂ h = absurd h
 entries-cons (f ∷ r₁) r₂ h = refl
 
-module _ (r₁ r₂ : List (List OurTerm)) (is₁ : IsLeft r₁) (is₂ : IsLeft r₂) where
-  lin₁ : LeftLinear r₁
+module _ (r₁ r₂ : OurFields) (is₁ : IsLeft r₁) (is₂ : IsLeft r₂) where
+  lin₁ : LeftLinear (termsOf r₁)
   lin₁ = left-linear r₁ (is₁ .1)
 
-  lin₂ : LeftLinear r₂
+  lin₂ : LeftLinear (termsOf r₂)
   lin₂ = left-linear r₂ (is₂ .1)
 
   abbrev entries : List OurEntry
-  entries = overlaps basics consts ℕ-discrete r₁ r₂
+  entries = overlaps basics consts ℕ-discrete (termsOf r₁) (termsOf r₂)
 
-  in-ours : (r : List (List OurTerm)) → IsLeft r → All (All (ConstantIn OurCon)) r
+  in-ours : (r : OurFields) → IsLeft r → All (All (ConstantIn OurCon)) r
   in-ours r h = all-map (All TermIn) (All (ConstantIn OurCon)) (λ f k. all-map TermIn (ConstantIn OurCon) constant-in f k) r (h .0 .3)
 
   lines-are : linesOf r₁ r₂ ≡ map (lineOf r₁ r₂) entries
@@ -122,7 +123,7 @@ module _ (r₁ r₂ : List (List OurTerm)) (is₁ : IsLeft r₁) (is₂ : IsLeft
   line-at : (i : ℕ) (e : OurEntry) → getElem? entries i ≡ some e → getElem? (linesOf r₁ r₂) i ≡ some (lineOf r₁ r₂ e)
   line-at i e h = subst (λ (ls : List Line). getElem? ls i ≡ some (lineOf r₁ r₂ e)) (sym lines-are) (map-at (lineOf r₁ r₂) entries i e h)
 
-  pub lines-exact : (w : List (List Con)) → (Matches r₁ w × Matches r₂ w) ↔ ((i : ℕ) × (l : Line) × (getElem? (linesOf r₁ r₂) i ≡ some l) × Fits l w)
+  pub lines-exact : (w : SlipFields) → (Matches r₁ w × Matches r₂ w) ↔ ((i : ℕ) × (l : Line) × (getElem? (linesOf r₁ r₂) i ≡ some l) × Fits l w)
   lines-exact w = (to, from)
     where
       iff : (Matches r₁ w × Matches r₂ w) ↔ ((e : OurEntry) × List·Memᴰ e entries × Matches (e .fields) w)
@@ -140,7 +141,7 @@ module _ (r₁ r₂ : List (List OurTerm)) (is₁ : IsLeft r₁) (is₂ : IsLeft
           iff .1 (e .0, at-in entries (h .0) (e .0) (e .1), subst (λ (l : Line). Fits l w) (sym (e .2)) (h .3))
 
   pub lines-once : (i j : ℕ) (l m : Line) → getElem? (linesOf r₁ r₂) i ≡ some l
-      → getElem? (linesOf r₁ r₂) j ≡ some m → (w : List (List Con)) → Fits l w → Fits m w → i ≡ j
+      → getElem? (linesOf r₁ r₂) j ≡ some m → (w : SlipFields) → Fits l w → Fits m w → i ≡ j
   lines-once i j l m p q w f g =
       let d = entry-at i l p in
       let e = entry-at j m q in
@@ -148,18 +149,18 @@ module _ (r₁ r₂ : List (List OurTerm)) (is₁ : IsLeft r₁) (is₂ : IsLeft
       (subst (λ (x : Line). Fits x w) (sym (e .2)) g)
 
   pub entry-of : (i : ℕ) (l : Line) → getElem? (linesOf r₁ r₂) i ≡ some l
-      → (e : OurEntry) × List·Memᴰ e (overlaps basics consts ℕ-discrete r₁ r₂) × (lineOf r₁ r₂ e ≡ l)
+      → (e : OurEntry) × List·Memᴰ e (overlaps basics consts ℕ-discrete (termsOf r₁) (termsOf r₂)) × (lineOf r₁ r₂ e ≡ l)
   entry-of i l p = let e = entry-at i l p in (e .0, at-in entries i (e .0) (e .1), e .2)
 
   -- what fills a line's fields fills both rules, by its entry's values
   pub entry-fills : (i : ℕ) (l : Line) → getElem? (linesOf r₁ r₂) i ≡ some l
-      → (w : List (List Con)) (ψ : Filling Con Kind ℕ) → Typed basics consts ψ → map (fill ψ) (l .fields) ≡ w
+      → (w : SlipFields) (ψ : Filling Con Kind ℕ) → Typed basics consts ψ → map (fill ψ) (termsOf (l .fields)) ≡ itemsOf w
       → (e : OurEntry) × (lineOf r₁ r₂ e ≡ l)
-      × (Typed basics consts (λ k n. fill ψ (e .left k n)) × (map (fill (λ k n. fill ψ (e .left k n))) r₁ ≡ w))
-      × (Typed basics consts (λ k n. fill ψ (e .right k n)) × (map (fill (λ k n. fill ψ (e .right k n))) r₂ ≡ w))
+      × (Typed basics consts (λ k n. fill ψ (e .left k n)) × (map (fill (λ k n. fill ψ (e .left k n))) (termsOf r₁) ≡ itemsOf w))
+      × (Typed basics consts (λ k n. fill ψ (e .right k n)) × (map (fill (λ k n. fill ψ (e .right k n))) (termsOf r₂) ≡ itemsOf w))
   entry-fills i l p w ψ t h =
       let e = entry-of i l p in
-      let fills = subst (λ (x : Line). map (fill ψ) (x .fields) ≡ w) (sym (e .2)) h in (
+      let fills = subst (λ (x : Line). map (fill ψ) (termsOf (x .fields)) ≡ itemsOf w) (sym (e .2)) h in (
         e .0,
         e .2,
         list.fillings-left basics consts ℕ-discrete r₁ r₂ lin₁ lin₂ (e .0) (e .1) w ψ t fills,
@@ -167,7 +168,7 @@ module _ (r₁ r₂ : List (List OurTerm)) (is₁ : IsLeft r₁) (is₂ : IsLeft
       )
 
   pub lines-fillings : (i : ℕ) (l : Line) → getElem? (linesOf r₁ r₂) i ≡ some l
-      → (w : List (List Con)) (ψ : Filling Con Kind ℕ) → Typed basics consts ψ → map (fill ψ) (l .fields) ≡ w
+      → (w : SlipFields) (ψ : Filling Con Kind ℕ) → Typed basics consts ψ → map (fill ψ) (termsOf (l .fields)) ≡ itemsOf w
       → Shows r₁ (l .left) ψ w × Shows r₂ (l .right) ψ w
   lines-fillings i l p w ψ t h =
       let e = entry-fills i l p w ψ t h in
@@ -176,7 +177,7 @@ module _ (r₁ r₂ : List (List OurTerm)) (is₁ : IsLeft r₁) (is₂ : IsLeft
         shown-by r₂ is₂ (e .0 .right) ψ w (e .3 .0) (e .3 .1),
       )
 
-  pub lines-slips : (i : ℕ) (l : Line) → getElem? (linesOf r₁ r₂) i ≡ some l → (w : List (List Con)) × OurSlip w × Fits l w
+  pub lines-slips : (i : ℕ) (l : Line) → getElem? (linesOf r₁ r₂) i ≡ some l → (w : SlipFields) × OurSlip w × Fits l w
   lines-slips i l p =
       let e = entry-at i l p in
       let s =
@@ -184,7 +185,7 @@ module _ (r₁ r₂ : List (List OurTerm)) (is₁ : IsLeft r₁) (is₂ : IsLeft
       (s .0, s .1, subst (λ (x : Line). Fits x (s .0)) (e .2) (s .2))
 
   pub lines-least : (B : Type 0) (xs : List (Solution r₁ r₂ B))
-      → ((w : List (List Con)) → OurSlip w → Matches r₁ w → Matches r₂ w → (x : Solution r₁ r₂ B) × List·Memᴰ x xs × Covers r₁ r₂ B x w)
+      → ((w : SlipFields) → OurSlip w → Matches r₁ w → Matches r₂ w → (x : Solution r₁ r₂ B) × List·Memᴰ x xs × Covers r₁ r₂ B x w)
       → length (linesOf r₁ r₂) ≤ length xs
   lines-least B xs cover = subst (λ (n : ℕ). n ≤ length xs) (sym (ap length lines-are ∙ length-map entries (lineOf r₁ r₂)))
       (list.minimal basics consts ℕ-discrete r₁ r₂ lin₁ lin₂ OurCon some-in (in-ours r₁ is₁) (in-ours r₂ is₂) B xs cover)
@@ -201,8 +202,8 @@ module _ (r₁ r₂ : List (List OurTerm)) (is₁ : IsLeft r₁) (is₂ : IsLeft
               subst IsCons (s .3) (cons-map (substitute (s .0 .left)) r₁ (is₁ .0 .0)),
               all-map (All (ConstantIn OurCon)) (All TermOk) terms-ok (e .fields) (c .0),
             ),
-            bindings-writable (e .left) (c .1) (variables r₁),
-            bindings-writable (e .right) (c .2) (variables r₂),
+            bindings-writable (e .left) (c .1) (variables (termsOf r₁)),
+            bindings-writable (e .right) (c .2) (variables (termsOf r₂)),
           )
 
       all : (es : List OurEntry) → ((e : OurEntry) → List·Memᴰ e es → WritableLine (lineOf r₁ r₂ e)) → All WritableLine (map (lineOf r₁ r₂) es)

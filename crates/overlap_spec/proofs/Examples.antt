@@ -8,7 +8,7 @@ use Rattle.math_types.specs.Order.{basic, list}
 use Rattle.math_types.specs.Types.{leaf, integer, string, atom, Kind}
 use Rattle.math_terms.specs.Terms.{con, var}
 use Rattle.text_grammar.specs.Ascii.{ascii, newline}
-use Rattle.text_grammar.specs.Terms.{OurTerm}
+use Rattle.text_grammar.specs.Terms.{OurTerm, OurFields}
 use Rattle.text_grammar.specs.constants.Constants.{int, str}
 use Rattle.overlap_spec.specs.Lines.{Binding, Line, lineText, listText}
 use Rattle.overlap_spec.specs.Variables.{variables}
@@ -31,7 +31,7 @@ l n = var list n
 abbrev bind : Kind → ℕ → List OurTerm → Binding
 bind k n v = record { kind = k; number = n; value = v }
 
-abbrev line : List (List OurTerm) → List Binding → List Binding → Line
+abbrev line : OurFields → List Binding → List Binding → Line
 line f b c = record { fields = f; left = b; right = c }
 
 -- `a0:l0` and `l0:2`

@@ -11,7 +11,7 @@ use Rattle.text_grammar.specs.Letters.{letter-lower}
 use Rattle.text_grammar.specs.Bytes.{Digit}
 use Rattle.text_grammar.specs.Grammar.{Grammar}
 use Rattle.text_grammar.specs.Numbers.{digitsOf}
-use Rattle.text_grammar.specs.Terms.{OurTerm}
+use Rattle.text_grammar.specs.Terms.{OurTerm, OurFields}
 use Rattle.text_grammar.specs.Plain.{rawField, fieldText, plain, TermOk, RuleOk}
 use Rattle.text_grammar.proofs.Numbers.{digits-number, number-digits}
 use Rattle.text_grammar.proofs.Plain.{plain-says, plain-one}
@@ -21,14 +21,14 @@ use Rattle.overlap_spec.proofs.Cut.{Printable, Closed, grammar-closed, 
 
 -- ---- the fields
 
-plain-grammar : (r : List (List OurTerm)) → RuleOk r → Grammar (plain r)
+plain-grammar : (r : OurFields) → RuleOk r → Grammar (plain r)
 plain-grammar r h = (map rawField r, plain-says r h)
 
-plain-closed : (r : List (List OurTerm)) → RuleOk r → Closed (plain r)
+plain-closed : (r : OurFields) → RuleOk r → Closed (plain r)
 plain-closed r h = grammar-closed (plain r) (plain-grammar r h)
 
 -- THE FIELD TEXT, followed by a blank or a newline, determines the fields
-pub field-text : (r s : List (List OurTerm)) (u v : List ℕ) → RuleOk r → RuleOk s → Starts u → Starts v → plain r ++ u ≡ plain s ++ v → (r ≡ s) × (u ≡ v)
+pub field-text : (r s : OurFields) (u v : List ℕ) → RuleOk r → RuleOk s → Starts u → Starts v → plain r ++ u ≡ plain s ++ v → (r ≡ s) × (u ≡ v)
 field-text r s u v p q h k e =
     let f = closed-one (plain r) (plain s) u v (plain-closed r p) (plain-closed s q) h k e in
     (plain-one r s p q (f .0), f .1)

@@ -7,7 +7,7 @@ use Rattle.base_lists.specs.Seqs.{All}
 use Rattle.math_types.specs.Types.{Kind, basics}
 use Rattle.math_terms.specs.Terms.{con}
 use Rattle.math_terms.specs.Fillings.{Filling, Typed, fill}
-use Rattle.text_grammar.specs.Terms.{OurTerm}
+use Rattle.text_grammar.specs.Terms.{OurFields, termsOf, SlipFields, itemsOf}
 use Rattle.text_grammar.specs.constants.Constants.{Con, consts}
 use Rattle.text_grammar.specs.Limits.{TermIn}
 use Rattle.text_grammar.specs.constants.Matching.{Matches}
@@ -20,12 +20,12 @@ use Rattle.overlap_spec.specs.Variables.{Variable, variables}
 abbrev pub OurCon : Con → Type 0
 OurCon c = TermIn (con c)
 
-abbrev pub OurSlip : List (List Con) → Type 0
+abbrev pub OurSlip : SlipFields → Type 0
 OurSlip w = All (All OurCon) w
 
 -- ---- a slip fits a line's fields
 
-abbrev pub Fits : Line → List (List Con) → Type 0
+abbrev pub Fits : Line → SlipFields → Type 0
 Fits l w = Matches (l .fields) w
 
 -- "That filling, put into the values that the entry's line shows, gives the fillings of the two rules": for the filling ψ of the line's
@@ -34,16 +34,16 @@ Fits l w = Matches (l .fields) w
 abbrev pub nameOf : Binding → Variable
 nameOf b = (b .kind, b .number)
 
-abbrev pub Shows : List (List OurTerm) → List Binding → Filling Con Kind ℕ → List (List Con) → Type 0
+abbrev pub Shows : OurFields → List Binding → Filling Con Kind ℕ → SlipFields → Type 0
 Shows rule bs ψ w =
-    (map nameOf bs ≡ variables rule)
-    × ((φ : Filling Con Kind ℕ) → Typed basics consts φ → map (fill φ) rule ≡ w
+    (map nameOf bs ≡ variables (termsOf rule))
+    × ((φ : Filling Con Kind ℕ) → Typed basics consts φ → map (fill φ) (termsOf rule) ≡ itemsOf w
     → (b : Binding) → List·Memᴰ b bs → φ (b .kind) (b .number) ≡ fill ψ (b .value))
 
 -- ---- solutions of two of document 01's rules, over any names B
 
-abbrev pub Solution : List (List OurTerm) → List (List OurTerm) → Type 0 → Type 0
-Solution r₁ r₂ B = theory.Solution basics consts r₁ r₂ B
+abbrev pub Solution : OurFields → OurFields → Type 0 → Type 0
+Solution r₁ r₂ B = theory.Solution basics consts (termsOf r₁) (termsOf r₂) B
 
-abbrev pub Covers : (r₁ r₂ : List (List OurTerm)) (B : Type 0) → Solution r₁ r₂ B → List (List Con) → Type 0
-Covers r₁ r₂ B x w = theory.Covers basics consts r₁ r₂ B x w
+abbrev pub Covers : (r₁ r₂ : OurFields) (B : Type 0) → Solution r₁ r₂ B → SlipFields → Type 0
+Covers r₁ r₂ B x w = theory.Covers basics consts (termsOf r₁) (termsOf r₂) B x (itemsOf w)

@@ -5,7 +5,7 @@ use Rattle.base_lists.specs.Seqs.{All}
 use Rattle.math_types.specs.Types.{Kind}
 use Rattle.math_terms.specs.Terms.{var}
 use Rattle.math_terms.specs.Seqs.{concat-map}
-use Rattle.text_grammar.specs.Terms.{OurTerm}
+use Rattle.text_grammar.specs.Terms.{OurTerm, OurFields}
 use Rattle.text_grammar.specs.Plain.{termText, fieldText, plain, TermOk, RuleOk}
 
 -- a variable of a rule, and what the line gives it
@@ -16,7 +16,7 @@ pub record Binding : Type 0 where
 
 -- an entry's fields, and the bindings of the two rules
 pub record Line : Type 0 where
-  pub fields : List (List OurTerm)
+  pub fields : OurFields
   pub left : List Binding
   pub right : List Binding
 

@@ -3,7 +3,7 @@ use mathlib.Core.List.{List, [], _∷_, map}
 use Prim.Native.Nat.{ℕ}
 use native.Mathlib.Decide.{ℕ-discrete}
 use Rattle.math_types.specs.Types.{Kind, basics}
-use Rattle.text_grammar.specs.Terms.{OurTerm}
+use Rattle.text_grammar.specs.Terms.{OurTerm, OurFields, termsOf}
 use Rattle.text_grammar.specs.constants.Constants.{Con, consts}
 use Rattle.math_overlaps.specs.Substitutions.{Subst}
 use Rattle.math_overlaps.specs.Overlaps.{Entry, overlaps}
@@ -14,21 +14,21 @@ abbrev pub OurEntry : Type 0
 OurEntry = Entry basics consts ℕ
 
 -- document 01: "A rule with no fields counts as having no entries"
-abbrev pub entriesOf : List (List OurTerm) → List (List OurTerm) → List OurEntry
+abbrev pub entriesOf : OurFields → OurFields → List OurEntry
 entriesOf [] r₂ = []
-entriesOf (f ∷ r₁) r₂ = overlaps basics consts ℕ-discrete (f ∷ r₁) r₂
+entriesOf (f ∷ r₁) r₂ = overlaps basics consts ℕ-discrete (termsOf (f ∷ r₁)) (termsOf r₂)
 
 -- "for each variable of the [..] rule [..] name, `=`, value"
 abbrev pub bindingsOf : List (List OurTerm) → Subst Con Kind ℕ ℕ → List Binding
 bindingsOf rule σ = map (λ v. record { kind = v .0; number = v .1; value = σ (v .0) (v .1) }) (variables rule)
 
-abbrev pub lineOf : List (List OurTerm) → List (List OurTerm) → OurEntry → Line
-lineOf r₁ r₂ e = record { fields = e .fields; left = bindingsOf r₁ (e .left); right = bindingsOf r₂ (e .right) }
+abbrev pub lineOf : OurFields → OurFields → OurEntry → Line
+lineOf r₁ r₂ e = record { fields = e .fields; left = bindingsOf (termsOf r₁) (e .left); right = bindingsOf (termsOf r₂) (e .right) }
 
 -- "The lines written are those of the entries, in their order"
-abbrev pub linesOf : List (List OurTerm) → List (List OurTerm) → List Line
+abbrev pub linesOf : OurFields → OurFields → List Line
 linesOf r₁ r₂ = map (lineOf r₁ r₂) (entriesOf r₁ r₂)
 
 -- the bytes of the whole list
-abbrev pub overlapText : List (List OurTerm) → List (List OurTerm) → List ℕ
+abbrev pub overlapText : OurFields → OurFields → List ℕ
 overlapText r₁ r₂ = listText (linesOf r₁ r₂)

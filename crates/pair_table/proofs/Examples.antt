@@ -10,7 +10,8 @@ use Rattle.text_grammar.specs.Ascii.{ascii}
 use Rattle.text_grammar.specs.Bytes.{digit?, begins, follows, first, holds}
 use Rattle.text_grammar.specs.Tokens.{fifth?, many?, over?, clash?, clashOf?}
 use Rattle.text_grammar.specs.constants.Constants.{int}
-use Rattle.text_grammar.specs.Read.{OurFields, accepted, readSide}
+use Rattle.text_grammar.specs.Terms.{OurFields}
+use Rattle.text_grammar.specs.Read.{accepted, readSide}
 use Rattle.math_codes.specs.Whole.{spotsOf}
 use Rattle.pair_row.specs.Row.{textIn, spotIn}
 use Rattle.pair_table.specs.Notes.{rowsOf}

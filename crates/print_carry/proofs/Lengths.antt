@@ -15,7 +15,8 @@ use Rattle.text_grammar.specs.Ascii.{ascii, newline}
 use Rattle.text_grammar.specs.Numbers.{digitsOf}
 use Rattle.text_grammar.specs.Plain.{plain}
 use Rattle.text_grammar.specs.Limits.{IsSlip}
-use Rattle.text_grammar.specs.Read.{OutcomeOf, Outcome, OurFields, refused, accepted, readSlip}
+use Rattle.text_grammar.specs.Terms.{OurFields, SlipFields}
+use Rattle.text_grammar.specs.Read.{OutcomeOf, Outcome, refused, accepted, readSlip}
 use Rattle.text_grammar.proofs.Accepted.{slip-length, slip-read}
 use Rattle.text_grammar.proofs.Refused.{slip-place}
 use Rattle.text_grammar.specs.rules.Read.{OurRule, readRule}
@@ -24,7 +25,7 @@ use Rattle.text_grammar.proofs.rules.Accepted.{rule-read}
 use Rattle.text_grammar.proofs.rules.Sharp.{rule-place}
 use Rattle.text_grammar.specs.constants.Matching.{constants}
 use Rattle.apply_spec.specs.Carrying.{Carried, result, unmatched, tooLong}
-use Rattle.apply_spec.specs.Rules.{OurSlip, carried}
+use Rattle.apply_spec.specs.Rules.{carried}
 use Rattle.text_write.proofs.Digits.{digits-64}
 use Rattle.text_write.proofs.pieces.Refusals.{number-at-length}
 use Rattle.print_carry.specs.Carry.{rulePart, slipPart, carriedText, carryText, lineText, titleText, carryAnswer, longestAnswer, longestSaid}
@@ -40,7 +41,7 @@ carried-short : (x : OurRule) (y : OurFields) → IsRule x → IsSlip y → leng
 unfolding decLt
 carried-short x y h k = go (carried x (map constants y)) refl
   where
-    go : (a : Carried OurSlip) → carried x (map constants y) ≡ a → length (carriedText y a) ≤ longestSaid
+    go : (a : Carried SlipFields) → carried x (map constants y) ≡ a → length (carriedText y a) ≤ longestSaid
     go (result u) e = words-short (ascii "yes ") (map (map con) u) (omega arith) (result-slip x y h k u e)
     go unmatched e = words-short (ascii "no ") y (omega arith) k
     go tooLong e = words-short (ascii "refusal 11 ") y (omega arith) k

@@ -13,14 +13,15 @@ use Rattle.math_terms.specs.Terms.{con}
 use Rattle.text_grammar.specs.Ascii.{ascii}
 use Rattle.text_grammar.specs.Plain.{plain}
 use Rattle.text_grammar.specs.Limits.{IsSlip}
-use Rattle.text_grammar.specs.Read.{OutcomeOf, Outcome, OurFields, refused, accepted, readSlip}
+use Rattle.text_grammar.specs.Terms.{OurFields, SlipFields}
+use Rattle.text_grammar.specs.Read.{OutcomeOf, Outcome, refused, accepted, readSlip}
 use Rattle.text_grammar.proofs.Accepted.{slip-read}
 use Rattle.text_grammar.specs.rules.Read.{OurRule, readRule}
 use Rattle.text_grammar.specs.rules.Limits.{IsRule}
 use Rattle.text_grammar.proofs.rules.Accepted.{rule-read}
 use Rattle.text_grammar.specs.constants.Matching.{constants}
 use Rattle.apply_spec.specs.Carrying.{Carried, result, unmatched, tooLong}
-use Rattle.apply_spec.specs.Rules.{OurSlip, carried}
+use Rattle.apply_spec.specs.Rules.{carried}
 use Rattle.text_values.specs.Values.{encodeRule, encodeSlip}
 use Rattle.text_accepted.proofs.rules.Rules.{counted-encode}
 use Rattle.text_accepted.proofs.slips.Slips.{view-encode-slip, counted-slip}
@@ -44,7 +45,7 @@ module _ (x : OurRule) (y : OurFields) (is-rule : IsRule x) (is-slip : IsSlip y)
       (counted-slip y is-slip)
       ∙ go (carried x (map constants y)) refl
     where
-      go : (a : Carried OurSlip) → carried x (map constants y) ≡ a → saidCarried (answerOf (encodeSlip y) a) ≡ carriedText y a
+      go : (a : Carried SlipFields) → carried x (map constants y) ≡ a → saidCarried (answerOf (encodeSlip y) a) ≡ carriedText y a
       go (result u) e = ap (λ (s : OurFields). ascii "yes " ++ plain s) (view-encode-slip (map (map con) u) (result-slip x y is-rule is-slip u e))
       go unmatched e = ap (λ (s : OurFields). ascii "no " ++ plain s) (view-encode-slip y is-slip)
       go tooLong e = ap (λ (s : OurFields). ascii "refusal 11 " ++ plain s) (view-encode-slip y is-slip)

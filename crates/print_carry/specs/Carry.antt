@@ -11,11 +11,12 @@ use Rattle.math_terms.specs.Terms.{con}
 use Rattle.text_grammar.specs.Ascii.{ascii, newline}
 use Rattle.text_grammar.specs.Numbers.{digitsOf}
 use Rattle.text_grammar.specs.Plain.{plain}
-use Rattle.text_grammar.specs.Read.{number, OutcomeOf, Outcome, OurFields, refused, accepted, readSlip}
+use Rattle.text_grammar.specs.Terms.{OurFields, SlipFields}
+use Rattle.text_grammar.specs.Read.{number, OutcomeOf, Outcome, refused, accepted, readSlip}
 use Rattle.text_grammar.specs.rules.Read.{OurRule, readRule}
 use Rattle.text_grammar.specs.constants.Matching.{constants}
 use Rattle.apply_spec.specs.Carrying.{Carried, result, unmatched, tooLong}
-use Rattle.apply_spec.specs.Rules.{OurSlip, carried}
+use Rattle.apply_spec.specs.Rules.{carried}
 use Rattle.apply_rules.specs.declared.Carry.the-variants.{TooLong}
 use Rattle.apply_rules.specs.Answers.{told}
 use Rattle.text_write.specs.Sizes.{longestNumber}
@@ -43,7 +44,7 @@ refusalText (some n) = ascii "refusal " ++ digitsOf n ++ ascii " "
 
 -- document 02: "Carrying out a rule on a slip it matches gives the right side with the filling put in; on a slip it doesn't match, or
 -- without a right side, the slip unchanged and a no", and refusal 11 "leaves the slip as given"; each slip in plain text
-abbrev pub carriedText : OurFields → Carried OurSlip → List ℕ
+abbrev pub carriedText : OurFields → Carried SlipFields → List ℕ
 carriedText slip (result w) = ascii "yes " ++ plain (map (map con) w)
 carriedText slip unmatched = ascii "no " ++ plain slip
 carriedText slip tooLong = refusalText (told TooLong .number) ++ plain slip

@@ -18,7 +18,7 @@ use Rattle.math_terms.specs.Terms.{con, var}
 use Rattle.math_terms.specs.Seqs.{concat-map}
 use Rattle.math_terms.specs.Fillings.{Filling, Occurs}
 use Rattle.text_grammar.specs.Ascii.{ascii, newline}
-use Rattle.text_grammar.specs.Terms.{OurTerm}
+use Rattle.text_grammar.specs.Terms.{OurTerm, OurFields}
 use Rattle.text_grammar.specs.constants.Constants.{Con, consts}
 use Rattle.text_grammar.specs.Numbers.{digitsOf}
 use Rattle.text_grammar.specs.Plain.{termText, fieldText}
@@ -60,7 +60,7 @@ constants-short [] = omega arith
 constants-short (con c ∷ f) = omega (arith, constants-short f)
 constants-short (var k n ∷ f) = omega (arith, constants-short f)
 
-slip-short : (y : List (List OurTerm)) → All (λ f. length f ≤ mostItems) y → All (λ (w : List Con). length w ≤ mostItems) (map constants y)
+slip-short : (y : OurFields) → All (λ f. length f ≤ mostItems) y → All (λ (w : List Con). length w ≤ mostItems) (map constants y)
 slip-short [] h = tt
 slip-short (f ∷ y) h = (omega (arith, constants-short f, h .0), slip-short y (h .1))
 
@@ -69,7 +69,7 @@ numbers-short g b zero n h = omega arith
 numbers-short g b (suc m) n h =
     omega (arith, length-append (g n) (concat-map g (numbersFrom m (suc n))), h n (omega arith), numbers-short g b m (suc n) (λ i l. h i (omega arith)))
 
-module _ (x y : List (List OurTerm)) (is-rule : IsLeft x) (is-slip : IsSlip y) (φ : Filling Con Kind ℕ) (yes-φ : matcher x (map constants y) ≡ some φ) where
+module _ (x y : OurFields) (is-rule : IsLeft x) (is-slip : IsSlip y) (φ : Filling Con Kind ℕ) (yes-φ : matcher x (map constants y) ≡ some φ) where
   field-short : (k : Kind) (n : ℕ) → Any (Occurs k n) x → 5 + length (fieldText (map con (φ k n))) ≤ most k
   field-short (basic k) n o =
       let v = atom-value x (is-rule .1) (map constants y) φ yes-φ k n o in
@@ -110,7 +110,7 @@ module _ (x y : List (List OurTerm)) (is-rule : IsLeft x) (is-slip : IsSlip y) (
 -- ---- answers
 
 -- at most 64 items are compared: a rule has no more atoms
-atoms-short : (x : List (List OurTerm)) → length x ≤ mostFields → All (λ f. length f ≤ mostTerms) x → allAtoms x ≤ rulePlaces
+atoms-short : (x : OurFields) → length x ≤ mostFields → All (λ f. length f ≤ mostTerms) x → allAtoms x ≤ rulePlaces
 atoms-short x h k = omega (arith, go x k)
   where
     atoms-in : (f : List OurTerm) → atoms f ≤ length f
@@ -119,11 +119,11 @@ atoms-short x h k = omega (arith, go x k)
     atoms-in (var (basic k) n ∷ f) = omega (arith, atoms-in f)
     atoms-in (var list n ∷ f) = omega (arith, atoms-in f)
 
-    go : (x : List (List OurTerm)) → All (λ f. length f ≤ mostTerms) x → allAtoms x ≤ mostTerms * length x
+    go : (x : OurFields) → All (λ f. length f ≤ mostTerms) x → allAtoms x ≤ mostTerms * length x
     go [] k = omega arith
     go (f ∷ x) k = omega (arith, atoms-in f, k .0, go x (k .1))
 
-found-short : (x y : List (List OurTerm)) → IsLeft x → IsSlip y → length (matchText x y) ≤ longestSaid
+found-short : (x y : OurFields) → IsLeft x → IsSlip y → length (matchText x y) ≤ longestSaid
 found-short x y h k = go (matcher x (map constants y)) refl
   where
     digits : length (digitsOf (compared x (map constants y))) ≤ 2

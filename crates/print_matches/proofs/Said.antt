@@ -19,7 +19,7 @@ use Rattle.math_terms.specs.Seqs.{concat-map}
 use Rattle.math_terms.specs.Fillings.{Filling, Occurs}
 use Rattle.math_terms.proofs.Seqs.{concat-map-append, concat-mapped}
 use Rattle.text_grammar.specs.Ascii.{ascii}
-use Rattle.text_grammar.specs.Terms.{OurTerm}
+use Rattle.text_grammar.specs.Terms.{OurTerm, OurFields, SlipFields}
 use Rattle.text_grammar.specs.constants.Constants.{Con}
 use Rattle.text_grammar.specs.Plain.{termText, fieldText}
 use Rattle.text_grammar.specs.Limits.{TermIn, IsLeft, IsSlip}
@@ -64,7 +64,7 @@ constants-in [] h = tt
 constants-in (con c ∷ f) h = (h .0, constants-in f (h .1))
 constants-in (var k n ∷ f) h = constants-in f (h .1)
 
-pub slip-in : (y : List (List OurTerm)) → All (All TermIn) y → All (All ConIn) (map constants y)
+pub slip-in : (y : OurFields) → All (All TermIn) y → All (All ConIn) (map constants y)
 slip-in [] h = tt
 slip-in (f ∷ y) h = (constants-in f (h .0), slip-in y (h .1))
 
@@ -79,11 +79,11 @@ viewed (c ∷ v) h = ap₂ (λ (t : OurTerm) (l : List OurTerm). t ∷ l) (view-
 -- ---- the text of a value
 
 -- of the variable of number n and this kind, if the rule has it
-abbrev pub ofVariable : List (List OurTerm) → Filling Con Kind ℕ → Kind → ℕ → List ℕ
+abbrev pub ofVariable : OurFields → Filling Con Kind ℕ → Kind → ℕ → List ℕ
 ofVariable x φ k n = cond (occurs k n x) (valueText φ (k, n)) []
 
-module _ (x y : List (List OurTerm)) (is-rule : IsLeft x) (is-slip : IsSlip y) (φ : Filling Con Kind ℕ) (yes-φ : matcher x (map constants y) ≡ some φ) where
-  abbrev ws : List (List Con)
+module _ (x y : OurFields) (is-rule : IsLeft x) (is-slip : IsSlip y) (φ : Filling Con Kind ℕ) (yes-φ : matcher x (map constants y) ≡ some φ) where
+  abbrev ws : SlipFields
   ws = map constants y
 
   abbrev filling : FillingValue
@@ -130,10 +130,10 @@ kept {A} p g (a ∷ l) = go (p a) (kept p g l)
     go false e = e
 
 -- all of one kind
-abbrev pub ofKindText : List (List OurTerm) → Filling Con Kind ℕ → Kind → List ℕ
+abbrev pub ofKindText : OurFields → Filling Con Kind ℕ → Kind → List ℕ
 ofKindText x φ k = concat-map (ofVariable x φ k) numbers
 
-module _ (x : List (List OurTerm)) (φ : Filling Con Kind ℕ) where
+module _ (x : OurFields) (φ : Filling Con Kind ℕ) where
   abbrev text : Variable → List ℕ
   text v = ofVariable x φ (v .0) (v .1)
 
@@ -149,7 +149,7 @@ module _ (x : List (List OurTerm)) (φ : Filling Con Kind ℕ) where
 
 -- ---- the answer
 
-module _ (x y : List (List OurTerm)) (is-rule : IsLeft x) (is-slip : IsSlip y) where
+module _ (x y : OurFields) (is-rule : IsLeft x) (is-slip : IsSlip y) where
   abbrev fs : List Field
   fs = map encodeField x
 
@@ -181,7 +181,7 @@ module _ (x y : List (List OurTerm)) (is-rule : IsLeft x) (is-slip : IsSlip y) w
 -- ---- the two texts
 
 module _ (t u : List ℕ) (w : OurRule) (left : List ℕ) (is-rule : readRule t ≡ accepted w) (is-left : readSide left ≡ accepted (w .0)) where
-  texts-said : (y : List (List OurTerm)) → readSlip u ≡ accepted y → saidTexts left u ≡ matchText (w .0) y
+  texts-said : (y : OurFields) → readSlip u ≡ accepted y → saidTexts left u ≡ matchText (w .0) y
   texts-said y is-slip =
       ap (saidMatch (sideFields left) (slipFields u)) (compared-texts left u (w .0) y is-left is-slip)
       ∙ ap₂ (λ (a : List Field) (b : List SlipField). saidMatch a b (comparison (w .0) y)) (sides-said left (w .0) is-left) (slips-said u y is-slip)

@@ -11,7 +11,7 @@ use Rattle.math_types.specs.Types.{Kind}
 use Rattle.math_terms.specs.Terms.{con, var}
 use Rattle.math_terms.specs.Seqs.{concat-map}
 use Rattle.math_terms.specs.Fillings.{Filling}
-use Rattle.text_grammar.specs.Terms.{OurTerm}
+use Rattle.text_grammar.specs.Terms.{OurFields, termsOf}
 use Rattle.text_grammar.specs.constants.Constants.{Con}
 use Rattle.text_grammar.specs.Numbers.{digitsOf}
 use Rattle.text_grammar.specs.Plain.{termText, fieldText}
@@ -44,12 +44,12 @@ valueText φ v = ascii " " ++ termText (var (v .0) (v .1)) ++ ascii "=" ++ field
 
 -- `no` or `yes` and how many of the slip's items were compared; behind a `yes` the value of each of the rule's variables, in the order
 -- i, s, a, l and then by number
-abbrev pub foundText : List (List OurTerm) → ℕ → Option (Filling Con Kind ℕ) → List ℕ
+abbrev pub foundText : OurFields → ℕ → Option (Filling Con Kind ℕ) → List ℕ
 foundText rule k none = ascii "no " ++ digitsOf k
-foundText rule k (some φ) = ascii "yes " ++ digitsOf k ++ concat-map (valueText φ) (variables rule)
+foundText rule k (some φ) = ascii "yes " ++ digitsOf k ++ concat-map (valueText φ) (variables (termsOf rule))
 
 -- the rule's left side against the slip
-abbrev pub matchText : List (List OurTerm) → List (List OurTerm) → List ℕ
+abbrev pub matchText : OurFields → OurFields → List ℕ
 matchText rule slip = foundText rule (compared rule (map constants slip)) (matcher rule (map constants slip))
 
 -- the rule's refusal goes before the slip's; a rule matches by its left side, whatever its right side

@@ -4,7 +4,8 @@ use mathlib.Core.List.{List, [], _∷_}
 use Prim.Native.Nat.{ℕ}
 use native.Mathlib.Omega.{arith}
 use lib.ListN.{getD}
-use Rattle.text_grammar.specs.Read.{OutcomeOf, refused, accepted, OurFields}
+use Rattle.text_grammar.specs.Terms.{OurFields}
+use Rattle.text_grammar.specs.Read.{OutcomeOf, refused, accepted}
 use Rattle.text_grammar.specs.Limits.{IsLeft}
 use Rattle.text_grammar.specs.rules.Read.{OurRule, readRule}
 use Rattle.text_grammar.proofs.rules.Accepted.{rule-read}

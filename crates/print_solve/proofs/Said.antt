@@ -10,7 +10,7 @@ use lib.Seq.{length-take-le}
 use Rattle.bytes.specs.Bytes.{indexOf}
 use Rattle.search_row.specs.own.Sizes.{mostRecords}
 use Rattle.text_grammar.specs.Ascii.{ascii, newline}
-use Rattle.text_grammar.specs.Terms.{OurTerm}
+use Rattle.text_grammar.specs.Terms.{OurFields}
 use Rattle.text_grammar.specs.rules.Read.{readRule}
 use Rattle.print_parts.specs.sizes.Sizes.{sizeOf}
 use Rattle.print_solve.specs.search.Found.{mostBytes}
@@ -36,17 +36,17 @@ module _ (t : List ℕ) (tab rest : ℕ) (is-tab : tab ≡ indexOf 9 t) (is-rest
   there-long = length-take-le (length t - rest) (drop rest t) (omega (arith, length-drop rest t))
 
   -- whether a tab stands there
-  module _ (left right : List (List OurTerm)) (k : ℕ) (is-k : k ≡ indexOf 9 there) where
+  module _ (left right : OurFields) (k : ℕ) (is-k : k ≡ indexOf 9 there) where
     pub tab-there : k < length t - rest → sizesText left right t ≡ ascii "bad line" ++ newline
     tab-there h = rw (sym there-is) (rw (lt-ltb (indexOf 9 there) (length there) (omega (arith, there-long))))
 
     pub no-tab-there : length t - rest ≤ k → sizesText left right t ≡ searchText left right (sizeOf mostRecords here) (sizeOf mostBytes there)
     no-tab-there h = rw (sym there-is, sym here-is) (rw (le-ltb (indexOf 9 there) (length there) (omega (arith, there-long))))
 
-  pub right-said : (left : List (List OurTerm)) {right : List (List OurTerm)} → right ≡ fieldIn (readRule here) → rightText left t ≡ sizesText left right there
+  pub right-said : (left : OurFields) {right : OurFields} → right ≡ fieldIn (readRule here) → rightText left t ≡ sizesText left right there
   right-said left e = sym (ap₂ (sizesText left) (e ∙ ap (λ (u : List ℕ). fieldIn (readRule u)) here-is) there-is)
 
-  pub line-said : {left : List (List OurTerm)} → left ≡ fieldIn (readRule here) → length t ≤ longestLine → lineText t ≡ rightText left there
+  pub line-said : {left : OurFields} → left ≡ fieldIn (readRule here) → length t ≤ longestLine → lineText t ≡ rightText left there
   unfolding lineText
   line-said e h =
       ap (λ (b : Bool). cond b (ascii "line too long" ++ newline) (rightText (fieldIn (readRule (part t))) (behind t))) (le-ltb longestLine (length t) h)

@@ -10,8 +10,8 @@ use Rattle.bytes.specs.Bytes.{indexOf}
 use Rattle.base_limits.specs.Limits.{pairLine}
 use Rattle.text_grammar.specs.Ascii.{ascii, newline}
 use Rattle.text_grammar.specs.Numbers.{digitsOf}
-use Rattle.text_grammar.specs.Terms.{OurTerm}
-use Rattle.text_grammar.specs.Read.{OutcomeOf, refused, accepted, OurFields}
+use Rattle.text_grammar.specs.Terms.{OurFields}
+use Rattle.text_grammar.specs.Read.{OutcomeOf, refused, accepted}
 use Rattle.text_grammar.specs.rules.Read.{OurRule, readRule}
 use Rattle.text_write.specs.Sizes.{longestNumber}
 use Rattle.search_spec.specs.Answers.{linesFor}
@@ -69,7 +69,7 @@ fieldIn (refused r p) = []
 fieldIn (accepted w) = oneField (w .0) (w .1)
 
 -- of two fields, a row and a room: a bad row is told before a bad room
-abbrev pub searchText : List (List OurTerm) → List (List OurTerm) → Option ℕ → Option ℕ → List ℕ
+abbrev pub searchText : OurFields → OurFields → Option ℕ → Option ℕ → List ℕ
 searchText left right none room = ascii "bad row" ++ newline
 searchText left right (some row) none = ascii "bad room" ++ newline
 searchText left right (some row) (some room) = foundText room (linesFor row left right)

@@ -5,7 +5,7 @@ use mathlib.Core.Option.{some}
 use Prim.Native.Nat.{ℕ}
 use Rattle.search_row.specs.own.Sizes.{mostRecords}
 use Rattle.text_grammar.specs.Ascii.{ascii, newline}
-use Rattle.text_grammar.specs.Terms.{OurTerm}
+use Rattle.text_grammar.specs.Terms.{OurFields}
 use Rattle.text_grammar.specs.rules.Read.{readRule}
 use Rattle.text_values.specs.declared.Field.{Field}
 use Rattle.text_accepted.specs.Accepted.{countedField}
@@ -22,7 +22,7 @@ abbrev pub saidRow : Field → Field → List ℕ → List ℕ → List ℕ
 saidRow left right row room = searchText (countedField left) (countedField right) (sizeOf mostRecords row) (sizeOf mostBytes room)
 
 -- with all that stands behind their parts
-abbrev pub sizesText : List (List OurTerm) → List (List OurTerm) → List ℕ → List ℕ
+abbrev pub sizesText : OurFields → OurFields → List ℕ → List ℕ
 sizesText left right t =
     cond (hasTab (behind t)) (ascii "bad line" ++ newline)
     (searchText left right (sizeOf mostRecords (part t)) (sizeOf mostBytes (behind t)))
@@ -31,7 +31,7 @@ abbrev pub saidSizes : Field → Field → List ℕ → List ℕ
 saidSizes left right t = sizesText (countedField left) (countedField right) t
 
 -- the left field, with all that stands behind its part
-abbrev pub rightText : List (List OurTerm) → List ℕ → List ℕ
+abbrev pub rightText : OurFields → List ℕ → List ℕ
 rightText left t = sizesText left (fieldIn (readRule (part t))) (behind t)
 
 abbrev pub saidRight : Field → List ℕ → List ℕ

@@ -7,7 +7,7 @@ use Prim.Native.Nat.{ℕ}
 use native.Mathlib.Omega.{arith}
 use lib.Dec.{leb}
 use lib.ListN.{length}
-use Rattle.text_grammar.specs.Terms.{OurTerm}
+use Rattle.text_grammar.specs.Terms.{OurTerm, OurFields}
 use Rattle.text_grammar.specs.Limits.{IsLeft}
 use Rattle.text_values.specs.declared.Field.{Field}
 use Rattle.text_values.specs.Values.{viewField, encodeField}
@@ -123,7 +123,7 @@ module _ (F G : Field) (row : List Problem) (out : List ℕ) where
         (leaves-read (viewField F) (viewField G) (i .0) (j .0) row out r row′ out′
         (subst₂ (λ (F G : Field). Done F G row out r row′ out′) (sym (i .1)) (sym (j .1)) d))
     leaves-by true false p q = of (lines []) (ap₂ (linesFor (length row)) (counted-by F true p) (counted-by G false q)) (left-none (ap₂ _&&_ p q))
-    leaves-by false b p q = of (lines []) (ap (λ (c : List (List OurTerm)). linesFor (length row) c (countedField G)) (counted-by F false p))
+    leaves-by false b p q = of (lines []) (ap (λ (c : OurFields). linesFor (length row) c (countedField G)) (counted-by F false p))
         (left-none (ap₂ _&&_ p q))
 
     -- WHAT IS PROMISED of the answer, the output and the row

@@ -15,7 +15,7 @@ use Rattle.math_terms.specs.Terms.{Term, con, var}
 use Rattle.math_terms.specs.Constants.{TermOver}
 use Rattle.math_terms.specs.Seqs.{concat-map}
 use Rattle.math_terms.specs.Fillings.{Occurs}
-use Rattle.text_grammar.specs.Terms.{OurTerm}
+use Rattle.text_grammar.specs.Terms.{OurTerm, OurFields}
 use Rattle.text_grammar.specs.constants.Constants.{consts}
 use Rattle.text_grammar.specs.Grammar.{colons}
 use Rattle.text_grammar.specs.Plain.{rawOf, termText, fieldText}
@@ -146,7 +146,7 @@ keep-most p (x ∷ xs) = go (p x) (keep-most p xs)
 every-many : length every ≡ variablePlaces
 every-many = refl
 
-variables-most : (r : List (List OurTerm)) → length (variables r) ≤ variablePlaces
+variables-most : (r : OurFields) → length (variables r) ≤ variablePlaces
 variables-most r = omega (arith, keep-most (λ (v : Variable). occurs (v .0) (v .1) r) every, every-many)
 
 -- what occurs is a term of the field

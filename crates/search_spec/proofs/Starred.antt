@@ -9,12 +9,12 @@ use Rattle.base_lists.specs.Seqs.{any?}
 use Rattle.text_grammar.specs.Bytes.{digit?, begins, follows, first, holds}
 use Rattle.text_grammar.specs.Tokens.{fifth?, many?, over?, clash?, clashOf?}
 use Rattle.text_grammar.specs.Ascii.{ascii, newline}
-use Rattle.text_grammar.specs.Terms.{OurTerm}
+use Rattle.text_grammar.specs.Terms.{OurFields}
 use Rattle.text_grammar.specs.Read.{Outcome, refused, accepted, readSide}
 use Rattle.search_spec.specs.Answers.{Lines, lines, nine, linesFor, bytesOf}
 
 -- the rule that is read, or the one with no fields
-abbrev sideIn : Outcome → List (List OurTerm)
+abbrev sideIn : Outcome → OurFields
 sideIn (refused r p) = []
 sideIn (accepted x) = x
 

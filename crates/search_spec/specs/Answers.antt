@@ -11,7 +11,7 @@ use Rattle.math_terms.specs.Terms.{var}
 use Rattle.math_terms.specs.Constants.{TermOver}
 use Rattle.math_terms.specs.Seqs.{concat-map}
 use Rattle.math_terms.specs.Fillings.{Filling, Typed, fill}
-use Rattle.text_grammar.specs.Terms.{OurTerm}
+use Rattle.text_grammar.specs.Terms.{OurTerm, OurFields, termsOf}
 use Rattle.text_grammar.specs.constants.Constants.{Con, consts}
 use Rattle.text_grammar.specs.Ascii.{newline}
 use Rattle.math_overlaps.specs.Substitutions.{Subst}
@@ -126,12 +126,16 @@ linesIn f g unfinished = nine
 abbrev pub linesOf : ℕ → List OurTerm → List OurTerm → Lines
 linesOf room f g = linesIn f g (found room f g)
 
--- the search of two field values, each given as the rule of that one field, or as none where it "stands on no accepted rule's left side":
+-- the search of two fields' terms, each given as the rule of that one field, or as none where it "stands on no accepted rule's left side":
 -- then "there are no lines, both counts are 0 and nothing is refused"
-abbrev pub linesFor : ℕ → List (List OurTerm) → List (List OurTerm) → Lines
-linesFor room [] r₂ = lines []
-linesFor room (f ∷ r₁) [] = lines []
-linesFor room (f ∷ r₁) (g ∷ r₂) = linesOf room f g
+abbrev pub linesBetween : ℕ → List (List OurTerm) → List (List OurTerm) → Lines
+linesBetween room [] r₂ = lines []
+linesBetween room (f ∷ r₁) [] = lines []
+linesBetween room (f ∷ r₁) (g ∷ r₂) = linesOf room f g
+
+-- of fields, by their terms
+abbrev pub linesFor : ℕ → OurFields → OurFields → Lines
+linesFor room r₁ r₂ = linesBetween room (termsOf r₁) (termsOf r₂)
 
 -- the bytes of the whole list; none on a refusal
 abbrev pub bytesOf : Lines → List ℕ

@@ -12,7 +12,7 @@ use lib.Dec.{eqb, ltb}
 use lib.ListN.{length, getD}
 use Rattle.base_limits.specs.Limits.{mostFields}
 use Rattle.base_lists.specs.Seqs.{All, IsCons, all-map, all-mem, cons-is}
-use Rattle.text_grammar.specs.Terms.{OurTerm}
+use Rattle.text_grammar.specs.Terms.{OurTerm, OurFields}
 use Rattle.text_grammar.specs.Read.{rule, OutcomeOf, accepted, readSide}
 use Rattle.text_grammar.specs.Limits.{TermIn, Within, Linear, IsLeft}
 use Rattle.text_grammar.proofs.Accepted.{rule-iff}
@@ -54,7 +54,7 @@ side-parts =
 abbrev pub FieldIn : List OurTerm → Type 0
 FieldIn f = (length f ≤ rule .width) × All TermIn f
 
-abbrev pub SideIn : List (List OurTerm) → Type 0
+abbrev pub SideIn : OurFields → Type 0
 SideIn r = (length r ≤ mostFields) × All FieldIn r
 
 pub field-stands : Stands viewField encodeField fieldOk fieldBlank blankField FieldIn
@@ -71,45 +71,45 @@ module _ {A : Type 0} where
       let r = all-both P Q xs in
       (λ h. ((h .0 .0, r .0 (h .1) .0), (h .0 .1, r .0 (h .1) .1)), λ h. ((h .0 .0, h .1 .0), r .1 (h .0 .1, h .1 .1)))
 
-pub within-is : (w : ℕ) (r : List (List OurTerm)) → Within w r ↔ (IsCons r × (length r ≤ mostFields) × All (λ f. (length f ≤ w) × All TermIn f) r)
+pub within-is : (w : ℕ) (r : OurFields) → Within w r ↔ (IsCons r × (length r ≤ mostFields) × All (λ f. (length f ≤ w) × All TermIn f) r)
 within-is w r =
     let b = all-both (λ f. length f ≤ w) (All TermIn) r in
     (λ h. (h .0, h .1, b .1 (h .2, h .3)), λ h. (h .0, h .1, b .0 (h .2) .0, b .0 (h .2) .1))
 
-pub rule-is : (r : List (List OurTerm)) → IsLeft r ↔ (IsCons r × SideIn r × Linear r)
+pub rule-is : (r : OurFields) → IsLeft r ↔ (IsCons r × SideIn r × Linear r)
 rule-is r = let i = within-is (rule .width) r in (λ h. let j = i .0 (h .0) in (j .0, (j .1, j .2), h .1), λ h. (i .1 (h .0, h .1 .0, h .1 .1), h .2))
 
 -- ---- there and back
 pub view-encode-field : (ts : List OurTerm) → length ts ≤ rule .width → All TermIn ts → viewField (encodeField ts) ≡ ts
 view-encode-field ts k h = field-stands .view-encode ts (k, h)
 
-pub view-encode-rule : (r : List (List OurTerm)) → IsLeft r → viewSide (encodeSide r) ≡ r
+pub view-encode-rule : (r : OurFields) → IsLeft r → viewSide (encodeSide r) ≡ r
 view-encode-rule r h = side-stands .view-encode r (rule-is r .0 h .1)
 
 -- THERE IS ONE VALUE for one rule
-pub encode-rule-one : (r s : List (List OurTerm)) → IsLeft r → IsLeft s → encodeSide r ≡ encodeSide s → r ≡ s
+pub encode-rule-one : (r s : OurFields) → IsLeft r → IsLeft s → encodeSide r ≡ encodeSide s → r ≡ s
 encode-rule-one r s h k e = encode-one side-stands r s (rule-is r .0 h .1) (rule-is s .0 k .1) e
 
 -- ---- A RIGHT SIDE: the accepted values are those of at most four fields within the limits, one for each
-pub view-encode-side : (y : List (List OurTerm)) → SideIn y → viewSide (encodeSide y) ≡ y
+pub view-encode-side : (y : OurFields) → SideIn y → viewSide (encodeSide y) ≡ y
 view-encode-side y h = side-stands .view-encode y h
 
-pub encode-accepted-side : (y : List (List OurTerm)) → SideIn y → acceptedRight (encodeSide y) ≡ true
+pub encode-accepted-side : (y : OurFields) → SideIn y → acceptedRight (encodeSide y) ≡ true
 encode-accepted-side y h = side-stands .encode-good y h
 
 pub accepted-side : (v : RuleSide) → acceptedRight v ≡ true → SideIn (viewSide v) × (encodeSide (viewSide v) ≡ v)
 accepted-side v h = (side-stands .view-in v h, side-stands .encode-view v h)
 
-pub side-value-iff : (v : RuleSide) → (acceptedRight v ≡ true) ↔ ((y : List (List OurTerm)) × SideIn y × (v ≡ encodeSide y))
+pub side-value-iff : (v : RuleSide) → (acceptedRight v ≡ true) ↔ ((y : OurFields) × SideIn y × (v ≡ encodeSide y))
 side-value-iff v =
     (λ h. let a = accepted-side v h in (viewSide v, a .0, sym (a .1)), λ h. ap acceptedRight (h .2) ∙ encode-accepted-side (h .0) (h .1))
 
 -- ---- accepted
 -- a count over zero
-pub count-is : (n : ℕ) (r : List (List OurTerm)) → length r ≡ n → (ltb 0 n ≡ true) ↔ IsCons r
+pub count-is : (n : ℕ) (r : OurFields) → length r ≡ n → (ltb 0 n ≡ true) ↔ IsCons r
 count-is n r e = (λ h. cons-is r .0 (omega (arith, ltb-true 0 n h)), λ h. lt-ltb 0 n (omega (arith, cons-is r .1 h)))
 
-pub encode-accepted-rule : (r : List (List OurTerm)) → IsLeft r → acceptedLeft (encodeSide r) ≡ true
+pub encode-accepted-rule : (r : OurFields) → IsLeft r → acceptedLeft (encodeSide r) ≡ true
 encode-accepted-rule r h =
     let i = rule-is r .0 h in
     let l : linear (viewSide (encodeSide r)) ≡ true = ap linear (view-encode-rule r h) ∙ linear-is r (h .0 .3) .1 (h .1) in
@@ -145,7 +145,7 @@ value-iff {W} {X} good view encode read Is read-is from to v = (there, λ h. ap 
         let t = read-is (view v) .1 (a .0) in
         (t .0, view v, t .1, sym (a .1))
 
-pub rule-value-iff : (v : RuleSide) → (acceptedLeft v ≡ true) ↔ ((t : List ℕ) × (r : List (List OurTerm)) × (readSide t ≡ accepted r) × (v ≡ encodeSide r))
+pub rule-value-iff : (v : RuleSide) → (acceptedLeft v ≡ true) ↔ ((t : List ℕ) × (r : OurFields) × (readSide t ≡ accepted r) × (v ≡ encodeSide r))
 rule-value-iff = value-iff acceptedLeft viewSide encodeSide readSide IsLeft rule-iff accepted-rule encode-accepted-rule
 
 -- ---- THE ACCEPTED FIELDS are those that stand on some accepted rule's left side
@@ -155,15 +155,15 @@ encode-accepted-field ts h = encode-accepted-rule (ts ∷ []) h
 pub accepted-field : (f : Field) → acceptedField f ≡ true → IsLeft (viewField f ∷ []) × (encodeField (viewField f) ≡ f)
 accepted-field f h = let a = accepted-rule (oneField f) h in (a .0, ap (λ (r : RuleSide). getD (r .fields) 0 blankField) (a .1))
 
-one-rule : (r : List (List OurTerm)) (ts : List OurTerm) → IsLeft r → List·Memᴰ ts r → IsLeft (ts ∷ [])
+one-rule : (r : OurFields) (ts : List OurTerm) → IsLeft r → List·Memᴰ ts r → IsLeft (ts ∷ [])
 one-rule r ts h m =
     let i = rule-is r .0 h in
     rule-is (ts ∷ []) .1 (tt, (omega arith, (all-mem FieldIn r (i .1 .1) ts m, tt)), linear-field r ts (i .2) m)
 
 pub field-value-iff : (f : Field)
     → (acceptedField f ≡ true)
-    ↔ ((r : List (List OurTerm)) × (ts : List OurTerm) × IsLeft r × List·Memᴰ ts r × (f ≡ encodeField ts))
+    ↔ ((r : OurFields) × (ts : List OurTerm) × IsLeft r × List·Memᴰ ts r × (f ≡ encodeField ts))
 field-value-iff f = (to, λ h. ap acceptedField (h .4) ∙ encode-accepted-field (h .1) (one-rule (h .0) (h .1) (h .2) (h .3)))
   where
-    to : acceptedField f ≡ true → (r : List (List OurTerm)) × (ts : List OurTerm) × IsLeft r × List·Memᴰ ts r × (f ≡ encodeField ts)
+    to : acceptedField f ≡ true → (r : OurFields) × (ts : List OurTerm) × IsLeft r × List·Memᴰ ts r × (f ≡ encodeField ts)
     to h = let a = accepted-field f h in (viewField f ∷ [], viewField f, a .0, List·Memᴰ·head refl, sym (a .1))

@@ -2,10 +2,10 @@
 -- `rule-value-iff`, `field-value-iff` of proofs/Accepted say that these are exactly the values that some text is read as; of right sides
 -- `side-value-iff` there says that they are those within the limits, and `rule-value-iff` of text_accepted::rules the same of whole rules.
 use mathlib.Core.Bool.{Bool, _&&_, cond}
-use mathlib.Core.List.{List, []}
+use mathlib.Core.List.{[]}
 use lib.Dec.{eqb, ltb}
 use Rattle.base_limits.specs.Limits.{mostFields}
-use Rattle.text_grammar.specs.Terms.{OurTerm}
+use Rattle.text_grammar.specs.Terms.{OurFields}
 use Rattle.text_grammar.specs.Read.{rule}
 use Rattle.text_values.specs.declared.Field.{Field}
 use Rattle.text_values.specs.declared.RuleSide.{RuleSide}
@@ -29,7 +29,7 @@ abbrev pub acceptedLeft : RuleSide → Bool
 acceptedLeft r = ltb 0 (r .n) && (acceptedRight r && linear (viewSide r))
 
 -- document 01: a value "that no reading can return counts there as one with no fields"
-abbrev pub countedLeft : RuleSide → List (List OurTerm)
+abbrev pub countedLeft : RuleSide → OurFields
 countedLeft r = cond (acceptedLeft r) (viewSide r) []
 
 -- ---- fields: one that stands on some accepted rule's left side stands there alone too
@@ -37,5 +37,5 @@ countedLeft r = cond (acceptedLeft r) (viewSide r) []
 abbrev pub acceptedField : Field → Bool
 acceptedField f = acceptedLeft (oneField f)
 
-abbrev pub countedField : Field → List (List OurTerm)
+abbrev pub countedField : Field → OurFields
 countedField f = countedLeft (oneField f)

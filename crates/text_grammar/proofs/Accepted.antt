@@ -14,7 +14,7 @@ use Rattle.text_grammar.specs.Machine.{place2}
 use Rattle.text_grammar.specs.Place.{Answers, Stops}
 use Rattle.text_grammar.specs.Leftmost.{NoneOf, leftmost, LeftmostAt}
 use Rattle.text_grammar.specs.Tokens.{Token, tokens, FifthField, TooMany, Over, TokenOver, IsVar, TokenVar}
-use Rattle.text_grammar.specs.Terms.{OurTerm, termOf, fieldOf, fieldsOf}
+use Rattle.text_grammar.specs.Terms.{OurTerm, OurFields, termOf, fieldOf, fieldsOf}
 use Rattle.text_grammar.specs.Read.{Reason, long, grammar, fields, terms, limits, linear, variable, Sort, rule, slip, Bad, bad?, placeOfToken, FirstBad}
 use Rattle.text_grammar.specs.Read.{Refuses}
 use Rattle.text_grammar.specs.Read.{said, Never, accepted, readSide, readSlip}
@@ -119,12 +119,12 @@ not-over-all : (ts : List OurTerm) → All TermIn ts → All (λ r. Over r → �
 not-over-all [] h = tt
 not-over-all (t ∷ ts) h = (not-over t (h .0), not-over-all ts (h .1))
 
-pub not-over-fields : (r : List (List OurTerm)) → All (All TermIn) r → All (All (λ u. Over u → ⊥)) (map rawField r)
+pub not-over-fields : (r : OurFields) → All (All TermIn) r → All (All (λ u. Over u → ⊥)) (map rawField r)
 not-over-fields [] h = tt
 not-over-fields ([] ∷ fs) h = (((λ z. z), tt), not-over-fields fs (h .1))
 not-over-fields ((t ∷ ts) ∷ fs) h = (not-over-all (t ∷ ts) (h .0), not-over-fields fs (h .1))
 
-pub raw-widths : (w : ℕ) (r : List (List OurTerm)) → All (λ f. length f ≤ suc w) r → All (λ f. length f ≤ suc w) (map rawField r)
+pub raw-widths : (w : ℕ) (r : OurFields) → All (λ f. length f ≤ suc w) r → All (λ f. length f ≤ suc w) (map rawField r)
 raw-widths w [] h = tt
 raw-widths w ([] ∷ fs) h = (omega arith, raw-widths w fs (h .1))
 raw-widths w ((t ∷ ts) ∷ fs) h = (omega (arith, length-map (t ∷ ts) rawOf, h .0), raw-widths w fs (h .1))
@@ -133,7 +133,7 @@ term-ok : (t : OurTerm) → TermIn t → TermOk t
 term-ok (con c) h = in-ok c h
 term-ok (var k n) h = tt
 
-pub rule-ok : (w : ℕ) (r : List (List OurTerm)) → Within w r → RuleOk r
+pub rule-ok : (w : ℕ) (r : OurFields) → Within w r → RuleOk r
 rule-ok w r h = (h .0, all-map (All TermIn) (All TermOk) (λ f g. all-map TermIn TermOk term-ok f g) r (h .3))
 
 -- the plain text is never too long
@@ -149,21 +149,21 @@ pub field-length : (w : ℕ) (f : List OurTerm) → length f ≤ suc w → All T
 field-length w [] l h = omega arith
 field-length w (t ∷ ts) l h = omega (arith, length-append (spell (rawOf t)) (colons (map rawOf ts)), spell-short t (h .0), colons-short ts (h .1))
 
-bars-length : (w : ℕ) (r : List (List OurTerm)) → All (λ f. length f ≤ suc w) r → All (All TermIn) r
+bars-length : (w : ℕ) (r : OurFields) → All (λ f. length f ≤ suc w) r → All (All TermIn) r
     → length (bars (map rawField r)) ≤ length r * (suc longestTerm * suc w)
 bars-length w [] l h = omega arith
 bars-length w (f ∷ fs) l h =
     omega (arith, length-append (spellF (rawField f)) (bars (map rawField fs)), field-length w f (l .0) (h .0), bars-length w fs (l .1) (h .1))
 
 -- the longest plain text of a rule has 1,151 bytes at most, of a slip 4,607
-pub rule-length : (r : List (List OurTerm)) → Within mostTerms r → length (plain r) ≤ longestSide
+pub rule-length : (r : OurFields) → Within mostTerms r → length (plain r) ≤ longestSide
 rule-length [] h = absurd (h .0)
 rule-length (f ∷ fs) h =
     let a : length (spellF (rawField f)) ≤ longestField = omega (arith, field-length 15 f (h .2 .0) (h .3 .0)) in
     let b : length (bars (map rawField fs)) ≤ length fs * suc longestField = bars-length 15 fs (h .2 .1) (h .3 .1) in
     omega (arith, length-append (spellF (rawField f)) (bars (map rawField fs)), h .1)
 
-pub slip-length : (r : List (List OurTerm)) → Within mostItems r → length (plain r) ≤ longestSlip
+pub slip-length : (r : OurFields) → Within mostItems r → length (plain r) ≤ longestSlip
 slip-length [] h = absurd (h .0)
 slip-length (f ∷ fs) h =
     let a : length (spellF (rawField f)) ≤ longestSlipField = omega (arith, field-length 63 f (h .2 .0) (h .3 .0)) in
@@ -185,7 +185,7 @@ module _ (S : Sort) (t : List ℕ) where
             (clean-to (S .width) limits t (g .0) (g .1) (h .4)),
       )
 
-module _ (S : Sort) (w : ℕ) (same : S .width ≡ suc w) (r : List (List OurTerm)) (h : Within (suc w) r) (short : length (plain r) ≤ S .bytes) where
+module _ (S : Sort) (w : ℕ) (same : S .width ≡ suc w) (r : OurFields) (h : Within (suc w) r) (short : length (plain r) ≤ S .bytes) where
   says : Says (plain r) (map rawField r)
   says = plain-says r (rule-ok (suc w) r h)
 
@@ -203,7 +203,7 @@ module _ (S : Sort) (w : ℕ) (same : S .width ≡ suc w) (r : List (List OurTer
   )
 
 -- a rule that is read is within the limits
-pub rule-read : (t : List ℕ) (r : List (List OurTerm)) → readSide t ≡ accepted r → IsLeft r
+pub rule-read : (t : List ℕ) (r : OurFields) → readSide t ≡ accepted r → IsLeft r
 rule-read t r e =
     let a = read-accepted rule t r .0 e in
     let n = a .0 in
@@ -212,7 +212,7 @@ rule-read t r e =
     subst IsLeft (ap fieldsOf (sym (said-is t (b .0) (b .1))) ∙ a .1) (b .2, l)
 
 -- and one within the limits is read from its plain text
-pub rule-plain : (r : List (List OurTerm)) → IsLeft r → readSide (plain r) ≡ accepted r
+pub rule-plain : (r : OurFields) → IsLeft r → readSide (plain r) ≡ accepted r
 rule-plain r h =
     let b = plain-base rule 15 refl r (h .0) (omega (arith, rule-length r (h .0))) in
     let ok = rule-ok mostTerms r (h .0) in
@@ -220,7 +220,7 @@ rule-plain r h =
     let l = clean-from mostTerms linear (plain r) (map rawField r) s (linear-tokens (map rawField r) .1 (subst Linear (sym (back r (ok .1))) (h .1))) in
     read-accepted rule (plain r) r .1 ((b .0, (b .1, (b .2, (b .3, (b .4, (l, tt)))))), plain-said r ok)
 
-pub slip-read : (t : List ℕ) (r : List (List OurTerm)) → readSlip t ≡ accepted r → IsSlip r
+pub slip-read : (t : List ℕ) (r : OurFields) → readSlip t ≡ accepted r → IsSlip r
 slip-read t r e =
     let a = read-accepted slip t r .0 e in
     let n = a .0 in
@@ -228,18 +228,18 @@ slip-read t r e =
     let l = names-tokens (b .0) .0 (clean-to mostItems variable t (b .0) (b .1) (n .1 .1 .1 .1 .1 .0)) in
     subst IsSlip (ap fieldsOf (sym (said-is t (b .0) (b .1))) ∙ a .1) (b .2, l)
 
-pub slip-plain : (r : List (List OurTerm)) → IsSlip r → readSlip (plain r) ≡ accepted r
+pub slip-plain : (r : OurFields) → IsSlip r → readSlip (plain r) ≡ accepted r
 slip-plain r h =
     let b = plain-base slip 63 refl r (h .0) (omega (arith, slip-length r (h .0))) in
     let ok = rule-ok mostItems r (h .0) in
     let s = plain-says r ok in
     let l = clean-from mostItems variable (plain r) (map rawField r) s
-    (names-tokens (map rawField r) .1 (subst (λ (q : List (List OurTerm)). All (All IsCon) q) (sym (back r (ok .1))) (h .1))) in
+    (names-tokens (map rawField r) .1 (subst (λ (q : OurFields). All (All IsCon) q) (sym (back r (ok .1))) (h .1))) in
     read-accepted slip (plain r) r .1 ((b .0, (b .1, (b .2, (b .3, (b .4, (l, tt)))))), plain-said r ok)
 
 -- ACCEPTED is within the limits
-pub rule-iff : (r : List (List OurTerm)) → ((t : List ℕ) × (readSide t ≡ accepted r)) ↔ IsLeft r
+pub rule-iff : (r : OurFields) → ((t : List ℕ) × (readSide t ≡ accepted r)) ↔ IsLeft r
 rule-iff r = (λ h. rule-read (h .0) r (h .1), λ h. (plain r, rule-plain r h))
 
-pub slip-iff : (r : List (List OurTerm)) → ((t : List ℕ) × (readSlip t ≡ accepted r)) ↔ IsSlip r
+pub slip-iff : (r : OurFields) → ((t : List ℕ) × (readSlip t ≡ accepted r)) ↔ IsSlip r
 slip-iff r = (λ h. slip-read (h .0) r (h .1), λ h. (plain r, slip-plain r h))

@@ -11,7 +11,7 @@ use Rattle.text_grammar.specs.Grammar.{Raw, raw-var, raw-empty, Proper, 
 use Rattle.text_grammar.specs.Numbers.{value}
 use Rattle.text_grammar.specs.Leftmost.{NoneOf}
 use Rattle.text_grammar.specs.Tokens.{tokens, FifthField, TooMany, Over, TokenOver}
-use Rattle.text_grammar.specs.Terms.{OurTerm}
+use Rattle.text_grammar.specs.Terms.{OurFields}
 use Rattle.text_grammar.specs.Read.{fields, terms, limits, Sort, rule, slip, Bad, accepted, readSide, readSlip}
 use Rattle.text_grammar.proofs.Numbers.{digits-ten, digits-one}
 use Rattle.text_grammar.proofs.Leftmost.{none-all}
@@ -58,7 +58,7 @@ base-length S t h =
     (clean-to (S .width) limits t (g .0) (g .1) (h .4)) in
     (r .0, r .1, subst (λ (l : List ℕ). suc (length l) ≤ suc longestTerm * S .width + r .0 * (suc longestTerm * S .width)) (sym (g .1 .1)) (r .2))
 
-pub rule-bytes : (t : List ℕ) (r : List (List OurTerm)) → readSide t ≡ accepted r → length t ≤ longestSide
+pub rule-bytes : (t : List ℕ) (r : OurFields) → readSide t ≡ accepted r → length t ≤ longestSide
 rule-bytes t r e =
     let n = read-accepted rule t r .0 e .0 in
     let b = base-length rule t (n .0, n .1 .0, n .1 .1 .0, n .1 .1 .1 .0, n .1 .1 .1 .1 .0) in
@@ -67,7 +67,7 @@ rule-bytes t r e =
     let bound : suc (length t) ≤ suc longestField + k * suc longestField = b .2 in
     omega arith
 
-pub slip-bytes : (t : List ℕ) (r : List (List OurTerm)) → readSlip t ≡ accepted r → length t ≤ longestSlip
+pub slip-bytes : (t : List ℕ) (r : OurFields) → readSlip t ≡ accepted r → length t ≤ longestSlip
 slip-bytes t r e =
     let n = read-accepted slip t r .0 e .0 in
     let b = base-length slip t (n .0, n .1 .0, n .1 .1 .0, n .1 .1 .1 .0, n .1 .1 .1 .1 .0) in

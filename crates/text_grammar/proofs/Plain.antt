@@ -7,7 +7,7 @@ use Rattle.base_lists.specs.Seqs.{All}
 use Rattle.math_terms.specs.Terms.{con, var}
 use Rattle.text_grammar.specs.Grammar.{Raw, raw-var, raw-empty, Proper, FieldOk, spellT, Says, raw-con}
 use Rattle.text_grammar.specs.Machine.{parse}
-use Rattle.text_grammar.specs.Terms.{OurTerm, termOf, fieldOf, fieldsOf}
+use Rattle.text_grammar.specs.Terms.{OurTerm, OurFields, termOf, fieldOf, fieldsOf}
 use Rattle.text_grammar.specs.Read.{said}
 use Rattle.text_grammar.specs.Plain.{rawOf, rawField, plain, TermOk, RuleOk}
 use Rattle.text_grammar.specs.constants.Constants.{Con, RawCon, LeanCon}
@@ -27,11 +27,11 @@ field-ok : (f : List OurTerm) → All TermOk f → FieldOk (rawField f)
 field-ok [] h = (tt, (tt, tt))
 field-ok (t ∷ ts) h = (tt, proper-all (t ∷ ts) h)
 
-fields-ok : (r : List (List OurTerm)) → All (All TermOk) r → All FieldOk (map rawField r)
+fields-ok : (r : OurFields) → All (All TermOk) r → All FieldOk (map rawField r)
 fields-ok [] h = tt
 fields-ok (f ∷ fs) h = (field-ok f (h .0), fields-ok fs (h .1))
 
-pub plain-says : (r : List (List OurTerm)) → RuleOk r → Says (plain r) (map rawField r)
+pub plain-says : (r : OurFields) → RuleOk r → Says (plain r) (map rawField r)
 plain-says [] h = absurd (h .0)
 plain-says (f ∷ fs) h = ((tt, fields-ok (f ∷ fs) (h .1)), refl)
 
@@ -47,19 +47,19 @@ back-field : (f : List OurTerm) → All TermOk f → fieldOf (rawField f) ≡ f
 back-field [] h = refl
 back-field (t ∷ ts) h = back-terms (t ∷ ts) h
 
-pub back : (r : List (List OurTerm)) → All (All TermOk) r → fieldsOf (map rawField r) ≡ r
+pub back : (r : OurFields) → All (All TermOk) r → fieldsOf (map rawField r) ≡ r
 back [] h = refl
-back (f ∷ fs) h = ap₂ (λ (a : List OurTerm) (b : List (List OurTerm)). a ∷ b) (back-field f (h .0)) (back fs (h .1))
+back (f ∷ fs) h = ap₂ (λ (a : List OurTerm) (b : OurFields). a ∷ b) (back-field f (h .0)) (back fs (h .1))
 
 -- the plain text says the rule
-pub plain-parse : (r : List (List OurTerm)) → RuleOk r → parse (plain r) ≡ some (map rawField r)
+pub plain-parse : (r : OurFields) → RuleOk r → parse (plain r) ≡ some (map rawField r)
 plain-parse r h = parse-complete (plain r) (map rawField r) (plain-says r h)
 
-pub plain-said : (r : List (List OurTerm)) → RuleOk r → fieldsOf (said (plain r)) ≡ r
+pub plain-said : (r : OurFields) → RuleOk r → fieldsOf (said (plain r)) ≡ r
 plain-said r h = ap (λ (a : Option (List (List Raw))). fieldsOf (Option·getD a [])) (plain-parse r h) ∙ back r (h .1)
 
 -- THE PLAIN TEXT determines the rule
-pub plain-one : (r s : List (List OurTerm)) → RuleOk r → RuleOk s → plain r ≡ plain s → r ≡ s
+pub plain-one : (r s : OurFields) → RuleOk r → RuleOk s → plain r ≡ plain s → r ≡ s
 plain-one r s p q e = sym (plain-said r p) ∙ ap (λ (t : List ℕ). fieldsOf (said t)) e ∙ plain-said s q
 
 -- a text that has no `empty` beside other terms and no leading zeros is the plain text of what it says
@@ -111,7 +111,7 @@ lean-raws : (ts : List OurTerm) → All TermOk ts → All Lean (map rawOf ts)
 lean-raws [] h = tt
 lean-raws (t ∷ ts) h = (lean-raw t (h .0), lean-raws ts (h .1))
 
-pub plain-lean : (r : List (List OurTerm)) → All (All TermOk) r → All LeanField (map rawField r)
+pub plain-lean : (r : OurFields) → All (All TermOk) r → All LeanField (map rawField r)
 plain-lean [] h = tt
 plain-lean (f ∷ fs) h = (one f (h .0), plain-lean fs (h .1))
   where

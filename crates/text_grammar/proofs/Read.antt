@@ -12,7 +12,7 @@ use Rattle.text_grammar.specs.Place.{Answers}
 use Rattle.text_grammar.specs.Machine.{parse}
 use Rattle.text_grammar.specs.Leftmost.{LeftmostAt}
 use Rattle.text_grammar.specs.Tokens.{tokens}
-use Rattle.text_grammar.specs.Terms.{OurTerm, fieldsOf}
+use Rattle.text_grammar.specs.Terms.{OurFields, fieldsOf}
 use Rattle.text_grammar.specs.Read.{Reason, long, grammar, fields, terms, limits, linear, variable, unknown, Sort, Bad, bad?, placeOfToken, FirstBad}
 use Rattle.text_grammar.specs.Read.{Refuses}
 use Rattle.text_grammar.specs.Read.{said, firstBad, placeOf, OutcomeOf, refused, accepted, tell, chain, NoReason, FirstReason, read}
@@ -83,5 +83,5 @@ module _ {X : Type 0} (R : Reason → ℕ → Type 0) (f : Reason → Option ℕ
 pub read-refused : (S : Sort) (t : List ℕ) (s : Reason) (p : ℕ) → (read S t ≡ refused s p) ↔ FirstReason (Refuses S t) (S .order) s p
 read-refused S t s p = chain-refused (Refuses S t) (placeOf S t) (answers S t) (fieldsOf (said t)) (S .order) s p
 
-pub read-accepted : (S : Sort) (t : List ℕ) (r : List (List OurTerm)) → (read S t ≡ accepted r) ↔ (NoReason (Refuses S t) (S .order) × (fieldsOf (said t) ≡ r))
+pub read-accepted : (S : Sort) (t : List ℕ) (r : OurFields) → (read S t ≡ accepted r) ↔ (NoReason (Refuses S t) (S .order) × (fieldsOf (said t) ≡ r))
 read-accepted S t r = chain-accepted (Refuses S t) (placeOf S t) (answers S t) (fieldsOf (said t)) (S .order) r

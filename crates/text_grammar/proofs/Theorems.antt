@@ -7,7 +7,7 @@ use Prim.Native.Nat.{ℕ}
 use native.Mathlib.Omega.{arith}
 use Rattle.base_lists.specs.Seqs.{All}
 use Rattle.text_grammar.specs.Grammar.{Raw, Says}
-use Rattle.text_grammar.specs.Terms.{OurTerm, fieldsOf}
+use Rattle.text_grammar.specs.Terms.{OurFields, fieldsOf}
 use Rattle.text_grammar.specs.Read.{Reason, long, grammar, fields, terms, limits, linear, variable, unknown, number, Sort, rule, slip, Refuses, NoReason}
 use Rattle.text_grammar.specs.Read.{FirstReason, refused, accepted, read, readSide, readSlip, earlier}
 use Rattle.text_grammar.specs.Plain.{plain}
@@ -94,7 +94,7 @@ slip-never t p e = not-tried (Refuses slip t) linear p (slip .order) (omega arit
 
 -- ACCEPTED: none applies, and the rule is what the text says
 module _ (S : Sort) (others : List Reason) (is : S .order ≡ long ∷ grammar ∷ others) where
-  accepted-says : (t : List ℕ) (r : List (List OurTerm))
+  accepted-says : (t : List ℕ) (r : OurFields)
       → (read S t ≡ accepted r) ↔ (NoReason (Refuses S t) (S .order) × ((x : List (List Raw)) × Says t x × (fieldsOf x ≡ r)))
   accepted-says t r = (to, λ h. read-accepted S t r .1 (h .0, ap fieldsOf (said-is t (h .1 .0) (h .1 .1)) ∙ h .1 .2))
     where
@@ -104,24 +104,24 @@ module _ (S : Sort) (others : List Reason) (is : S .order ≡ long ∷ grammar �
           let g = in-grammar t ((subst (NoReason (Refuses S t)) is (a .0)) .1 .0) in
           (a .0, (g .0, g .1, ap fieldsOf (sym (said-is t (g .0) (g .1))) ∙ a .1))
 
-pub rule-accepted : (t : List ℕ) (r : List (List OurTerm))
+pub rule-accepted : (t : List ℕ) (r : OurFields)
     → (readSide t ≡ accepted r) ↔ (NoReason (Refuses rule t) (rule .order) × ((x : List (List Raw)) × Says t x × (fieldsOf x ≡ r)))
 rule-accepted = accepted-says rule (fields ∷ terms ∷ limits ∷ linear ∷ []) refl
 
-pub slip-accepted : (t : List ℕ) (r : List (List OurTerm))
+pub slip-accepted : (t : List ℕ) (r : OurFields)
     → (readSlip t ≡ accepted r) ↔ (NoReason (Refuses slip t) (slip .order) × ((x : List (List Raw)) × Says t x × (fieldsOf x ≡ r)))
 slip-accepted = accepted-says slip (fields ∷ terms ∷ limits ∷ variable ∷ []) refl
 
 -- THE ONE PLAIN TEXT: of all texts that are read as r, the plain text is the only one without needless `empty` and leading zeros
-pub one-plain : (t : List ℕ) (r : List (List OurTerm)) → readSide t ≡ accepted r → ((x : List (List Raw)) → Says t x → All LeanField x) → t ≡ plain r
+pub one-plain : (t : List ℕ) (r : OurFields) → readSide t ≡ accepted r → ((x : List (List Raw)) → Says t x → All LeanField x) → t ≡ plain r
 one-plain t r e l =
     let a = rule-accepted t r .0 e .1 in
     lean-is-plain t (a .0) (a .1) (l (a .0) (a .1)) ∙ ap plain (a .2)
 
 -- READING THE PLAIN TEXT of what was read returns it
-pub read-again : (t : List ℕ) (r : List (List OurTerm)) → readSide t ≡ accepted r → readSide (plain r) ≡ accepted r
+pub read-again : (t : List ℕ) (r : OurFields) → readSide t ≡ accepted r → readSide (plain r) ≡ accepted r
 read-again t r e = rule-plain r (rule-read t r e)
 
 -- PLAIN TEXT IS INJECTIVE on accepted rules
-pub plain-injective : (r s : List (List OurTerm)) → IsLeft r → IsLeft s → plain r ≡ plain s → r ≡ s
+pub plain-injective : (r s : OurFields) → IsLeft r → IsLeft s → plain r ≡ plain s → r ≡ s
 plain-injective r s h k e = plain-one r s (rule-ok (rule .width) r (h .0)) (rule-ok (rule .width) s (k .0)) e

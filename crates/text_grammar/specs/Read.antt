@@ -14,7 +14,7 @@ use Rattle.text_grammar.specs.Leftmost.{leftmost, LeftmostAt}
 use Rattle.text_grammar.specs.Tokens.{Token, tokens, FifthField, TooMany, TokenOver, NotLinear, TokenVar, fifth?, many?, tokenOver?}
 use Rattle.text_grammar.specs.Tokens.{notLinear?}
 use Rattle.text_grammar.specs.Tokens.{tokenVar?}
-use Rattle.text_grammar.specs.Terms.{OurTerm, fieldsOf}
+use Rattle.text_grammar.specs.Terms.{OurFields, fieldsOf}
 
 -- why a text is refused: document 01's reasons, and document 02's "a right-side variable that the left lacks", which one side alone
 -- never meets
@@ -140,10 +140,6 @@ module _ {X : Type 0} where
   abbrev pub chain : (Reason → Option ℕ) → List Reason → X → OutcomeOf X
   chain f [] a = accepted a
   chain f (r ∷ rs) a = tell r (f r) (chain f rs a)
-
--- the fields of a rule's side, or of a slip
-abbrev pub OurFields : Type 0
-OurFields = List (List OurTerm)
 
 abbrev pub Outcome : Type 0
 Outcome = OutcomeOf OurFields

@@ -17,7 +17,7 @@ use Rattle.text_grammar.specs.Grammar.{Raw, raw-var, raw-empty, spell, spellF, 
 use Rattle.text_grammar.specs.constants.Constants.{raw-int, raw-str}
 use Rattle.text_grammar.specs.Numbers.{value}
 use Rattle.text_grammar.specs.Tokens.{Token, tokens, tokensF, tokensT, Over}
-use Rattle.text_grammar.specs.Terms.{OurTerm, termOf, fieldOf, fieldsOf}
+use Rattle.text_grammar.specs.Terms.{OurTerm, OurFields, termOf, fieldOf, fieldsOf}
 use Rattle.text_grammar.specs.Read.{rule, slip}
 use Rattle.text_grammar.proofs.Accepted.{term-short}
 use Rattle.text_values.specs.declared.Term.{Term}
@@ -60,10 +60,10 @@ module _ {F : Type 0} (encF : List OurTerm → F) (add : F → Raw → F) (w : �
       ∙ adds rs (ts ++ termOf r) (o .1) (omega (arith, length-append ts (termOf r), term-short r))
       ∙ ap encF (append-assoc ts (termOf r) (fieldOf rs))
 
-module _ {F R : Type 0} (encF : List OurTerm → F) (encR : List (List OurTerm) → R) (blank : F) (add : F → Raw → F) (push : R → F → R) (w : ℕ)
+module _ {F R : Type 0} (encF : List OurTerm → F) (encR : OurFields → R) (blank : F) (add : F → Raw → F) (push : R → F → R) (w : ℕ)
     (blank-is : encF [] ≡ blank)
     (add-is : (ts : List OurTerm) (r : Raw) → (Over r → ⊥) → length ts < w → add (encF ts) r ≡ encF (ts ++ termOf r))
-    (push-is : (fs : List (List OurTerm)) (f : List OurTerm) → length fs < mostFields → push (encR fs) (encF f) ≡ encR (fs ++ f ∷ [])) where
+    (push-is : (fs : OurFields) (f : List OurTerm) → length fs < mostFields → push (encR fs) (encF f) ≡ encR (fs ++ f ∷ [])) where
   abbrev Fine : List Raw → Type 0
   Fine rs = All (λ r. Over r → ⊥) rs × (length rs ≤ w)
 
@@ -86,7 +86,7 @@ module _ {F R : Type 0} (encF : List OurTerm → F) (encR : List (List OurTerm) 
   turns-yes n = ap (λ (c : Bool). c && true) (lt-ltb 1 (suc (suc n)) (omega arith))
 
   -- the fields behind the first, which is cur
-  later : (x : List (List Raw)) (p n : ℕ) (done : List (List OurTerm)) (cur : List OurTerm) → All FieldOk x → All Fine x → length done + length x < mostFields
+  later : (x : List (List Raw)) (p n : ℕ) (done : OurFields) (cur : List OurTerm) → All FieldOk x → All Fine x → length done + length x < mostFields
       → whole blank add push (foldl (put blank add push) (encR done, encF cur) (tokensT p (suc (suc n)) x)) ≡ encR (done ++ cur ∷ fieldsOf x)
   later [] p n done cur g o h = push-is done cur (omega arith)
   later ([] ∷ fs) p n done cur g o h = absurd (g .0 .0)
@@ -179,7 +179,7 @@ add-rule ts r o h = adds-one (rule .width) ts h ruleField addRaw refl other r o
     other : (r : Raw) → isEmpty r ≡ false → addRaw (encodeField ts) r ≡ ruleField (with (rule .width) ts h (termFrom r))
     other r e = rw (e, lt-ltb (length ts) (rule .width) h)
 
-push-rule : (fs : List (List OurTerm)) (f : List OurTerm) → length fs < mostFields → pushField (encodeSide fs) (encodeField f) ≡ encodeSide (fs ++ f ∷ [])
+push-rule : (fs : OurFields) (f : List OurTerm) → length fs < mostFields → pushField (encodeSide fs) (encodeField f) ≡ encodeSide (fs ++ f ∷ [])
 push-rule fs f h =
     rw (lt-ltb (length fs) mostFields h)
     (ap₂ (λ (n : ℕ) (l : List Field). record { n = n; fields = l }) (counted encodeField blankField mostFields fs f h)
@@ -194,7 +194,7 @@ add-slip ts r o h = adds-one (slip .width) ts h slipField addItem refl other r o
     other : (r : Raw) → isEmpty r ≡ false → addItem (encodeSlipField ts) r ≡ slipField (with (slip .width) ts h (termFrom r))
     other r e = rw (e, lt-ltb (length ts) (slip .width) h)
 
-push-slip : (fs : List (List OurTerm)) (f : List OurTerm) → length fs < mostFields
+push-slip : (fs : OurFields) (f : List OurTerm) → length fs < mostFields
     → pushSlipField (encodeSlip fs) (encodeSlipField f) ≡ encodeSlip (fs ++ f ∷ [])
 push-slip fs f h =
     rw (lt-ltb (length fs) mostFields h)

@@ -12,9 +12,9 @@ use Rattle.base_limits.specs.Limits.{mostFields}
 use Rattle.base_lists.specs.Seqs.{All}
 use Rattle.text_grammar.specs.Grammar.{Raw, spell, spellF, FieldOk, Says}
 use Rattle.text_grammar.specs.Tokens.{tokens, tokensF, tokensT, Over, FifthField, TooMany, TokenOver}
-use Rattle.text_grammar.specs.Terms.{OurTerm, termOf, fieldOf, fieldsOf}
+use Rattle.text_grammar.specs.Terms.{OurTerm, OurFields, termOf, fieldOf, fieldsOf}
 use Rattle.text_grammar.specs.Walk.{walked}
-use Rattle.text_grammar.specs.Read.{fields, terms, limits, Sort, rule, slip, said, OurFields, accepted, readSide, readSlip}
+use Rattle.text_grammar.specs.Read.{fields, terms, limits, Sort, rule, slip, said, accepted, readSide, readSlip}
 use Rattle.text_grammar.proofs.Walk.{walk-says}
 use Rattle.text_grammar.proofs.Leftmost.{none-all}
 use Rattle.text_grammar.proofs.Fields.{few-to, width-to, each}

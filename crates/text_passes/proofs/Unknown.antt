@@ -7,7 +7,8 @@ use Prim.Native.Nat.{ℕ, _≤_}
 use lib.ListN.{length}
 use Rattle.text_grammar.specs.Grammar.{Raw, Says}
 use Rattle.text_grammar.specs.Tokens.{Token}
-use Rattle.text_grammar.specs.Read.{slip, OurFields}
+use Rattle.text_grammar.specs.Terms.{OurFields}
+use Rattle.text_grammar.specs.Read.{slip}
 use Rattle.text_grammar.proofs.Walk.{walk-says}
 use Rattle.text_grammar.specs.rules.Judge.{lackingAt}
 use Rattle.text_scan.specs.declared.Found.the-variants.{At, Nothing}

@@ -4,7 +4,8 @@ use mathlib.Core.List.{List, foldl}
 use Prim.Native.Nat.{ℕ}
 use lib.Dec.{ltb}
 use lib.ListN.{length}
-use Rattle.text_grammar.specs.Read.{slip, OurFields}
+use Rattle.text_grammar.specs.Terms.{OurFields}
+use Rattle.text_grammar.specs.Read.{slip}
 use Rattle.text_grammar.specs.Walk.{walked}
 use Rattle.text_values.specs.declared.RuleSide.{RuleSide}
 use Rattle.text_values.specs.declared.Slip.{Slip}

@@ -5,7 +5,8 @@ use Prim.Native.Nat.{ℕ}
 use native.Mathlib.Omega.{arith}
 use lib.ListN.{take}
 use Rattle.base_lists.specs.Seqs.{IsCons}
-use Rattle.text_grammar.specs.Read.{Reason, number, OutcomeOf, OurFields, Outcome, refused, accepted, readSide}
+use Rattle.text_grammar.specs.Terms.{OurFields}
+use Rattle.text_grammar.specs.Read.{Reason, number, OutcomeOf, Outcome, refused, accepted, readSide}
 use Rattle.text_grammar.specs.rules.Read.{OurRule, readRule}
 use Rattle.text_grammar.proofs.rules.Accepted.{rule-read}
 use Rattle.text_refusals.specs.declared.verdicts.Reason as values

@@ -13,10 +13,10 @@ use Rattle.base_limits.specs.Limits.{largestNumber}
 use Rattle.base_lists.specs.Seqs.{All}
 use Rattle.math_terms.specs.Terms.{con, var}
 use Rattle.math_terms.specs.Fillings.{Occurs}
-use Rattle.text_grammar.specs.Terms.{OurTerm, fieldsOf}
+use Rattle.text_grammar.specs.Terms.{OurTerm, OurFields, fieldsOf}
 use Rattle.text_grammar.specs.Limits.{TermIn, IsLeft}
 use Rattle.text_grammar.specs.Read.{Reason, long, grammar, fields, terms, limits, linear, variable, unknown, number, rule, slip, said}
-use Rattle.text_grammar.specs.Read.{OutcomeOf, OurFields, Outcome, refused, accepted, tell, readSide}
+use Rattle.text_grammar.specs.Read.{OutcomeOf, Outcome, refused, accepted, tell, readSide}
 use Rattle.text_grammar.specs.Grammar.{Raw, Says}
 use Rattle.text_grammar.specs.Walk.{walked}
 use Rattle.text_grammar.proofs.Refused.{rule-place}

@@ -7,8 +7,8 @@ use native.Mathlib.Omega.{arith, by-contra}
 use native.Mathlib.Decide.{decLt}
 use lib.ListN.{length, take, drop}
 use lib.Seq.{take-all}
-use Rattle.text_grammar.specs.Terms.{fieldsOf}
-use Rattle.text_grammar.specs.Read.{rule, said, unknown, OutcomeOf, OurFields, refused, accepted, tell, readSide}
+use Rattle.text_grammar.specs.Terms.{OurFields, fieldsOf}
+use Rattle.text_grammar.specs.Read.{rule, said, unknown, OutcomeOf, refused, accepted, tell, readSide}
 use Rattle.text_grammar.specs.rules.Read.{OurRule, readRule}
 use Rattle.text_grammar.specs.rules.Judge.{asRule, lackingAt, known}
 use Rattle.text_values.specs.declared.RuleSide.{RuleSide}

@@ -11,7 +11,7 @@ use lib.ListN.{length}
 use Rattle.text_grammar.specs.Grammar.{Raw}
 use Rattle.text_grammar.specs.Machine.{place2}
 use Rattle.text_grammar.specs.Tokens.{Token}
-use Rattle.text_grammar.specs.Terms.{OurTerm, fieldsOf}
+use Rattle.text_grammar.specs.Terms.{OurFields, fieldsOf}
 use Rattle.text_grammar.specs.Walk.{walked}
 use Rattle.text_grammar.specs.Read.{Reason, long, grammar, Sort, slip, said, firstBad, placeOf, Outcome, refused, accepted, tell, chain, read, readSlip}
 use Rattle.text_grammar.proofs.Place.{place2-none}
@@ -87,7 +87,7 @@ slip-refused : (o : Outcome) (v : Verdict) (r : _) (p : ℕ) → v ≡ verdictOf
 slip-refused (refused r p) v r′ p′ e q = ap (λ (z : Verdict). record { verdict = z; slip = blankSlip }) (sym e)
 slip-refused (accepted x) v r′ p′ e q = let z : _≡_ {A = ℕ} 0 1 = cc in absurd (omega arith)
 
-pub accepted-out : (o : Outcome) → Accepted ≡ verdictOf o → (x : List (List OurTerm)) × (o ≡ accepted x)
+pub accepted-out : (o : Outcome) → Accepted ≡ verdictOf o → (x : OurFields) × (o ≡ accepted x)
 accepted-out (refused r p) e = let z : _≡_ {A = ℕ} 0 1 = cc in absurd (omega arith)
 accepted-out (accepted x) e = (x, refl)
 

@@ -3,7 +3,8 @@ use mathlib.Core.Path.{_≡_}
 use mathlib.Core.List.{List, []}
 use Prim.Native.Nat.{ℕ, _≤_}
 use lib.ListN.{length, take}
-use Rattle.text_grammar.specs.Read.{OutcomeOf, Outcome, refused, accepted, OurFields, readSide, readSlip}
+use Rattle.text_grammar.specs.Terms.{OurFields}
+use Rattle.text_grammar.specs.Read.{OutcomeOf, Outcome, refused, accepted, readSide, readSlip}
 use Rattle.text_grammar.specs.rules.Read.{OurRule, readRule}
 use Rattle.text_values.specs.Values.{blankRule, blankSlip, encodeRule, encodeSlip}
 use Rattle.text_scan.specs.split.Splits.{splitOf}

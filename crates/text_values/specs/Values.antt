@@ -5,8 +5,8 @@ use lib.ListN.{length, take, replicate}
 use Rattle.base_limits.specs.Limits.{mostFields, longestString}
 use Rattle.math_types.specs.Values.{kindOf, kindFrom}
 use Rattle.math_terms.specs.Terms.{con, var}
-use Rattle.text_grammar.specs.Terms.{OurTerm}
-use Rattle.text_grammar.specs.Read.{rule, slip, OurFields}
+use Rattle.text_grammar.specs.Terms.{OurTerm, OurField, OurFields}
+use Rattle.text_grammar.specs.Read.{rule, slip}
 use Rattle.text_values.specs.declared.Form.{Form}
 use Rattle.text_values.specs.declared.Form.the-variants.{Con, Var}
 use Rattle.text_values.specs.declared.Term.{Term}
@@ -30,20 +30,20 @@ viewTerm t = viewForm (t .form) (t .text)
 abbrev pub viewTerms : ℕ → List Term → List OurTerm
 viewTerms n ts = map viewTerm (take n ts)
 
-abbrev pub viewField : Field → List OurTerm
+abbrev pub viewField : Field → OurField
 viewField f = viewTerms (f .n) (f .terms)
 
-abbrev pub viewSide : RuleSide → List (List OurTerm)
+abbrev pub viewSide : RuleSide → OurFields
 viewSide r = map viewField (take (r .n) (r .fields))
 
 -- both sides; a right side with no fields is none
 abbrev pub viewRule : Rule → OurFields × OurFields
 viewRule r = (viewSide (r .left), viewSide (r .right))
 
-abbrev pub viewSlipField : SlipField → List OurTerm
+abbrev pub viewSlipField : SlipField → OurField
 viewSlipField f = viewTerms (f .n) (f .terms)
 
-abbrev pub viewSlip : Slip → List (List OurTerm)
+abbrev pub viewSlip : Slip → OurFields
 viewSlip s = map viewSlipField (take (s .n) (s .fields))
 
 -- ---- the one value for each
@@ -74,19 +74,19 @@ encodeTerm (var k n) = record { form = Var (kindFrom k) n; text = replicate long
 abbrev pub encodeTerms : ℕ → List OurTerm → List Term
 encodeTerms w ts = pad w blankTerm (map encodeTerm ts)
 
-abbrev pub encodeField : List OurTerm → Field
+abbrev pub encodeField : OurField → Field
 encodeField ts = record { n = length ts; terms = encodeTerms (rule .width) ts }
 
-abbrev pub encodeSide : List (List OurTerm) → RuleSide
+abbrev pub encodeSide : OurFields → RuleSide
 encodeSide r = record { n = length r; fields = pad mostFields blankField (map encodeField r) }
 
 abbrev pub encodeRule : OurFields × OurFields → Rule
 encodeRule r = record { left = encodeSide (r .0); right = encodeSide (r .1) }
 
-abbrev pub encodeSlipField : List OurTerm → SlipField
+abbrev pub encodeSlipField : OurField → SlipField
 encodeSlipField ts = record { n = length ts; terms = encodeTerms (slip .width) ts }
 
-abbrev pub encodeSlip : List (List OurTerm) → Slip
+abbrev pub encodeSlip : OurFields → Slip
 encodeSlip s = record { n = length s; fields = pad mostFields blankSlipField (map encodeSlipField s) }
 
 -- the rule with one field

@@ -7,13 +7,14 @@ use Rattle.math_terms.specs.Terms.{con}
 use Rattle.text_grammar.specs.Told.{Told, byRoom}
 use Rattle.text_grammar.specs.Plain.{plain}
 use Rattle.text_grammar.specs.Limits.{IsSlip}
-use Rattle.text_grammar.specs.Read.{OutcomeOf, Outcome, OurFields, refused, accepted, readSlip}
+use Rattle.text_grammar.specs.Terms.{OurFields, SlipFields}
+use Rattle.text_grammar.specs.Read.{OutcomeOf, Outcome, refused, accepted, readSlip}
 use Rattle.text_grammar.proofs.Accepted.{slip-read}
 use Rattle.text_grammar.specs.rules.Read.{OurRule, readRule}
 use Rattle.text_grammar.proofs.rules.Accepted.{rule-read}
 use Rattle.text_grammar.specs.constants.Matching.{constants}
 use Rattle.apply_spec.specs.Carrying.{Carried, result, unmatched, tooLong}
-use Rattle.apply_spec.specs.Rules.{OurSlip, carried}
+use Rattle.apply_spec.specs.Rules.{carried}
 use Rattle.apply_spec.proofs.Carrying.{unmatched≢result}
 use Rattle.apply_spec.proofs.Rules.{no-slip}
 use Rattle.text_values.specs.declared.Slip.{Slip}
@@ -64,7 +65,7 @@ slip-counted u = go (readSlip u) refl
 -- ---- what is carried out
 
 -- a result of what the texts say is a slip that reading returns
-said-slip : (t u : List ℕ) (w : OurSlip) → carriedSaid (readRule t) (readSlip u) ≡ result w → IsSlip (map (map con) w)
+said-slip : (t u : List ℕ) (w : SlipFields) → carriedSaid (readRule t) (readSlip u) ≡ result w → IsSlip (map (map con) w)
 said-slip t u w = go (readRule t) (readSlip u) refl refl
   where
     go : (o : OutcomeOf OurRule) (p : Outcome) → readRule t ≡ o → readSlip u ≡ p → carriedSaid o p ≡ result w → IsSlip (map (map con) w)
@@ -72,7 +73,7 @@ said-slip t u w = go (readRule t) (readSlip u) refl refl
     go (accepted x) (refused r i) e f h = absurd (unmatched≢result (sym (no-slip x (rule-read t x e)) ∙ h))
     go (accepted x) (accepted y) e f h = result-slip x y (rule-read t x e) (slip-read u y f) w h
 
-number-said : (s : Slip) (a : Carried OurSlip) → numberBy (answerOf s a .answer) ≡ numberFor a
+number-said : (s : Slip) (a : Carried SlipFields) → numberBy (answerOf s a .answer) ≡ numberFor a
 number-said s (result w) = refl
 number-said s unmatched = refl
 number-said s tooLong = refl
@@ -94,7 +95,7 @@ module _ (t u : List ℕ) where
   given-said : countedSlip (answerOf s (carriedSaid o p) .slip) ≡ given (sideSaid p) (carriedSaid o p)
   given-said = go (carriedSaid o p) refl
     where
-      go : (a : Carried OurSlip) → carriedSaid o p ≡ a → countedSlip (answerOf s a .slip) ≡ given (sideSaid p) a
+      go : (a : Carried SlipFields) → carriedSaid o p ≡ a → countedSlip (answerOf s a .slip) ≡ given (sideSaid p) a
       go (result w) e = counted-slip (map (map con) w) (said-slip t u w e)
       go unmatched e = slip-counted u
       go tooLong e = slip-counted u
@@ -120,7 +121,7 @@ module _ (a b : Reading) (n needed lent : ℕ) where
 
 module _ (t u : List ℕ) (r : RuleRead) (s : SlipRead) (c : CarriedValue) (is-r : r ≡ ruleRead (readRule t)) (is-s : s ≡ slipRead (readSlip u))
     (is-c : c ≡ carriedOf (r .rule) (s .slip)) where
-  abbrev a : Carried OurSlip
+  abbrev a : Carried SlipFields
   a = carriedSaid (readRule t) (readSlip u)
 
   answer-is : c ≡ answerOf (slipRead (readSlip u) .slip) a

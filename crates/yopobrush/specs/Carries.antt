@@ -7,11 +7,12 @@ use lib.ListN.{length}
 use Rattle.math_terms.specs.Terms.{con}
 use Rattle.text_grammar.specs.Told.{byRoom}
 use Rattle.text_grammar.specs.Plain.{plain}
-use Rattle.text_grammar.specs.Read.{OutcomeOf, Outcome, OurFields, refused, accepted, readSlip}
+use Rattle.text_grammar.specs.Terms.{OurFields, SlipFields}
+use Rattle.text_grammar.specs.Read.{OutcomeOf, Outcome, refused, accepted, readSlip}
 use Rattle.text_grammar.specs.rules.Read.{OurRule, readRule}
 use Rattle.text_grammar.specs.constants.Matching.{constants}
 use Rattle.apply_spec.specs.Carrying.{Carried, result, unmatched, tooLong}
-use Rattle.apply_spec.specs.Rules.{OurSlip, carried}
+use Rattle.apply_spec.specs.Rules.{carried}
 use Rattle.text_read.specs.Answers.{sideSaid}
 use Rattle.apply_rules.specs.declared.Carry.the-variants.{TooLong}
 use Rattle.apply_rules.specs.Answers.{told}
@@ -26,11 +27,11 @@ ruleSaid (refused r p) = ([], [])
 ruleSaid (accepted w) = w
 
 -- carrying out what the texts say
-abbrev pub carriedSaid : OutcomeOf OurRule → Outcome → Carried OurSlip
+abbrev pub carriedSaid : OutcomeOf OurRule → Outcome → Carried SlipFields
 carriedSaid rule slip = carried (ruleSaid rule) (map constants (sideSaid slip))
 
 -- document 02: "the right side with the filling put in"; "the slip unchanged and a no"; 11 "leaves the slip as given"
-abbrev pub given : OurFields → Carried OurSlip → OurFields
+abbrev pub given : OurFields → Carried SlipFields → OurFields
 given slip (result w) = map (map con) w
 given slip unmatched = slip
 given slip tooLong = slip
@@ -40,7 +41,7 @@ abbrev pub textSaid : OutcomeOf OurRule → Outcome → List ℕ
 textSaid rule slip = plain (given (sideSaid slip) (carriedSaid rule slip))
 
 -- yes and no have numbers that are no refusal's
-abbrev pub numberFor : Carried OurSlip → ℕ
+abbrev pub numberFor : Carried SlipFields → ℕ
 numberFor (result w) = 1
 numberFor unmatched = 0
 numberFor tooLong = numbered (told TooLong .number)

@@ -14,7 +14,7 @@ use Rattle.math_types.specs.Values.{kindOf-from}
 use Rattle.math_terms.specs.Terms.{con, var}
 use Rattle.math_terms.specs.Seqs.{concat-map}
 use Rattle.math_terms.specs.Fillings.{Filling, fill, Occurs}
-use Rattle.text_grammar.specs.Terms.{OurTerm}
+use Rattle.text_grammar.specs.Terms.{OurTerm, OurFields, SlipFields}
 use Rattle.text_grammar.specs.constants.Constants.{Con}
 use Rattle.text_values.specs.declared.Term.{Term}
 use Rattle.text_values.specs.declared.Field.{Field}
@@ -38,11 +38,11 @@ slip-field-of v =
     ap₂ (λ (n : ℕ) (l : List Term). record { n = n; terms = pad mostItems blankTerm l }) (length-map v enc ∙ sym (length-map v con))
     (sym (map-map encodeTerm con v))
 
-slip-fields-of : (w : List (List Con)) → map slipField (map (map enc) w) ≡ map encodeSlipField (map (map con) w)
+slip-fields-of : (w : SlipFields) → map slipField (map (map enc) w) ≡ map encodeSlipField (map (map con) w)
 slip-fields-of [] = refl
 slip-fields-of (v ∷ w) = ap₂ (λ (f : SlipField) (l : List SlipField). f ∷ l) (slip-field-of v) (slip-fields-of w)
 
-pub slip-of : (w : List (List Con)) → slipOf (map (map enc) w) ≡ encodeSlip (map (map con) w)
+pub slip-of : (w : SlipFields) → slipOf (map (map enc) w) ≡ encodeSlip (map (map con) w)
 slip-of w =
     ap₂ (λ (n : ℕ) (l : List SlipField). record { n = n; fields = pad mostFields blankSlipField l }) (length-map w (map enc) ∙ sym (length-map w (map con)))
     (slip-fields-of w)
@@ -52,10 +52,10 @@ short-of g [] = refl
 short-of g (v ∷ w) = ap₂ (λ (n : ℕ) (b : Bool). leb n mostItems && b) (length-map v g) (short-of g w)
 
 -- the answer of so many constants
-abbrev pub filledWith : List (List Con) → Filled
+abbrev pub filledWith : SlipFields → Filled
 filledWith w = cond (allShort w) (record { ok = true; slip = encodeSlip (map (map con) w) }) (record { ok = false; slip = blankSlip })
 
-filled-of : (w : List (List Con)) → filledAs (map (map enc) w) ≡ filledWith w
+filled-of : (w : SlipFields) → filledAs (map (map enc) w) ≡ filledWith w
 filled-of w =
     ap₂ (λ (b : Bool) (s : Slip). cond {A = Filled} b (record { ok = true; slip = s }) (record { ok = false; slip = blankSlip })) (short-of enc w) (slip-of w)
 
@@ -74,7 +74,7 @@ module _ (x : FillingValue) (s : Slip) (θ : Filling Con Kind ℕ) where
       (field-filled f (λ j m o. g j m (inr o)))
       ∙ sym (map-append enc (θ k n) (fill θ f))
 
-  fields-filled : (y : List (List OurTerm)) → ((k : Kind) (n : ℕ) → Any (Occurs k n) y → Gives k n)
+  fields-filled : (y : OurFields) → ((k : Kind) (n : ℕ) → Any (Occurs k n) y → Gives k n)
       → map (filledField x s) (map encodeField y) ≡ map (map enc) (map (fill θ) y)
   fields-filled [] g = refl
   fields-filled (f ∷ y) g =
@@ -83,7 +83,7 @@ module _ (x : FillingValue) (s : Slip) (θ : Filling Con Kind ℕ) where
       (fields-filled y (λ k n o. g k n (inr o)))
 
   -- FILLING IN a side of which x gives every variable θ's items: `ok` exactly where no field has more than 64 items, and then it is the slip of them
-  pub fills : (y : List (List OurTerm)) → ((k : Kind) (n : ℕ) → Any (Occurs k n) y → Gives k n) → filledSide (encodeSide y) x s ≡ filledWith (map (fill θ) y)
+  pub fills : (y : OurFields) → ((k : Kind) (n : ℕ) → Any (Occurs k n) y → Gives k n) → filledSide (encodeSide y) x s ≡ filledWith (map (fill θ) y)
   fills y g =
       ap (λ (l : List Field). filledAs (map (filledField x s) l)) (unpadded mostFields blankField encodeField y)
       ∙ ap filledAs (fields-filled y g)

@@ -1,7 +1,7 @@
 -- `match_rules::compare_rule` meets its contract: what counts as the left side is the left side of what the rule counts as. Assumes nothing.
 use mathlib.Core.Path.{_∙_, ap}
 use borrow.Author.Needs.{needs}
-use Rattle.text_grammar.specs.Read.{OurFields}
+use Rattle.text_grammar.specs.Terms.{OurFields}
 use Rattle.text_values.specs.declared.RuleSide.{RuleSide}
 use Rattle.text_accepted.specs.Accepted.{countedLeft}
 use Rattle.text_accepted.proofs.rules.Rules.{left-counted}

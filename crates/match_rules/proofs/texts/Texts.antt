@@ -11,7 +11,7 @@ use lib.Seq.{take-all}
 use Rattle.base_limits.specs.Limits.{mostFields, mostTerms}
 use Rattle.base_lists.specs.Seqs.{All, all-map, tabulate-long, tabulate-at, tabulated}
 use Rattle.text_grammar.specs.Walk.{walked}
-use Rattle.text_grammar.specs.Terms.{OurTerm}
+use Rattle.text_grammar.specs.Terms.{OurFields}
 use Rattle.text_grammar.specs.Limits.{TermIn}
 use Rattle.text_grammar.specs.Read.{accepted, readSide, readSlip}
 use Rattle.text_grammar.proofs.Accepted.{rule-read, slip-read}
@@ -138,18 +138,18 @@ counts-differ t u n m e q h =
 
 -- ---- TEXTS THAT ARE ACCEPTED
 
-pub sides-said : (t : List ℕ) (x : List (List OurTerm)) → readSide t ≡ accepted x → sideFields t ≡ map encodeField x
+pub sides-said : (t : List ℕ) (x : OurFields) → readSide t ≡ accepted x → sideFields t ≡ map encodeField x
 sides-said t x is =
     let s = side-fields t x is in
     sym (tabulated (fieldCount t) (map encodeField x) (sideField t) blankField (length-map x encodeField ∙ sym (s .0)) (λ j h. sym (s .1 j)))
 
-pub slips-said : (u : List ℕ) (y : List (List OurTerm)) → readSlip u ≡ accepted y → slipFields u ≡ map encodeSlipField y
+pub slips-said : (u : List ℕ) (y : OurFields) → readSlip u ≡ accepted y → slipFields u ≡ map encodeSlipField y
 slips-said u y is =
     let s = slip-fields u y is in
     sym (tabulated (fieldCount u) (map encodeSlipField y) (slipField u) blankSlipField (length-map y encodeSlipField ∙ sym (s .0)) (λ j h. sym (s .1 j)))
 
 -- the comparison of the texts is that of what they say
-pub compared-texts : (t u : List ℕ) (x y : List (List OurTerm)) → readSide t ≡ accepted x → readSlip u ≡ accepted y
+pub compared-texts : (t u : List ℕ) (x y : OurFields) → readSide t ≡ accepted x → readSlip u ≡ accepted y
     → comparisonOn (sideFields t) (slipFields u) ≡ comparison x y
 compared-texts t u x y is-x is-y =
     let h = rule-read t x is-x in

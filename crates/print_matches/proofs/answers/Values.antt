@@ -13,7 +13,7 @@ use Rattle.math_terms.specs.Seqs.{concat-map}
 use Rattle.text_grammar.specs.Ascii.{ascii}
 use Rattle.text_grammar.specs.Numbers.{digitsOf}
 use Rattle.text_grammar.specs.Plain.{fieldText}
-use Rattle.text_grammar.specs.Terms.{OurTerm}
+use Rattle.text_grammar.specs.Terms.{OurFields}
 use Rattle.text_grammar.specs.Limits.{IsCon, IsLeft}
 use Rattle.text_grammar.specs.constants.Matching.{constants}
 use Rattle.text_values.specs.declared.Term.{Term}
@@ -69,14 +69,14 @@ module _ (fs : List Field) (ws : List SlipField) {d : Comparison} (c : Compariso
 -- ---- THE VALUES of fields that stand for something: what is said is said of what they stand for
 
 -- the fields of a left side
-pub sides-viewed : (x : List (List OurTerm)) → IsLeft x → map viewField (map encodeField x) ≡ x
+pub sides-viewed : (x : OurFields) → IsLeft x → map viewField (map encodeField x) ≡ x
 sides-viewed x h = ap (map viewField) (sym (unpadded 4 blankField encodeField x)) ∙ view-encode-rule x h
 
-pub variable-viewed : (x : List (List OurTerm)) → IsLeft x → (ws : List SlipField) (f : Filling) (k : Kind) (n : ℕ)
+pub variable-viewed : (x : OurFields) → IsLeft x → (ws : List SlipField) (f : Filling) (k : Kind) (n : ℕ)
     → saidVariable (map encodeField x) ws f k n ≡ cond (occurs k n x) (nameText k n ++ saidValue k n ws f) []
-variable-viewed x h ws f k n = ap (λ (r : List (List OurTerm)). cond (occurs k n r) (nameText k n ++ saidValue k n ws f) []) (sides-viewed x h)
+variable-viewed x h ws f k n = ap (λ (r : OurFields). cond (occurs k n r) (nameText k n ++ saidValue k n ws f) []) (sides-viewed x h)
 
 -- a run's items are those of the slip
-pub run-viewed : (y : List (List OurTerm)) → All (All IsCon) y → (r : Run)
+pub run-viewed : (y : OurFields) → All (All IsCon) y → (r : Run)
     → runText (map encodeSlipField y) r ≡ fieldText (map viewTerm (map enc (itemsAt (map constants y) r)))
 run-viewed y h r = ap (λ (l : List Term). fieldText (map viewTerm l)) (run-items-of y h r)

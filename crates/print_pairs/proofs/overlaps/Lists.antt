@@ -7,7 +7,7 @@ use lib.ListN.{length, take, drop, length-append, length-drop, take-append-drop}
 use lib.Seq.{sets, sets-eq, length-take-le, drop-append-le, drop-drop}
 use borrow.Author.Tests.{le-leb, lt-leb}
 use Rattle.base_limits.specs.Limits.{mostListBytes}
-use Rattle.text_grammar.specs.Terms.{OurTerm}
+use Rattle.text_grammar.specs.Terms.{OurFields}
 use Rattle.text_grammar.specs.Ascii.{ascii, newline}
 use Rattle.text_grammar.specs.Numbers.{digitsOf}
 use Rattle.text_write.specs.Answers.{after}
@@ -45,7 +45,7 @@ part-stored t old at n h k =
 long-short : (b : ℕ) → b < 18446744073709551616 → length (ascii "too long " ++ digitsOf b ++ newline) ≤ mostListBytes
 long-short b h = omega (arith, length-append (ascii "too long " ++ digitsOf b) newline, length-append (ascii "too long ") (digitsOf b), digits-64 b h)
 
-module _ (x y : List (List OurTerm)) (old : List ℕ) (at n : ℕ) (is-n : n ≡ mostListBytes) (room : at + mostListBytes ≤ length old) where
+module _ (x y : OurFields) (old : List ℕ) (at n : ℕ) (is-n : n ≡ mostListBytes) (room : at + mostListBytes ≤ length old) where
   abbrev text : List ℕ
   text = overlapText x y
 

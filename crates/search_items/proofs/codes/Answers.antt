@@ -11,7 +11,7 @@ use Rattle.math_types.specs.Order.{basic, list}
 use Rattle.math_types.specs.Types.{Basic, Kind, basics}
 use Rattle.math_terms.specs.Fillings.{Occurs}
 use Rattle.text_grammar.specs.Limits.{IsLeft}
-use Rattle.text_grammar.specs.Terms.{OurTerm}
+use Rattle.text_grammar.specs.Terms.{OurTerm, OurFields}
 use Rattle.text_grammar.specs.constants.Constants.{consts}
 use Rattle.math_overlaps.specs.Shapes.{free, Side, left, right, Variable, of}
 use Rattle.math_overlaps.specs.Joins.{State}
@@ -42,10 +42,10 @@ module _ (f g : List OurTerm) (T : Table) (texts : ℕ → List ℕ) (ot : OurTa
     (ok₂ : IsLeft (g ∷ [])) (σ : Bindings setting) (s : State basics consts ourVars)
     (one : (x : Variable Basic ℕ) → σ (atomic (free x)) ≡ atomic (s x) ∷ [])
     (atoms : List ℕ) (rep : Represents basics consts ourVars (ourRow (f ∷ []) (g ∷ [])) atoms s) where
-  abbrev r₁ : List (List OurTerm)
+  abbrev r₁ : OurFields
   r₁ = f ∷ []
 
-  abbrev r₂ : List (List OurTerm)
+  abbrev r₂ : OurFields
   r₂ = g ∷ []
 
   abbrev Item : ℕ → OurOriginTerm → Type 0

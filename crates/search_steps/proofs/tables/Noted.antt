@@ -5,7 +5,7 @@ use mathlib.Core.List.{List, [], _∷_}
 use Prim.Native.Nat.{ℕ}
 use native.Mathlib.Omega.{arith}
 use lib.ListN.{length}
-use Rattle.text_grammar.specs.Terms.{OurTerm}
+use Rattle.text_grammar.specs.Terms.{OurTerm, OurFields}
 use Rattle.text_grammar.specs.Plain.{plain}
 use Rattle.text_grammar.specs.Limits.{IsLeft}
 use Rattle.text_grammar.specs.Read.{readSide, accepted}
@@ -51,4 +51,4 @@ tables-hold f g is-f is-g =
         ap (λ (b : Bool). cond b (viewSide (oneField (encodeField h))) []) (encode-accepted-field h i) ∙ view-encode-rule (h ∷ []) i
 
     reads : (h : List OurTerm) → IsLeft (h ∷ []) → readSide (textOf (encodeField h)) ≡ accepted (h ∷ [])
-    reads h i = ap (λ (r : List (List OurTerm)). readSide (plain r)) (said h i) ∙ rule-plain (h ∷ []) i
+    reads h i = ap (λ (r : OurFields). readSide (plain r)) (said h i) ∙ rule-plain (h ∷ []) i

@@ -13,7 +13,7 @@ use Rattle.base_limits.specs.Limits.{largestNumber, numbersOfSide}
 use Rattle.base_lists.specs.Seqs.{All, Any, any?, all-append, all-map, any-left, any-right, any-map}
 use Rattle.math_types.specs.Order.{basic, list}
 use Rattle.math_terms.specs.Terms.{con, var}
-use Rattle.text_grammar.specs.Terms.{OurTerm}
+use Rattle.text_grammar.specs.Terms.{OurTerm, OurFields}
 use Rattle.text_grammar.specs.Leftmost.{NoneOf}
 use Rattle.text_grammar.specs.Tokens.{Occ, Clash, clash?}
 use Rattle.text_grammar.specs.Limits.{TermIn, occT, occF, occR, Linear}
@@ -180,7 +180,7 @@ walked-terms {before} {n} {l} (t ∷ ts) h r =
     let rest = walked-terms ts (h .1) (one .0) in
     (rw append-assoc at (rest .0), walked-then before (occT n t) (occF n ts) l (addTerm l t) (foldl addTerm (addTerm l t) ts) (one .1) (rest .1))
 
-pub walked-fields : {before : List Occ} {n : ℕ} {l : Lists} (r : List (List OurTerm))
+pub walked-fields : {before : List Occ} {n : ℕ} {l : Lists} (r : OurFields)
     → All (All TermIn) r → Tracks before n l → Walked before (occR (suc n) r) l (foldl addField l r)
 walked-fields [] h t = (λ e. (e, tt), λ k. k .0)
 walked-fields {before} {n} {l} (f ∷ fs) h t =
@@ -188,7 +188,7 @@ walked-fields {before} {n} {l} (f ∷ fs) h t =
     walked-then before (occF (suc n) f) (occR (suc (suc n)) fs) l (addField l f) (foldl addField (addField l f) fs) (one .1) (walked-fields fs (h .1) (one .0))
 
 -- LEFT-LINEARITY
-pub linear-is : (r : List (List OurTerm)) → All (All TermIn) r → (linear r ≡ true) ↔ Linear r
+pub linear-is : (r : OurFields) → All (All TermIn) r → (linear r ≡ true) ↔ Linear r
 linear-is r h = let w = walked-fields r h (tracks-none 0) in (λ e. w .0 e .1, λ n. w .1 (refl, n))
 
 -- ---- a field of a left-linear rule is left-linear alone
@@ -206,10 +206,10 @@ renumbered (var list v ∷ ts) n k before less f h =
     go u (inl a) = any-left (Clash (n, u)) before ((n, v) ∷ []) (f u a)
     go u (inr a) = any-right (Clash (n, u)) before ((n, v) ∷ []) (inl (inl refl))
 
-one-field : (r : List (List OurTerm)) (ts : List OurTerm) (n : ℕ) (before : List Occ) → Apart before (occR n r) → List·Memᴰ ts r → Apart [] (occF 1 ts)
+one-field : (r : OurFields) (ts : List OurTerm) (n : ℕ) (before : List Occ) → Apart before (occR n r) → List·Memᴰ ts r → Apart [] (occF 1 ts)
 one-field (f ∷ fs) ts n before h (List·Memᴰ·head e) =
     rw e (renumbered f n 1 before [] (λ v a. absurd a) (apart-append before (occF n f) (occR (suc n) fs) .0 h .0))
 one-field (f ∷ fs) ts n before h (List·Memᴰ·tail m) = one-field fs ts (suc n) (before ++ occF n f) (apart-append before (occF n f) (occR (suc n) fs) .0 h .1) m
 
-pub linear-field : (r : List (List OurTerm)) (ts : List OurTerm) → Linear r → List·Memᴰ ts r → Linear (ts ∷ [])
+pub linear-field : (r : OurFields) (ts : List OurTerm) → Linear r → List·Memᴰ ts r → Linear (ts ∷ [])
 linear-field r ts h m = rw append-nil (one-field r ts 1 [] h m)

@@ -8,8 +8,7 @@ use Rattle.base_lists.specs.Truths.{both-is}
 use Rattle.math_types.specs.Types.{Kind}
 use Rattle.math_terms.specs.Terms.{con, var}
 use Rattle.math_terms.specs.Fillings.{Occurs}
-use Rattle.text_grammar.specs.Terms.{OurTerm}
-use Rattle.text_grammar.specs.Read.{OurFields}
+use Rattle.text_grammar.specs.Terms.{OurTerm, OurFields}
 use Rattle.text_grammar.specs.rules.Tokens.{Has}
 use Rattle.text_grammar.specs.rules.Limits.{VarsIn}
 use Rattle.overlap_spec.specs.Variables.{occurs}

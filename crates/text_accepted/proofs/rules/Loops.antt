@@ -6,7 +6,7 @@ use Prim.Native.Nat.{ℕ, _+_, _<_, _≤_, min}
 use borrow.Author.Tests.{not-true, not-false}
 use lib.ListN.{length, getD, take, drop}
 use Rattle.base_lists.specs.Arrays.{here, no-more}
-use Rattle.text_grammar.specs.Read.{OurFields}
+use Rattle.text_grammar.specs.Terms.{OurFields}
 use Rattle.text_values.specs.declared.Term.{Term}
 use Rattle.text_values.specs.declared.Field.{Field}
 use Rattle.text_values.specs.Values.{viewTerm, viewField}

@@ -11,7 +11,8 @@ use lib.ListN.{length}
 use Rattle.base_lists.specs.Seqs.{All}
 use Rattle.base_lists.specs.Truths.{both-is}
 use Rattle.text_grammar.specs.Limits.{TermIn}
-use Rattle.text_grammar.specs.Read.{rule, OurFields, accepted}
+use Rattle.text_grammar.specs.Terms.{OurFields}
+use Rattle.text_grammar.specs.Read.{rule, accepted}
 use Rattle.text_grammar.specs.rules.Read.{OurRule, readRule}
 use Rattle.text_grammar.specs.rules.Limits.{IsRight, IsRule}
 use Rattle.text_grammar.proofs.rules.Accepted.{rule-iff}

@@ -11,7 +11,7 @@ use lib.ListN.{length}
 use Rattle.base_limits.specs.Limits.{mostFields}
 use Rattle.base_lists.specs.Seqs.{All, IsCons, all-map}
 use Rattle.base_lists.specs.Truths.{both-is}
-use Rattle.text_grammar.specs.Terms.{OurTerm}
+use Rattle.text_grammar.specs.Terms.{OurTerm, OurFields}
 use Rattle.text_grammar.specs.Read.{slip, accepted, readSlip}
 use Rattle.text_grammar.specs.Limits.{TermIn, IsCon, IsSlip}
 use Rattle.text_grammar.proofs.Accepted.{slip-iff}
@@ -50,7 +50,7 @@ slip-parts = record {
 abbrev pub SlipFieldIn : List OurTerm → Type 0
 SlipFieldIn f = (length f ≤ slip .width) × All ItemIn f
 
-abbrev pub SlipIn : List (List OurTerm) → Type 0
+abbrev pub SlipIn : OurFields → Type 0
 SlipIn r = (length r ≤ mostFields) × All SlipFieldIn r
 
 abbrev pub slipOk : Slip → Bool
@@ -63,7 +63,7 @@ pub slip-stands : Stands viewSlip encodeSlip slipOk (λ s. eqb (s .n) 0 && slipO
 slip-stands = counted slip-parts mostFields slip-field-stands
 
 -- ---- the limits of document 01
-slip-fields-are : (r : List (List OurTerm)) → (All (λ f. (length f ≤ slip .width) × All TermIn f) r × All (All IsCon) r) ↔ All SlipFieldIn r
+slip-fields-are : (r : OurFields) → (All (λ f. (length f ≤ slip .width) × All TermIn f) r × All (All IsCon) r) ↔ All SlipFieldIn r
 slip-fields-are r =
     let b = all-both Plain (All IsCon) r in (
       λ h. all-map (λ f. Plain f × All IsCon f) SlipFieldIn (λ f k. (k .0 .0, all-both TermIn IsCon f .1 (k .0 .1, k .1))) r (b .1 h),
@@ -73,7 +73,7 @@ slip-fields-are r =
     Plain : List OurTerm → Type 0
     Plain f = (length f ≤ slip .width) × All TermIn f
 
-pub slip-is : (r : List (List OurTerm)) → IsSlip r ↔ (IsCons r × SlipIn r)
+pub slip-is : (r : OurFields) → IsSlip r ↔ (IsCons r × SlipIn r)
 slip-is r =
     let i = within-is (slip .width) r in
     let s = slip-fields-are r in (
@@ -85,15 +85,15 @@ slip-is r =
 pub view-encode-slip-field : (ts : List OurTerm) → length ts ≤ slip .width → All TermIn ts → All IsCon ts → viewSlipField (encodeSlipField ts) ≡ ts
 view-encode-slip-field ts k h c = slip-field-stands .view-encode ts (k, all-both TermIn IsCon ts .1 (h, c))
 
-pub view-encode-slip : (r : List (List OurTerm)) → IsSlip r → viewSlip (encodeSlip r) ≡ r
+pub view-encode-slip : (r : OurFields) → IsSlip r → viewSlip (encodeSlip r) ≡ r
 view-encode-slip r h = slip-stands .view-encode r (slip-is r .0 h .1)
 
 -- THERE IS ONE VALUE for one slip
-pub encode-slip-one : (r s : List (List OurTerm)) → IsSlip r → IsSlip s → encodeSlip r ≡ encodeSlip s → r ≡ s
+pub encode-slip-one : (r s : OurFields) → IsSlip r → IsSlip s → encodeSlip r ≡ encodeSlip s → r ≡ s
 encode-slip-one r s h k e = encode-one slip-stands r s (slip-is r .0 h .1) (slip-is s .0 k .1) e
 
 -- ---- accepted
-pub encode-accepted-slip : (r : List (List OurTerm)) → IsSlip r → acceptedSlip (encodeSlip r) ≡ true
+pub encode-accepted-slip : (r : OurFields) → IsSlip r → acceptedSlip (encodeSlip r) ≡ true
 encode-accepted-slip r h =
     let i = slip-is r .0 h in
     both-is (ltb 0 (length r)) (slipOk (encodeSlip r)) .1 (count-is (length r) r refl .1 (i .0), slip-stands .encode-good r (i .1))
@@ -109,9 +109,9 @@ accepted-slip v h =
 pub counted-accepted : (s : Slip) → acceptedSlip s ≡ true → countedSlip s ≡ viewSlip s
 counted-accepted s h = ap (λ (b : Bool). cond b (viewSlip s) []) h
 
-pub counted-slip : (r : List (List OurTerm)) → IsSlip r → countedSlip (encodeSlip r) ≡ r
+pub counted-slip : (r : OurFields) → IsSlip r → countedSlip (encodeSlip r) ≡ r
 counted-slip r h = counted-accepted (encodeSlip r) (encode-accepted-slip r h) ∙ view-encode-slip r h
 
 -- ---- THE ACCEPTED SLIPS are those that some text is read as
-pub slip-value-iff : (v : Slip) → (acceptedSlip v ≡ true) ↔ ((t : List ℕ) × (r : List (List OurTerm)) × (readSlip t ≡ accepted r) × (v ≡ encodeSlip r))
+pub slip-value-iff : (v : Slip) → (acceptedSlip v ≡ true) ↔ ((t : List ℕ) × (r : OurFields) × (readSlip t ≡ accepted r) × (v ≡ encodeSlip r))
 slip-value-iff = value-iff acceptedSlip viewSlip encodeSlip readSlip IsSlip slip-iff accepted-slip encode-accepted-slip

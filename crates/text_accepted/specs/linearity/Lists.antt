@@ -7,7 +7,7 @@ use lib.ListN.{getD, set, replicate}
 use Rattle.base_limits.specs.Limits.{numbersOfSide}
 use Rattle.math_types.specs.Order.{basic, list}
 use Rattle.math_terms.specs.Terms.{con, var}
-use Rattle.text_grammar.specs.Terms.{OurTerm}
+use Rattle.text_grammar.specs.Terms.{OurTerm, OurFields, termsOf}
 use Rattle.text_accepted.specs.declared.linearity.Lists.{Lists}
 
 abbrev pub noLists : Lists
@@ -31,5 +31,5 @@ addTerm l (var list v) = addList l v
 abbrev pub addField : Lists → List OurTerm → Lists
 addField l f = foldl addTerm (nextField l) f
 
-abbrev pub linear : List (List OurTerm) → Bool
-linear r = (foldl addField noLists r) .ok
+abbrev pub linear : OurFields → Bool
+linear r = (foldl addField noLists (termsOf r)) .ok

@@ -1,10 +1,9 @@
 -- The rules that reading can return, as a test; every other value counts as one with no fields.
 -- `rule-value-iff` of proofs/ says that these are exactly the values that some text is read as.
 use mathlib.Core.Bool.{Bool, true, _&&_, cond}
-use mathlib.Core.List.{List, [], _∷_}
+use mathlib.Core.List.{[], _∷_}
 use Rattle.math_terms.specs.Terms.{con, var}
-use Rattle.text_grammar.specs.Terms.{OurTerm}
-use Rattle.text_grammar.specs.Read.{OurFields}
+use Rattle.text_grammar.specs.Terms.{OurTerm, OurField, OurFields, termsOf}
 use Rattle.text_grammar.specs.rules.Read.{OurRule}
 use Rattle.overlap_spec.specs.Variables.{occurs}
 use Rattle.text_values.specs.declared.RuleSide.{RuleSide}
@@ -15,9 +14,9 @@ use Rattle.text_accepted.specs.Accepted.{acceptedLeft, acceptedRight}
 -- x has the variable that a term is
 abbrev pub knownTerm : OurFields → OurTerm → Bool
 knownTerm x (con c) = true
-knownTerm x (var k n) = occurs k n x
+knownTerm x (var k n) = occurs k n (termsOf x)
 
-abbrev pub knownField : OurFields → List OurTerm → Bool
+abbrev pub knownField : OurFields → OurField → Bool
 knownField x [] = true
 knownField x (t ∷ f) = knownTerm x t && knownField x f
 

@@ -11,25 +11,25 @@ use Rattle.math_terms.specs.Terms.{con}
 use Rattle.math_terms.specs.Fillings.{Filling, value}
 use Rattle.text_grammar.specs.Bytes.{digit?, begins, follows, first, holds}
 use Rattle.text_grammar.specs.Tokens.{fifth?, many?, over?, clash?, clashOf?}
-use Rattle.text_grammar.specs.Terms.{OurTerm}
+use Rattle.text_grammar.specs.Terms.{OurFields, SlipFields}
 use Rattle.text_grammar.specs.constants.Constants.{Con}
 use Rattle.text_grammar.specs.Read.{Outcome, refused, accepted, readSide, readSlip}
 use Rattle.text_grammar.specs.Plain.{plain}
 use Rattle.text_grammar.proofs.Examples.{bytes}
 use Rattle.text_grammar.specs.constants.Matching.{constants, matcher, compared}
 
-abbrev fields : Outcome → List (List OurTerm)
+abbrev fields : Outcome → OurFields
 fields (refused r p) = []
 fields (accepted r) = r
 
-abbrev ruleOf : String → List (List OurTerm)
+abbrev ruleOf : String → OurFields
 ruleOf t = fields (readSide (bytes t))
 
-abbrev slipOf : String → List (List Con)
+abbrev slipOf : String → SlipFields
 slipOf t = map constants (fields (readSlip (bytes t)))
 
 -- the values of the variables of a field, each as a field's text
-abbrev shown : List (List OurTerm) → Filling Con Kind ℕ → List ℕ
+abbrev shown : OurFields → Filling Con Kind ℕ → List ℕ
 shown [] φ = []
 shown (f ∷ fs) φ = plain (map (λ t. map con (value φ t)) f)
 

@@ -12,7 +12,7 @@ use Rattle.math_terms.specs.Seqs.{concat-map, Distinct}
 use Rattle.math_terms.specs.Linear.{lists, OneList, LeftLinear}
 use Rattle.text_grammar.specs.Leftmost.{NoneOf}
 use Rattle.text_grammar.specs.Tokens.{Occ, Clash}
-use Rattle.text_grammar.specs.Terms.{OurTerm}
+use Rattle.text_grammar.specs.Terms.{OurTerm, OurFields, termsOf}
 use Rattle.text_grammar.specs.Limits.{occF, occR, Linear}
 
 module _ {A : Type 0} where
@@ -72,5 +72,5 @@ one-lists n before [] h = tt
 one-lists n before (f ∷ r) h =
     (one-list n (occR (suc n) r) before f h, one-lists (suc n) (before ++ occF n f) r (none-rest (λ b o. Any (Clash o) b) before (occF n f) (occR (suc n) r) h))
 
-pub left-linear : (r : List (List OurTerm)) → Linear r → LeftLinear r
-left-linear r h = (rw (names-rule 1 r) at (apart-names [] (occR 1 r) h .0), one-lists 1 [] r h)
+pub left-linear : (r : OurFields) → Linear r → LeftLinear (termsOf r)
+left-linear r h = (rw (names-rule 1 (termsOf r)) at (apart-names [] (occR 1 (termsOf r)) h .0), one-lists 1 [] (termsOf r) h)

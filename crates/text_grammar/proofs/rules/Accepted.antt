@@ -10,8 +10,8 @@ use Rattle.base_lists.specs.Seqs.{All}
 use Rattle.text_grammar.specs.Grammar.{Raw, spellT, TextOk}
 use Rattle.text_grammar.specs.Leftmost.{NoneOf}
 use Rattle.text_grammar.specs.Tokens.{tokens, NotLinear}
-use Rattle.text_grammar.specs.Terms.{OurTerm, fieldsOf}
-use Rattle.text_grammar.specs.Read.{fields, terms, limits, linear, unknown, NoReason, accepted, OurFields}
+use Rattle.text_grammar.specs.Terms.{OurTerm, OurFields, fieldsOf}
+use Rattle.text_grammar.specs.Read.{fields, terms, limits, linear, unknown, NoReason, accepted}
 use Rattle.text_grammar.specs.Plain.{rawField, plain, TermOk}
 use Rattle.text_grammar.specs.Limits.{Within, Linear, IsLeft}
 use Rattle.text_grammar.proofs.Plain.{plain-says, back}

@@ -15,9 +15,9 @@ use Rattle.text_grammar.specs.Grammar.{Raw, Grammar}
 use Rattle.text_grammar.specs.Leftmost.{leftmost}
 use Rattle.text_grammar.specs.Tokens.{Token, tokens}
 use Rattle.text_grammar.specs.Machine.{place2, parse}
-use Rattle.text_grammar.specs.Terms.{fieldsOf}
+use Rattle.text_grammar.specs.Terms.{OurFields, fieldsOf}
 use Rattle.text_grammar.specs.Read.{Reason, long, grammar, fields, terms, limits, linear, unknown, rule, Bad, bad?, placeOfToken, firstBad, said}
-use Rattle.text_grammar.specs.Read.{OutcomeOf, refused, accepted, tell, chain, OurFields, Outcome, readSide}
+use Rattle.text_grammar.specs.Read.{OutcomeOf, refused, accepted, tell, chain, Outcome, readSide}
 use Rattle.text_grammar.specs.Read as text
 use Rattle.text_grammar.proofs.Place.{place2-none}
 use Rattle.text_grammar.proofs.Theorems as theorems

@@ -14,8 +14,8 @@ use Rattle.text_grammar.specs.Grammar.{Raw, raw-var, raw-empty, spell, s
 use Rattle.text_grammar.specs.Numbers.{value}
 use Rattle.text_grammar.specs.Leftmost.{NoneOf, leftmost, LeftmostAt}
 use Rattle.text_grammar.specs.Tokens.{Token, tokens, tokensF, tokensT, FifthField, TooMany, Over, TokenOver}
-use Rattle.text_grammar.specs.Terms.{fieldOf, fieldsOf}
-use Rattle.text_grammar.specs.Read.{Reason, fields, terms, limits, Bad, placeOfToken, Never, OurFields}
+use Rattle.text_grammar.specs.Terms.{OurFields, fieldOf, fieldsOf}
+use Rattle.text_grammar.specs.Read.{Reason, fields, terms, limits, Bad, placeOfToken, Never}
 use Rattle.text_grammar.specs.Plain.{rawField}
 use Rattle.text_grammar.specs.Limits.{TermIn}
 use Rattle.text_grammar.proofs.Leftmost.{leftmost-is, none-not, Found, none-all, all-none}

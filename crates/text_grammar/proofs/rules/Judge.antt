@@ -12,9 +12,9 @@ use Rattle.text_grammar.specs.Grammar.{Raw, spell, spellF, spellT, Says}
 use Rattle.text_grammar.specs.Leftmost.{leftmost}
 use Rattle.text_grammar.specs.Tokens.{Token, tokens, tokensF, tokensT, Over, fifth?, many?, over?}
 use Rattle.text_grammar.specs.Machine.{place2}
-use Rattle.text_grammar.specs.Terms.{fieldsOf}
+use Rattle.text_grammar.specs.Terms.{OurFields, fieldsOf}
 use Rattle.text_grammar.specs.Read.{Reason, long, grammar, fields, terms, limits, linear, unknown, placeOfToken, firstBad, said, longer}
-use Rattle.text_grammar.specs.Read.{OutcomeOf, accepted, tell, chain, OurFields, Outcome, readSide}
+use Rattle.text_grammar.specs.Read.{OutcomeOf, accepted, tell, chain, Outcome, readSide}
 use Rattle.text_grammar.proofs.Place.{place2-none}
 use Rattle.text_grammar.proofs.Accepted.{said-is}
 use Rattle.text_grammar.specs.rules.Sides.{Sides, one, two, SaysRule}

@@ -5,7 +5,8 @@ use Prim.Native.Nat.{ℕ}
 use Rattle.base_lists.specs.Seqs.{All}
 use Rattle.text_grammar.specs.Grammar.{spellT}
 use Rattle.text_grammar.specs.Limits.{IsLeft}
-use Rattle.text_grammar.specs.Read.{OutcomeOf, accepted, OurFields}
+use Rattle.text_grammar.specs.Terms.{OurFields}
+use Rattle.text_grammar.specs.Read.{OutcomeOf, accepted}
 use Rattle.text_grammar.proofs.Plain.{LeanField, lean-is-plain, plain-lean}
 use Rattle.text_grammar.specs.rules.Sides.{Sides, one, two, joined, SaysRule}
 use Rattle.text_grammar.specs.rules.Read.{OurRule, bothFields, readRule}

@@ -12,11 +12,11 @@ use Rattle.base_lists.specs.Seqs.{All, all-append, all-map}
 use Rattle.math_types.specs.Types.{Kind}
 use Rattle.text_grammar.specs.Bytes.{letter}
 use Rattle.text_grammar.specs.Numbers.{value}
-use Rattle.text_grammar.specs.Terms.{fieldsOf}
+use Rattle.text_grammar.specs.Terms.{OurFields, fieldsOf}
 use Rattle.text_grammar.specs.Grammar.{Raw, raw-var, raw-empty, spell, spellF, bars, spellT, raw-con}
 use Rattle.text_grammar.specs.Leftmost.{NoneOf, FirstOf}
 use Rattle.text_grammar.specs.Tokens.{Token, tokens, tokensF, tokensT, FifthField, TooMany}
-use Rattle.text_grammar.specs.Read.{Reason, long, grammar, fields, terms, limits, linear, variable, unknown, FirstReason, refused, OurFields}
+use Rattle.text_grammar.specs.Read.{Reason, long, grammar, fields, terms, limits, linear, variable, unknown, FirstReason, refused}
 use Rattle.text_grammar.specs.Sharp.{Stands, Numbered}
 use Rattle.text_grammar.proofs.Tokens.{stands-in, stands-t, From, from-t, Below, below-f, Rising, rising, rising-append, rising-t}
 use Rattle.text_grammar.proofs.Sharp.{first-least, Steps, steps-t, five, past, numbered-t, pick}

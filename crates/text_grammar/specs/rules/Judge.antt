@@ -9,10 +9,10 @@ use lib.ListN.{length}
 use Rattle.text_grammar.specs.Grammar.{Raw}
 use Rattle.text_grammar.specs.Leftmost.{leftmost}
 use Rattle.text_grammar.specs.Tokens.{Token, tokens}
-use Rattle.text_grammar.specs.Terms.{fieldsOf}
+use Rattle.text_grammar.specs.Terms.{OurFields, fieldsOf}
 use Rattle.text_grammar.specs.Read.{long, grammar, fields, terms, limits, linear, variable, unknown, number, rule, placeOfToken, said}
 use Rattle.text_grammar.specs.Read.{longer}
-use Rattle.text_grammar.specs.Read.{OutcomeOf, refused, accepted, tell, OurFields, Outcome, readSide}
+use Rattle.text_grammar.specs.Read.{OutcomeOf, refused, accepted, tell, Outcome, readSide}
 use Rattle.text_grammar.specs.rules.Place.{cut, placeRule}
 use Rattle.text_grammar.specs.rules.Tokens.{Lacks, lacks?}
 use Rattle.text_grammar.specs.rules.Read.{OurRule}

@@ -5,7 +5,8 @@ use Rattle.base_limits.specs.Limits.{mostFields}
 use Rattle.base_lists.specs.Seqs.{All}
 use Rattle.math_types.specs.Types.{Kind}
 use Rattle.text_grammar.specs.Limits.{TermIn, IsLeft}
-use Rattle.text_grammar.specs.Read.{rule, OurFields}
+use Rattle.text_grammar.specs.Terms.{OurFields}
+use Rattle.text_grammar.specs.Read.{rule}
 use Rattle.text_grammar.specs.rules.Tokens.{Has}
 use Rattle.text_grammar.specs.rules.Read.{OurRule}
 

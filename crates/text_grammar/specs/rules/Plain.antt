@@ -3,7 +3,7 @@ use mathlib.Core.List.{List, [], _∷_, map}
 use Prim.Native.Nat.{ℕ}
 use Rattle.text_grammar.specs.Plain.{rawField, plain}
 use Rattle.text_grammar.specs.rules.Sides.{Sides, one, two, joined}
-use Rattle.text_grammar.specs.Read.{OurFields}
+use Rattle.text_grammar.specs.Terms.{OurFields}
 use Rattle.text_grammar.specs.rules.Read.{OurRule}
 
 abbrev pub plainSides : OurFields → OurFields → List ℕ

@@ -13,8 +13,7 @@ use Rattle.math_terms.specs.Fillings.{Occurs}
 use Rattle.text_grammar.specs.Grammar.{Raw, raw-var, raw-empty, spellT, raw-con}
 use Rattle.text_grammar.specs.Numbers.{value}
 use Rattle.text_grammar.specs.Tokens.{Token, tokens, tokensT}
-use Rattle.text_grammar.specs.Terms.{OurTerm, fieldsOf}
-use Rattle.text_grammar.specs.Read.{OurFields}
+use Rattle.text_grammar.specs.Terms.{OurTerm, OurFields, termsOf, fieldsOf}
 use Rattle.text_grammar.specs.rules.Sides.{Sides, one, two}
 
 abbrev pub leftSide : Sides → List (List Raw)
@@ -40,7 +39,7 @@ allTokens s = leftTokens s ++ rightTokens s
 
 -- the variable of kind k and number n stands in some field of r
 abbrev pub Has : Kind → ℕ → OurFields → Type 0
-Has k n r = Any (Occurs k n) r
+Has k n r = Any (Occurs k n) (termsOf r)
 
 unfoldable pub occurs? : (k : Kind) (n : ℕ) (f : List OurTerm) → Dec (Occurs k n f)
 unfolding ℕ-discrete
@@ -61,7 +60,7 @@ occurs? k n (var j m ∷ f) = go (full-eq basic-eq k j) (ℕ-discrete n m) (occu
 
 unfoldable pub has? : (k : Kind) (n : ℕ) (r : OurFields) → Dec (Has k n r)
 unfolding any? occurs?
-has? k n r = any? (Occurs k n) (occurs? k n) r
+has? k n r = any? (Occurs k n) (occurs? k n) (termsOf r)
 
 abbrev pub Lacks : OurFields → Raw → Type 0
 Lacks l (raw-con r) = ⊥

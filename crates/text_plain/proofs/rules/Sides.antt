@@ -5,7 +5,7 @@ use Prim.Native.Nat.{ℕ}
 use native.Mathlib.Omega.{arith}
 use lib.ListN.{length, take, length-map, length-take}
 use Rattle.text_grammar.specs.Plain.{plain}
-use Rattle.text_grammar.specs.Read.{OurFields}
+use Rattle.text_grammar.specs.Terms.{OurFields}
 use Rattle.text_values.specs.declared.Rule.{Rule}
 use Rattle.text_values.specs.Values.{viewField, viewSide, viewRule}
 use Rattle.text_grammar.specs.rules.Plain.{plainSides, plainBoth}

@@ -3,7 +3,7 @@ use mathlib.Core.Path.{_≡_, sym, _∙_, ap}
 use mathlib.Core.Bool.{Bool, true, false, cond}
 use mathlib.Core.List.{List, []}
 use Prim.Native.Nat.{ℕ}
-use Rattle.text_grammar.specs.Terms.{OurTerm}
+use Rattle.text_grammar.specs.Terms.{OurFields}
 use Rattle.text_grammar.specs.Plain.{plain}
 use Rattle.text_grammar.specs.Read.{Outcome, accepted, readSlip}
 use Rattle.text_grammar.proofs.Accepted.{slip-read, slip-plain}
@@ -16,13 +16,13 @@ use Rattle.text_accepted.proofs.slips.Slips.{accepted-slip, counted-accepted, c
 pub read-written : (s : Slip) → acceptedSlip s ≡ true → (readSlip (plain (countedSlip s)) ≡ accepted (viewSlip s)) × (encodeSlip (viewSlip s) ≡ s)
 read-written s h =
     let a = accepted-slip s h in
-    (ap (λ (r : List (List OurTerm)). readSlip (plain r)) (counted-accepted s h) ∙ slip-plain (viewSlip s) (a .0), a .1)
+    (ap (λ (r : OurFields). readSlip (plain r)) (counted-accepted s h) ∙ slip-plain (viewSlip s) (a .0), a .1)
 
 -- EVERY TEXT that is read as r is written as the one plain text of r
-pub written-once : (t : List ℕ) (r : List (List OurTerm)) → readSlip t ≡ accepted r → plain (countedSlip (encodeSlip r)) ≡ plain r
+pub written-once : (t : List ℕ) (r : OurFields) → readSlip t ≡ accepted r → plain (countedSlip (encodeSlip r)) ≡ plain r
 written-once t r e = ap plain (counted-slip r (slip-read t r e))
 
-accepted-one : (x y : List (List OurTerm)) → _≡_ {A = Outcome} (accepted x) (accepted y) → x ≡ y
+accepted-one : (x y : OurFields) → _≡_ {A = Outcome} (accepted x) (accepted y) → x ≡ y
 accepted-one x y e = cc
 
 -- PLAIN TEXT IS INJECTIVE on accepted slips

@@ -16,7 +16,8 @@ use Rattle.text_grammar.specs.Grammar.{Raw, raw-var, raw-empty, raw-con}
 use Rattle.text_grammar.specs.Numbers.{value}
 use Rattle.text_grammar.specs.Leftmost.{leftmost}
 use Rattle.text_grammar.specs.Tokens.{Token, tokens}
-use Rattle.text_grammar.specs.Read.{OurFields, placeOfToken}
+use Rattle.text_grammar.specs.Terms.{OurFields}
+use Rattle.text_grammar.specs.Read.{placeOfToken}
 use Rattle.text_grammar.specs.rules.Tokens.{Has, Lacks, lacks?}
 use Rattle.text_grammar.specs.rules.Judge.{lackingAt}
 use Rattle.overlap_spec.specs.Variables.{occurs}

@@ -7,7 +7,7 @@ use lib.Dec.{ltb}
 use Rattle.base_limits.specs.Limits.{largestNumber}
 use Rattle.math_types.specs.Values.{kindOf}
 use Rattle.text_grammar.specs.Tokens.{Token}
-use Rattle.text_grammar.specs.Read.{OurFields}
+use Rattle.text_grammar.specs.Terms.{OurFields}
 use Rattle.overlap_spec.specs.Variables.{occurs}
 use Rattle.text_scan.specs.declared.Lexeme.{Lexeme}
 use Rattle.text_scan.specs.declared.Spelled.{Spelled}
