@@ -21,6 +21,7 @@ use Rattle.text_values.specs.Values.{blankTerm}
 use Rattle.match_fields.specs.declared.bindings.Values.{Values}
 use Rattle.match_fields.specs.declared.items.Tested.{Tested}
 use Rattle.match_fields.specs.items.Tests.{testVar, testBy, tested}
+use Rattle.match_fields.proofs.items.Tests.{fails-keep}
 use Rattle.match_fields.specs.declared.Shape.{Shape}
 use Rattle.match_fields.specs.declared.Progress.{Progress}
 use Rattle.match_fields.specs.Fields.{isListForm, isListTerm, widthOf, pick, goOn, walked, atomsIn}
@@ -76,6 +77,16 @@ list-passes t item v e = go (t .form) e
     go : (f : Form) → isListForm f ≡ true → testBy f t item v ≡ record { ok = true; values = v }
     go (Con c) e = absurd (false≢true e)
     go (Var k n) e = var (kindOf k) n e
+
+-- the answer of a test by its parts, as code has them
+module _ (t item : Term) (v : Values) (r : Bool) where
+  pub passed-is : (u : Values) → r ≡ (tested t item v) .ok → u ≡ (tested t item v) .values → record { ok = r; values = u } ≡ tested t item v
+  passed-is u e f = ap₂ (λ (x : Bool) (y : Values). record { ok = x; values = y }) e f
+
+  pub failed-is : r ≡ (tested t item v) .ok → r ≡ false → record { ok = false; values = v } ≡ tested t item v
+  failed-is e f =
+      let no = sym e ∙ f in
+      ap₂ (λ (x : Bool) (y : Values). record { ok = x; values = y }) (sym no) (fails-keep t item v no)
 
 module _ (gap : ℕ) (items : List Term) (n : ℕ) (s : List Term) (w : ℕ) (v₀ : Values) where
   -- what is left of the walk, with c items compared so far, is the whole walk

@@ -1,6 +1,6 @@
 // Matching one term of a rule with one item of a slip, under the values that its atom variables have so far.
 ghost use mathlib.Core.Path.{_≡_};
-ghost use mathlib.Core.Bool.{false};
+ghost use mathlib.Core.Bool.{true, false};
 ghost use lib.ListN.{getD};
 ghost use Rattle.math_types.specs.Values.{kindOf, kindFrom};
 ghost use Rattle.match_fields.specs.bindings.Values.{slot};
@@ -65,47 +65,57 @@ fn bind(v: Values, i: usize, t: Term) -> Values
     w
 }
 
-// An atom variable against an item: its earlier value, or else an item of its type.
-fn test_atom(k: Kind, n: u8, item: Term, v: Values) -> Tested
-    ensures { λ r. ⌜ r ≡ met (getD (v .known) (slot (kindOf k) n) false) (kindOf k) (slot (kindOf k) n) item v ⌝ }
+// Whether an atom variable takes an item: its earlier value, or else an item of its type.
+fn atom_passes(k: Kind, n: u8, item: Term, v: Values) -> bool
+    ensures { λ r. ⌜ r ≡ (met (getD (v .known) (slot (kindOf k) n) false) (kindOf k) (slot (kindOf k) n) item v) .ok ⌝ }
+{
+    if is_known(v, crate::bindings::slot(k, n)) {
+        return same_term(crate::bindings::value_of(v, k, n), item);
+    }
+    math_types::below(item_kind(item), k)
+}
+
+// The values behind an item that an atom variable takes.
+fn atom_bound(k: Kind, n: u8, item: Term, v: Values) -> Values
+    requires { ⌜ (met (getD (v .known) (slot (kindOf k) n) false) (kindOf k) (slot (kindOf k) n) item v) .ok ≡ true ⌝ }
+    ensures { λ r. ⌜ r ≡ (met (getD (v .known) (slot (kindOf k) n) false) (kindOf k) (slot (kindOf k) n) item v) .values ⌝ }
 {
     let i = crate::bindings::slot(k, n);
     if is_known(v, i) {
-        return Tested {
-            ok: same_term(crate::bindings::value_of(v, k, n), item),
-            values: v,
-        };
+        return v;
     }
-    if math_types::below(item_kind(item), k) {
-        return Tested {
-            ok: true,
-            values: bind(v, i, item),
-        };
-    }
-    Tested {
-        ok: false,
-        values: v,
-    }
+    bind(v, i, item)
 }
 
-// A term of the rule against an item of the slip.
-pub(crate) fn test_term(t: Term, item: Term, v: Values) -> Tested
-    ensures { λ r. ⌜ r ≡ tested t item v ⌝ }
+// Whether an item of the slip passes a term of the rule. The values are large: this answers without them.
+pub(crate) fn passes(t: Term, item: Term, v: Values) -> bool
+    ensures { λ r. ⌜ r ≡ (tested t item v) .ok ⌝ }
 {
     let form = t.form;
     match form {
-        Form::Con(_) => Tested {
-            ok: same_term(t, item),
-            values: v,
-        },
+        Form::Con(_) => same_term(t, item),
         Form::Var(k, n) => {
             if math_types::is_list(k) {
-                return Tested {
-                    ok: true,
-                    values: v,
-                };
+                return true;
             }
-            test_atom(k, n, item, v)
+            atom_passes(k, n, item, v)
+        }
+    }
+}
+
+// The values behind an item that passes.
+pub(crate) fn bound_by(t: Term, item: Term, v: Values) -> Values
+    requires { ⌜ (tested t item v) .ok ≡ true ⌝ }
+    ensures { λ r. ⌜ r ≡ (tested t item v) .values ⌝ }
+{
+    let form = t.form;
+    match form {
+        Form::Con(_) => v,
+        Form::Var(k, n) => {
+            if math_types::is_list(k) {
+                return v;
+            }
+            atom_bound(k, n, item, v)
         }
     }
 }

@@ -99,15 +99,19 @@ fn walk_field(f: Field, w: SlipField, gap: usize, v: Values) -> Progress
         if is_list_term(t) {
             p += gap;
         } else {
-            let r = crate::items::test_term(t, item_at(w, p), now);
+            let item = item_at(w, p);
             compared += 1;
-            if !r.ok {
+            if !crate::items::passes(t, item, now) {
+                let failed = Tested {
+                    ok: false,
+                    values: now,
+                };
                 return Progress {
-                    tested: r,
+                    tested: failed,
                     compared: compared,
                 };
             }
-            now = r.values;
+            now = crate::items::bound_by(t, item, now);
             p += 1;
         }
         i += 1;

@@ -1,13 +1,16 @@
 -- `match_fields::walk_field` meets its contract. Assumes nothing.
 use borrow.Author.Needs.{needs}
-use lib.ListN.{length, take}
-use mathlib.Core.Path.{_≡_}
+use lib.ListN.{length, getD, take}
+use borrow.Author.Tests.{not-true, not-false}
+use mathlib.Core.Path.{_≡_, refl, sym, _∙_}
+use mathlib.Core.Bool.{false}
 use mathlib.Core.Logic.{⊎-elim}
 use native.Mathlib.Omega.{arith}
 use Prim.Native.Nat.{_+_, _-_, _≤_, min}
 use Rattle.base_limits.specs.Limits.{mostTerms, mostItems}
 use Rattle.base_lists.specs.Seqs.{long-mapped}
-use Rattle.match_fields.proofs.Walks.{absent, Reached, reached-none, reached-list, reached-one, reached-fail, reached-all, reached-same}
+use Rattle.match_fields.proofs.Walks.{absent, passed-is, failed-is, Reached, reached-none, reached-list, reached-one, reached-fail}
+use Rattle.match_fields.proofs.Walks.{reached-all, reached-same}
 use Rattle.match_fields.proofs.walk_field.Statement.{statement}
 use Rattle.match_fields.proofs.walk_field.Tie as tie
 
@@ -42,26 +45,32 @@ add-p c = search needs
 item-at-requires : tie.Need-item-at-requires Inv-loop μ-loop
 item-at-requires c κs = search needs
 
-test-term-requires : tie.Need-test-term-requires Inv-loop μ-loop
-test-term-requires c κs = search needs
-
 add-compared : tie.Need-add-compared Inv-loop μ-loop
 add-compared c = search needs
 
+passes-requires : tie.Need-passes-requires Inv-loop μ-loop
+passes-requires c κs = search needs
+
 returns : tie.Need-returns Inv-loop μ-loop
 returns c =
-    let z = c .before .before .before .before .before .before .before .before .before .before .args in
-    let l = c .before .before .before .before .before .before .before .before .loop in
-    let h = c .before .before .before .before .before .before .before .loop-test .taken in
-    let v = l .inv in (
+    let P = c .before .passes in
+    let I = c .before .before .item-at in
+    let b = c .before .before .before in
+    let L = b .before .before .before .before in
+    let z = L .before .before .args in
+    let l = L .loop in
+    let h = b .before .before .before .loop-test .taken in
+    let v = l .inv in
+    let no : P .result ≡ false = not-true (P .result) (c .if2 .taken) in (
       reached-fail (z .gap) (take (z .w .n) (z .w .terms)) (z .t1 .n) (z .t1 .terms) mostTerms (z .v) (l .i) (l .p) (l .compared) (l .now) absent (v .3)
           (omega (arith, v .1))
-          (c .before .before .before .before .before .is-list-term .result) (c .before .before .before .before .before .is-list-term .ensures)
-          (c .before .before .before .before .if1 .left)
-          (c .before .before .before .item-at .result) (c .before .before .before .item-at .ensures) (c .before .before .test-term .result)
-          (c .before .before .test-term .ensures) (c .if2 .taken),
+          (b .before .is-list-term .result) (b .before .is-list-term .ensures) (b .if1 .left) (I .result) (I .ensures) _
+          (failed-is (getD (z .t1 .terms) (l .i) absent) (I .result) (l .now) (P .result) (P .ensures) no) refl,
       omega (arith, v .1, v .2, v .3 .2),
     )
+
+bound-by-requires : tie.Need-bound-by-requires Inv-loop μ-loop
+bound-by-requires c κs = sym (c .before .passes .ensures) ∙ not-false (c .before .passes .result) (c .if2 .left)
 
 add-p-2 : tie.Need-add-p-2 Inv-loop μ-loop
 add-p-2 c = search needs
@@ -88,10 +97,11 @@ loop-again c =
           (reached-list (z .gap) (take (z .w .n) (z .w .terms)) (z .t1 .n) (z .t1 .terms) mostTerms (z .v) (l .i) (l .p) (l .compared) (l .now) absent (v .3)
           (omega (arith, v .1))
           (I .result) (I .ensures) (w .0 .taken) (v .0)))
-          (λ w. same (l .p + 1) (c .if1 .p) (l .compared + 1) (c .if1 .compared) (w .2 .result .values) (c .if1 .now) (w .6) (w .7) (w .8)
+          (λ w. same (l .p + 1) (c .if1 .p) (l .compared + 1) (c .if1 .compared) (w .4 .result) (c .if1 .now) (w .5) (w .6) (w .7)
           (reached-one (z .gap) (take (z .w .n) (z .w .terms)) (z .t1 .n) (z .t1 .terms) mostTerms (z .v) (l .i) (l .p) (l .compared) (l .now) absent (v .3)
           (omega (arith, v .1))
-          (I .result) (I .ensures) (w .0 .left) (w .1 .result) (w .1 .ensures) (w .2 .result) (w .2 .ensures) (w .4 .left)))
+          (I .result) (I .ensures) (w .0 .left) (w .1 .result) (w .1 .ensures) _
+          (passed-is (getD (z .t1 .terms) (l .i) absent) (w .1 .result) (l .now) (w .2 .result) (w .4 .result) (w .2 .ensures) (w .4 .ensures)) (w .3 .left)))
           (c .if1 .came),
     )
 
@@ -119,9 +129,10 @@ walk-field-spec =
     is-list-term-requires
     add-p
     item-at-requires
-    test-term-requires
     add-compared
+    passes-requires
     returns
+    bound-by-requires
     add-p-2
     add-i
     loop-less
