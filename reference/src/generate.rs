@@ -22,7 +22,45 @@ type Texts = Vec<Vec<u8>>;
 /// Draws a term.
 type Maker = fn(&mut Draw) -> Vec<u8>;
 
-const INTEGERS: [u32; 8] = [0, 1, 7, 10, 99, 999_999_999, 1_000_000_000, 2_147_483_647];
+const LOWEST: i64 = -2_147_483_648;
+const LARGEST: i64 = 2_147_483_647;
+
+const INTEGERS: [i64; 16] = [
+    0,
+    1,
+    -1,
+    7,
+    -7,
+    10,
+    -10,
+    99,
+    -99,
+    999_999_999,
+    -999_999_999,
+    1_000_000_000,
+    -1_000_000_000,
+    LARGEST,
+    -LARGEST,
+    LOWEST,
+];
+
+/// Integers with a minus, on either side of their limits.
+const MINUS_EDGES: [&[u8]; 9] = [
+    b"-0",
+    b"-1",
+    b"-7",
+    b"-007",
+    b"-2147483648",
+    b"-2147483649",
+    b"-0000000000",
+    b"-00000000000",
+    b"-02147483648",
+];
+
+/// What is no term for its minus.
+const BROKEN_MINUSES: [&[u8]; 9] = [
+    b"-", b"--1", b"- 1", b"-i0", b"-\"m\"", b"-empty", b"1-2", b"i-1", b"1-",
+];
 
 const KINDS: [Kind; 4] = [Kind::Integer, Kind::String, Kind::Atom, Kind::List];
 
@@ -30,11 +68,11 @@ const KINDS: [Kind; 4] = [Kind::Integer, Kind::String, Kind::Atom, Kind::List];
 const ARROWS_IN_STRINGS: [&[u8]; 6] = [b"=>", b"=", b">", b"1=>2", b"=>=>", b"i0=>i0|l0:1"];
 
 /// Bytes that some text of the grammar has outside strings.
-const GRAMMAR: &[u8] = b"0123456789:|\"isalempty=>";
+const GRAMMAR: &[u8] = b"0123456789-:|\"isalempty=>";
 
 /// A line without its newline: any bytes but 10.
 pub fn any_line(draw: &mut Draw) -> Vec<u8> {
-    match draw.below(18) {
+    match draw.below(19) {
         0..=2 => readable(draw),
         3..=5 => {
             let text = readable(draw);
@@ -43,6 +81,7 @@ pub fn any_line(draw: &mut Draw) -> Vec<u8> {
         6..=9 => offending(draw),
         10 => of_size(draw),
         11 => any_bytes(draw),
+        12 => with_minuses(draw),
         _ => any_sides(draw),
     }
 }
@@ -63,11 +102,14 @@ fn offending(draw: &mut Draw) -> Vec<u8> {
     }
 }
 
-/// A text in which a list variable often clashes, or any line.
+/// A text in which a list variable often clashes, a minus often stands wrong
+/// or there are often too many terms, or any line.
 fn rarely_a_rule(draw: &mut Draw) -> Vec<u8> {
-    match draw.below(8) {
+    match draw.below(10) {
         0..=1 => text_of(2, 4, list_term, draw),
         2..=3 => any_sides(draw),
+        4 => with_minuses(draw),
+        5 => crowded(draw),
         _ => any_line(draw),
     }
 }
@@ -129,7 +171,7 @@ fn any_constant(draw: &mut Draw) -> Term {
     match draw.below(3) {
         0 => any_string(draw),
         1 => Term::Int(draw.pick(&INTEGERS)),
-        _ => Term::Int(draw.below(1 << 31) as u32),
+        _ => Term::Int(LOWEST + draw.below(1 << 32) as i64),
     }
 }
 
@@ -154,7 +196,8 @@ pub fn loose_rule(rule: &Rule, draw: &mut Draw) -> Vec<u8> {
     }
 }
 
-/// Another text of the same fields: `empty` and leading zeros put in.
+/// Another text of the same fields: `empty`, leading zeros and the minus of
+/// some zeros put in.
 pub fn loose_text(fields: &[Field], most_terms: usize, draw: &mut Draw) -> Vec<u8> {
     let mut texts = Texts::new();
     for field in fields {
@@ -171,8 +214,10 @@ pub fn loose_text(fields: &[Field], most_terms: usize, draw: &mut Draw) -> Vec<u
 fn loose_term(term: &Term, draw: &mut Draw) -> Vec<u8> {
     match term {
         Term::Int(value) => {
+            let minus = *value < 0 || (*value == 0 && draw.one_in(2));
+            let sign = if minus { "-" } else { "" };
             let width = draw.below(11);
-            format!("{value:0width$}").into_bytes()
+            format!("{sign}{:0width$}", value.unsigned_abs()).into_bytes()
         }
         other => plain_fields(&[vec![other.clone()]]),
     }
@@ -190,22 +235,41 @@ fn text_of(fields: usize, most: usize, term: Maker, draw: &mut Draw) -> Vec<u8> 
 
 /// A term at one of its limits, on either side.
 fn edge_term(draw: &mut Draw) -> Vec<u8> {
-    match draw.below(5) {
-        0 => (2_147_483_645 + draw.below(5)).to_string().into_bytes(),
+    match draw.below(6) {
+        0 => {
+            let number = 2_147_483_645 + draw.below(5);
+            format!("{}{number}", any_sign(draw)).into_bytes()
+        }
         1 => {
-            let width = 9 + draw.below(4);
-            format!("{:0width$}", draw.below(1000)).into_bytes()
+            let (sign, width) = (any_sign(draw), 9 + draw.below(4));
+            format!("{sign}{:0width$}", draw.below(1000)).into_bytes()
         }
         2 => quoted(13 + draw.below(5)),
         3 => variable(draw.pick(&KINDS), 13 + draw.below(5)),
+        4 => draw.pick(&MINUS_EDGES).to_vec(),
         // Around the numbers at which 32 and 64 bits are used up.
         _ => {
             let power = draw.pick(&[1u128 << 32, 1 << 64]);
             let number = power - 2 + draw.below(4) as u128;
-            let letter = draw.pick(&["", "i", "l"]);
-            format!("{letter}{number}").into_bytes()
+            let start = draw.pick(&["", "-", "i", "l"]);
+            format!("{start}{number}").into_bytes()
         }
     }
+}
+
+fn any_sign(draw: &mut Draw) -> &'static str {
+    draw.pick(&["", "-"])
+}
+
+/// A few terms, about every other one with a minus.
+fn with_minuses(draw: &mut Draw) -> Vec<u8> {
+    let term = |draw: &mut Draw| match draw.below(8) {
+        0..=1 => draw.pick(&BROKEN_MINUSES).to_vec(),
+        2..=4 => draw.pick(&MINUS_EDGES).to_vec(),
+        _ => small_term(draw),
+    };
+    let fields = 1 + draw.below(3);
+    text_of(fields, 2, term, draw)
 }
 
 /// List variables among a few other terms.
@@ -223,7 +287,7 @@ fn small_term(draw: &mut Draw) -> Vec<u8> {
         0 => variable(draw.pick(&KINDS[..3]), draw.below(16)),
         1 => b"empty".to_vec(),
         2 => quoted(draw.below(3)),
-        _ => draw.below(30).to_string().into_bytes(),
+        _ => format!("{}{}", any_sign(draw), draw.below(30)).into_bytes(),
     }
 }
 
@@ -271,7 +335,7 @@ fn of_size(draw: &mut Draw) -> Vec<u8> {
         38 => draw.below(20_000),
         _ => 65_000 + draw.below(2_000),
     };
-    let pattern = match draw.below(8) {
+    let pattern = match draw.below(9) {
         0 => b"1".to_vec(),
         5 => b"1=>".to_vec(),
         6 => {
@@ -282,6 +346,7 @@ fn of_size(draw: &mut Draw) -> Vec<u8> {
         2 => b"empty|".to_vec(),
         3 => b"x".to_vec(),
         4 => return quoted(size.max(2) - 2),
+        7 => b"-1:".to_vec(),
         _ => {
             let mut pattern = readable(draw);
             pattern.push(draw.pick(b":|"));

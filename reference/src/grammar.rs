@@ -16,8 +16,12 @@ pub(crate) struct Raw<'a> {
 
 #[derive(Debug)]
 pub(crate) enum Shape<'a> {
-    /// The digits as written, leading zeros and all.
-    Integer(&'a [u8]),
+    /// Whether a minus stands before it, and the digits as written, leading
+    /// zeros and all.
+    Integer {
+        minus: bool,
+        digits: &'a [u8],
+    },
     /// The bytes between the quotes.
     Quoted(&'a [u8]),
     /// The type and the digits of the number.
@@ -136,10 +140,8 @@ fn term(start: Rest) -> Step<Raw> {
 
 fn shape(rest: Rest) -> Step<Shape> {
     match rest.first() {
-        Some(b'0'..=b'9') => {
-            let (digits, rest) = rest.take_while(is_digit);
-            Ok((Shape::Integer(digits), rest))
-        }
+        Some(b'0'..=b'9') => integer(false, rest),
+        Some(b'-') => integer(true, rest.take(1).1),
         Some(b'"') => quoted(rest.take(1).1),
         Some(b'e') => empty(rest),
         Some(letter) => match Kind::from_letter(letter) {
@@ -148,6 +150,12 @@ fn shape(rest: Rest) -> Step<Shape> {
         },
         None => rest.stuck(),
     }
+}
+
+/// An integer, from behind its minus where it has one.
+fn integer(minus: bool, rest: Rest) -> Step<Shape> {
+    let (digits, rest) = digits(rest)?;
+    Ok((Shape::Integer { minus, digits }, rest))
 }
 
 /// A string, from behind its first quote.
@@ -162,14 +170,20 @@ fn quoted(rest: Rest) -> Step<Shape> {
 /// A variable, from behind its letter. A number that begins with 0 ends
 /// there, for it has no leading zeros: `i01` is stuck at its last digit.
 fn variable(kind: Kind, rest: Rest) -> Step<Shape> {
-    let (number, left) = match rest.first() {
+    let (number, rest) = match rest.first() {
         Some(b'0') => rest.take(1),
-        _ => rest.take_while(is_digit),
+        _ => digits(rest)?,
     };
-    if number.is_empty() {
+    Ok((Shape::Variable(kind, number), rest))
+}
+
+/// One digit or more.
+fn digits(rest: Rest<'_>) -> Step<'_, &[u8]> {
+    let (digits, left) = rest.take_while(is_digit);
+    if digits.is_empty() {
         rest.stuck()
     } else {
-        Ok((Shape::Variable(kind, number), left))
+        Ok((digits, left))
     }
 }
 

@@ -10,7 +10,8 @@ use crate::terms::{Kind, Name, Rule, Side, Slip, Term};
 
 const MOST_FIELDS: usize = 4;
 const MOST_DIGITS: usize = 10;
-const LARGEST_INTEGER: u32 = 2_147_483_647;
+const MOST_ABOVE_ZERO: u32 = 2_147_483_647;
+const MOST_BELOW_ZERO: u32 = 2_147_483_648;
 const LARGEST_VARIABLE: u32 = 15;
 const LONGEST_STRING: usize = 15;
 
@@ -125,7 +126,7 @@ fn sized(raw: &Raw) -> Result<Placed, Refusal> {
     let place = raw.place;
     let over = Refusal { number: 5, place };
     let term = match raw.shape {
-        Shape::Integer(digits) => Some(integer(digits).ok_or(over)?),
+        Shape::Integer { minus, digits } => Some(integer(minus, digits).ok_or(over)?),
         Shape::Quoted(bytes) => Some(string(bytes).ok_or(over)?),
         Shape::Variable(kind, digits) => Some(variable(kind, digits).ok_or(over)?),
         Shape::Empty => None,
@@ -133,12 +134,17 @@ fn sized(raw: &Raw) -> Result<Placed, Refusal> {
     Ok(Placed { place, term })
 }
 
-/// Digits are counted as written: eleven zeros are too many.
-fn integer(digits: &[u8]) -> Option<Term> {
+/// Digits are counted as written, without the sign: eleven zeros are too many.
+fn integer(minus: bool, digits: &[u8]) -> Option<Term> {
     if digits.len() > MOST_DIGITS {
         return None;
     }
-    value_up_to(LARGEST_INTEGER, digits).map(Term::Int)
+    let value = if minus {
+        -i64::from(value_up_to(MOST_BELOW_ZERO, digits)?)
+    } else {
+        i64::from(value_up_to(MOST_ABOVE_ZERO, digits)?)
+    };
+    Some(Term::Int(value))
 }
 
 fn string(bytes: &[u8]) -> Option<Term> {

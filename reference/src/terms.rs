@@ -45,10 +45,11 @@ impl Kind {
 }
 
 /// A term. `empty` is no term here: document 01 counts it in the text and
-/// then drops it. Integers are kept by value, so `007` equals `7`.
+/// then drops it. Integers are kept by value, so `007` equals `7` and `-0`
+/// equals `0`.
 #[derive(Clone, Debug, PartialEq, Eq, Hash)]
 pub enum Term {
-    Int(u32),
+    Int(i64),
     Str(Vec<u8>),
     Var(Kind, u32),
 }

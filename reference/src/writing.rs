@@ -1,5 +1,5 @@
 //! Plain text: "no `empty` unless the field has no terms, integers without
-//! leading zeros" (document 01).
+//! leading zeros" (document 01), and `-0` "is written `0`" (document 02).
 
 use crate::overlaps::Entry;
 use crate::reading::{read_rule, read_slip};

@@ -1,5 +1,6 @@
 -- Document 02's cases of carrying out, computed from the definitions: the texts are read, and the answer is written as text.
 use mathlib.Core.Path.{_≡_, refl}
+use mathlib.Core.Bool.{false}
 use mathlib.Core.List.{List, [], _∷_, map}
 use Prim.Native.Nat.{ℕ}
 use Prim.Native.String.{String}
@@ -80,7 +81,7 @@ said tooLong = said-11
 -- a rule that is refused says none of the answers below
 abbrev onItems : OutcomeOf OurRule → ℕ → Said
 onItems (refused q p) n = lengths []
-onItems (accepted r) n = said (carried r (replicate n (int 0) ∷ []))
+onItems (accepted r) n = said (carried r (replicate n (int false 0) ∷ []))
 
 -- a rule, how many items the slip's one field has, and the answer
 abbrev Edge : Type 0

@@ -19,6 +19,10 @@ mostDigits = 10
 abbrev pub largestInteger : ℕ
 largestInteger = 2147483647
 
+-- document 02: "its value may go down to -2147483648": the magnitude of the lowest
+abbrev pub lowestInteger : ℕ
+lowestInteger = 2147483648
+
 -- "a string: 0 to 15 bytes"
 abbrev pub longestString : ℕ
 longestString = 15

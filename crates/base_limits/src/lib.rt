@@ -11,6 +11,8 @@ pub const MOST_TERMS: usize = 16;
 pub const MOST_DIGITS: usize = 10;
 
 pub const LARGEST_INTEGER: u32 = 2147483647;
+// Document 02: "its value may go down to -2147483648": the magnitude of the lowest.
+pub const LOWEST_INTEGER: u32 = 2147483648;
 // "a string: 0 to 15 bytes".
 pub const LONGEST_STRING: usize = 15;
 // "a number 0 to 15".

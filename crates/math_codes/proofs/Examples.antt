@@ -18,7 +18,7 @@ use Rattle.math_codes.specs.Index.{ourIndex, ourTops, indexedList, index
 use Rattle.math_codes.specs.Makers.{someOn}
 
 abbrev num : ℕ → OurTerm
-num n = con (int n)
+num n = con (int false n)
 
 abbrev a : ℕ → OurTerm
 a n = var (basic atom) n

@@ -9,11 +9,12 @@ use native.Mathlib.Omega.{arith}
 use native.Mathlib.Decide.{ℕ-discrete}
 use Rattle.base_lists.specs.Seqs.{All}
 use Rattle.text_grammar.specs.Letters.{letter-lower}
-use Rattle.text_grammar.specs.Bytes.{Begins, b-digit, b-quote, b-letter, b-e, b-none, begins, Follows, f-digit, f-colon, f-bar, f-none, follows, First}
+use Rattle.text_grammar.specs.Bytes.{Digit, digit?}
+use Rattle.text_grammar.specs.Bytes.{Begins, b-digit, b-minus, b-quote, b-letter, b-e, b-none, begins, Follows, f-digit, f-colon, f-bar, f-none, follows, First}
 use Rattle.text_grammar.specs.Bytes.{n-zero}
 use Rattle.text_grammar.specs.Bytes.{n-more, n-none, first, Holds, h-quote, h-in, h-none, holds}
 use Rattle.text_grammar.specs.Grammar.{Grammar}
-use Rattle.text_grammar.specs.Machine.{State, after, digits, number, done, quoted, must, Move, goA, goD, goE, goN, goQ, goM, move, Final}
+use Rattle.text_grammar.specs.Machine.{State, after, minus, digits, number, done, quoted, must, Move, goA, goS, goD, goE, goN, goQ, goM, move, Final}
 use Rattle.text_grammar.proofs.Place.{run, thenRun, Accepts, grammar-run}
 
 -- a blank or a newline
@@ -88,6 +89,7 @@ Lower c = (97 ≤ c) × (c ≤ 122)
 -- what must come inside `empty` is letters
 abbrev Sane : State → Type 0
 Sane after = Unit {0}
+Sane minus = Unit {0}
 Sane digits = Unit {0}
 Sane number = Unit {0}
 Sane done = Unit {0}
@@ -96,6 +98,7 @@ Sane (must c cs) = All Lower (c ∷ cs)
 
 abbrev inQuotes : State → Bool
 inQuotes after = false
+inQuotes minus = false
 inQuotes digits = false
 inQuotes number = false
 inQuotes done = false
@@ -109,12 +112,17 @@ Kept q b (some m) = Sane (m .0) × Printable b × ((t : List ℕ) → cut (b ∷
 
 kept-a : (b : ℕ) (c : Begins b) → Kept after b (goA b c)
 kept-a b (b-digit h) = let k = plain-byte b (omega arith) (omega arith) in (tt, k .0, k .1)
+kept-a b (b-minus h) = let k = plain-byte b (omega arith) (omega arith) in (tt, k .0, k .1)
 kept-a b (b-quote h) = (tt, (omega arith, omega arith), λ t. cut-quote b t false h)
 kept-a b (b-letter j h) = let l = letter-lower j in let k = plain-byte b (omega arith) (omega arith) in (tt, k .0, k .1)
 kept-a b (b-e h) =
     let k = plain-byte b (omega arith) (omega arith) in
     (((omega arith, omega arith), ((omega arith, omega arith), ((omega arith, omega arith), ((omega arith, omega arith), tt)))), k .0, k .1)
-kept-a b (b-none d q l e) = tt
+kept-a b (b-none d m q l e) = tt
+
+kept-s : (b : ℕ) (c : Dec (Digit b)) → Kept minus b (goS b c)
+kept-s b (yes h) = let k = plain-byte b (omega arith) (omega arith) in (tt, k .0, k .1)
+kept-s b (no n) = tt
 
 kept-d : (b : ℕ) (c : Follows b) → Kept digits b (goD b c)
 kept-d b (f-digit h) = let k = plain-byte b (omega arith) (omega arith) in (tt, k .0, k .1)
@@ -146,6 +154,7 @@ kept-m c (x ∷ cs) b (no n) s = tt
 
 kept : (q : State) (b : ℕ) → Sane q → Kept q b (move q b)
 kept after b s = kept-a b (begins b)
+kept minus b s = kept-s b (digit? b)
 kept digits b s = kept-d b (follows b)
 kept number b s = kept-n b (first b)
 kept done b s = kept-e b (follows b)
@@ -154,6 +163,7 @@ kept (must c cs) b s = kept-m c cs b (ℕ-discrete b c) s
 
 final-out : (q : State) → Final q → inQuotes q ≡ false
 final-out after h = absurd h
+final-out minus h = absurd h
 final-out digits h = refl
 final-out number h = absurd h
 final-out done h = refl

@@ -2,6 +2,7 @@
 use Prim.Native.Nat.{ℕ}
 use Prim.Native.String.{String}
 use mathlib.Core.Path.{_≡_, refl}
+use mathlib.Core.Bool.{false}
 use mathlib.Core.List.{List, [], _∷_, _++_, map}
 use native.Mathlib.Decide.{decLt}
 use Rattle.math_types.specs.Order.{basic, list}
@@ -14,7 +15,7 @@ use Rattle.overlap_spec.specs.Lines.{Binding, Line, lineText, listText}
 use Rattle.overlap_spec.specs.Variables.{variables}
 
 abbrev num : ℕ → OurTerm
-num n = con (int n)
+num n = con (int false n)
 
 abbrev i : ℕ → OurTerm
 i n = var (basic (leaf integer)) n

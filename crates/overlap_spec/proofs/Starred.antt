@@ -1,5 +1,5 @@
 -- Document 01's starred pairs, "shown as theorems about the definitions, all by one statement on a table of them": texts in, lines out,
--- through reading and listing as defined.
+-- through reading and listing as defined. And document 02's minus amounts in the same way.
 use mathlib.Core.Path.{_≡_, refl}
 use mathlib.Core.List.{List, [], _∷_, _++_, map}
 use Prim.Native.Nat.{ℕ}
@@ -38,7 +38,23 @@ starred-pairs =
     record { left = "a0:a0"; right = "i0:l0"; lines = "i0:i0 <a0=i0 >i0=i0 >l0=i0" ∷ [] } ∷
     record { left = "a0:a0"; right = "1:\"1\""; lines = [] } ∷ []
 
-pub starred : map (λ (c : Case). listed (readSide (ascii (c .left))) (readSide (ascii (c .right)))) starred-pairs
-    ≡ map (λ (c : Case). printed (c .lines)) starred-pairs
+-- the lists of the pairs are the lines beside them
+abbrev Listed : List Case → Type 0
+Listed cs = map (λ (c : Case). listed (readSide (ascii (c .left))) (readSide (ascii (c .right)))) cs ≡ map (λ (c : Case). printed (c .lines)) cs
+
+pub starred : Listed starred-pairs
 unfolding decLe decLt ℕ-discrete digit? begins follows first holds fifth? many? over? any? clash? clashOf?
 starred = refl
+
+abbrev minus-pairs : List Case
+minus-pairs =
+    record { left = "i0:l0"; right = "l0:-2"; lines = "-2 <i0=-2 <l0=empty >l0=empty" ∷ "i0:l0:-2 <i0=i0 <l0=l0:-2 >l0=i0:l0" ∷ [] } ∷
+    record { left = "-0"; right = "0"; lines = "0" ∷ [] } ∷
+    record { left = "a0:a0"; right = "-1:1"; lines = [] } ∷
+    record { left = "-007"; right = "-7"; lines = "-7" ∷ [] } ∷
+    record { left = "a0"; right = "-2147483648"; lines = "-2147483648 <a0=-2147483648" ∷ [] } ∷
+    record { left = "s0"; right = "-1"; lines = [] } ∷ []
+
+pub minus : Listed minus-pairs
+unfolding decLe decLt ℕ-discrete digit? begins follows first holds fifth? many? over? any? clash? clashOf?
+minus = refl

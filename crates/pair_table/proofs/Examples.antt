@@ -17,7 +17,7 @@ use Rattle.pair_row.specs.Row.{textIn, spotIn}
 use Rattle.pair_table.specs.Notes.{rowsOf}
 
 abbrev said : OurFields
-said = (con (int 1) ∷ con (int 7) ∷ []) ∷ []
+said = (con (int false 1) ∷ con (int false 7) ∷ []) ∷ []
 
 reads : readSide (ascii "empty:1:empty:007") ≡ accepted said
 unfolding digit? begins follows first holds fifth? many? over? clash? clashOf? any? ℕ-discrete decLe decLt

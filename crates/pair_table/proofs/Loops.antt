@@ -9,12 +9,13 @@ use native.Mathlib.Decide.{ℕ-discrete, decLe}
 use lib.Dec.{eqb, leb}
 use lib.ListN.{length, getD, set, List·getD-eq-default}
 use lib.Seq.{sets}
-use Rattle.base_lists.specs.Seqs.{tabulate-same}
+use Rattle.base_lists.specs.Seqs.{tabulate-same, tabulate-long}
 use Rattle.base_lists.specs.Truths.{both-is}
+use Rattle.text_grammar.specs.constants.Constants.{signed}
 use Rattle.math_codes.specs.Texts.{zeros}
 use borrow.Author.Tests.{eq-eqb, leb-true}
 use Rattle.pair_row.specs.Row.{kindsAt, membersAt, cellBytes}
-use Rattle.pair_table.specs.Notes.{isField, partOf, sameFrom, sameConstant, memberFrom}
+use Rattle.pair_table.specs.Notes.{isField, partOf, celled, sameFrom, sameConstant, memberFrom}
 
 -- ---- a part of a text
 
@@ -49,6 +50,25 @@ put-all text texts from q n =
     let f : from + 0 ≡ from = omega arith in
     let g : n - 0 ≡ n = omega arith in
     ap₂ (λ (j : ℕ) (bs : List ℕ). sets texts j bs) e (ap₂ (partOf text) f g)
+
+-- a cell's number and its bytes, behind a minus or not
+module _ (p : ℕ) (m : Bool) (text texts : List ℕ) (from n : ℕ) where
+  abbrev part : List ℕ
+  part = partOf text from n
+
+  long : length part ≡ n
+  long = tabulate-long n (λ j. getD text (from + j) 0)
+
+  pub cell-minus : {t u v : List ℕ} → m ≡ true → t ≡ set texts (cellBytes * p) (n + 1) → u ≡ set t (cellBytes * p + 1) 45
+      → v ≡ sets u (cellBytes * p + 2) part → v ≡ celled p (signed m part) texts
+  cell-minus e ht hu hv =
+      let k : n + 1 ≡ suc (length part) = omega (arith, long) in
+      let q : cellBytes * p + 2 ≡ suc (cellBytes * p + 1) = omega arith in
+      rw e (hv ∙ ap₂ (λ (l : List ℕ) (i : ℕ). sets l i part) (hu ∙ ap (λ (l : List ℕ). set l (cellBytes * p + 1) 45) (ht
+      ∙ ap (set texts (cellBytes * p)) k)) q)
+
+  pub cell-plain : {t v : List ℕ} → m ≡ false → t ≡ set texts (cellBytes * p) n → v ≡ sets t (cellBytes * p + 1) part → v ≡ celled p (signed m part) texts
+  cell-plain e ht hv = rw e (hv ∙ ap (λ (l : List ℕ). sets l (cellBytes * p + 1) part) (ht ∙ ap (set texts (cellBytes * p)) (sym long)))
 
 -- ---- leading zeros
 

@@ -295,7 +295,7 @@ module _ (r₁ r₂ : List (List OurTerm)) (ok₁ : IsLeft r₁) (ok₂ : IsLeft
       o = c .cells p d l h
 
       go : (b : Con) → getD row (kindsAt + p) 0 ≡ rank (basic (kind-of b)) → bytesIn texts p ≡ bytesOf b → textIn row texts p ≡ termText (con b)
-      go (int n) k e = ap (λ (j : ℕ). cond (eqb j 1) (34 ∷ (bytesIn texts p ++ 34 ∷ [])) (bytesIn texts p)) k ∙ e
+      go (int m n) k e = ap (λ (j : ℕ). cond (eqb j 1) (34 ∷ (bytesIn texts p ++ 34 ∷ [])) (bytesIn texts p)) k ∙ e
       go (str b) k e =
           ap (λ (j : ℕ). cond (eqb j 1) (34 ∷ (bytesIn texts p ++ 34 ∷ [])) (bytesIn texts p)) k ∙ ap (λ (z : List ℕ). 34 ∷ (z ++ 34 ∷ [])) e
 

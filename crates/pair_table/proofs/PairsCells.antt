@@ -14,9 +14,10 @@ use Rattle.base_limits.specs.Limits.{longestString, fieldPlaces, pairPlaces}
 use Rattle.base_lists.specs.Truths.{both-is}
 use Rattle.math_types.specs.Order.{basic}
 use Rattle.math_types.specs.Types.{rank}
-use Rattle.text_grammar.specs.Numbers.{value, digitsOf}
-use Rattle.text_grammar.specs.constants.Constants.{Con, int, str, kind-of, ConIn}
-use Rattle.text_grammar.proofs.Numbers.{digits-value, digits-ten}
+use Rattle.text_grammar.specs.Numbers.{digitsOf}
+use Rattle.text_grammar.specs.constants.Constants.{signed, Con, int, str, kind-of, ConIn}
+use Rattle.text_grammar.proofs.constants.Constants.{limit-ten}
+use Rattle.math_codes.proofs.Texts.{integer-once}
 use Rattle.pair_row.specs.Row.{kindsAt, membersAt, textsBytes, bytesIn, cellBytes}
 use Rattle.pair_table.specs.Notes.{celled, sameFrom, sameConstant, memberFrom}
 
@@ -130,18 +131,19 @@ same-from texts (suc k) a b h =
 
 -- the bytes of a constant in its cell
 abbrev pub bytesOf : Con → List ℕ
-bytesOf (int n) = digitsOf n
+bytesOf (int m n) = signed m (digitsOf n)
 bytesOf (str s) = s
 
 pub bytes-short : (c : Con) → ConIn c → length (bytesOf c) ≤ longestString
-bytes-short (int n) h = omega (arith, digits-ten n h)
+bytes-short (int true n) h = omega (arith, limit-ten true n (h .1))
+bytes-short (int false n) h = omega (arith, limit-ten false n (h .1))
 bytes-short (str s) h = h .1
 
 -- equal types and bytes, equal constants
 bytes-once : (c d : Con) → rank (basic (kind-of c)) ≡ rank (basic (kind-of d)) → bytesOf c ≡ bytesOf d → c ≡ d
-bytes-once (int m) (int n) k e = ap int (sym (digits-value m) ∙ ap value e ∙ digits-value n)
-bytes-once (int m) (str s) k e = absurd (omega (arith, k))
-bytes-once (str s) (int n) k e = absurd (omega (arith, k))
+bytes-once (int x m) (int y n) k e = integer-once x y m n e
+bytes-once (int x m) (str s) k e = absurd (omega (arith, k))
+bytes-once (str s) (int y n) k e = absurd (omega (arith, k))
 bytes-once (str s) (str t) k e = ap str e
 
 module _ (row texts : List ℕ) (p q : ℕ) (c d : Con) (a : Cell texts p (bytesOf c)) (b : Cell texts q (bytesOf d))

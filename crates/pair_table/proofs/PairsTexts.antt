@@ -11,20 +11,21 @@ use lib.ListN.{length, getD, drop, length-append, length-drop, List·getD-append
 use lib.Seq.{getD-append-add, getD-drop}
 use borrow.Author.Tests.{lt-ltb, le-leb}
 use Rattle.base_limits.specs.Limits.{mostTerms, mostDigits, longestString, largestNumber, numbersOfSide, fieldPlaces, pairFields}
-use Rattle.base_lists.specs.Seqs.{All, all-append, tabulated}
+use Rattle.base_lists.specs.Seqs.{All, IsCons, all-append, tabulated}
 use Rattle.math_types.specs.Order.{basic}
 use Rattle.math_types.specs.Types.{Basic, Kind, rank, isList}
 use Rattle.base_lists.specs.Arrays.{shift-length, shift-eq}
 use Rattle.math_types.specs.Values.{kindOf-from}
 use Rattle.math_terms.specs.Terms.{con}
+use Rattle.text_grammar.specs.Bytes.{Digit}
 use Rattle.text_grammar.specs.Grammar.{Raw, raw-var, raw-empty, spell, Proper, colons, spellF, bars, spellT, raw-con}
-use Rattle.text_grammar.specs.constants.Constants.{raw-int, raw-str, Con, kind-of, RawCon, spellCon, ProperCon, OverCon, conOf}
+use Rattle.text_grammar.specs.constants.Constants.{signed, signSize, limit, signOf, raw-int, raw-str, Con, kind-of, RawCon, spellCon, ProperCon, OverCon, conOf}
 use Rattle.text_grammar.specs.Numbers.{value, digitsOf}
 use Rattle.text_grammar.specs.Tokens.{Token, tokensF, tokensT, tokens, Over}
 use Rattle.text_grammar.specs.Terms.{OurTerm, termOf, fieldOf}
 use Rattle.text_grammar.proofs.Walk.{spell-some}
 use Rattle.text_grammar.proofs.Numbers.{digits-one, digits-ten}
-use Rattle.text_grammar.proofs.constants.Constants.{con-in}
+use Rattle.text_grammar.proofs.constants.Constants.{limit-lowest, con-in}
 use Rattle.math_overlaps.specs.Shapes.{Side}
 use Rattle.math_codes.specs.Texts.{zeros}
 use Rattle.math_codes.specs.Entries.{atomOf}
@@ -32,9 +33,10 @@ use Rattle.math_codes.specs.Lines.{OurAtom}
 use Rattle.math_codes.proofs.Places.{Stands}
 use Rattle.math_codes.proofs.Texts.{plain-digits}
 use Rattle.text_scan.specs.declared.Lexeme.{Lexeme}
-use Rattle.text_scan.specs.Lexemes.{capped, literalOf, literalSize, lexemeOf}
+use Rattle.text_scan.specs.Lexemes.{capped, literalOf, literalSize, literalValue, lexemeOf}
 use Rattle.pair_row.specs.Row as row
-use Rattle.pair_table.specs.Notes.{partOf, celled, constantNoted, literalCell, literalKind, variableNoted, shapeNoted, isField, termsIn, noteBy, noteLexeme, noteToken}
+use Rattle.pair_table.specs.Notes.{partOf, celled, constantNoted, literalCell, literalKind, variableNoted, shapeNoted, isField, termsIn, noteBy}
+use Rattle.pair_table.specs.Notes.{noteLexeme, noteToken}
 use Rattle.pair_table.proofs.PairsCells.{bytesOf, bytes-short}
 use Rattle.pair_table.proofs.PairsIndexes.{sideIn}
 use Rattle.pair_table.proofs.PairsTerms.{Noted, terms-noted, constant-next, variable-next}
@@ -93,7 +95,7 @@ part-drop text q z b h =
     (λ i l. getD-drop z b i 0 ∙ sym (h (z + i) (omega arith)) ∙ ap (λ (j : ℕ). getD text j 0) (let e : q + (z + i) ≡ q + z + i = omega arith in e)))
 
 -- the digits of an integer behind its leading zeros
-digits-part : (text : List ℕ) (q : ℕ) (ds : List ℕ) → ProperCon (raw-int ds) → StandsAt text q ds
+digits-part : (text : List ℕ) (q : ℕ) (ds : List ℕ) → IsCons ds × All Digit ds → StandsAt text q ds
     → partOf text (q + zeros (partOf text q (length ds))) (length ds - zeros (partOf text q (length ds))) ≡ digitsOf (value ds)
 digits-part text q ds p h =
     ap (λ (b : List ℕ). partOf text (q + zeros b) (length ds - zeros b)) (part-is text q ds (h .1))
@@ -110,17 +112,28 @@ string-part text q b h =
 
 -- ---- one written constant
 
-literal-cell : (text : List ℕ) (q : ℕ) (r : RawCon) → ProperCon r → StandsAt text q (spellCon r)
-    → literalCell (literalOf r) text q (literalSize r) ≡ bytesOf (conOf r)
-literal-cell text q (raw-int ds) p h = digits-part text q ds p h
-literal-cell text q (raw-str b) p h = string-part text q b h
+-- the digits behind the sign
+behind-sign : (text : List ℕ) (q : ℕ) (m : Bool) (ds : List ℕ) → StandsAt text q (signed m ds) → StandsAt text (q + signSize m) ds
+behind-sign text q true ds h = (
+  omega (arith, h .0),
+  λ i l. ap (λ (j : ℕ). getD text j 0) (let e : q + 1 + i ≡ q + suc i = omega arith in e) ∙ h .1 (suc i) (omega arith),
+)
+behind-sign text q false ds h = subst (λ (j : ℕ). StandsAt text j ds) (let e : q ≡ q + 0 = omega arith in e) h
+
+literal-cell : (text : List ℕ) (q : ℕ) (r : RawCon) → ProperCon r → (OverCon r → ⊥) → StandsAt text q (spellCon r)
+    → literalCell (literalOf r) text q (literalSize r) (literalValue r) ≡ bytesOf (conOf r)
+literal-cell text q (raw-int m ds) p o h =
+    let few : value ds ≤ limit m = by-contra (value ds) (limit m) (λ k. o (inr k)) in
+    let v : capped (value ds) ≡ value ds = omega (arith, limit-lowest m) in
+    ap₂ (λ (v : ℕ) (l : List ℕ). signed (signOf m v) l) v (digits-part text (q + signSize m) ds p (behind-sign text q m ds h))
+literal-cell text q (raw-str b) p o h = string-part text q b h
 
 literal-kind : (r : RawCon) → literalKind (literalOf r) ≡ kind-of (conOf r)
-literal-kind (raw-int ds) = refl
+literal-kind (raw-int m ds) = refl
 literal-kind (raw-str b) = refl
 
 literal-size : (r : RawCon) → (OverCon r → ⊥) → literalSize r ≤ longestString
-literal-size (raw-int ds) o = omega (arith, by-contra (length ds) mostDigits (λ h. o (inl h)))
+literal-size (raw-int m ds) o = omega (arith, by-contra (length ds) mostDigits (λ h. o (inl h)))
 literal-size (raw-str b) o = omega arith
 
 -- ---- a field's terms
@@ -192,12 +205,12 @@ module _ (t : List (Option OurAtom)) (G : ℕ → List OurTerm) (s : Bool) (text
           → length fs + length (termOf r) ≤ mostTerms
           → NotedBy f (fs ++ termOf r) (d ++ termOf r) (p + length (termOf r)) (noteLexeme s text q n (lexemeOf r) (x .0) (x .1))
       raw-noted (raw-con r) pr o st k m =
-          constant-read (conOf r) (literalCell (literalOf r) text q (literalSize r)) (lexemeOf (raw-con r)) (omega arith)
-          (omega (arith, st .0, spell-some (raw-con r) pr)) (literal-size r o) (k .0) (bytes-short (conOf r) (con-in r pr o)) (literal-cell text q r pr st)
+          constant-read (conOf r) (literalCell (literalOf r) text q (literalSize r) (literalValue r)) (lexemeOf (raw-con r)) (omega arith)
+          (omega (arith, st .0, spell-some (raw-con r) pr)) (literal-size r o) (k .0) (bytes-short (conOf r) (con-in r pr o)) (literal-cell text q r pr o st)
           (ap (λ (k : Basic). (constantNoted p (rank (basic k)) cells (shapeNoted f false 0 (x .0)), cells)) (sym (literal-kind r)))
         where
           cells : List ℕ
-          cells = celled p (literalCell (literalOf r) text q (literalSize r)) (x .1)
+          cells = celled p (literalCell (literalOf r) text q (literalSize r) (literalValue r)) (x .1)
       raw-noted (raw-var j ds) pr o st k m =
           let few : value ds ≤ largestNumber = omega arith in
           let v : capped (value ds) % numbersOfSide ≡ value ds = omega arith in

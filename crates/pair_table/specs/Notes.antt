@@ -12,6 +12,7 @@ use Rattle.base_lists.specs.Seqs.{tabulate}
 use Rattle.math_types.specs.Order.{basic}
 use Rattle.math_types.specs.Types.{leaf, Basic, rank, isList, integer, string}
 use Rattle.math_types.specs.Values.{kindOf}
+use Rattle.text_grammar.specs.constants.Constants.{signed, signSize, signOf}
 use Rattle.text_grammar.specs.Tokens.{Token}
 use Rattle.text_grammar.specs.Walk.{walked}
 use Rattle.math_codes.specs.Texts.{zeros}
@@ -70,18 +71,22 @@ constantNoted p k texts row =
     let c = codeIn r texts p in
     cond (eqb c p) (joinedMember p (set r p c)) (set r p c)
 
--- the bytes of a constant that is written at a place of the text as l, with so many digits or bytes: an integer's are its plain digits
-abbrev pub literalCell : Literal → List ℕ → ℕ → ℕ → List ℕ
-literalCell Int text at size = let z = zeros (partOf text at size) in partOf text (at + z) (size - z)
-literalCell Str text at size = partOf text (at + 1) size
+-- the bytes of a constant that is written at a place of the text as l, with so many digits of value v, or bytes:
+-- an integer's are its plain text
+abbrev pub literalCell : Literal → List ℕ → ℕ → ℕ → ℕ → List ℕ
+literalCell (Int m) text at size v =
+    let from = at + signSize m in
+    let z = zeros (partOf text from size) in
+    signed (signOf m v) (partOf text (from + z) (size - z))
+literalCell Str text at size v = partOf text (at + 1) size
 
 abbrev pub literalKind : Literal → Basic
-literalKind Int = leaf integer
+literalKind (Int m) = leaf integer
 literalKind Str = leaf string
 
-abbrev pub literalNoted : List ℕ → ℕ → ℕ → Literal → ℕ → List ℕ → List ℕ → List ℕ × List ℕ
-literalNoted text at p l size row texts =
-    let cells = celled p (literalCell l text at size) texts in
+abbrev pub literalNoted : List ℕ → ℕ → ℕ → Literal → ℕ → ℕ → List ℕ → List ℕ → List ℕ × List ℕ
+literalNoted text at p l size v row texts =
+    let cells = celled p (literalCell l text at size v) texts in
     (constantNoted p (rank (basic (literalKind l))) cells row, cells)
 
 -- ---- variables
@@ -128,7 +133,7 @@ termsIn row f =
 
 -- the term at place p of the pair, which is a term of the pair's field f
 abbrev pub noteBy : Bool → List ℕ → ℕ → ℕ → ℕ → Spelled → ℕ → ℕ → List ℕ → List ℕ → List ℕ × List ℕ
-noteBy right text at f p (Con l) size v row texts = literalNoted text at p l size (shapeNoted f false 0 row) texts
+noteBy right text at f p (Con l) size v row texts = literalNoted text at p l size v (shapeNoted f false 0 row) texts
 noteBy right text at f p (Var k) size v row texts =
     (variableNoted p right (rank (kindOf k)) (v % numbersOfSide) (shapeNoted f (isList (kindOf k)) (v % numbersOfSide) row), texts)
 noteBy right text at f p Empty size v row texts = (row, texts)

@@ -3,14 +3,18 @@
 ghost use mathlib.Core.Path.{_≡_};
 ghost use Prim.Native.Nat.{_+_, _-_, _*_, _≤_, _<_};
 ghost use lib.ListN.{length, getD};
+ghost use lib.Seq.{sets};
 ghost use Rattle.base_limits.specs.Limits.{mostFields, longestString, kindCount, numbersOfSide, pairPlaces, pairFields};
 ghost use Rattle.base_lists.specs.Seqs.{tabulate};
 ghost use Rattle.math_types.specs.Types.{rank};
 ghost use Rattle.math_types.specs.Values.{kindOf};
+ghost use Rattle.text_grammar.specs.constants.Constants.{signed};
 ghost use Rattle.math_codes.specs.Texts.{zeros};
-ghost use Rattle.pair_row.specs.Row.{fieldOf};
+ghost use Rattle.text_scan.specs.declared.Literal.the-variants.{Int};
+ghost use Rattle.pair_row.specs.Row.{cellBytes, fieldOf};
 ghost use Rattle.pair_table.specs.Notes.{partOf, isField, termsIn, classed, celled, sameConstant, codeIn, joinedMember};
-ghost use Rattle.pair_table.specs.Notes.{constantNoted, literalNoted, sideOf, indexed, topped, variableNoted, more, shapeNoted, noteBy};
+ghost use Rattle.pair_table.specs.Notes.{constantNoted, literalNoted, sideOf, indexed, topped, variableNoted, more, shapeNoted};
+ghost use Rattle.pair_table.specs.Notes.{noteBy};
 ghost use Rattle.pair_table.specs.Notes.{noteLexeme};
 use math_types::Kind;
 use pair_row::byte_at;
@@ -28,19 +32,34 @@ const RIGHT_FIELDS: usize = base_limits::MOST_FIELDS - 1;
 
 // ---- constants
 
-// The bytes of a text from a place on, n of them, become those of the constant at place p.
-fn put_bytes(texts: &mut [u8], p: u8, text: &[u8], from: usize, n: usize)
-    requires { ⌜ (n ≤ longestString) × (from ≤ length (now text)) ⌝ }
-    ensures { λ _. ⌜ now (texts .exit) ≡ celled p (partOf (now (text .entry)) from n) (now (texts .entry)) ⌝ }
+// The bytes of a text from a place on, n of them, in the cell of place p behind the first k of its bytes.
+fn put_bytes(texts: &mut [u8], p: u8, k: usize, text: &[u8], from: usize, n: usize)
+    requires { ⌜ (n ≤ longestString) × (from ≤ length (now text)) × (k ≤ 2) ⌝ }
+    ensures { λ _. ⌜ now (texts .exit) ≡ sets (now (texts .entry)) (cellBytes * p + k) (partOf (now (text .entry)) from n) ⌝ }
 {
-    let at = pair_row::CELL_BYTES * p as usize;
-    put_at(texts, at, n as u8);
+    let at = pair_row::CELL_BYTES * p as usize + k;
     let mut i: usize = 0;
     while i < n {
         let b = byte_at(text, from + i);
-        put_at(texts, at + 1 + i, b);
+        put_at(texts, at + i, b);
         i += 1;
     }
+}
+
+// They become the bytes of the constant at place p, behind a minus or not.
+fn put_cell(texts: &mut [u8], p: u8, minus: bool, text: &[u8], from: usize, n: usize)
+    requires { ⌜ (n ≤ longestString) × (from ≤ length (now text)) ⌝ }
+    ensures { λ _. ⌜ now (texts .exit) ≡ celled p (signed minus (partOf (now (text .entry)) from n)) (now (texts .entry)) ⌝ }
+{
+    let at = pair_row::CELL_BYTES * p as usize;
+    if minus {
+        put_at(texts, at, n as u8 + 1);
+        put_at(texts, at + 1, b'-');
+        put_bytes(texts, p, 2, text, from, n);
+        return;
+    }
+    put_at(texts, at, n as u8);
+    put_bytes(texts, p, 1, text, from, n);
 }
 
 // Whether the constants at two places are one: their types and all their bytes.
@@ -101,22 +120,23 @@ fn join_member(row: &mut [u8], p: u8)
     put_at(row, pair_row::COUNT_AT, k + 1);
 }
 
-// A constant stands at place p; its bytes are n of the text from a place on.
+// A constant stands at place p; its bytes are n of the text from a place on, behind a minus or not.
 fn note_constant(
     row: &mut [u8],
     texts: &mut [u8],
     p: u8,
     rank: u8,
+    minus: bool,
     text: &[u8],
     from: usize,
     n: usize,
 )
     requires { ⌜ (n ≤ longestString) × (from ≤ length (now text)) ⌝ }
-    ensures { λ _. ⌜ now (texts .exit) ≡ celled p (partOf (now (text .entry)) from n) (now (texts .entry)) ⌝ }
-    ensures { λ _. ⌜ now (row .exit) ≡ constantNoted p rank (celled p (partOf (now (text .entry)) from n) (now (texts .entry)))
-        (now (row .entry)) ⌝ }
+    ensures { λ _. ⌜ now (texts .exit) ≡ celled p (signed minus (partOf (now (text .entry)) from n)) (now (texts .entry)) ⌝ }
+    ensures { λ _. ⌜ now (row .exit) ≡ constantNoted p rank
+        (celled p (signed minus (partOf (now (text .entry)) from n)) (now (texts .entry))) (now (row .entry)) ⌝ }
 {
-    put_bytes(texts, p, text, from, n);
+    put_cell(texts, p, minus, text, from, n);
     put_class(row, p, rank, 0);
     let c = code_of(row, texts, p);
     put_at(row, p as usize, c);
@@ -142,7 +162,38 @@ fn leading_zeros(text: &[u8], at: usize, n: usize) -> usize
     i
 }
 
-// The constant that is written at a place of the text as l, with n digits or bytes, stands at place p.
+// The integer that is written at a place of the text, with a minus or not and n digits of value v, stands at place p.
+fn note_integer(
+    row: &mut [u8],
+    texts: &mut [u8],
+    p: u8,
+    text: &[u8],
+    at: usize,
+    minus: bool,
+    n: usize,
+    v: u32,
+)
+    requires { ⌜ (n ≤ longestString) × (at < length (now text)) ⌝ }
+    ensures { λ _. ⌜ now (row .exit)
+        ≡ (literalNoted (now (text .entry)) at p (Int minus) n v (now (row .entry)) (now (texts .entry))) .0 ⌝ }
+    ensures { λ _. ⌜ now (texts .exit)
+        ≡ (literalNoted (now (text .entry)) at p (Int minus) n v (now (row .entry)) (now (texts .entry))) .1 ⌝ }
+{
+    let from = at + text_grammar::sign_size(minus);
+    let z = leading_zeros(text, from, n);
+    note_constant(
+        row,
+        texts,
+        p,
+        0,
+        text_grammar::sign_of(minus, v),
+        text,
+        from + z,
+        n - z,
+    );
+}
+
+// The constant that is written at a place of the text as l, with n digits of value v, or n bytes, stands at place p.
 fn note_literal(
     row: &mut [u8],
     texts: &mut [u8],
@@ -151,17 +202,15 @@ fn note_literal(
     at: usize,
     l: Literal,
     n: usize,
+    v: u32,
 )
     requires { ⌜ (n ≤ longestString) × (at < length (now text)) ⌝ }
-    ensures { λ _. ⌜ now (row .exit) ≡ (literalNoted (now (text .entry)) at p l n (now (row .entry)) (now (texts .entry))) .0 ⌝ }
-    ensures { λ _. ⌜ now (texts .exit) ≡ (literalNoted (now (text .entry)) at p l n (now (row .entry)) (now (texts .entry))) .1 ⌝ }
+    ensures { λ _. ⌜ now (row .exit) ≡ (literalNoted (now (text .entry)) at p l n v (now (row .entry)) (now (texts .entry))) .0 ⌝ }
+    ensures { λ _. ⌜ now (texts .exit) ≡ (literalNoted (now (text .entry)) at p l n v (now (row .entry)) (now (texts .entry))) .1 ⌝ }
 {
     match l {
-        Literal::Int => {
-            let z = leading_zeros(text, at, n);
-            note_constant(row, texts, p, 0, text, at + z, n - z);
-        }
-        Literal::Str => note_constant(row, texts, p, 1, text, at + 1, n),
+        Literal::Int(minus) => note_integer(row, texts, p, text, at, minus, n, v),
+        Literal::Str => note_constant(row, texts, p, 1, false, text, at + 1, n),
     }
 }
 
@@ -313,7 +362,7 @@ fn note_term(
     match what {
         Spelled::Con(l) => {
             note_shape(row, f, false, 0);
-            note_literal(row, texts, p, text, at, l, t.size);
+            note_literal(row, texts, p, text, at, l, t.size, t.value);
         }
         Spelled::Var(k) => {
             let n = (t.value % NUMBERS_OF_SIDE) as u8;

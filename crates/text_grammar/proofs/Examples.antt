@@ -4,6 +4,7 @@ use Prim.Native.String as S
 use Prim.Native.String.{String}
 use Prim.Native.Char.{code}
 use mathlib.Core.Path.{_≡_, refl}
+use mathlib.Core.Bool.{true, false}
 use mathlib.Core.List.{List, [], _∷_, map}
 use native.Mathlib.Decide.{ℕ-discrete, decLe, decLt}
 use lib.ListN.{replicate, length}
@@ -13,13 +14,21 @@ use Rattle.math_types.specs.Types.{atom}
 use Rattle.math_terms.specs.Terms.{con, var}
 use Rattle.text_grammar.specs.Bytes.{digit?, begins, follows, first, holds}
 use Rattle.text_grammar.specs.Tokens.{fifth?, many?, over?, clash?, clashOf?}
+use Rattle.text_grammar.specs.Terms.{OurTerm}
 use Rattle.text_grammar.specs.constants.Constants.{int, str}
-use Rattle.text_grammar.specs.Read.{long, grammar, fields, terms, limits, linear, variable, refused, accepted, readSide, readSlip}
+use Rattle.text_grammar.specs.Read.{Reason, long, grammar, fields, terms, limits, linear, variable, refused, accepted, readSide, readSlip}
 use Rattle.text_grammar.specs.Plain.{plain}
 
 unfoldable pub bytes : String → List ℕ
 bytes S.[] = []
 bytes (S._∷_ c s) = code c ∷ bytes s
+
+-- an integer from 0 on, and one below 0
+abbrev pub whole : ℕ → OurTerm
+whole n = con (int false n)
+
+abbrev pub below : ℕ → OurTerm
+below n = con (int true n)
 
 pub rules :
     map (λ (t : String). readSide (bytes t)) (
@@ -52,9 +61,9 @@ pub rules :
     ∷ "l10:empty|l1"
     ∷ []
     )
-    ≡ accepted ((con (int 2147483647) ∷ []) ∷ [])
+    ≡ accepted ((whole 2147483647 ∷ []) ∷ [])
     ∷ refused limits 0
-    ∷ accepted ((con (int 0) ∷ []) ∷ [])
+    ∷ accepted ((whole 0 ∷ []) ∷ [])
     ∷ refused limits 0
     ∷ accepted ((con (str (bytes "abcdefghijklmno")) ∷ []) ∷ [])
     ∷ refused limits 0
@@ -69,10 +78,10 @@ pub rules :
     ∷ refused grammar 2
     ∷ accepted ((var (basic atom) 0 ∷ var (basic atom) 0 ∷ []) ∷ [])
     ∷ refused limits 4
-    ∷ accepted ((con (int 7) ∷ []) ∷ (con (int 7) ∷ []) ∷ [])
+    ∷ accepted ((whole 7 ∷ []) ∷ (whole 7 ∷ []) ∷ [])
     ∷ refused fields 8
-    ∷ accepted ((con (int 0) ∷ con (int 1) ∷ con (int 2) ∷ con (int 3) ∷ con (int 4) ∷ con (int 5) ∷ con (int 6) ∷ con (int 7)
-    ∷ con (int 8) ∷ con (int 9) ∷ con (int 0) ∷ con (int 1) ∷ con (int 2) ∷ con (int 3) ∷ con (int 4) ∷ con (int 5) ∷ []) ∷ [])
+    ∷ accepted ((whole 0 ∷ whole 1 ∷ whole 2 ∷ whole 3 ∷ whole 4 ∷ whole 5 ∷ whole 6 ∷ whole 7
+    ∷ whole 8 ∷ whole 9 ∷ whole 0 ∷ whole 1 ∷ whole 2 ∷ whole 3 ∷ whole 4 ∷ whole 5 ∷ []) ∷ [])
     ∷ refused terms 32
     ∷ accepted ([] ∷ [])
     ∷ refused grammar 1
@@ -87,7 +96,7 @@ rules = refl
 pub slips :
     map (λ (t : String). readSlip (bytes t)) ("i16" ∷ "i0" ∷ "l0:l0" ∷ "1:\"i0\":i0" ∷ "empty:1|\"\"" ∷ "l1|l1:2147483648" ∷ "1::i0" ∷ [])
     ≡ refused limits 0 ∷ refused variable 0 ∷ refused variable 0 ∷ refused variable 7
-    ∷ accepted ((con (int 1) ∷ []) ∷ (con (str []) ∷ []) ∷ []) ∷ refused limits 6 ∷ refused grammar 2 ∷ []
+    ∷ accepted ((whole 1 ∷ []) ∷ (con (str []) ∷ []) ∷ []) ∷ refused limits 6 ∷ refused grammar 2 ∷ []
 unfolding bytes decLe decLt ℕ-discrete digit? begins follows first holds fifth? many? over? any? clash? clashOf?
 slips = refl
 
@@ -100,13 +109,14 @@ long-texts = refl
 -- plain texts
 pub plains :
     map plain (
-    ((con (int 7) ∷ []) ∷ ([] ∷ []))
-    ∷ ((con (int 2147483647) ∷ con (str (bytes "a|b")) ∷ var list 31 ∷ []) ∷ [])
-    ∷ ((con (int 0) ∷ con (int 10) ∷ []) ∷ [])
+    ((whole 7 ∷ []) ∷ ([] ∷ []))
+    ∷ ((whole 2147483647 ∷ con (str (bytes "a|b")) ∷ var list 31 ∷ []) ∷ [])
+    ∷ ((whole 0 ∷ whole 10 ∷ []) ∷ [])
+    ∷ ((below 2147483648 ∷ below 7 ∷ []) ∷ [])
     ∷ ([] ∷ [])
     ∷ []
     )
-    ≡ map bytes ("7|empty" ∷ "2147483647:\"a|b\":l31" ∷ "0:10" ∷ "empty" ∷ [])
+    ≡ map bytes ("7|empty" ∷ "2147483647:\"a|b\":l31" ∷ "0:10" ∷ "-2147483648:-7" ∷ "empty" ∷ [])
 unfolding bytes decLt
 plains = refl
 
@@ -115,3 +125,45 @@ pub longest : length (plain (replicate 4 (replicate 16 (con (str (replicate 15 9
     ∷ length (plain (replicate 4 (replicate 64 (con (str (replicate 15 97)))))) ∷ []
     ≡ 1151 ∷ 4607 ∷ []
 longest = refl
+
+-- ---- document 02: minus amounts
+
+pub minus-read :
+    map (λ (t : String). readSide (bytes t)) ("-2147483648" ∷ "-0" ∷ "-0000000000" ∷ "-12|-3" ∷ "-007" ∷ "\"-\"" ∷ [])
+    ≡ accepted ((below 2147483648 ∷ []) ∷ [])
+    ∷ accepted ((whole 0 ∷ []) ∷ [])
+    ∷ accepted ((whole 0 ∷ []) ∷ [])
+    ∷ accepted ((below 12 ∷ []) ∷ (below 3 ∷ []) ∷ [])
+    ∷ accepted ((below 7 ∷ []) ∷ [])
+    ∷ accepted ((con (str (bytes "-")) ∷ []) ∷ [])
+    ∷ []
+unfolding bytes decLe decLt ℕ-discrete digit? begins follows first holds fifth? many? over? any? clash? clashOf?
+minus-read = refl
+
+-- as a rule's side and as a slip alike
+abbrev Refusal : Type 0
+Refusal = record { text : String; why : Reason; at : ℕ }
+
+abbrev refusals : List Refusal
+refusals =
+    record { text = "-"; why = grammar; at = 1 }
+    ∷ record { text = "--1"; why = grammar; at = 1 }
+    ∷ record { text = "- 1"; why = grammar; at = 1 }
+    ∷ record { text = "-a0"; why = grammar; at = 1 }
+    ∷ record { text = "-\"a\""; why = grammar; at = 1 }
+    ∷ record { text = "-empty"; why = grammar; at = 1 }
+    ∷ record { text = "1-2"; why = grammar; at = 1 }
+    ∷ record { text = "i-1"; why = grammar; at = 1 }
+    ∷ record { text = "a0:-"; why = grammar; at = 4 }
+    ∷ record { text = "-1:"; why = grammar; at = 3 }
+    ∷ record { text = "-2147483649"; why = limits; at = 0 }
+    ∷ record { text = "2147483648"; why = limits; at = 0 }
+    ∷ record { text = "-00000000000"; why = limits; at = 0 }
+    ∷ record { text = "-02147483648"; why = limits; at = 0 }
+    ∷ []
+
+pub minus-refused :
+    (map (λ (c : Refusal). readSide (bytes (c .text))) refusals ≡ map (λ (c : Refusal). refused (c .why) (c .at)) refusals)
+    × (map (λ (c : Refusal). readSlip (bytes (c .text))) refusals ≡ map (λ (c : Refusal). refused (c .why) (c .at)) refusals)
+unfolding bytes decLe decLt ℕ-discrete digit? begins follows first holds fifth? many? over? any? clash? clashOf?
+minus-refused = (refl, refl)

@@ -1,5 +1,6 @@
 -- The parser is right: a text is parsed as x exactly when x is what it says.
 use mathlib.Core.Path.{_≡_, refl, sym, _∙_, ap, subst}
+use mathlib.Core.Bool.{true, false}
 use mathlib.Core.Logic.{_≢_, _↔_, ite}
 use mathlib.Core.Option.{Option, none, some, Option·map, Option·none-ne-some, Option·some-injective}
 use mathlib.Core.List.{List, [], _∷_, _++_, append-assoc, nil≢cons, cons≢nil, head-eq-of-cons-eq, tail-eq-of-cons-eq}
@@ -8,7 +9,8 @@ use native.Mathlib.Omega.{arith}
 use native.Mathlib.Decide.{ℕ-discrete, decLe}
 use Rattle.base_lists.specs.Seqs.{All, IsNil, IsCons}
 use Rattle.math_types.specs.Types.{Kind}
-use Rattle.text_grammar.specs.Bytes.{Digit, Inside, letter, digit?, Begins, b-digit, b-quote, b-letter, b-e, b-none, begins, Follows, f-digit, f-colon}
+use Rattle.text_grammar.specs.Bytes.{Digit, Inside, letter, digit?, Begins, b-digit, b-minus, b-quote, b-letter, b-e, b-none, begins, Follows, f-digit}
+use Rattle.text_grammar.specs.Bytes.{f-colon}
 use Rattle.text_grammar.specs.Bytes.{f-bar}
 use Rattle.text_grammar.specs.Bytes.{f-none, follows, First, n-zero, n-more, n-none, first, Holds, h-quote, h-in, h-none, holds}
 use Rattle.text_grammar.specs.Grammar.{Raw, raw-var, raw-empty, spell, Proper, colons, spellF, bars, FieldOk, spellT, TextOk, raw-con}
@@ -16,7 +18,8 @@ use Rattle.text_grammar.specs.constants.Constants.{raw-int, raw-str}
 use Rattle.text_grammar.specs.Numbers.{Number}
 use Rattle.text_grammar.specs.Grammar.{Says}
 use Rattle.text_grammar.specs.Grammar.{Grammar}
-use Rattle.text_grammar.specs.Machine.{State, after, digits, number, done, quoted, must, Rest, Move, push, turn, term, goA, goD, goE, goN, goQ, goM, then}
+use Rattle.text_grammar.specs.Machine.{State, after, minus, digits, number, done, quoted, must, Rest, Move, push, turn, term, goA, goS, goD, goE, goN}
+use Rattle.text_grammar.specs.Machine.{goQ, goM, then}
 use Rattle.text_grammar.specs.Machine.{move}
 use Rattle.text_grammar.specs.Machine.{Final, final?, thenScan, scan, whole, parse}
 use Rattle.text_grammar.proofs.Begun.{begun-digit, begun-letter}
@@ -24,6 +27,7 @@ use Rattle.text_grammar.proofs.Begun.{begun-digit, begun-letter}
 -- what the rest may be in each state, and how it is spelled
 abbrev pub FitsW : State → List ℕ → List Raw → Type 0
 FitsW after w rs = IsNil w × IsCons rs
+FitsW minus w rs = IsCons w × All Digit w
 FitsW digits w rs = All Digit w
 FitsW number w rs = Number w
 FitsW done w rs = IsNil w
@@ -38,6 +42,7 @@ tails o = colons (o .1) ++ bars (o .2)
 
 abbrev pub say : State → Rest → List ℕ
 say after o = spellF (o .1) ++ bars (o .2)
+say minus o = o .0 ++ tails o
 say digits o = o .0 ++ tails o
 say number o = o .0 ++ tails o
 say done o = o .0 ++ tails o
@@ -77,13 +82,18 @@ long-number b (x ∷ w) d n a = (d, n, a)
 
 right-a : (b : ℕ) (c : Begins b) → Right after b (goA b c)
 right-a b (b-digit h) = λ o f. (((tt, tt), ((tt, (h, f .0)), f .1), f .2), simp append-assoc)
+right-a b (b-minus h) = λ o f. (((tt, tt), (f .0, f .1), f .2), simp (append-assoc, h))
 right-a b (b-quote h) = λ o f. (((tt, tt), (f .0, f .1), f .2), simp (append-assoc, h))
 right-a b (b-letter k h) = λ o f. (((tt, tt), (f .0, f .1), f .2), simp (append-assoc, h))
 right-a b (b-e h) = λ o f. (((tt, tt), (tt, f .1), f .2), simp (append-assoc, h))
-right-a b (b-none d q l e) = tt
+right-a b (b-none d m q l e) = tt
 
 turned : (b : ℕ) (o : Rest) → b ≡ 124 → b ∷ (spellF (o .1) ++ bars (o .2)) ≡ bars (o .1 ∷ o .2)
 turned b o e = ap (λ (x : ℕ). x ∷ (spellF (o .1) ++ bars (o .2))) e
+
+right-s : (b : ℕ) (c : Dec (Digit b)) → Right minus b (goS b c)
+right-s b (yes h) = λ o f. (((tt, (h, f .0)), f .1, f .2), refl)
+right-s b (no n) = tt
 
 right-d : (b : ℕ) (c : Follows b) → Right digits b (goD b c)
 right-d b (f-digit h) = λ o f. (((h, f .0), f .1, f .2), refl)
@@ -115,6 +125,7 @@ right-m c (x ∷ cs) b (no n) = tt
 
 pub right : (q : State) (b : ℕ) → Right q b (move q b)
 right after b = right-a b (begins b)
+right minus b = right-s b (digit? b)
 right digits b = right-d b (follows b)
 right number b = right-n b (first b)
 right done b = right-e b (follows b)
@@ -126,11 +137,19 @@ pub data Unfold (q : State) (o : Rest) : Type 0 where
   ends : say q o ≡ [] → Final q → o ≡ ([], [], []) → Unfold q o
   goes : (b : ℕ) (m : State × (Rest → Rest)) (o′ : Rest) → move q b ≡ some m → Fits (m .0) o′ → m .1 o′ ≡ o → say q o ≡ b ∷ say (m .0) o′ → Unfold q o
 
-goA-digit : (b : ℕ) (c : Begins b) → Digit b → goA b c ≡ some (digits, term (λ w. raw-con (raw-int (b ∷ w))))
+goA-digit : (b : ℕ) (c : Begins b) → Digit b → goA b c ≡ some (digits, term (λ w. raw-con (raw-int false (b ∷ w))))
 goA-digit b c d = ap (goA b) (begun-digit b c d .1)
 
 goA-letter : (k : Kind) → move after (letter k) ≡ some (number, term (raw-var k))
 goA-letter k = ap (goA (letter k)) (begun-letter k (begins (letter k)) .1)
+
+goA-minus : move after 45 ≡ some (minus, term (λ w. raw-con (raw-int true w)))
+unfolding begins digit? decLe ℕ-discrete
+goA-minus = refl
+
+goS-digit : (b : ℕ) (c : Dec (Digit b)) → Digit b → goS b c ≡ some (digits, push b)
+goS-digit b (yes h) d = refl
+goS-digit b (no n) d = absurd (n d)
 
 goA-quote : move after 34 ≡ some (quoted, term (λ w. raw-con (raw-str w)))
 unfolding begins digit? decLe ℕ-discrete
@@ -186,12 +205,18 @@ goM-same c cs (yes e) = refl
 goM-same c cs (no n) = absurd (n refl)
 
 unfold-a : (r : Raw) (rs : List Raw) (fs : List (List Raw)) → Proper r → All Proper rs → All FieldOk fs → Unfold after ([], r ∷ rs, fs)
-unfold-a (raw-con (raw-int [])) rs fs p a g = absurd (p .0)
-unfold-a (raw-con (raw-int (d ∷ ds))) rs fs p a g =
-    goes d (digits, term (λ w. raw-con (raw-int (d ∷ w)))) (ds, rs, fs) (goA-digit d (begins d) (p .1 .0)) (p .1 .1, a, g) refl (simp append-assoc)
+unfold-a (raw-con (raw-int true ds)) rs fs p a g =
+    goes 45 (minus, term (λ w. raw-con (raw-int true w))) (ds, rs, fs) goA-minus (p, a, g) refl (simp append-assoc)
+unfold-a (raw-con (raw-int false [])) rs fs p a g = absurd (p .0)
+unfold-a (raw-con (raw-int false (d ∷ ds))) rs fs p a g =
+    goes d (digits, term (λ w. raw-con (raw-int false (d ∷ w)))) (ds, rs, fs) (goA-digit d (begins d) (p .1 .0)) (p .1 .1, a, g) refl (simp append-assoc)
 unfold-a (raw-con (raw-str s)) rs fs p a g = goes 34 (quoted, term (λ w. raw-con (raw-str w))) (s, rs, fs) goA-quote (p, a, g) refl (simp append-assoc)
 unfold-a (raw-var k ds) rs fs p a g = goes (letter k) (number, term (raw-var k)) (ds, rs, fs) (goA-letter k) (p, a, g) refl (simp append-assoc)
 unfold-a raw-empty rs fs p a g = goes 101 (must 109 (112 ∷ 116 ∷ 121 ∷ []), term (λ w. raw-empty)) ([], rs, fs) goA-e (tt, a, g) refl refl
+
+unfold-s : (w : List ℕ) (rs : List Raw) (fs : List (List Raw)) → IsCons w × All Digit w → All Proper rs → All FieldOk fs → Unfold minus (w, rs, fs)
+unfold-s [] rs fs p a g = absurd (p .0)
+unfold-s (b ∷ w) rs fs p a g = goes b (digits, push b) (w, rs, fs) (goS-digit b (digit? b) (p .1 .0)) (p .1 .1, a, g) refl refl
 
 unfold-d : (w : List ℕ) (rs : List Raw) (fs : List (List Raw)) → All Digit w → All Proper rs → All FieldOk fs → Unfold digits (w, rs, fs)
 unfold-d (b ∷ w) rs fs p a g = goes b (digits, push b) (w, rs, fs) (goD-digit b (follows b) (p .0)) (p .1, a, g) refl refl
@@ -225,6 +250,7 @@ unfolds after o f = go (o .0) (o .1) (f .0) (f .1)
     go [] [] p a = absurd (p .1)
     go [] (r ∷ rs) p a = unfold-a r rs (o .2) (a .0) (a .1) (f .2)
     go (x ∷ w) rs p a = absurd (p .0)
+unfolds minus o f = unfold-s (o .0) (o .1) (o .2) (f .0) (f .1) (f .2)
 unfolds digits o f = unfold-d (o .0) (o .1) (o .2) (f .0) (f .1) (f .2)
 unfolds number o f = unfold-n (o .0) (o .1) (o .2) (f .0) (f .1) (f .2)
 unfolds done o f = unfold-e (o .0) (o .1) (o .2) (f .0) (f .1) (f .2)
@@ -250,6 +276,7 @@ lift-ok q b t (some m) r k h = go (k (m .0)) (h (m .0))
 
 end-ok : (q : State) → Ok q [] (ite (final? q) (some ([], [], [])) none)
 end-ok after = tt
+end-ok minus = tt
 end-ok digits = ((tt, tt, tt), refl)
 end-ok number = tt
 end-ok done = ((tt, tt, tt), refl)
@@ -262,6 +289,7 @@ sound (b ∷ t) q = lift-ok q b t (move q b) (right q b) (scan t) (λ q′. soun
 
 end-complete : (q : State) → Final q → _≡_ {A = Option Rest} (ite (final? q) (some ([], [], [])) none) (some ([], [], []))
 end-complete after h = absurd h
+end-complete minus h = absurd h
 end-complete digits h = refl
 end-complete number h = absurd h
 end-complete done h = refl

@@ -11,7 +11,8 @@ use lib.Seq.{take-take}
 use Rattle.text_grammar.specs.Bytes.{digit?, begins, first, holds}
 use Rattle.text_grammar.specs.Grammar.{Raw, Grammar}
 use Rattle.text_grammar.specs.Place.{Viable, Stops, Answers}
-use Rattle.text_grammar.specs.Machine.{State, after, digits, number, done, quoted, must, Rest, Move, goM, then, move, Final, final?, thenScan, scan}
+use Rattle.text_grammar.specs.Machine.{State, after, minus, digits, number, done, quoted, must, Rest, Move, goM, then, move, Final, final?, thenScan}
+use Rattle.text_grammar.specs.Machine.{scan}
 use Rattle.text_grammar.specs.Machine.{whole}
 use Rattle.text_grammar.specs.Machine.{thenStop, stop, place2}
 use Rattle.text_grammar.proofs.Parse.{Parsed, parsed, parse-complete}
@@ -35,6 +36,7 @@ scan-run [] q = end q
   where
     end : (q : State) → IsSome (ite {C = Option Rest} (final? q) (some ([], [], [])) none) ↔ Final q
     end after = (λ h. h, λ h. h)
+    end minus = (λ h. h, λ h. h)
     end digits = (λ h. h, λ h. h)
     end number = (λ h. h, λ h. h)
     end done = (λ h. h, λ h. h)
@@ -80,6 +82,7 @@ run-append (b ∷ p) r q = go (move q b) (λ q′. run-append p r q′)
 -- every state has a completion
 abbrev pub finish : State → List ℕ
 finish after = 48 ∷ []
+finish minus = 48 ∷ []
 finish digits = []
 finish number = 48 ∷ []
 finish done = []
@@ -97,6 +100,7 @@ must-finish (d ∷ cs) c = subst Accepts (sym (goM-same c (d ∷ cs) (ℕ-discre
 finishes : (q : State) → Accepts (run (finish q) q)
 unfolding begins digit? decLe ℕ-discrete first holds
 finishes after = tt
+finishes minus = tt
 finishes digits = tt
 finishes number = tt
 finishes done = tt

@@ -1,5 +1,6 @@
 -- The walk from the left meets the tokens of what a text says.
 use mathlib.Core.Path.{_≡_, refl, sym, _∙_, ap}
+use mathlib.Core.Bool.{true, false}
 use mathlib.Core.Logic.{if-pos, if-neg}
 use mathlib.Core.List.{List, [], _∷_, _++_, append-assoc, append-nil}
 use Prim.Native.Nat.{ℕ, zero, suc, _+_, _≤_}
@@ -51,11 +52,15 @@ quote-is (b ∷ s) z a = go (ℕ-discrete b 34) ∙ ap (λ (l : List ℕ). b ∷
     go (yes x) = absurd (a .0 .2 x)
     go (no n) = refl
 
-pub front-digit : (b : ℕ) (z : List ℕ) (c : Begins b) → Digit b → frontB b z c ≡ raw-con (raw-int (b ∷ leadingDigits z))
+pub front-digit : (b : ℕ) (z : List ℕ) (c : Begins b) → Digit b → frontB b z c ≡ raw-con (raw-int false (b ∷ leadingDigits z))
 front-digit b z c d = ap (frontB b z) (begun-digit b c d .1)
 
 front-letter : (k : Kind) (z : List ℕ) → front (letter k ∷ z) ≡ raw-var k (leadingDigits z)
 front-letter k z = ap (frontB (letter k) z) (begun-letter k (begins (letter k)) .1)
+
+front-minus : (z : List ℕ) → front (45 ∷ z) ≡ raw-con (raw-int true (leadingDigits z))
+unfolding begins digit? decLe ℕ-discrete
+front-minus z = refl
 
 front-quote : (z : List ℕ) → front (34 ∷ z) ≡ raw-con (raw-str (untilQuote z))
 unfolding begins digit? decLe ℕ-discrete
@@ -66,9 +71,10 @@ unfolding begins digit? decLe ℕ-discrete
 front-e z = refl
 
 front-con : (r : RawCon) (z : List ℕ) → ProperCon r → NoDigit z → front (spellCon r ++ z) ≡ raw-con r
-front-con (raw-int []) z p h = absurd (p .0)
-front-con (raw-int (d ∷ ds)) z p h =
-    front-digit d (ds ++ z) (begins d) (p .1 .0) ∙ ap (λ (l : List ℕ). raw-con (raw-int (d ∷ l))) (digits-are ds z (p .1 .1) h)
+front-con (raw-int true ds) z p h = front-minus (ds ++ z) ∙ ap (λ (l : List ℕ). raw-con (raw-int true l)) (digits-are ds z (p .1) h)
+front-con (raw-int false []) z p h = absurd (p .0)
+front-con (raw-int false (d ∷ ds)) z p h =
+    front-digit d (ds ++ z) (begins d) (p .1 .0) ∙ ap (λ (l : List ℕ). raw-con (raw-int false (d ∷ l))) (digits-are ds z (p .1 .1) h)
 front-con (raw-str s) z p h =
     ap (λ (l : List ℕ). front (34 ∷ l)) (append-assoc s (34 ∷ []) z) ∙ front-quote (s ++ 34 ∷ z) ∙ ap (λ (l : List ℕ). raw-con (raw-str l)) (quote-is s z p)
 

@@ -26,21 +26,23 @@ digit? b = go (decLe 48 b) (decLe b 57)
 -- what a byte may begin
 pub data Begins (b : ℕ) : Type 0 where
   b-digit : Digit b → Begins b
+  b-minus : b ≡ 45 → Begins b
   b-quote : b ≡ 34 → Begins b
   b-letter : (k : Kind) → b ≡ letter k → Begins b
   b-e : b ≡ 101 → Begins b
-  b-none : (Digit b → ⊥) → b ≢ 34 → ((k : Kind) → b ≢ letter k) → b ≢ 101 → Begins b
+  b-none : (Digit b → ⊥) → b ≢ 45 → b ≢ 34 → ((k : Kind) → b ≢ letter k) → b ≢ 101 → Begins b
 
 unfoldable pub begins : (b : ℕ) → Begins b
 unfolding digit? ℕ-discrete
-begins b = go (digit? b) (ℕ-discrete b 34) (letterIn b kinds) (ℕ-discrete b 101)
+begins b = go (digit? b) (ℕ-discrete b 45) (ℕ-discrete b 34) (letterIn b kinds) (ℕ-discrete b 101)
   where
-    go : Dec (Digit b) → Dec (b ≡ 34) → LetterIn b kinds → Dec (b ≡ 101) → Begins b
-    go (yes p) q l e = b-digit p
-    go (no p) (yes q) l e = b-quote q
-    go (no p) (no q) (inl l) e = b-letter (l .0) (l .1)
-    go (no p) (no q) (inr l) (yes e) = b-e e
-    go (no p) (no q) (inr l) (no e) = b-none p q (every-kind (λ k. b ≢ letter k) l) e
+    go : Dec (Digit b) → Dec (b ≡ 45) → Dec (b ≡ 34) → LetterIn b kinds → Dec (b ≡ 101) → Begins b
+    go (yes p) m q l e = b-digit p
+    go (no p) (yes m) q l e = b-minus m
+    go (no p) (no m) (yes q) l e = b-quote q
+    go (no p) (no m) (no q) (inl l) e = b-letter (l .0) (l .1)
+    go (no p) (no m) (no q) (inr l) (yes e) = b-e e
+    go (no p) (no m) (no q) (inr l) (no e) = b-none p m q (every-kind (λ k. b ≢ letter k) l) e
 
 -- what may follow a digit, or a term
 pub data Follows (b : ℕ) : Type 0 where

@@ -1,21 +1,24 @@
 -- The grammar as a state machine that parses: what each byte does to the state and to the answer.
 -- Executable; `parse-iff` and `place2-is` of proofs/ say that it is right.
 use mathlib.Core.Path.{_≡_}
+use mathlib.Core.Bool.{true, false}
 use mathlib.Core.Logic.{ite}
 use mathlib.Core.Option.{Option, none, some, Option·map}
 use mathlib.Core.List.{List, [], _∷_}
 use Prim.Native.Nat.{ℕ, suc}
 use native.Mathlib.Decide.{ℕ-discrete}
-use Rattle.text_grammar.specs.Bytes.{Begins, b-digit, b-quote, b-letter, b-e, b-none, begins, Follows, f-digit, f-colon, f-bar}
+use Rattle.text_grammar.specs.Bytes.{Digit, digit?, Begins, b-digit, b-minus, b-quote, b-letter, b-e, b-none, begins, Follows}
+use Rattle.text_grammar.specs.Bytes.{f-digit, f-colon, f-bar}
 use Rattle.text_grammar.specs.Bytes.{f-none}
 use Rattle.text_grammar.specs.Bytes.{follows, First, n-zero, n-more, n-none, first, Holds, h-quote, h-in, h-none, holds}
 use Rattle.text_grammar.specs.Grammar.{Raw, raw-var, raw-empty, raw-con}
 use Rattle.text_grammar.specs.constants.Constants.{raw-int, raw-str}
 
--- before a term; in an integer's or a variable's digits; before a variable's number; behind a term; in a string;
+-- before a term; behind an integer's minus; in an integer's or a variable's digits; before a variable's number; behind a term; in a string;
 -- in `empty`, with the bytes that must come
 pub data State : Type 0 where
   after : State
+  minus : State
   digits : State
   number : State
   done : State
@@ -39,11 +42,16 @@ abbrev pub term : (List ℕ → Raw) → Rest → Rest
 term f o = ([], f (o .0) ∷ o .1, o .2)
 
 abbrev pub goA : (b : ℕ) → Begins b → Move
-goA b (b-digit h) = some (digits, term (λ w. raw-con (raw-int (b ∷ w))))
+goA b (b-digit h) = some (digits, term (λ w. raw-con (raw-int false (b ∷ w))))
+goA b (b-minus h) = some (minus, term (λ w. raw-con (raw-int true w)))
 goA b (b-quote h) = some (quoted, term (λ w. raw-con (raw-str w)))
 goA b (b-letter k h) = some (number, term (raw-var k))
 goA b (b-e h) = some (must 109 (112 ∷ 116 ∷ 121 ∷ []), term (λ w. raw-empty))
-goA b (b-none d q l e) = none
+goA b (b-none d m q l e) = none
+
+abbrev pub goS : (b : ℕ) → Dec (Digit b) → Move
+goS b (yes h) = some (digits, push b)
+goS b (no n) = none
 
 abbrev pub goD : (b : ℕ) → Follows b → Move
 goD b (f-digit h) = some (digits, push b)
@@ -77,6 +85,7 @@ goM c cs b (no n) = none
 
 abbrev pub move : State → ℕ → Move
 move after b = goA b (begins b)
+move minus b = goS b (digit? b)
 move digits b = goD b (follows b)
 move number b = goN b (first b)
 move done b = goE b (follows b)
@@ -86,6 +95,7 @@ move (must c cs) b = goM c cs b (ℕ-discrete b c)
 -- where a text may end
 abbrev pub Final : State → Type 0
 Final after = ⊥
+Final minus = ⊥
 Final digits = Unit {0}
 Final number = ⊥
 Final done = Unit {0}
@@ -94,6 +104,7 @@ Final (must c cs) = ⊥
 
 abbrev pub final? : (q : State) → Dec (Final q)
 final? after = no (λ h. h)
+final? minus = no (λ h. h)
 final? digits = yes tt
 final? number = no (λ h. h)
 final? done = yes tt

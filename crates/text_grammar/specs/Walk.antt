@@ -1,12 +1,13 @@
 -- A text from the left, as code reads it: the term at its front, then the separator, then the next term.
 -- `walk-says` of proofs/ says that on a text of the grammar this meets the tokens of what the text says.
 use mathlib.Core.Path.{_≡_}
+use mathlib.Core.Bool.{true, false}
 use mathlib.Core.Logic.{ite}
 use mathlib.Core.List.{List, [], _∷_}
 use Prim.Native.Nat.{ℕ, zero, suc, _+_}
 use native.Mathlib.Decide.{ℕ-discrete}
 use lib.ListN.{length, drop}
-use Rattle.text_grammar.specs.Bytes.{Digit, digit?, Begins, b-digit, b-quote, b-letter, b-e, b-none, begins}
+use Rattle.text_grammar.specs.Bytes.{Digit, digit?, Begins, b-digit, b-minus, b-quote, b-letter, b-e, b-none, begins}
 use Rattle.text_grammar.specs.Grammar.{Raw, raw-var, raw-empty, spell, raw-con}
 use Rattle.text_grammar.specs.constants.Constants.{raw-int, raw-str}
 use Rattle.text_grammar.specs.Tokens.{Token}
@@ -31,11 +32,12 @@ untilQuote (b ∷ z) = quote1 (ℕ-discrete b 34) b (untilQuote z)
 
 -- the term at the front, told by its first byte; what begins no term counts as `empty`
 abbrev pub frontB : (b : ℕ) (z : List ℕ) → Begins b → Raw
-frontB b z (b-digit h) = raw-con (raw-int (b ∷ leadingDigits z))
+frontB b z (b-digit h) = raw-con (raw-int false (b ∷ leadingDigits z))
+frontB b z (b-minus h) = raw-con (raw-int true (leadingDigits z))
 frontB b z (b-quote h) = raw-con (raw-str (untilQuote z))
 frontB b z (b-letter k h) = raw-var k (leadingDigits z)
 frontB b z (b-e h) = raw-empty
-frontB b z (b-none d q l e) = raw-empty
+frontB b z (b-none d m q l e) = raw-empty
 
 abbrev pub front : List ℕ → Raw
 front [] = raw-empty

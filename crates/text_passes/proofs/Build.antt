@@ -10,16 +10,17 @@ use borrow.Author.Tests.{lt-ltb, ne-eqb}
 use lib.Dec.{ltb}
 use lib.ListN.{length, set, replicate, length-append, length-map}
 use lib.Seq.{take-all}
-use Rattle.base_limits.specs.Limits.{mostFields, largestInteger, longestString, largestNumber}
+use Rattle.base_limits.specs.Limits.{mostFields, longestString, largestNumber}
 use Rattle.base_lists.specs.Seqs.{All}
 use Rattle.math_types.specs.Values.{kindFrom}
 use Rattle.text_grammar.specs.Grammar.{Raw, raw-var, raw-empty, spell, spellF, FieldOk, TextOk, raw-con}
-use Rattle.text_grammar.specs.constants.Constants.{raw-int, raw-str}
+use Rattle.text_grammar.specs.constants.Constants.{limit, signOf, raw-int, raw-str}
 use Rattle.text_grammar.specs.Numbers.{value}
 use Rattle.text_grammar.specs.Tokens.{Token, tokens, tokensF, tokensT, Over}
 use Rattle.text_grammar.specs.Terms.{OurTerm, OurFields, termOf, fieldOf, fieldsOf}
 use Rattle.text_grammar.specs.Read.{rule, slip}
 use Rattle.text_grammar.proofs.Accepted.{term-short}
+use Rattle.text_grammar.proofs.constants.Constants.{limit-lowest}
 use Rattle.text_values.specs.declared.Term.{Term}
 use Rattle.text_values.specs.declared.constants.Constant.the-variants.{Int, Str}
 use Rattle.text_values.specs.declared.Form.the-variants.{Con, Var}
@@ -44,8 +45,8 @@ module _ {A B : Type 0} (enc : A → B) (d : B) (w : ℕ) (s : List A) (a : A) (
   counted = omega (arith, length-append s (a ∷ []))
 
 -- a written term within its limits becomes the one value of what it stands for
-int-is : (v : ℕ) → v ≤ largestInteger → capped v ≡ v
-int-is v h = omega arith
+int-is : (m : Bool) (v : ℕ) → v ≤ limit m → capped v ≡ v
+int-is m v h = omega (arith, limit-lowest m)
 
 var-is : (v : ℕ) → v ≤ largestNumber → capped v % 256 ≡ v
 var-is v h = omega arith
@@ -153,11 +154,11 @@ module _ (w : ℕ) (ts : List OurTerm) (h : length ts < w) where
       (add-empty : add (make (held ts)) raw-empty ≡ make (held ts))
       (add-other : (r : Raw) → isEmpty r ≡ false → add (make (held ts)) r ≡ make (with (termFrom r))) where
     pub adds-one : (r : Raw) → (Over r → ⊥) → add (make (held ts)) r ≡ make (held (ts ++ termOf r))
-    adds-one (raw-con (raw-int ds)) o =
-        add-other (raw-con (raw-int ds)) refl
-        ∙ ap make (with-one _ (termFrom (raw-con (raw-int ds)))
-        (ap (λ (n : ℕ). record { form = Con (Int n); text = replicate longestString 0 })
-        (int-is (value ds) (by-contra (value ds) largestInteger (λ k. o (inr k))))))
+    adds-one (raw-con (raw-int m ds)) o =
+        add-other (raw-con (raw-int m ds)) refl
+        ∙ ap make (with-one _ (termFrom (raw-con (raw-int m ds)))
+        (ap (λ (n : ℕ). record { form = Con (Int (signOf m n) n); text = replicate longestString 0 })
+        (int-is m (value ds) (by-contra (value ds) (limit m) (λ k. o (inr k))))))
     adds-one (raw-con (raw-str s)) o =
         let l : length s ≤ longestString = omega arith in
         let e : min (length s) longestString ≡ length s = omega arith in

@@ -12,7 +12,7 @@ use lib.Dec.{eqb}
 use lib.ListN.{length, getD, drop, length-append, length-drop, drop-of-length-le}
 use lib.Seq.{drop-cons, drop-drop}
 use Rattle.base_lists.specs.Seqs.{cons-is}
-use Rattle.text_grammar.specs.Bytes.{Digit, digit?, Begins, b-digit, b-quote, b-letter, b-e, b-none, begins}
+use Rattle.text_grammar.specs.Bytes.{Digit, digit?, Begins, b-digit, b-minus, b-quote, b-letter, b-e, b-none, begins}
 use Rattle.text_grammar.specs.Grammar.{Raw, raw-var, raw-empty, spell, raw-con}
 use Rattle.text_grammar.specs.constants.Constants.{raw-int, raw-str}
 use Rattle.text_grammar.specs.Tokens.{Token}
@@ -28,7 +28,8 @@ use Rattle.text_passes.specs.Places.{spelledBy, spelled, colonAt, behind
 
 -- the length of a written term, from its lexeme
 pub spelled-is : (r : Raw) → spelled (lexemeOf r) ≡ length (spell r)
-spelled-is (raw-con (raw-int ds)) = refl
+spelled-is (raw-con (raw-int true ds)) = omega arith
+spelled-is (raw-con (raw-int false ds)) = omega arith
 spelled-is (raw-con (raw-str s)) = let e = length-append s (34 ∷ []) in omega arith
 spelled-is (raw-var k ds) = omega arith
 spelled-is raw-empty = refl
@@ -37,7 +38,8 @@ pub spelled-small : (p : Lexeme) → spelled p ≤ p .size + 5
 spelled-small p = go (p .what) (p .size)
   where
     go : (w : Spelled) (n : ℕ) → spelledBy w n ≤ n + 5
-    go (Con Int) n = omega arith
+    go (Con (Int true)) n = omega arith
+    go (Con (Int false)) n = omega arith
     go (Con Str) n = omega arith
     go (Var k) n = omega arith
     go Empty n = omega arith
@@ -83,10 +85,11 @@ size-fits (b ∷ z) = go (begins b)
   where
     go : (c : Begins b) → (lexemeOf (frontB b z c)) .size ≤ suc (length z)
     go (b-digit h) = let r = digits-fit z in omega arith
+    go (b-minus h) = let r = digits-fit z in omega arith
     go (b-quote h) = let r = quote-fits z in omega arith
     go (b-letter k h) = let r = digits-fit z in omega arith
     go (b-e h) = omega arith
-    go (b-none d q l e) = omega arith
+    go (b-none d m q l e) = omega arith
 
 -- how many rounds a walk may take makes no difference where they are enough
 walk-room : (room more : ℕ) (z : List ℕ) (p n i : ℕ) → length z ≤ room → length z ≤ more → walk room z p n i ≡ walk more z p n i

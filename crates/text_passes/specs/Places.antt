@@ -5,6 +5,7 @@ use Prim.Native.Nat.{ℕ, _+_, _-_}
 use lib.Dec.{eqb, ltb}
 use lib.ListN.{length, getD, drop}
 use Rattle.text_grammar.specs.Grammar.{Raw}
+use Rattle.text_grammar.specs.constants.Constants.{signSize}
 use Rattle.text_grammar.specs.Tokens.{Token}
 use Rattle.text_grammar.specs.Walk.{front, walk}
 use Rattle.text_scan.specs.declared.Lexeme.{Lexeme}
@@ -22,7 +23,7 @@ first = record { place = 0; field = 1; index = 1 }
 
 -- how many bytes a written term has
 abbrev pub literalBytes : Literal → ℕ → ℕ
-literalBytes Int n = n
+literalBytes (Int m) n = signSize m + n
 literalBytes Str n = n + 2
 
 abbrev pub spelledBy : Spelled → ℕ → ℕ

@@ -46,7 +46,7 @@ fn literal_bytes(l: Literal, n: usize) -> usize
     ensures { λ r. ⌜ r ≡ literalBytes l n ⌝ }
 {
     match l {
-        Literal::Int => n,
+        Literal::Int(minus) => text_grammar::sign_size(minus) + n,
         Literal::Str => n + 2,
     }
 }

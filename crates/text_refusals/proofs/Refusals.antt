@@ -10,19 +10,20 @@ use native.Mathlib.Decide.{decLt}
 use borrow.Author.Tests.{lt-ltb, le-ltb, eq-eqb, ne-eqb}
 use lib.Dec.{ltb}
 use lib.ListN.{length, drop}
-use Rattle.base_limits.specs.Limits.{mostFields, mostDigits, largestInteger, longestString, largestNumber}
+use Rattle.base_limits.specs.Limits.{mostFields, mostDigits, lowestInteger, longestString, largestNumber}
 use Rattle.base_lists.specs.Seqs.{All, Any}
 use Rattle.math_types.specs.Order.{basic, list}
 use Rattle.math_types.specs.Types.{isList}
 use Rattle.math_types.specs.Values.{kindOf, kindFrom, kindOf-from}
 use Rattle.text_grammar.specs.Grammar.{Raw, raw-var, raw-empty, spell, spellF, FieldOk, raw-con}
-use Rattle.text_grammar.specs.constants.Constants.{raw-int, raw-str, RawCon, OverCon}
+use Rattle.text_grammar.specs.constants.Constants.{limit, raw-int, raw-str, RawCon, OverCon}
 use Rattle.text_grammar.specs.Numbers.{value}
 use Rattle.text_grammar.specs.Leftmost.{leftmost}
 use Rattle.text_grammar.specs.Tokens.{Token, tokens, tokensF, tokensT, FifthField, TooMany, Over, over?, fifth?, many?, IsVar, isVar?}
 use Rattle.text_grammar.specs.Tokens.{listNo, Occ, occ, occs, Clash, ClashOf, clashOf?}
 use Rattle.text_grammar.specs.Read.{Reason, fields, terms, limits, linear, variable, Bad, bad?, placeOfToken, firstBad, chain}
 use Rattle.text_grammar.proofs.Fields.{occs-append}
+use Rattle.text_grammar.proofs.constants.Constants.{limit-lowest}
 use Rattle.text_accepted.specs.declared.linearity.Lists.{Lists}
 use Rattle.text_accepted.specs.linearity.Lists.{noLists, nextField, stillOk, addList}
 use Rattle.text_accepted.proofs.linearity.Linear.{Tracks, tracks-none, tracks-next, tracks-add, tracks-clash}
@@ -35,7 +36,8 @@ use Rattle.text_refusals.specs.verdicts.Verdicts.{numberOf, reasonFrom, 
 use Rattle.text_refusals.proofs.verdicts.Verdicts.{first-former, first-latter, first-none, first-assoc, first-keeps, first-takes}
 use Rattle.text_refusals.proofs.verdicts.Verdicts.{refusedBy, verdictBy, verdict-chain, Behind, behind-less, Rising, verdict-behind}
 use Rattle.text_refusals.specs.declared.Survey.{Survey}
-use Rattle.text_refusals.specs.Refusals.{overLiteral, overLexeme, clashBy, variableBy, lastBad, lastReason, met, addBy, listsAt, atOf, surveyToken, nothingYet}
+use Rattle.text_refusals.specs.Refusals.{overLiteral, overLexeme, clashBy, variableBy, lastBad, lastReason, met, addBy, listsAt, atOf, surveyToken}
+use Rattle.text_refusals.specs.Refusals.{nothingYet}
 
 -- ---- the tests of the code and the decisions of the definition
 
@@ -50,22 +52,22 @@ lt-same a b c f g = go (decLt a b)
     go (yes h) = lt-ltb a b h ∙ sym (lt-ltb a c (f h))
     go (no n) = le-ltb a b (omega arith) ∙ sym (le-ltb a c (by-contra c a (λ k. n (g k))))
 
--- cutting a value above the largest integer changes no test
-capped-test : (a v : ℕ) → a ≤ largestInteger → ltb a (capped v) ≡ ltb a v
+-- cutting a value above the largest magnitude changes no test
+capped-test : (a v : ℕ) → a ≤ lowestInteger → ltb a (capped v) ≡ ltb a v
 capped-test a v h = lt-same a (capped v) v (λ k. omega arith) (λ k. omega arith)
 
 literal-cond : {A : Type 0} (r : RawCon) (d : Dec (OverCon r)) (x y : A) → cond (overLiteral (literalOf r) (literalSize r) (literalValue r)) x y ≡ ite d x y
-literal-cond (raw-int ds) d x y = rw (capped-test largestInteger (value ds) (omega arith)) (go (decLt mostDigits (length ds)) (decLt largestInteger (value ds)) d)
+literal-cond (raw-int m ds) d x y = rw (capped-test (limit m) (value ds) (limit-lowest m)) (go (decLt mostDigits (length ds)) (decLt (limit m) (value ds)) d)
   where
-    go : Dec (mostDigits < length ds) → Dec (largestInteger < value ds) → (d : Dec (OverCon (raw-int ds)))
-        → cond (ltb mostDigits (length ds) || ltb largestInteger (value ds)) x y ≡ ite d x y
+    go : Dec (mostDigits < length ds) → Dec (limit m < value ds) → (d : Dec (OverCon (raw-int m ds)))
+        → cond (ltb mostDigits (length ds) || ltb (limit m) (value ds)) x y ≡ ite d x y
     go (yes h) e (yes o) = rw (lt-ltb mostDigits (length ds) h)
     go (yes h) e (no o) = absurd (o (inl h))
-    go (no n) (yes h) (yes o) = rw (le-ltb mostDigits (length ds) (omega arith), lt-ltb largestInteger (value ds) h)
+    go (no n) (yes h) (yes o) = rw (le-ltb mostDigits (length ds) (omega arith), lt-ltb (limit m) (value ds) h)
     go (no n) (yes h) (no o) = absurd (o (inr h))
     go (no n) (no k) (yes (inl o)) = absurd (n o)
     go (no n) (no k) (yes (inr o)) = absurd (k o)
-    go (no n) (no k) (no o) = rw (le-ltb mostDigits (length ds) (omega arith), le-ltb largestInteger (value ds) (omega arith))
+    go (no n) (no k) (no o) = rw (le-ltb mostDigits (length ds) (omega arith), le-ltb (limit m) (value ds) (omega arith))
 literal-cond (raw-str s) d x y = lt-cond longestString (length s) d x y
 
 over-cond : {A : Type 0} (r : Raw) (d : Dec (Over r)) (x y : A) → cond (overLexeme (lexemeOf r)) x y ≡ ite d x y

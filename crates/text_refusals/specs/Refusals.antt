@@ -4,8 +4,9 @@ use mathlib.Core.Bool.{Bool, true, false, cond, not, _||_}
 use Prim.Native.Nat.{ℕ}
 use lib.Dec.{eqb, ltb}
 use Rattle.math_types.specs.Types.{isList}
-use Rattle.base_limits.specs.Limits.{mostFields, mostDigits, largestInteger, longestString, largestNumber}
+use Rattle.base_limits.specs.Limits.{mostFields, mostDigits, longestString, largestNumber}
 use Rattle.math_types.specs.Values.{kindOf}
+use Rattle.text_grammar.specs.constants.Constants.{limit}
 use Rattle.text_grammar.specs.Tokens.{Token}
 use Rattle.text_accepted.specs.declared.linearity.Lists.{Lists}
 use Rattle.text_accepted.specs.linearity.Lists.{noLists, nextField, stillOk, addList}
@@ -25,7 +26,7 @@ use Rattle.text_refusals.specs.declared.Survey.{Survey}
 
 -- refusal 5
 abbrev pub overLiteral : Literal → ℕ → ℕ → Bool
-overLiteral Int n v = ltb mostDigits n || ltb largestInteger v
+overLiteral (Int m) n v = ltb mostDigits n || ltb (limit m) v
 overLiteral Str n v = ltb longestString n
 
 abbrev pub overBy : Spelled → ℕ → ℕ → Bool

@@ -1,7 +1,8 @@
 // Which refusal from 3 on a written term meets, and the first that is tried over the terms of a text so far.
 ghost use mathlib.Core.Path.{_≡_};
 ghost use Rattle.text_refusals.specs.verdicts.Verdicts.{sortOf};
-ghost use Rattle.text_refusals.specs.Refusals.{overLiteral, overLexeme, clashBy, variableBy, lastBad, lastReason, met, addBy, listsAt};
+ghost use Rattle.text_refusals.specs.Refusals.{overLiteral, overLexeme, clashBy, variableBy, lastBad, lastReason, met, addBy};
+ghost use Rattle.text_refusals.specs.Refusals.{listsAt};
 ghost use Rattle.text_refusals.specs.Refusals.{surveyed};
 
 pub mod unknown; // refusal 10
@@ -35,11 +36,11 @@ fn is_literal_over(l: Literal, n: usize, v: u32) -> bool
     ensures { λ r. ⌜ r ≡ overLiteral l n v ⌝ }
 {
     match l {
-        Literal::Int => {
+        Literal::Int(minus) => {
             if base_limits::MOST_DIGITS < n {
                 return true;
             }
-            base_limits::LARGEST_INTEGER < v
+            text_grammar::limit(minus) < v
         }
         Literal::Str => base_limits::LONGEST_STRING < n,
     }

@@ -1,7 +1,7 @@
 -- What the class of a byte tells of it, each by one computed test over all bytes; and what a byte begins, by comparisons. Assumes nothing.
---     fine-small    there are 13 classes
+--     fine-small    there are `classCount` classes
 --     begun-is      which term each class begins
---     starts-int, starts-str, starts-var, starts-empty    what a byte begins, by what the code compares it with
+--     starts-int, starts-minus, starts-str, starts-var, starts-empty    what a byte begins, by what the code compares it with
 use mathlib.Core.Path.{_≡_, refl, sym, _∙_, ap}
 use mathlib.Core.Logic.{_≢_}
 use mathlib.Core.Bool.{Bool, true, false, cond, decide, false≢true}
@@ -18,8 +18,8 @@ use Rattle.math_types.specs.Types as types
 use Rattle.math_types.specs.Values.{kindOf, kindFrom, kind-from-of}
 use Rattle.text_grammar.specs.Letters.{letter}
 use Rattle.text_grammar.proofs.Begun.{begun-digit, begun-letter}
-use Rattle.text_grammar.specs.Bytes.{Digit, digit?, Begins, b-digit, b-quote, b-letter, b-e, b-none, begins}
-use Rattle.text_scan.specs.Classes.{within, fineOf}
+use Rattle.text_grammar.specs.Bytes.{Digit, digit?, Begins, b-digit, b-minus, b-quote, b-letter, b-e, b-none, begins}
+use Rattle.text_scan.specs.Classes.{within, classCount, fineOf}
 use Rattle.text_scan.specs.Lexemes.{begun, isDigit}
 use Rattle.text_scan.specs.declared.Spelled.{Spelled}
 use Rattle.text_scan.specs.declared.Literal.the-variants.{Int, Str}
@@ -27,12 +27,12 @@ use Rattle.text_scan.specs.declared.Spelled.the-variants.{Con, Var, Empt
 
 -- ---- the number of classes
 
-small : T (allBelow (λ b. ltb (fineOf b) 13) 256)
+small : T (allBelow (λ b. ltb (fineOf b) classCount) 256)
 unfolding fineOf
 small = tt
 
-pub fine-small : (b : ℕ) → b < 256 → fineOf b < 13
-fine-small b h = ltb→lt (fineOf b) 13 (all-below (λ b. ltb (fineOf b) 13) 256 small b h)
+pub fine-small : (b : ℕ) → b < 256 → fineOf b < classCount
+fine-small b h = ltb→lt (fineOf b) classCount (all-below (λ b. ltb (fineOf b) classCount) 256 small b h)
 
 -- ---- which term a class begins
 
@@ -42,22 +42,27 @@ kindNamed b [] = list
 kindNamed b (k ∷ s) = cond (eqb b (letter k)) k (kindNamed b s)
 
 abbrev pub begunClass : ℕ → ℕ → Spelled
-begunClass c b = cond (within 1 2 c) (Con Int) (cond (eqb c 3) (Var (kindFrom (kindNamed b kinds))) (cond (eqb c 4) (Con Str) Empty))
+begunClass c b =
+    cond (within 1 2 c) (Con (Int false))
+    (cond (eqb c 13) (Con (Int true)) (cond (eqb c 3) (Var (kindFrom (kindNamed b kinds))) (cond (eqb c 4) (Con Str) Empty)))
 
 abbrev number : Spelled → ℕ
-number (Con Int) = 0
-number (Con Str) = 1
-number Empty = 2
-number (Var k) = suc (suc (suc (rank (kindOf k))))
+number (Con (Int false)) = 0
+number (Con (Int true)) = 1
+number (Con Str) = 2
+number Empty = 3
+number (Var k) = suc (suc (suc (suc (rank (kindOf k)))))
 
 abbrev numbered : ℕ → Spelled
-numbered zero = Con Int
-numbered (suc zero) = Con Str
-numbered (suc (suc zero)) = Empty
-numbered (suc (suc (suc n))) = Var (kindFrom (kindAt n))
+numbered zero = Con (Int false)
+numbered (suc zero) = Con (Int true)
+numbered (suc (suc zero)) = Con Str
+numbered (suc (suc (suc zero))) = Empty
+numbered (suc (suc (suc (suc n)))) = Var (kindFrom (kindAt n))
 
 numbered-number : (s : Spelled) → numbered (number s) ≡ s
-numbered-number (Con Int) = refl
+numbered-number (Con (Int false)) = refl
+numbered-number (Con (Int true)) = refl
 numbered-number (Con Str) = refl
 numbered-number Empty = refl
 numbered-number (Var k) = ap Var (ap kindFrom (kind-at-rank (kindOf k)) ∙ kind-from-of k)
@@ -77,18 +82,25 @@ begun-is b h =
 
 -- ---- what the code answers of a byte b
 
+minus-begun : Con (Int true) ≡ begun (begins 45)
+unfolding begins digit? decLe ℕ-discrete
+minus-begun = refl
+
 quote-begun : Con Str ≡ begun (begins 34)
 unfolding begins digit? decLe ℕ-discrete
 quote-begun = refl
 
 module _ (b : ℕ) where
-  pub starts-int : isDigit b ≡ true → Con Int ≡ begun (begins b)
+  pub starts-int : isDigit b ≡ true → Con (Int false) ≡ begun (begins b)
   unfolding decide
   starts-int e = go (digit? b) e
     where
-      go : (d : Dec (Digit b)) → decide d ≡ true → Con Int ≡ begun (begins b)
+      go : (d : Dec (Digit b)) → decide d ≡ true → Con (Int false) ≡ begun (begins b)
       go (yes p) t = sym (ap begun (begun-digit b (begins b) p .1))
       go (no n) t = absurd (false≢true t)
+
+  pub starts-minus : b ≡ 45 → Con (Int true) ≡ begun (begins b)
+  starts-minus h = minus-begun ∙ ap (λ (n : ℕ). begun (begins n)) (sym h)
 
   pub starts-str : b ≡ 34 → Con Str ≡ begun (begins b)
   starts-str h = quote-begun ∙ ap (λ (n : ℕ). begun (begins n)) (sym h)
@@ -96,9 +108,9 @@ module _ (b : ℕ) where
   pub starts-var : (k : types.Kind) → b ≡ letter k → Var (kindFrom k) ≡ begun (begins b)
   starts-var k h = sym (ap begun (begun-letter k (begins (letter k)) .1)) ∙ ap (λ (n : ℕ). begun (begins n)) (sym h)
 
-  pub starts-empty : isDigit b ≡ false → (b ≡ 34 → ⊥) → (b ≡ 105 → ⊥) → (b ≡ 115 → ⊥) → (b ≡ 97 → ⊥) → (b ≡ 108 → ⊥) → Empty ≡ begun (begins b)
+  pub starts-empty : isDigit b ≡ false → (b ≡ 45 → ⊥) → (b ≡ 34 → ⊥) → (b ≡ 105 → ⊥) → (b ≡ 115 → ⊥) → (b ≡ 97 → ⊥) → (b ≡ 108 → ⊥) → Empty ≡ begun (begins b)
   unfolding decide
-  starts-empty e q i s a l = go (begins b) (digit? b) e
+  starts-empty e p q i s a l = go (begins b) (digit? b) e
     where
       none-of : (k : types.Kind) → b ≡ letter k → ⊥
       none-of = every-kind (λ k. b ≢ letter k) (i, (s, (a, (l, tt))))
@@ -106,10 +118,11 @@ module _ (b : ℕ) where
       go : (v : Begins b) (d : Dec (Digit b)) → decide d ≡ false → Empty ≡ begun v
       go v (yes p) t = absurd (false≢true (sym t))
       go (b-digit h) (no n) t = absurd (n h)
+      go (b-minus h) (no n) t = absurd (p h)
       go (b-quote h) (no n) t = absurd (q h)
       go (b-letter k h) (no n) t = absurd (none-of k h)
       go (b-e h) (no n) t = refl
-      go (b-none d h m o) (no n) t = refl
+      go (b-none d x h m o) (no n) t = refl
 
 -- a digit by its two ends
 pub below : (b : ℕ) → b < 48 → false ≡ isDigit b

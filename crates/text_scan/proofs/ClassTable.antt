@@ -7,8 +7,8 @@ use lib.Dec.{eqb, eqb→eq}
 use lib.ListN.{getD}
 use Rattle.base_lists.specs.Tables.{table}
 use Rattle.base_lists.specs.Arrays.{entry-any}
-use Rattle.text_scan.specs.Classes.{fineOf}
-use Rattle.text_scan.specs.Steps.{steps, next}
+use Rattle.text_scan.specs.Classes.{classCount, fineOf}
+use Rattle.text_scan.specs.Steps.{stateCount, steps, next}
 use Rattle.text_scan.proofs.Bytes.{fine-small}
 
 -- the code's table
@@ -16,7 +16,7 @@ abbrev pub classes : List ℕ
 classes =
     0 ∷ 0 ∷ 0 ∷ 0 ∷ 0 ∷ 0 ∷ 0 ∷ 0 ∷ 0 ∷ 0 ∷ 0 ∷ 0 ∷ 0 ∷ 0 ∷ 0 ∷ 0 ∷  -- 0 to 15
     0 ∷ 0 ∷ 0 ∷ 0 ∷ 0 ∷ 0 ∷ 0 ∷ 0 ∷ 0 ∷ 0 ∷ 0 ∷ 0 ∷ 0 ∷ 0 ∷ 0 ∷ 0 ∷  -- 16 to 31
-    12 ∷ 12 ∷ 4 ∷ 12 ∷ 12 ∷ 12 ∷ 12 ∷ 12 ∷ 12 ∷ 12 ∷ 12 ∷ 12 ∷ 12 ∷ 12 ∷ 12 ∷ 12 ∷  -- 32 to 47
+    12 ∷ 12 ∷ 4 ∷ 12 ∷ 12 ∷ 12 ∷ 12 ∷ 12 ∷ 12 ∷ 12 ∷ 12 ∷ 12 ∷ 12 ∷ 13 ∷ 12 ∷ 12 ∷  -- 32 to 47
     1 ∷ 2 ∷ 2 ∷ 2 ∷ 2 ∷ 2 ∷ 2 ∷ 2 ∷ 2 ∷ 2 ∷ 5 ∷ 12 ∷ 12 ∷ 12 ∷ 12 ∷ 12 ∷  -- 48 to 63
     12 ∷ 12 ∷ 12 ∷ 12 ∷ 12 ∷ 12 ∷ 12 ∷ 12 ∷ 12 ∷ 12 ∷ 12 ∷ 12 ∷ 12 ∷ 12 ∷ 12 ∷ 12 ∷  -- 64 to 79
     12 ∷ 12 ∷ 12 ∷ 12 ∷ 12 ∷ 12 ∷ 12 ∷ 12 ∷ 12 ∷ 12 ∷ 12 ∷ 12 ∷ 12 ∷ 12 ∷ 12 ∷ 12 ∷  -- 80 to 95
@@ -36,11 +36,11 @@ pub class-at : (b : ℕ) → b < 256 → getD classes b 0 ≡ fineOf b
 unfolding fineOf
 class-at b h = table eqb eqb→eq 0 fineOf classes tt b h
 
--- a class read from the table is one of the 13, and the step from it is that from the byte's class
+-- a class read from the table is one of them, and the step from it is that from the byte's class
 module _ (b : ℕ) (hb : b < 256) where
-  pub class-small : getD classes b 0 < 13
+  pub class-small : getD classes b 0 < classCount
   class-small = omega (arith, class-at b hb, fine-small b hb)
 
-  pub step-at : (s d : ℕ) → s < 9 → getD steps (s * 13 + getD classes b 0) d ≡ next s (fineOf b)
+  pub step-at : (s d : ℕ) → s < stateCount → getD steps (s * classCount + getD classes b 0) d ≡ next s (fineOf b)
   unfolding next
-  step-at s d h = entry-any steps (s * 13 + getD classes b 0) d 9 (omega (arith, class-small)) ∙ ap (next s) (class-at b hb)
+  step-at s d h = entry-any steps (s * classCount + getD classes b 0) d stateCount (omega (arith, class-small)) ∙ ap (next s) (class-at b hb)

@@ -1,5 +1,6 @@
 -- Terms as the code answers them, at the edges of document 01, computed from the definitions.
 use mathlib.Core.Path.{_≡_, refl}
+use mathlib.Core.Bool.{true, false}
 use mathlib.Core.List.{_∷_, [], map}
 use Prim.Native.Nat.{ℕ}
 use Prim.Native.String.{String}
@@ -17,12 +18,15 @@ use Rattle.text_scan.specs.declared.Spelled.the-variants.{Con, Var, Empt
 abbrev made : Spelled → ℕ → ℕ → Lexeme
 made w n v = record { what = w; size = n; value = v }
 
--- the largest integer and the next, both exact; a larger one, capped; leading zeros; strings; variables; `empty`, and what begins no term
+-- the largest magnitudes, exact; a larger one, capped; a minus, with and without digits; leading zeros; strings; variables; `empty`, and what begins no term
 pub lexemes :
     map (λ (t : String). lexemeOf (front (bytes t))) (
     "2147483647"
     ∷ "2147483648"
+    ∷ "-2147483649"
     ∷ "99999999999999999999999"
+    ∷ "-007:1"
+    ∷ "--1"
     ∷ "007:1"
     ∷ "\"\""
     ∷ "\"ab\"|1"
@@ -33,10 +37,13 @@ pub lexemes :
     ∷ ""
     ∷ []
     )
-    ≡ made (Con Int) 10 2147483647
-    ∷ made (Con Int) 10 2147483648
-    ∷ made (Con Int) 23 2147483648
-    ∷ made (Con Int) 3 7
+    ≡ made (Con (Int false)) 10 2147483647
+    ∷ made (Con (Int false)) 10 2147483648
+    ∷ made (Con (Int true)) 10 2147483649
+    ∷ made (Con (Int false)) 23 2147483649
+    ∷ made (Con (Int true)) 3 7
+    ∷ made (Con (Int true)) 0 0
+    ∷ made (Con (Int false)) 3 7
     ∷ made (Con Str) 0 0
     ∷ made (Con Str) 2 0
     ∷ made (Var Integer) 2 1

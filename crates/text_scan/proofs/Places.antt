@@ -17,7 +17,7 @@ use Rattle.base_lists.specs.Tables.{allBelow, all-below}
 use Rattle.math_types.specs.Lawful.{either}
 use Rattle.text_grammar.specs.Machine.{State, after, Final, final?, Move, move, thenStop, stop, place2}
 use Rattle.text_scan.specs.Classes.{fineOf, decided}
-use Rattle.text_scan.specs.Steps.{stateOf, next}
+use Rattle.text_scan.specs.Steps.{stateCount, stateOf, next}
 use Rattle.text_scan.specs.Places.{foundOf}
 use Rattle.text_scan.specs.declared.Found.the-variants.{At, Nothing}
 use Rattle.text_scan.proofs.Steps.{onState, step, table-is, next-small}
@@ -44,26 +44,30 @@ stop-step (some q) b z = go (move q b)
     go none = refl
     go (some m) = refl
 
--- the numbers below 9 are states
+-- the numbers below `stateCount` are states
 abbrev live : Option State → Bool
 live none = false
 live (some q) = true
 
-all-live : T (allBelow (λ s. live (stateOf s)) 9)
+all-live : T (allBelow (λ s. live (stateOf s)) stateCount)
 all-live = tt
 
-module _ (i s b : ℕ) (z : List ℕ) (hs : s < 9) (hb : b < 256) where
+module _ (i s b : ℕ) (z : List ℕ) (hs : s < stateCount) (hb : b < 256) where
   -- by the table
   stepped : stopAt (stateOf s) (b ∷ z) ≡ behind (stateOf (next s (fineOf b))) z
   stepped = stop-step (stateOf s) b z ∙ ap (λ (o : Option State). behind o z) (sym (table-is s b hs hb))
 
-  refused-here : next s (fineOf b) ≡ 9 → placeFrom i s (b ∷ z) ≡ some i
+  refused-here : next s (fineOf b) ≡ stateCount → placeFrom i s (b ∷ z) ≡ some i
   refused-here e = ap (Option·map (λ k. i + k)) (stepped ∙ ap (λ (n : ℕ). behind (stateOf n) z) e) ∙ ap some (omega arith)
 
-  goes-on : (next s (fineOf b) ≡ 9 → ⊥) → (next s (fineOf b) < 9) × (placeFrom i s (b ∷ z) ≡ placeFrom (i + 1) (next s (fineOf b)) z)
-  goes-on n = (l, ap (Option·map (λ k. i + k)) stepped ∙ go (stateOf (next s (fineOf b))) (all-below (λ n. live (stateOf n)) 9 all-live (next s (fineOf b)) l))
+  goes-on : (next s (fineOf b) ≡ stateCount → ⊥) → (next s (fineOf b) < stateCount) × (placeFrom i s (b ∷ z) ≡ placeFrom (i + 1) (next s (fineOf b)) z)
+  goes-on n = (
+    l,
+    ap (Option·map (λ k. i + k)) stepped
+        ∙ go (stateOf (next s (fineOf b))) (all-below (λ n. live (stateOf n)) stateCount all-live (next s (fineOf b)) l),
+  )
     where
-      l : next s (fineOf b) < 9
+      l : next s (fineOf b) < stateCount
       l = omega (arith, next-small s b hs hb)
 
       later : (o : Option ℕ) → Option·map (λ k. i + k) (Option·map suc o) ≡ Option·map (λ k. i + 1 + k) o
@@ -87,7 +91,7 @@ isFinal (some q) = decide (final? q)
 abbrev ends-same : ℕ → Bool
 ends-same s = decide (Bool-discrete (isFinal (stateOf s)) (mayEnd s))
 
-ends-agree : T (allBelow ends-same 9)
+ends-agree : T (allBelow ends-same stateCount)
 unfolding decide
 ends-agree = tt
 
@@ -100,10 +104,10 @@ stop-end (some q) = go (final? q)
     go (yes h) = refl
     go (no n) = refl
 
-place-here : (i s : ℕ) → s < 9 → placeFrom i s [] ≡ cond (mayEnd s) none (some i)
+place-here : (i s : ℕ) → s < stateCount → placeFrom i s [] ≡ cond (mayEnd s) none (some i)
 place-here i s h =
     ap (Option·map (λ k. i + k)) (stop-end (stateOf s)
-    ∙ ap (λ (f : Bool). cond f none (some 0)) (decided (Bool-discrete (isFinal (stateOf s)) (mayEnd s)) (all-below ends-same 9 ends-agree s h)))
+    ∙ ap (λ (f : Bool). cond f none (some 0)) (decided (Bool-discrete (isFinal (stateOf s)) (mayEnd s)) (all-below ends-same stateCount ends-agree s h)))
     ∙ go (mayEnd s)
   where
     go : (f : Bool) → Option·map (λ k. i + k) (cond f none (some 0)) ≡ cond f none (some i)
@@ -113,7 +117,7 @@ place-here i s h =
 -- ---- what a loop that stands at i in state s knows of the whole text
 
 abbrev pub PlaceTo : List ℕ → ℕ → ℕ → Type 0
-PlaceTo t i s = (i ≤ length t) × (s < 9) × (place2 t ≡ placeFrom i s (drop i t))
+PlaceTo t i s = (i ≤ length t) × (s < stateCount) × (place2 t ≡ placeFrom i s (drop i t))
 
 pub place-begin : (t : List ℕ) → PlaceTo t 0 0
 place-begin t = (omega arith, omega arith, go (stop t after))
@@ -124,11 +128,11 @@ place-begin t = (omega arith, omega arith, go (stop t after))
 
 module _ (t : List ℕ) (i s : ℕ) (k : PlaceTo t i s) where
   module _ (h : i < length t) (n : ℕ) (e : n ≡ next s (fineOf (getD t i 0))) (hb : getD t i 0 < 256) where
-    pub place-refused : n ≡ 9 → At i ≡ foundOf (place2 t)
+    pub place-refused : n ≡ stateCount → At i ≡ foundOf (place2 t)
     place-refused r =
         sym (ap foundOf (k .2 ∙ ap (placeFrom i s) (drop-cons t i 0 h) ∙ refused-here i s (getD t i 0) (drop (suc i) t) (k .1) hb (sym e ∙ r)))
 
-    pub place-more : (n ≡ 9 → ⊥) → PlaceTo t (i + 1) n
+    pub place-more : (n ≡ stateCount → ⊥) → PlaceTo t (i + 1) n
     place-more r =
         let g = goes-on i s (getD t i 0) (drop (suc i) t) (k .1) hb (λ x. r (e ∙ x)) in
         (omega arith, omega (arith, g .0), k .2 ∙ ap (placeFrom i s) (drop-cons t i 0 h) ∙ g .1 ∙ rw (e, add-one))

@@ -10,7 +10,7 @@ use native.Mathlib.Omega.{arith}
 use native.Mathlib.Decide.{ℕ-discrete, decLe}
 use lib.ListN.{length, drop, getD, drop-of-length-le}
 use lib.Seq.{drop-cons}
-use Rattle.base_limits.specs.Limits.{largestInteger}
+use Rattle.base_limits.specs.Limits.{lowestInteger}
 use Rattle.text_grammar.specs.Bytes.{Digit, digit?}
 use Rattle.text_grammar.specs.Numbers.{val, value}
 use Rattle.text_grammar.specs.Walk.{digits1, leadingDigits, quote1, untilQuote}
@@ -47,9 +47,9 @@ val-grows [] v = omega arith
 val-grows (d ∷ ds) v = omega (arith, val-grows ds (v * 10 + (d - 48)))
 
 capped-early : (ds : List ℕ) (v : ℕ) → capped (val (capped v) ds) ≡ capped (val v ds)
-capped-early ds v = go (decLe v largestInteger)
+capped-early ds v = go (decLe v lowestInteger)
   where
-    go : Dec (v ≤ largestInteger) → capped (val (capped v) ds) ≡ capped (val v ds)
+    go : Dec (v ≤ lowestInteger) → capped (val (capped v) ds) ≡ capped (val v ds)
     go (yes h) = let e : capped v ≡ v = omega arith in ap (λ (n : ℕ). capped (val n ds)) e
     go (no n) = omega (arith, val-grows ds v, val-grows ds (capped v))
 
@@ -58,7 +58,7 @@ abbrev pub DigitsTo : List ℕ → ℕ → ℕ → ℕ → Type 0
 DigitsTo t at i v =
     (at ≤ i)
     × (i ≤ length t)
-    × (v ≤ suc largestInteger)
+    × (v ≤ suc lowestInteger)
     × (length (leadingDigits (drop at t)) ≡ i - at + length (leadingDigits (drop i t)))
     × (capped (value (leadingDigits (drop at t))) ≡ capped (val v (leadingDigits (drop i t))))
 

@@ -2,6 +2,7 @@
 -- The document's five classes are read off the grammar. The code's table holds finer classes,
 -- for the five do not decide the machine's step:
 -- it tells `0` from the other digits, `:` from `|`, and the letters of `empty` from each other and from those of the types.
+-- Document 02's minus is a class of its own.
 --     classByGrammar    a byte's class among the five
 --     fineOf            a byte's finer class
 --     coarse-is         each finer class is a part of one of the five, and a byte's is a part of its own
@@ -16,16 +17,17 @@ use lib.ListN.{getD}
 use Rattle.base_lists.specs.Seqs.{Any, any?}
 use Rattle.base_lists.specs.Tables.{both, allBelow, all-below}
 use Rattle.text_grammar.specs.Letters.{letters}
-use Rattle.text_grammar.specs.Bytes.{digit?, Begins, b-digit, b-quote, b-letter, b-e, b-none, begins, Follows, f-digit, f-colon, f-bar}
+use Rattle.text_grammar.specs.Bytes.{digit?, Begins, b-digit, b-minus, b-quote, b-letter, b-e, b-none, begins, Follows, f-digit, f-colon}
+use Rattle.text_grammar.specs.Bytes.{f-bar}
 use Rattle.text_grammar.specs.Bytes.{f-none}
 use Rattle.text_grammar.specs.Bytes.{follows, Holds, h-quote, h-in, h-none, holds}
 use Rattle.text_grammar.specs.Grammar.{raw-empty, spell}
 
 -- ---- the five classes
 
--- the document's five, and the bytes that no text of the grammar has
+-- document 01's five, document 02's sign, and the bytes that no text of the grammar has
 pub data Class : Type 0 where
-  digit letter quote separator inString nowhere : Class
+  digit letter quote separator inString sign nowhere : Class
   deriving Discrete as class-eq
 
 -- A string may hold any of these bytes but the quote. So a byte is classed by what it may be outside a string,
@@ -49,10 +51,11 @@ module _ {b : ℕ} where
 
   abbrev pub orBegins : Begins b → Class → Class
   orBegins (b-digit h) c = digit
+  orBegins (b-minus h) c = sign
   orBegins (b-quote h) c = quote
   orBegins (b-letter k h) c = letter
   orBegins (b-e h) c = letter
-  orBegins (b-none d q l e) c = c
+  orBegins (b-none d m q l e) c = c
 
 -- by the grammar's own decisions: what the byte may begin, what it may follow, whether `empty` has it, whether a string holds it
 abbrev pub classByGrammar : ℕ → Class
@@ -86,6 +89,10 @@ isIn b (c ∷ cs) = orElse (eqb b c) (isIn b cs)
 -- 6  a separator: `|`, between fields
 -- 7 to 11  a letter: `e`, `m`, `p`, `t`, `y`, the bytes of `empty` in their order
 -- 12  in a string alone
+-- 13  the minus
+abbrev pub classCount : ℕ
+classCount = 14
+
 unfoldable pub fineOf : ℕ → ℕ
 fineOf b =
     pick (eqb b 48) 1
@@ -99,7 +106,8 @@ fineOf b =
     (pick (eqb b 112) 9
     (pick (eqb b 116) 10
     (pick (eqb b 121) 11
-    (pick (within 32 126 b) 12 0)))))))))))
+    (pick (eqb b 45) 13
+    (pick (within 32 126 b) 12 0))))))))))))
 
 -- which of the five a finer class is a part of
 abbrev pub coarse : ℕ → Class
@@ -112,6 +120,7 @@ coarse n =
     ∷ separator ∷ separator
     ∷ letter ∷ letter ∷ letter ∷ letter ∷ letter
     ∷ inString
+    ∷ sign
     ∷ []
     ) n nowhere
 

@@ -7,7 +7,7 @@ ghost use Rattle.text_grammar.specs.Bytes.{begins};
 ghost use Rattle.text_grammar.specs.Machine.{place2};
 ghost use Rattle.text_grammar.specs.Walk.{leadingDigits, untilQuote, front};
 ghost use Rattle.text_scan.specs.Classes.{fineOf};
-ghost use Rattle.text_scan.specs.Lexemes.{capped, counted, withDigits, literalAt, lexemeOf, begun, isDigit};
+ghost use Rattle.text_scan.specs.Lexemes.{capped, counted, withDigits, partOf, lexemeOf, begun, isDigit};
 ghost use Rattle.text_scan.specs.Places.{foundOf};
 ghost use Rattle.text_scan.specs.Steps.{next};
 
@@ -32,7 +32,8 @@ pub enum Found {
 
 // What a constant is written as.
 pub enum Literal {
-    Int,
+    // with a minus or not
+    Int(bool),
     Str,
 }
 
@@ -44,7 +45,7 @@ pub enum Spelled {
 }
 
 // A term as it is written: how many digits an integer or a variable has, or how many bytes a string, and the digits' value.
-// The value is exact up to the largest integer and stops one above it, so that any number of digits can be read.
+// The value is exact up to the largest magnitude of an integer and stops one above it, so that any number of digits can be read.
 pub struct Lexeme {
     pub what: Spelled,
     pub size: usize,
@@ -97,10 +98,10 @@ fn is_digit(b: u8) -> bool
     b <= b'9'
 }
 
-// One above the largest integer.
-const TOO_LARGE: u64 = base_limits::LARGEST_INTEGER as u64 + 1;
+// One above the magnitude of the lowest integer, which is the largest of any.
+const TOO_LARGE: u64 = base_limits::LOWEST_INTEGER as u64 + 1;
 
-// All values past the largest integer count as the same, so that no run of digits overflows.
+// All values past the largest magnitude count as the same, so that no run of digits overflows.
 fn cap(v: u64) -> u64
     ensures { λ r. ⌜ r ≡ capped v ⌝ }
 {
@@ -141,9 +142,10 @@ fn begun_by(b: u8) -> Spelled
     ensures { λ r. ⌜ r ≡ begun (begins b) ⌝ }
 {
     if is_digit(b) {
-        return Spelled::Con(Literal::Int);
+        return Spelled::Con(Literal::Int(false));
     }
     match b {
+        b'-' => Spelled::Con(Literal::Int(true)),
         b'"' => Spelled::Con(Literal::Str),
         b'i' => Spelled::Var(Kind::Integer),
         b's' => Spelled::Var(Kind::String),
@@ -163,18 +165,23 @@ fn with_digits(what: Spelled, d: Digits) -> Lexeme
     }
 }
 
-// The constant that stands at a place.
-fn literal_at(text: &[u8], at: usize, l: Literal) -> Lexeme
-    requires { ⌜ at < length (now text) ⌝ }
-    ensures { λ r. ⌜ r ≡ literalAt l (drop at (now (text .entry))) ⌝ }
+// What a term is made of: digits behind so many bytes, bytes between quotes, or a word.
+enum Part {
+    Numeral(usize),
+    Text,
+    Word,
+}
+
+fn part_of(what: Spelled) -> Part
+    ensures { λ r. ⌜ r ≡ partOf what ⌝ }
 {
-    match l {
-        Literal::Int => with_digits(Spelled::Con(l), digits_from(text, at)),
-        Literal::Str => Lexeme {
-            what: Spelled::Con(l),
-            size: quoted_from(text, at + 1),
-            value: 0,
+    match what {
+        Spelled::Con(l) => match l {
+            Literal::Int(minus) => Part::Numeral(text_grammar::sign_size(minus)),
+            Literal::Str => Part::Text,
         },
+        Spelled::Var(_) => Part::Numeral(1),
+        Spelled::Empty => Part::Word,
     }
 }
 
@@ -190,10 +197,15 @@ pub fn lexeme_at(text: &[u8], at: usize) -> Lexeme
         };
     }
     let what = begun_by(text[at]);
-    match what {
-        Spelled::Con(l) => literal_at(text, at, l),
-        Spelled::Var(_) => with_digits(what, digits_from(text, at + 1)),
-        Spelled::Empty => Lexeme {
+    let part = part_of(what);
+    match part {
+        Part::Numeral(k) => with_digits(what, digits_from(text, at + k)),
+        Part::Text => Lexeme {
+            what,
+            size: quoted_from(text, at + 1),
+            value: 0,
+        },
+        Part::Word => Lexeme {
             what,
             size: 0,
             value: 0,

@@ -27,8 +27,11 @@ pub const Y: u8 = 11;
 
 pub const INSIDE: u8 = 12; // in a string alone
 
+pub const MINUS: u8 = 13; // the sign of an integer
+
 // Document 01: "a table over all 256 byte values says what each byte may begin". The five classes are here in finer ones, which decide
 // the next state: digit (ZERO, DIGIT), letter (LETTER, and E to Y), quote (QUOTE), separator (COLON, BAR), in-string (INSIDE).
+// Document 02 adds the sign (MINUS).
 pub const CLASSES: [u8; 256] = [
     NOWHERE, // 0
     NOWHERE, // 1
@@ -75,7 +78,7 @@ pub const CLASSES: [u8; 256] = [
     INSIDE, // 42 *
     INSIDE, // 43 +
     INSIDE, // 44 ,
-    INSIDE, // 45 -
+    MINUS, // 45 -
     INSIDE, // 46 .
     INSIDE, // 47 /
     ZERO, // 48 0
@@ -306,13 +309,15 @@ pub const AT_T: u8 = 7; // before its `t`
 
 pub const AT_Y: u8 = 8; // before its `y`
 
-pub const REFUSED: u8 = 9;
+pub const AT_DIGITS: u8 = 9; // behind an integer's minus
+
+pub const REFUSED: u8 = 10;
 
 // How many classes there are, so how long a row of the step table is.
-pub const WIDTH: usize = 13;
+pub const WIDTH: usize = 14;
 
 // The next state, a row for each state and a column for each class.
-pub const STEPS: [u8; 117] = [
+pub const STEPS: [u8; 140] = [
     REFUSED, // BEFORE, NOWHERE
     IN_DIGITS, // BEFORE, ZERO
     IN_DIGITS, // BEFORE, DIGIT
@@ -326,6 +331,7 @@ pub const STEPS: [u8; 117] = [
     REFUSED, // BEFORE, T
     REFUSED, // BEFORE, Y
     REFUSED, // BEFORE, INSIDE
+    AT_DIGITS, // BEFORE, MINUS
     REFUSED, // IN_DIGITS, NOWHERE
     IN_DIGITS, // IN_DIGITS, ZERO
     IN_DIGITS, // IN_DIGITS, DIGIT
@@ -339,6 +345,7 @@ pub const STEPS: [u8; 117] = [
     REFUSED, // IN_DIGITS, T
     REFUSED, // IN_DIGITS, Y
     REFUSED, // IN_DIGITS, INSIDE
+    REFUSED, // IN_DIGITS, MINUS
     REFUSED, // AT_NUMBER, NOWHERE
     BEHIND, // AT_NUMBER, ZERO
     IN_DIGITS, // AT_NUMBER, DIGIT
@@ -352,6 +359,7 @@ pub const STEPS: [u8; 117] = [
     REFUSED, // AT_NUMBER, T
     REFUSED, // AT_NUMBER, Y
     REFUSED, // AT_NUMBER, INSIDE
+    REFUSED, // AT_NUMBER, MINUS
     REFUSED, // BEHIND, NOWHERE
     REFUSED, // BEHIND, ZERO
     REFUSED, // BEHIND, DIGIT
@@ -365,6 +373,7 @@ pub const STEPS: [u8; 117] = [
     REFUSED, // BEHIND, T
     REFUSED, // BEHIND, Y
     REFUSED, // BEHIND, INSIDE
+    REFUSED, // BEHIND, MINUS
     REFUSED, // IN_STRING, NOWHERE
     IN_STRING, // IN_STRING, ZERO
     IN_STRING, // IN_STRING, DIGIT
@@ -378,6 +387,7 @@ pub const STEPS: [u8; 117] = [
     IN_STRING, // IN_STRING, T
     IN_STRING, // IN_STRING, Y
     IN_STRING, // IN_STRING, INSIDE
+    IN_STRING, // IN_STRING, MINUS
     REFUSED, // AT_M, NOWHERE
     REFUSED, // AT_M, ZERO
     REFUSED, // AT_M, DIGIT
@@ -391,6 +401,7 @@ pub const STEPS: [u8; 117] = [
     REFUSED, // AT_M, T
     REFUSED, // AT_M, Y
     REFUSED, // AT_M, INSIDE
+    REFUSED, // AT_M, MINUS
     REFUSED, // AT_P, NOWHERE
     REFUSED, // AT_P, ZERO
     REFUSED, // AT_P, DIGIT
@@ -404,6 +415,7 @@ pub const STEPS: [u8; 117] = [
     REFUSED, // AT_P, T
     REFUSED, // AT_P, Y
     REFUSED, // AT_P, INSIDE
+    REFUSED, // AT_P, MINUS
     REFUSED, // AT_T, NOWHERE
     REFUSED, // AT_T, ZERO
     REFUSED, // AT_T, DIGIT
@@ -417,6 +429,7 @@ pub const STEPS: [u8; 117] = [
     AT_Y, // AT_T, T
     REFUSED, // AT_T, Y
     REFUSED, // AT_T, INSIDE
+    REFUSED, // AT_T, MINUS
     REFUSED, // AT_Y, NOWHERE
     REFUSED, // AT_Y, ZERO
     REFUSED, // AT_Y, DIGIT
@@ -430,4 +443,19 @@ pub const STEPS: [u8; 117] = [
     REFUSED, // AT_Y, T
     BEHIND, // AT_Y, Y
     REFUSED, // AT_Y, INSIDE
+    REFUSED, // AT_Y, MINUS
+    REFUSED, // AT_DIGITS, NOWHERE
+    IN_DIGITS, // AT_DIGITS, ZERO
+    IN_DIGITS, // AT_DIGITS, DIGIT
+    REFUSED, // AT_DIGITS, LETTER
+    REFUSED, // AT_DIGITS, QUOTE
+    REFUSED, // AT_DIGITS, COLON
+    REFUSED, // AT_DIGITS, BAR
+    REFUSED, // AT_DIGITS, E
+    REFUSED, // AT_DIGITS, M
+    REFUSED, // AT_DIGITS, P
+    REFUSED, // AT_DIGITS, T
+    REFUSED, // AT_DIGITS, Y
+    REFUSED, // AT_DIGITS, INSIDE
+    REFUSED, // AT_DIGITS, MINUS
 ];

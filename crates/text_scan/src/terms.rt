@@ -39,8 +39,8 @@ fn constant_at(text: &[u8], place: usize, p: Lexeme, l: Literal) -> Term
     ensures { λ r. ⌜ r ≡ termFrom (front (drop place (now (text .entry)))) ⌝ }
 {
     match l {
-        Literal::Int => Term {
-            form: Form::Con(Constant::Int(p.value)),
+        Literal::Int(minus) => Term {
+            form: Form::Con(Constant::Int(text_grammar::sign_of(minus, p.value), p.value)),
             text: [0; base_limits::LONGEST_STRING],
         },
         Literal::Str => {

@@ -3,19 +3,20 @@ ghost use mathlib.Core.Path.{_≡_};
 ghost use mathlib.Core.Bool.{cond};
 ghost use Rattle.math_types.specs.Values.{kindFrom};
 ghost use Rattle.text_values.specs.constants.Constants.{isInside, isZero, textOk, sameBytes, blankConstant, constantKind};
-ghost use Rattle.text_values.specs.constants.Constants.{sameConstant, constantOk, constantBlank};
+ghost use Rattle.text_values.specs.constants.Constants.{sameInteger, sameConstant, integerOk, constantOk, constantBlank};
 use math_types::Kind;
 
-// A constant: an integer's value, or a string's length; its bytes stand beside it, since an enum holds no array.
+// A constant: an integer's sign, whether it is below zero, and its magnitude; or a string's length,
+// whose bytes stand beside it, since an enum holds no array.
 pub enum Constant {
-    Int(u32),
+    Int(bool, u32),
     Str(u8),
 }
 
 pub(crate) fn blank() -> Constant
     ensures { λ r. ⌜ r ≡ blankConstant ⌝ }
 {
-    Constant::Int(0)
+    Constant::Int(false, 0)
 }
 
 // ---- the bytes of a string
@@ -74,6 +75,18 @@ fn same_bytes(a: [u8; base_limits::LONGEST_STRING], b: [u8; base_limits::LONGEST
 
 // ---- a constant, each with the bytes beside it
 
+fn same_integer(x: bool, m: u32, y: bool, n: u32) -> bool
+    ensures { λ r. ⌜ r ≡ sameInteger x m y n ⌝ }
+{
+    if m != n {
+        return false;
+    }
+    if x {
+        return y;
+    }
+    !y
+}
+
 // Whether two constants are one.
 pub fn same(
     a: Constant,
@@ -84,12 +97,12 @@ pub fn same(
     ensures { λ r. ⌜ r ≡ sameConstant a b s t ⌝ }
 {
     match a {
-        Constant::Int(m) => match b {
-            Constant::Int(n) => m == n,
+        Constant::Int(x, m) => match b {
+            Constant::Int(y, n) => same_integer(x, m, y, n),
             Constant::Str(_) => false,
         },
         Constant::Str(k) => match b {
-            Constant::Int(_) => false,
+            Constant::Int(_, _) => false,
             Constant::Str(l) => {
                 if k != l {
                     return false;
@@ -104,9 +117,22 @@ pub fn kind_of(c: Constant) -> Kind
     ensures { λ r. ⌜ r ≡ kindFrom (constantKind c) ⌝ }
 {
     match c {
-        Constant::Int(_) => Kind::Integer,
+        Constant::Int(_, _) => Kind::Integer,
         Constant::Str(_) => Kind::String,
     }
+}
+
+// An integer that reading can return: within the limit of its sign, and no minus zero.
+fn is_integer(minus: bool, n: u32) -> bool
+    ensures { λ r. ⌜ r ≡ integerOk minus n ⌝ }
+{
+    if text_grammar::limit(minus) < n {
+        return false;
+    }
+    if minus {
+        return n != 0;
+    }
+    true
 }
 
 // A constant that reading can return.
@@ -114,8 +140,8 @@ pub(crate) fn is_within(c: Constant, text: [u8; base_limits::LONGEST_STRING]) ->
     ensures { λ r. ⌜ r ≡ constantOk c text ⌝ }
 {
     match c {
-        Constant::Int(n) => {
-            if base_limits::LARGEST_INTEGER < n {
+        Constant::Int(minus, n) => {
+            if !is_integer(minus, n) {
                 return false;
             }
             is_text(text, 0)
@@ -128,7 +154,10 @@ pub(crate) fn is_blank(c: Constant, text: [u8; base_limits::LONGEST_STRING]) -> 
     ensures { λ r. ⌜ r ≡ constantBlank c text ⌝ }
 {
     match c {
-        Constant::Int(n) => {
+        Constant::Int(minus, n) => {
+            if minus {
+                return false;
+            }
             if n != 0 {
                 return false;
             }

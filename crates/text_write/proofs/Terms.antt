@@ -1,5 +1,6 @@
 -- Laws of a term's text, by the form of the value. Assumes nothing.
 use mathlib.Core.Path.{_≡_, refl, sym, ap, _∙_}
+use mathlib.Core.Bool.{Bool, true, false}
 use mathlib.Core.List.{List, [], _∷_, _++_}
 use Prim.Native.Nat.{ℕ, _+_, min}
 use native.Mathlib.Omega.{arith}
@@ -10,7 +11,7 @@ use Rattle.math_types.specs.declared.Kind.{Kind}
 use Rattle.math_types.specs.Values.{kindOf}
 use Rattle.math_terms.specs.Terms.{con}
 use Rattle.text_grammar.specs.Letters.{letter}
-use Rattle.text_grammar.specs.constants.Constants.{raw-str, spellCon}
+use Rattle.text_grammar.specs.constants.Constants.{signed, signSize, raw-str, spellCon}
 use Rattle.text_grammar.specs.Numbers.{digitsOf}
 use Rattle.text_grammar.specs.Plain.{termText}
 use Rattle.text_values.specs.declared.constants.Constant.{Constant}
@@ -37,9 +38,18 @@ module _ (k : ℕ) (s : List ℕ) (long : length s ≡ longestString) where
         b .1 ∙ put-cons 34 (take n s ++ 34 ∷ []) l at ∙ ap (λ (t : List ℕ). sets l at (spellCon (raw-str t))) (sym (take-most k n longestString s long h)),
       )
 
+pub signed-length : (m : Bool) (ds : List ℕ) → length (signed m ds) ≡ signSize m + length ds
+signed-length true ds = omega arith
+signed-length false ds = omega arith
+
+-- a minus, then the digits
+pub put-minus : (m : Bool) (ds l : List ℕ) (at : ℕ) {r : ℕ} {k : List ℕ} → m ≡ true → r ≡ at + 1 + length ds → k ≡ sets (set l at 45) (at + 1) ds
+    → Put (signed m ds) at l r k
+put-minus m ds l at e hr hk = put-as l at (ap (λ (b : Bool). signed b ds) e) (omega arith, hk ∙ put-cons 45 ds l at)
+
 module _ (c : Constant) (s : List ℕ) where
-  pub int-text : (n : ℕ) → c ≡ Int n → termText (con (viewConstant c s)) ≡ digitsOf n
-  int-text n e = rw e
+  pub int-text : (m : Bool) (n : ℕ) → c ≡ Int m n → termText (con (viewConstant c s)) ≡ signed m (digitsOf n)
+  int-text m n e = rw e
 
   pub str-text : (k : ℕ) → c ≡ Str k → termText (con (viewConstant c s)) ≡ spellCon (raw-str (take k s))
   str-text k e = rw e

@@ -2,7 +2,7 @@
 //! right side; many results have about as many terms as a field may have.
 
 use super::halves::{of_line_size, rule_text, side_text, slip_text, tabbed, with_other_tabs};
-use super::matches::{almost_matching, any_start, matching, with_long_slip};
+use super::matches::{almost_matching, any_start, matching, with_long_slip, with_other_sign};
 use super::patterns::{few_constant, filling, pattern};
 use super::rights::{names_of, right_side, with_arrow, wrong_right};
 use super::{any_bytes, any_line, any_slip, damaged, rarely_a_rule};
@@ -14,24 +14,25 @@ const LIMIT: usize = 12_289;
 
 /// A line without its newline: any bytes but 10.
 pub fn carry_line(draw: &mut Draw) -> Vec<u8> {
-    match draw.below(24) {
+    match draw.below(25) {
         0..=6 => line(matching(draw), draw),
         7..=10 => near_the_limit(draw),
         11..=13 => line(almost_matching(draw), draw),
-        14 => line(with_long_slip(draw), draw),
-        15 => {
+        14 => line(with_other_sign(draw), draw),
+        15 => line(with_long_slip(draw), draw),
+        16 => {
             let (left, slip) = matching(draw);
             tabbed(side_text(&left, draw), slip_text(&slip, draw))
         }
-        16 => {
+        17 => {
             let (left, slip) = matching(draw);
             let rule = with_arrow(side_text(&left, draw), wrong_right(&left, draw));
             tabbed(rule, slip_text(&slip, draw))
         }
-        17..=18 => tabbed(rarely_a_rule(draw), slip_text(&any_slip(draw).0, draw)),
-        19..=20 => tabbed(rule_text(&pattern(draw), draw), any_line(draw)),
-        21 => with_other_tabs(line(matching(draw), draw), draw),
-        22 => damaged(line(matching(draw), draw), draw),
+        18..=19 => tabbed(rarely_a_rule(draw), slip_text(&any_slip(draw).0, draw)),
+        20..=21 => tabbed(rule_text(&pattern(draw), draw), any_line(draw)),
+        22 => with_other_tabs(line(matching(draw), draw), draw),
+        23 => damaged(line(matching(draw), draw), draw),
         _ if draw.one_in(2) => any_bytes(draw),
         _ => of_line_size(any_start(draw), LIMIT, draw),
     }

@@ -72,6 +72,7 @@ pub(super) fn of_line_size(mut start: Vec<u8>, limit: usize, draw: &mut Draw) ->
     }
     let filler = draw.pick(&[
         &b"1:"[..],
+        b"-1:",
         b"empty:",
         b"\"x\"|",
         b"1=>",

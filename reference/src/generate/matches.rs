@@ -2,8 +2,8 @@
 //! most others are near to it, and every refusal comes on either side.
 
 use super::halves::{of_line_size, rule_text, slip_text, tabbed, with_other_tabs};
-use super::patterns::{few_constant, filling, pattern};
-use super::{any_bytes, any_line, any_slip, damaged, of_size, rarely_a_rule};
+use super::patterns::{few_constant, filling, pattern, turn_a_sign};
+use super::{any_bytes, any_line, any_slip, damaged, of_size, rarely_a_rule, LARGEST, LOWEST};
 use crate::draw::Draw;
 use crate::terms::{filled, Field, Filling, Kind, Side, Term};
 
@@ -12,16 +12,17 @@ const LIMIT: usize = 12_289;
 
 /// A line without its newline: any bytes but 10.
 pub fn match_line(draw: &mut Draw) -> Vec<u8> {
-    match draw.below(24) {
+    match draw.below(26) {
         0..=7 => line(matching(draw), draw),
-        8..=10 => line(almost_matching(draw), draw),
-        11..=14 => line(with_other_item(draw), draw),
-        15 => line(with_long_slip(draw), draw),
-        16 => line((pattern(draw), any_slip(draw).0), draw),
-        17..=18 => tabbed(rarely_a_rule(draw), slip_text(&any_slip(draw).0, draw)),
-        19..=20 => tabbed(rule_text(&pattern(draw), draw), any_line(draw)),
-        21 => with_other_tabs(line(matching(draw), draw), draw),
-        22 => damaged(line(matching(draw), draw), draw),
+        8..=11 => line(almost_matching(draw), draw),
+        12..=15 => line(with_other_item(draw), draw),
+        16 => line(with_other_sign(draw), draw),
+        17 => line(with_long_slip(draw), draw),
+        18 => line((pattern(draw), any_slip(draw).0), draw),
+        19..=20 => tabbed(rarely_a_rule(draw), slip_text(&any_slip(draw).0, draw)),
+        21..=22 => tabbed(rule_text(&pattern(draw), draw), any_line(draw)),
+        23 => with_other_tabs(line(matching(draw), draw), draw),
+        24 => damaged(line(matching(draw), draw), draw),
         _ if draw.one_in(2) => any_bytes(draw),
         _ => of_line_size(any_start(draw), LIMIT, draw),
     }
@@ -83,6 +84,15 @@ fn with_other_item(draw: &mut Draw) -> (Side, Side) {
     (left, filled(&slip, &lists))
 }
 
+/// The sign of an integer is turned, on either side. It may still match, where
+/// a variable takes that one too.
+pub(super) fn with_other_sign(draw: &mut Draw) -> (Side, Side) {
+    let (mut left, mut slip) = matching(draw);
+    let turned = if draw.one_in(2) { &mut left } else { &mut slip };
+    turn_a_sign(turned, draw);
+    (left, slip)
+}
+
 /// A field more, a field less, or two in each other's place.
 fn change_fields(slip: &mut Vec<Field>, draw: &mut Draw) {
     let (at, other) = (draw.below(slip.len()), draw.below(slip.len()));
@@ -117,7 +127,8 @@ fn of_other_type(item: &Term, draw: &mut Draw) -> Term {
             let value = std::str::from_utf8(bytes)
                 .ok()
                 .and_then(|it| it.parse().ok());
-            Term::Int(value.filter(|&value| value < 1 << 31).unwrap_or(7))
+            let within = |value: &i64| (LOWEST..=LARGEST).contains(value);
+            Term::Int(value.filter(within).unwrap_or(7))
         }
         Term::Var(..) => few_constant(draw),
     }

@@ -3,7 +3,7 @@
 
 use super::halves::{of_line_size, rule_text, tabbed, with_other_tabs};
 use super::large::any_large;
-use super::patterns::{any_kinds, few_constant, insert_list, pattern, sliders};
+use super::patterns::{any_kinds, few_constant, insert_list, pattern, sliders, turn_a_sign};
 use super::{any_bytes, any_left, any_line, damaged, rarely_a_rule, KINDS};
 use crate::draw::Draw;
 use crate::terms::{Field, Filling, Kind, Side, Term};
@@ -13,24 +13,25 @@ const LIMIT: usize = 8_193;
 
 /// A line without its newline: any bytes but 10.
 pub fn pair_line(draw: &mut Draw) -> Vec<u8> {
-    match draw.below(40) {
+    match draw.below(43) {
         0..=13 => sharing(draw),
         14..=17 => almost_sharing(draw),
-        18..=23 => sliding(draw),
-        24..=25 => line(&pattern(draw), &pattern(draw), draw),
-        26 => line(&any_left(draw), &any_left(draw), draw),
-        27..=28 => recurring(draw),
-        29 => with_itself(draw),
-        30 => {
+        18..=20 => with_other_sign(draw),
+        21..=26 => sliding(draw),
+        27..=28 => line(&pattern(draw), &pattern(draw), draw),
+        29 => line(&any_left(draw), &any_left(draw), draw),
+        30..=31 => recurring(draw),
+        32 => with_itself(draw),
+        33 => {
             let line = any_large(draw);
             with_short_rights(line, draw)
         }
-        31..=32 => tabbed(rarely_a_rule(draw), rule_text(&pattern(draw), draw)),
-        33..=34 => tabbed(rule_text(&pattern(draw), draw), rarely_a_rule(draw)),
-        35 => tabbed(rarely_a_rule(draw), rarely_a_rule(draw)),
-        36 => with_other_tabs(sharing(draw), draw),
-        37 => damaged(sharing(draw), draw),
-        38 => any_bytes(draw),
+        34..=35 => tabbed(rarely_a_rule(draw), rule_text(&pattern(draw), draw)),
+        36..=37 => tabbed(rule_text(&pattern(draw), draw), rarely_a_rule(draw)),
+        38 => tabbed(rarely_a_rule(draw), rarely_a_rule(draw)),
+        39 => with_other_tabs(sharing(draw), draw),
+        40 => damaged(sharing(draw), draw),
+        41 => any_bytes(draw),
         _ => of_line_size(any_start(draw), LIMIT, draw),
     }
 }
@@ -45,7 +46,7 @@ fn with_short_rights(line: Vec<u8>, draw: &mut Draw) -> Vec<u8> {
     let mut rules: Vec<Vec<u8>> = line.split(|&it| it == b'\t').map(<[u8]>::to_vec).collect();
     for rule in &mut rules {
         if draw.one_in(3) {
-            rule.extend(draw.pick(&[&b"=>1"[..], b"=>l0:l0", b"=>empty|\"=>\""]));
+            rule.extend(draw.pick(&[&b"=>1"[..], b"=>-1", b"=>l0:l0", b"=>empty|\"=>\""]));
         }
     }
     rules.join(&b'\t')
@@ -81,6 +82,15 @@ fn almost_sharing(draw: &mut Draw) -> Vec<u8> {
         let at = draw.below(changed.len());
         change_field(&mut changed[at], draw);
     }
+    line(&left, &right, draw)
+}
+
+/// The same with the sign of an integer turned, which a variable of the other
+/// rule may still take.
+fn with_other_sign(draw: &mut Draw) -> Vec<u8> {
+    let slip = common_slip(draw);
+    let (mut left, right) = (abstracted(&slip, draw), abstracted(&slip, draw));
+    turn_a_sign(&mut left, draw);
     line(&left, &right, draw)
 }
 
@@ -181,7 +191,7 @@ pub(super) fn recurring_rule(fields: usize, draw: &mut Draw) -> Side {
     let mut rule = Vec::new();
     for index in 0..fields {
         let atom = |draw: &mut Draw| match draw.below(6) {
-            0 => Term::Int(draw.below(2) as u32),
+            0 => Term::Int(draw.pick(&[0, 1, -1, -1])),
             _ => Term::Var(draw.pick(kinds), draw.below(2) as u32),
         };
         let count = draw.below(5);

@@ -1,16 +1,19 @@
 //! Rules in which names and constants recur, and their fillings.
 
-use super::{any_constant, KINDS};
+use super::{any_constant, KINDS, LARGEST, LOWEST};
 use crate::draw::Draw;
 use crate::terms::{Field, Filling, Kind, Side, Term};
 
-const FEW_INTEGERS: [u32; 5] = [0, 1, 2, 7, 2_147_483_647];
+/// Half of them below zero, and as far from it as others above.
+const FEW_INTEGERS: [i64; 8] = [0, 1, -1, -1, 7, -7, LARGEST, LOWEST];
 
 /// Some look like the integers, like variables, separators or arrows.
-const FEW_STRINGS: [&[u8]; 10] = [
+const FEW_STRINGS: [&[u8]; 12] = [
     b"",
     b"1",
     b"7",
+    b"-7",
+    b"-",
     b"m",
     b"i0",
     b"matt white",
@@ -26,6 +29,21 @@ pub(super) fn few_constant(draw: &mut Draw) -> Term {
         0..=3 => Term::Int(draw.pick(&FEW_INTEGERS)),
         4..=6 => Term::Str(draw.pick(&FEW_STRINGS).to_vec()),
         _ => any_constant(draw),
+    }
+}
+
+/// The other sign for one of the integers, where there is one.
+pub(super) fn turn_a_sign(fields: &mut [Field], draw: &mut Draw) {
+    let mut integers = Vec::new();
+    for term in fields.iter_mut().flatten() {
+        if let Term::Int(value) = term {
+            integers.push(value);
+        }
+    }
+    if !integers.is_empty() {
+        let at = draw.below(integers.len());
+        // The lowest one has no opposite.
+        *integers[at] = (-*integers[at]).min(LARGEST);
     }
 }
 
@@ -65,6 +83,7 @@ pub(super) fn insert_list(field: &mut Field, number: usize, draw: &mut Draw) {
 pub(super) fn sliders(fields: usize, most: usize, draw: &mut Draw) -> (Side, Side) {
     let kinds = any_kinds(draw);
     let constants = draw.pick(&[3, 10, 100]);
+    let integers = draw.pick(&[[1, 1, 1, -1], [-1, -1, -1, 1]]);
     let numbers = draw.below(13);
     let (mut left, mut right) = (Vec::new(), Vec::new());
     for index in 0..fields {
@@ -76,7 +95,7 @@ pub(super) fn sliders(fields: usize, most: usize, draw: &mut Draw) -> (Side, Sid
         for (end, rule) in rules.into_iter().enumerate() {
             let count = draw.below(most + 1);
             let mut field: Field = (0..count)
-                .map(|_| sliding_atom(kinds, constants, draw))
+                .map(|_| sliding_atom(kinds, constants, &integers, draw))
                 .collect();
             let anywhere = draw.below(count + 1);
             let at = draw.pick(&[end * count, end * count, anywhere]);
@@ -87,9 +106,10 @@ pub(super) fn sliders(fields: usize, most: usize, draw: &mut Draw) -> (Side, Sid
     (left, right)
 }
 
-fn sliding_atom(kinds: &[Kind], constants: usize, draw: &mut Draw) -> Term {
+/// One of the integers for every so many atoms.
+fn sliding_atom(kinds: &[Kind], constants: usize, integers: &[i64], draw: &mut Draw) -> Term {
     if draw.one_in(constants) {
-        Term::Int(draw.pick(&[1, 1, 1, 2]))
+        Term::Int(draw.pick(integers))
     } else {
         Term::Var(draw.pick(kinds), draw.below(16) as u32)
     }

@@ -13,9 +13,9 @@ const ARROW: &[u8] = b"=>";
 
 /// What may stand where an arrow is looked for. A text that has one of these
 /// between its sides is seldom a rule.
-const BROKEN_ARROWS: [&[u8]; 20] = [
+const BROKEN_ARROWS: [&[u8]; 23] = [
     b"", b"=", b">", b"= >", b"=x", b"=1", b"=\"", b"==>", b"=>>", b"=>=", b"=>=>", b"->", b">=",
-    b" =>", b"=> ", b":=>", b"=>:", b"|=>", b"=>|", b"=\xff>",
+    b" =>", b"=> ", b":=>", b"=>:", b"|=>", b"=>|", b"=\xff>", b"-=>", b"=>-", b"=->",
 ];
 
 /// The text of a rule with these sides.
@@ -76,7 +76,7 @@ pub(super) fn wrong_right(left: &[Field], draw: &mut Draw) -> Vec<u8> {
         }
         1 => {
             let count = 15 + draw.below(4);
-            let term = draw.pick(&[&b"1"[..], b"empty", b"\":\""]);
+            let term = draw.pick(&[&b"1"[..], b"-1", b"empty", b"\":\""]);
             let at = draw.below(fields.len());
             fields[at].resize(count, term.to_vec());
         }

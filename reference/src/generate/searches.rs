@@ -2,11 +2,13 @@
 //! the program lends. Most fields can be made equal, many in several ways;
 //! rows and rooms are often just enough, or one too small.
 
+use std::slice::from_mut;
+
 use super::halves::{of_line_size, rule_text, side_text, tabbed, with_other_tabs};
 use super::pairs::{abstracted, change_field, recurring_rule};
-use super::patterns::{any_kinds, few_constant, pattern, sliders};
+use super::patterns::{any_kinds, few_constant, pattern, sliders, turn_a_sign};
 use super::rights::{right_side, with_arrow};
-use super::{any_bytes, any_left, any_line, damaged, rarely_a_rule};
+use super::{any_bytes, any_left, any_line, damaged, rarely_a_rule, with_minuses};
 use crate::draw::Draw;
 use crate::search::search;
 use crate::terms::{Field, Kind, Side, Term};
@@ -66,7 +68,7 @@ fn any_start(draw: &mut Draw) -> Vec<u8> {
 
 /// The two fields of an equation.
 fn fields(draw: &mut Draw) -> (Field, Field) {
-    match draw.below(20) {
+    match draw.below(22) {
         0..=6 => sharing(draw),
         7..=8 => {
             let (mut left, right) = sharing(draw);
@@ -89,6 +91,8 @@ fn fields(draw: &mut Draw) -> (Field, Field) {
             (field.clone(), field)
         }
         18 => equal_constants(draw),
+        19 => with_other_sign(equal_constants(draw), draw),
+        20 => with_other_sign(sharing(draw), draw),
         _ => wide(draw),
     }
 }
@@ -115,6 +119,11 @@ fn sharing(draw: &mut Draw) -> (Field, Field) {
 fn equal_constants(draw: &mut Draw) -> (Field, Field) {
     let constants: Field = (0..draw.below(17)).map(|_| few_constant(draw)).collect();
     (constants.clone(), constants)
+}
+
+fn with_other_sign((mut left, right): (Field, Field), draw: &mut Draw) -> (Field, Field) {
+    turn_a_sign(from_mut(&mut left), draw);
+    (left, right)
 }
 
 /// A list variable at an end of many atoms on one side and among as many on
@@ -144,9 +153,9 @@ fn wide(draw: &mut Draw) -> (Field, Field) {
     }
 }
 
-/// Two texts that are not both rules of one field.
+/// Two texts that are seldom both rules of one field.
 fn not_both_fields(draw: &mut Draw) -> (Vec<u8>, Vec<u8>) {
-    let other = match draw.below(4) {
+    let other = match draw.below(5) {
         0 => rule_text(&pattern(draw), draw),
         1 => {
             let left = [first(pattern(draw))];
@@ -154,6 +163,7 @@ fn not_both_fields(draw: &mut Draw) -> (Vec<u8>, Vec<u8>) {
             with_arrow(side_text(&left, draw), side_text(&right, draw))
         }
         2 => rule_text(&recurring_rule(2, draw), draw),
+        3 => with_minuses(draw),
         _ => rarely_a_rule(draw),
     };
     let field = first(pattern(draw));

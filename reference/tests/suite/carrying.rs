@@ -37,6 +37,25 @@ fn results_are_plain_text() {
 }
 
 #[test]
+fn minus_amounts() {
+    assert_carried("1=>-1", "1", "yes -1");
+    assert_carried("-1=>1", "-01", "yes 1");
+    assert_carried("-1=>2", "1", "no 1");
+    assert_carried("1=>2", "-1", "no -1");
+    assert_carried("0=>-0:-007", "-0", "yes 0:-7");
+    assert_carried("i0:l0=>l0:i0|-2", "-3:-0:3", "yes 0:3:-3|-2");
+    assert_carried("a0:a0=>a0", "-1:1", "no -1:1");
+    assert_carried("a0:a0=>a0", "-0:0", "yes 0");
+    assert_carried("-1=>-2147483648", "-1", "yes -2147483648");
+    assert_carried("-1=>-2147483649", "-1", "refused rule 5 at 4");
+    assert_carried("-1=>-", "-1", "refused rule 2 at 5");
+    assert_carried("-1=>2", "-1:-", "refused slip 2 at 4");
+    let (slip, longer) = (times(64, "-1"), times(64, "-01"));
+    assert_carried("l0=>l0", &longer, &format!("yes {slip}"));
+    assert_carried("l0=>l0:-1", &longer, &format!("refusal 11 {slip}"));
+}
+
+#[test]
 fn a_slip_that_does_not_match_is_unchanged() {
     assert_carried("1=>2", "2", "no 2");
     assert_carried("1=>2", "1|1", "no 1|1");

@@ -43,12 +43,16 @@ fn count_lines(input: &[u8]) -> usize {
 
 #[test]
 fn prints_a_rule_and_a_slip_for_each_line() {
-    let input = b"a0:l0\n007:empty|\"m\"\nemp\nl0|l0\ni16\nl0=>01:l0\ni0=>a0\n";
+    let input = b"a0:l0\n007:empty|\"m\"\n-007:-0\n1:-\nemp\nl0|l0\ni16\nl0=>01:l0\ni0=>a0\n";
     let expected = "\
 rule a0:l0
 slip refused 7 at 0
 rule 7|\"m\"
 slip read
+rule -7:0
+slip read
+rule refused 2 at 3
+slip refused 2 at 3
 rule refused 2 at 3
 slip refused 2 at 3
 rule refused 6 at 3

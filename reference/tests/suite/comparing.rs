@@ -106,6 +106,10 @@ fn list_variables_are_no_atoms() {
 fn the_item_that_fails_is_counted() {
     assert_count("7", "8", 1);
     assert_count("7", "\"7\"", 1);
+    assert_count("-7:1", "7:1", 1);
+    assert_count("-7:1", "-007:-1", 2);
+    assert_count("a0:a0:1", "-1:1:1", 2);
+    assert_count("0:1", "-0:2", 2);
     assert_count("i0", "\"7\"", 1);
     assert_count("s0", "7", 1);
     assert_count("a0:a0", "1:2", 2);

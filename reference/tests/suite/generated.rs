@@ -42,7 +42,7 @@ fn slips_return_from_their_plain_text() {
 #[test]
 fn equal_rules_and_only_they_have_the_same_plain_text() {
     let texts = [
-        "1", "01", "empty", "1:empty", "\"1\"", "i1", "s1", "11", "l1",
+        "1", "01", "-1", "-01", "0", "-0", "empty", "1:empty", "\"1\"", "i1", "s1", "11", "l1",
     ];
     let between = [":", "|", "=>"];
     let mut draw = Draw::new(3);
@@ -78,9 +78,16 @@ fn any_piece(draw: &mut Draw) -> (String, bool, Option<Term>) {
         0 => ("empty".to_string(), true, None),
         1 if oversize => (quoted(16), false, None),
         1 => (quoted(15), true, Some(string("x".repeat(15)))),
-        2 if oversize => ("2147483648".to_string(), false, None),
-        3 if oversize => ("00000000000".to_string(), false, None),
-        2 | 3 => ("0000000012".to_string(), true, Some(int(12))),
+        2 if oversize => {
+            let text = draw.pick(&["2147483648", "-2147483649"]);
+            (text.to_string(), false, None)
+        }
+        3 if oversize => {
+            let text = draw.pick(&["00000000000", "-00000000000"]);
+            (text.to_string(), false, None)
+        }
+        2 => ("0000000012".to_string(), true, Some(int(12))),
+        3 => ("-2147483648".to_string(), true, Some(int(-2147483648))),
         4 if draw.one_in(8) => {
             let number = draw.below(17) as u32;
             (format!("l{number}"), number < 16, Some(var(b'l', number)))

@@ -8,6 +8,7 @@ mod comparing_by_trial;
 mod generated;
 mod matching;
 mod matching_by_trial;
+mod minus;
 mod overlaps_by_trial;
 mod pairs;
 mod places;

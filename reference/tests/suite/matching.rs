@@ -31,6 +31,33 @@ fn constants() {
 }
 
 #[test]
+fn minus_amounts() {
+    assert_match("-1", "-1", "yes 1");
+    assert_match("-1", "1", "no 1");
+    assert_match("1", "-1", "no 1");
+    assert_match("-007", "-7", "yes 1");
+    assert_match("-7", "-0000000007", "yes 1");
+    assert_match("-0", "0", "yes 1");
+    assert_match("0", "-0000000000", "yes 1");
+    assert_match("-2147483648", "-2147483648", "yes 1");
+    assert_match("-2147483648", "-2147483647", "no 1");
+    assert_match("\"-1\"", "-1", "no 1");
+    assert_match("i0", "-7", "yes 1 i0=-7");
+    assert_match("i0", "-0", "yes 1 i0=0");
+    assert_match("a0", "-2147483648", "yes 1 a0=-2147483648");
+    assert_match("s0", "-7", "no 1");
+    assert_match("l0", "-007:7", "yes 0 l0=-7:7");
+    assert_match("a0:a0", "-1:1", "no 2");
+    assert_match("a0:a0", "-1:-01", "yes 2 a0=-1");
+    assert_match("a0:a0", "-0:0", "yes 2 a0=0");
+    assert_match("i0|i0", "7|-7", "no 2");
+    assert_match("-", "1", "refused rule 2 at 1");
+    assert_match("1", "--1", "refused slip 2 at 1");
+    assert_match("-2147483649", "1", "refused rule 5 at 0");
+    assert_match("1", "-1:-2147483649", "refused slip 5 at 3");
+}
+
+#[test]
 fn strings_are_no_integers() {
     assert_match("1", "\"1\"", "no 1");
     assert_match("\"1\"", "1", "no 1");

@@ -37,7 +37,7 @@ fn compare(fields: usize, constants: &[Term], longest: usize, rules: usize, seed
 
 #[test]
 fn one_field() {
-    compare(1, &[int(1), int(2), string("1")], 5, 300, 1);
+    compare(1, &[int(1), int(-1), string("1")], 5, 300, 1);
 }
 
 #[test]

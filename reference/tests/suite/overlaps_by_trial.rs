@@ -157,7 +157,7 @@ fn compare(size: (usize, usize), more: usize, constants: &[Term], pairs: usize, 
 
 #[test]
 fn one_field() {
-    compare((1, 3), 1, &[int(1), int(2), string("1")], 200, 1);
+    compare((1, 3), 1, &[int(1), int(-1), string("1")], 200, 1);
 }
 
 #[test]
@@ -177,7 +177,7 @@ fn four_fields() {
 
 /// A value for each variable of the fields.
 fn any_filling(fields: &[Field], draw: &mut Draw) -> Filling {
-    let integer = |draw: &mut Draw| int(draw.pick(&[0, 1, 2, 7]));
+    let integer = |draw: &mut Draw| int(draw.pick(&[0, 1, -1, 2, 7, -7]));
     let text = |draw: &mut Draw| string(draw.pick(&["", "1", "m"]));
     let any = |draw: &mut Draw| {
         if draw.one_in(2) {

@@ -124,6 +124,38 @@ fn constants() {
 }
 
 #[test]
+fn minus_amounts() {
+    assert_pair(
+        "i0:l0",
+        "l0:-2",
+        &[
+            "-2 <i0=-2 <l0=empty >l0=empty",
+            "i0:l0:-2 <i0=i0 <l0=l0:-2 >l0=i0:l0",
+        ],
+    );
+    assert_pair("-0", "0", &["0"]);
+    assert_pair("a0:a0", "-1:1", &[]);
+    assert_pair("-007", "-7", &["-7"]);
+    assert_pair("-7", "7", &[]);
+    assert_pair("-7", "\"-7\"", &[]);
+    assert_pair("i0", "-5", &["-5 <i0=-5"]);
+    assert_pair("-5", "s0", &[]);
+    assert_pair("a0:a0", "-1:-001", &["-1:-1 <a0=-1"]);
+    assert_pair("a0:a0", "0:-0", &["0:0 <a0=0"]);
+    assert_pair("a0|a0", "a0|-3", &["-3|-3 <a0=-3 >a0=-3"]);
+    assert_pair("-1:l0", "l0:1", &["-1:l0:1 <l0=l0:1 >l0=-1:l0"]);
+    assert_pair(
+        "-1:l0=>-2",
+        "l0:-1=>2",
+        &["-1 <l0=empty >l0=empty", "-1:l0:-1 <l0=l0:-1 >l0=-1:l0"],
+    );
+    let lowest = "-2147483648";
+    assert_pair(lowest, "l0", &["-2147483648 >l0=-2147483648"]);
+    assert_pair("-2147483649", "l0", &["refused left 5 at 0"]);
+    assert_pair("l0", "--1", &["refused right 2 at 1"]);
+}
+
+#[test]
 fn types() {
     let table = [
         ("i0", "i0", "i0 <i0=i0 >i0=i0"),

@@ -7,7 +7,7 @@ use reference::reading::{read_rule, read_slip, Refusal};
 
 use crate::support::{show, Draw};
 
-const ALPHABET: &[u8] = b"01ilempty\":| \x7f=>";
+const ALPHABET: &[u8] = b"01-ilempty\":| \x7f=>";
 
 /// Every text that can be completed at all is completed by one of these:
 /// nothing, a whole term or number, a closing quote, the rest of `empty`, the
@@ -45,6 +45,7 @@ fn is_term(bytes: &[u8]) -> bool {
         [b'i' | b's' | b'a' | b'l', number @ ..] => {
             are_digits(number) && (number == b"0" || number[0] != b'0')
         }
+        [b'-', digits @ ..] => are_digits(digits),
         _ => are_digits(bytes),
     }
 }
@@ -105,8 +106,20 @@ fn compare_all(text: &mut Vec<u8>, places: [usize; 2], longer_by: usize) -> usiz
 
 #[test]
 fn the_definition_knows_the_grammar() {
-    let texts = ["1", "007", "i10", "\"\"", "\":|\"", "empty", "1:empty|l0"];
-    let others = ["", "i", "i01", "\"", "\"\"\"", "emp", "1:", "|1", "1 "];
+    let texts = [
+        "1",
+        "007",
+        "-1",
+        "-007",
+        "i10",
+        "\"\"",
+        "\":|\"",
+        "empty",
+        "1:empty|l0",
+    ];
+    let others = [
+        "", "i", "i01", "\"", "\"\"\"", "emp", "1:", "|1", "1 ", "-", "--1", "-i0", "1-2",
+    ];
     for grammar in [is_rule as Grammar, is_side] {
         assert!(texts.iter().all(|text| grammar(text.as_bytes())));
         assert!(!others.iter().any(|text| grammar(text.as_bytes())));
@@ -123,14 +136,14 @@ fn the_definition_knows_the_grammar() {
 #[test]
 fn all_short_texts() {
     let count = compare_all(&mut Vec::new(), [0, 0], 5);
-    assert_eq!(count, (0..=5).map(|length| 16usize.pow(length)).sum());
+    assert_eq!(count, (0..=5).map(|length| 17usize.pow(length)).sum());
 }
 
 /// Longer texts, of the grammar but for a few bytes changed.
 #[test]
 fn damaged_texts() {
     let terms = [
-        "0", "12", "007", "i0", "l15", "s1", "\"\"", "\"m: |\"", "\"=>\"", "empty",
+        "0", "12", "007", "-3", "i0", "l15", "s1", "\"\"", "\"m: |\"", "\"=>\"", "empty",
     ];
     let separators = [":", ":", ":", ":", ":", "|", "|", "=>"];
     let mut draw = Draw::new(0x9E37_79B9_7F4A_7C15);

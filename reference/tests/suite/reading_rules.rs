@@ -87,7 +87,7 @@ fn first_byte_that_cannot_stand() {
         (":", 0),
         (" ", 0),
         (" 1", 0),
-        ("-1", 0),
+        ("+1", 0),
         ("x0", 0),
         ("I0", 0),
         ("Empty", 0),
@@ -143,8 +143,8 @@ fn every_byte_alone() {
     for byte in 0..=255u8 {
         let text = [byte];
         match byte {
-            b'0'..=b'9' => assert_rule(text, vec![vec![int(u32::from(byte - b'0'))]]),
-            b'i' | b's' | b'a' | b'l' | b'e' | b'"' => assert_not_grammar(text, 1),
+            b'0'..=b'9' => assert_rule(text, vec![vec![int(i64::from(byte - b'0'))]]),
+            b'i' | b's' | b'a' | b'l' | b'e' | b'"' | b'-' => assert_not_grammar(text, 1),
             _ => assert_not_grammar(text, 0),
         }
     }
@@ -191,8 +191,8 @@ fn every_byte_behind_a_letter() {
 
 #[test]
 fn every_byte_behind_a_term() {
-    for term in ["1", "1:2", "i1", "i0", "\"\"", "empty"] {
-        let number_may_go_on = matches!(term, "1" | "1:2" | "i1");
+    for term in ["1", "-1", "-0", "1:2", "i1", "i0", "\"\"", "empty"] {
+        let number_may_go_on = !matches!(term, "i0" | "\"\"" | "empty");
         for byte in 0..=255u8 {
             let mut text = term.as_bytes().to_vec();
             text.push(byte);
@@ -219,6 +219,7 @@ fn sizes_play_no_part_in_the_grammar() {
         times(17, "1"),
         times(65, "1"),
         "2147483648".to_string(),
+        "-2147483649".to_string(),
         "9".repeat(100),
         "i16".to_string(),
         format!("s{}", "9".repeat(100)),
@@ -355,6 +356,7 @@ fn the_leftmost_size_counts() {
     assert_rule_refused("i16:s16", 5, 0);
     assert_rule_refused("1:i16|s16", 5, 2);
     assert_rule_refused("1|2147483648|i16", 5, 2);
+    assert_rule_refused("-1|-2147483649|i16", 5, 3);
     assert_rule_refused(format!("i15:{}:i16", quoted(16)), 5, 4);
     assert_rule_refused("empty:empty|empty:99999999999", 5, 18);
 }

@@ -56,6 +56,11 @@ fn broken_arrows() {
         ("1=> 2", 3),
         ("1>2", 1),
         ("1->2", 1),
+        ("1-=>2", 1),
+        ("1=->2", 2),
+        ("1=>-", 4),
+        ("1=>-=>2", 4),
+        ("-=>1", 1),
         ("1=>|2", 3),
         ("1=>:2", 3),
         ("1=>2|", 5),
@@ -81,10 +86,10 @@ fn every_byte_behind_the_arrow() {
         let text = [b'1', b'=', b'>', byte];
         match byte {
             b'0'..=b'9' => {
-                let right = vec![vec![int(u32::from(byte - b'0'))]];
+                let right = vec![vec![int(i64::from(byte - b'0'))]];
                 assert_whole_rule(text, vec![vec![int(1)]], right);
             }
-            b'i' | b's' | b'a' | b'l' | b'e' | b'"' => assert_rule_refused(text, 2, 4),
+            b'i' | b's' | b'a' | b'l' | b'e' | b'"' | b'-' => assert_rule_refused(text, 2, 4),
             _ => assert_rule_refused(text, 2, 3),
         }
         let text = [b'1', b'=', byte];
@@ -139,10 +144,13 @@ fn numbers_of_fields_and_terms_begin_anew() {
 fn sizes_on_the_right() {
     assert_rule_refused("1=>2147483648", 5, 3);
     assert_rule_refused("1=>00000000000", 5, 3);
+    assert_rule_refused("1=>-2147483649", 5, 3);
+    assert_rule_refused("-1=>-00000000000", 5, 4);
     assert_rule_refused(format!("1=>2:{}", quoted(16)), 5, 5);
     assert_rule_refused("i15=>1|i16", 5, 7);
     assert_rule_refused("i16=>i16", 5, 0);
     assert_whole_rule("1=>007", vec![vec![int(1)]], vec![vec![int(7)]]);
+    assert_whole_rule("-1=>-007", vec![vec![int(-1)]], vec![vec![int(-7)]]);
 }
 
 #[test]
@@ -222,6 +230,7 @@ fn plain_texts() {
     let table = [
         ("1=>2", "1=>2"),
         ("007:empty=>empty:007", "7=>7"),
+        ("-007:-0=>-0:-007", "-7:0=>0:-7"),
         ("empty:empty=>empty:empty|empty", "empty=>empty|empty"),
         ("\"=>\"=>\"=>\"", "\"=>\"=>\"=>\""),
         ("l0=>l0:9|empty", "l0=>l0:9|empty"),

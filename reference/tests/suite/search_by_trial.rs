@@ -100,7 +100,7 @@ fn compare(atoms: usize, longest: usize, constants: &[Term], pairs: usize, seed:
 
 #[test]
 fn few_atoms_and_three_constants() {
-    compare(2, 5, &[int(1), int(2), string("1")], 400, 1);
+    compare(2, 5, &[int(1), int(-1), string("1")], 400, 1);
 }
 
 #[test]

@@ -1,6 +1,9 @@
 //! Overlap lines read back. Their variables' numbers go up to 31 and their
 //! fields to 31 terms, so the reader of rules will not do.
 
+use std::fmt::Debug;
+use std::str::FromStr;
+
 use reference::terms::{Field, Filling, Kind, Name, Term};
 
 pub struct Shown {
@@ -63,13 +66,13 @@ fn read_term(text: &str) -> Term {
 
 fn read_name(text: &str) -> Option<Name> {
     let kind = Kind::from_letter(text.as_bytes()[0])?;
-    let number = read_number(&text[1..]);
+    let number: u32 = read_number(&text[1..]);
     assert!(number <= 31);
     Some((kind, number))
 }
 
-fn read_number(text: &str) -> u32 {
-    let number: u32 = text.parse().unwrap();
+fn read_number<T: FromStr<Err: Debug> + ToString>(text: &str) -> T {
+    let number: T = text.parse().unwrap();
     assert_eq!(number.to_string(), text);
     number
 }

@@ -66,6 +66,24 @@ fn the_pairs_of_document_01() {
     assert_search("a0:a0\t1:\"1\"", &[]);
 }
 
+#[test]
+fn minus_amounts() {
+    assert_search("i0\t-2:l0", &["<i0=-2 >l0=empty"]);
+    assert_search("a0:a0\t-1:1", &[]);
+    assert_search("-7\t7", &[]);
+    assert_search("-7\t\"-7\"", &[]);
+    assert_search("-007\t-7", &["", ""]);
+    assert_search("-0\t0", &["", ""]);
+    let lines = FIGURE_8.map(|line| line.replace('2', "-2"));
+    assert_search("l0:-2\ta0:l0", &lines.each_ref().map(String::as_str));
+    assert_search("-2147483648\ti0", &[">i0=-2147483648"]);
+    assert_eq!(answer("-2147483649\ti0"), NOT_FIELDS);
+    assert_eq!(answer("i0\t-"), NOT_FIELDS);
+    // Only where a field stands is it a sign.
+    assert_search("-1\t-1\t-\t-", &["", ""]);
+    assert_eq!(answer("-1\t-1\t-1"), "bad row\n");
+}
+
 /// Remove and Decomp3 both apply to equal constants.
 #[test]
 fn repeats_stay() {

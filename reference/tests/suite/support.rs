@@ -6,7 +6,7 @@ pub use reference::draw::Draw;
 use reference::reading::{read_rule, read_slip, Refusal};
 use reference::terms::{Field, Filling, Kind, Name, Rule, Side, Slip, Term};
 
-pub fn int(value: u32) -> Term {
+pub fn int(value: i64) -> Term {
     Term::Int(value)
 }
 

@@ -11,6 +11,11 @@ fn plain_texts_of_rules() {
         ("007", "7"),
         ("0000000000", "0"),
         ("2147483647", "2147483647"),
+        ("-007", "-7"),
+        ("-0", "0"),
+        ("-0000000000", "0"),
+        ("-2147483648", "-2147483648"),
+        ("\"-0\"", "\"-0\""),
         ("empty", "empty"),
         ("empty:empty", "empty"),
         ("empty:1", "1"),
@@ -34,7 +39,10 @@ fn plain_texts_of_rules() {
 fn plain_texts_of_slips() {
     let table = [
         ("007:empty|\"m\"", "7|\"m\"".to_string()),
+        ("-007:-0|\"-\"", "-7:0|\"-\"".to_string()),
+        ("-12|-3", "-12|-3".to_string()),
         ("empty", "empty".to_string()),
+        (&times(64, "-00"), times(64, "0")),
         (&times(64, "00"), times(64, "0")),
         (&times(64, "empty"), "empty".to_string()),
     ];
@@ -49,6 +57,7 @@ fn plain_texts_of_slips() {
 fn plain_texts_of_fields() {
     assert_eq!(plain_field(&[]), b"empty");
     assert_eq!(plain_field(&[int(0)]), b"0");
+    assert_eq!(plain_field(&[int(-2), int(0), int(2)]), b"-2:0:2");
     assert_eq!(
         plain_field(&[int(1), string(":"), var(b'l', 3)]),
         b"1:\":\":l3"
@@ -68,7 +77,10 @@ fn unreadable() -> Vec<Vec<Field>> {
         vec![vec![]; 5],
         vec![vec![int(1); 65]],
         vec![vec![int(2147483648)]],
-        vec![vec![int(u32::MAX)]],
+        vec![vec![int(i64::from(u32::MAX))]],
+        vec![vec![int(-2147483649)]],
+        vec![vec![int(i64::MIN)]],
+        vec![vec![int(i64::MAX)]],
         vec![vec![string("x".repeat(16))]],
         vec![vec![string("\"")]],
         vec![vec![string("\":\"")]],

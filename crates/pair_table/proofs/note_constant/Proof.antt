@@ -4,8 +4,8 @@ use borrow.Author.Needs.{needs}
 use Rattle.pair_table.proofs.note_constant.Statement.{statement}
 use Rattle.pair_table.proofs.note_constant.Tie as tie
 
-put-bytes-requires : tie.Need-put-bytes-requires
-put-bytes-requires c κs = search needs
+put-cell-requires : tie.Need-put-cell-requires
+put-cell-requires c κs = search needs
 
 put-class-requires : tie.Need-put-class-requires
 put-class-requires c κs = search needs
@@ -34,12 +34,12 @@ returns c =
     let c14 = c9 .before .before .before .before .before in
     let c18 = c14 .before .before .before .before in
     let c23 = c18 .before .before .before .before .before in (
-      c18 .put-bytes .ensures,
+      c18 .put-cell .ensures,
       rw (
         c2 .join-member .ensures,
         c7 .put-at .ensures,
         ← c14 .put-class .ensures,
-        ← c18 .put-bytes .ensures,
+        ← c18 .put-cell .ensures,
         ← c9 .code-of .ensures,
         eq-eqb (c9 .code-of .result) (c23 .args .p) (c4 .if1 .taken),
       ),
@@ -58,11 +58,11 @@ returns-2 c =
     let c10 = c5 .before .before .before .before .before in
     let c14 = c10 .before .before .before .before in
     let c19 = c14 .before .before .before .before .before in (
-      c14 .put-bytes .ensures,
+      c14 .put-cell .ensures,
       rw (
         c3 .put-at .ensures,
         ← c10 .put-class .ensures,
-        ← c14 .put-bytes .ensures,
+        ← c14 .put-cell .ensures,
         ← c5 .code-of .ensures,
         ne-eqb (c5 .code-of .result) (c19 .args .p) (c .if1 .left),
       ),
@@ -72,7 +72,7 @@ pub note-constant-spec : {M : Type 1} → statement M
 note-constant-spec =
     tie.close
     (tie.spec
-    put-bytes-requires
+    put-cell-requires
     put-class-requires
     code-of-requires
     put-at-requires

@@ -3,29 +3,20 @@ use borrow.Author.Needs.{needs}
 use Rattle.pair_table.proofs.note_literal.Statement.{statement}
 use Rattle.pair_table.proofs.note_literal.Tie as tie
 
+enum-known-l : tie.Need-enum-known-l
+enum-known-l c = search needs
+
+note-integer-requires : tie.Need-note-integer-requires
+note-integer-requires c κs = search needs
+
 enum-told : tie.Need-enum-told
 enum-told c = search needs
-
-leading-zeros-requires : tie.Need-leading-zeros-requires
-leading-zeros-requires c κs = search needs
 
 add-note-constant : tie.Need-add-note-constant
 add-note-constant c = search needs
 
-sub-note-constant : tie.Need-sub-note-constant
-sub-note-constant c = search needs
-
 note-constant-requires : tie.Need-note-constant-requires
 note-constant-requires c κs = search needs
-
-enum-told-2 : tie.Need-enum-told-2
-enum-told-2 c = search needs
-
-add-note-constant-2 : tie.Need-add-note-constant-2
-add-note-constant-2 c = search needs
-
-note-constant-requires-2 : tie.Need-note-constant-requires-2
-note-constant-requires-2 c κs = search needs
 
 same-length : tie.Need-same-length
 same-length c = search needs
@@ -36,8 +27,7 @@ same-length-2 c = search needs
 returns : tie.Need-returns
 returns c =
     let n = c .before .before .before .before in
-    let z = n .before .before .before in
-    rw (z .before .enum-told .given .1, ← z .leading-zeros .ensures .0) (n .note-constant .ensures .1, n .note-constant .ensures .0)
+    rw (n .before .before .before .before .l .given .1) (n .note-integer .ensures .0, n .note-integer .ensures .1)
 
 same-length-3 : tie.Need-same-length-3
 same-length-3 c = search needs
@@ -48,20 +38,17 @@ same-length-4 c = search needs
 returns-2 : tie.Need-returns-2
 returns-2 c =
     let n = c .before .before .before .before in
-    rw (n .before .before .before .enum-told2 .given .1) (n .note-constant2 .ensures .1, n .note-constant2 .ensures .0)
+    rw (n .before .before .before .enum-told .given .1) (n .note-constant .ensures .1, n .note-constant .ensures .0)
 
 pub note-literal-spec : {M : Type 1} → statement M
 note-literal-spec =
     tie.close
     (tie.spec
+    enum-known-l
+    note-integer-requires
     enum-told
-    leading-zeros-requires
     add-note-constant
-    sub-note-constant
     note-constant-requires
-    enum-told-2
-    add-note-constant-2
-    note-constant-requires-2
     same-length
     same-length-2
     returns

@@ -61,6 +61,11 @@ table =
     record { rule = "a0:a0"; slip = "1:1"; variables = "a0"; answers = matches 2 "1" } ∷
     record { rule = "a0:a0"; slip = "1:\"1\""; variables = "a0"; answers = fails 2 } ∷
     record { rule = "a0:a0"; slip = "007:7"; variables = "a0"; answers = matches 2 "7" } ∷
+    -- integers are equal by their values, signs and all
+    record { rule = "a0:a0"; slip = "-1:1"; variables = "a0"; answers = fails 2 } ∷
+    record { rule = "a0:a0"; slip = "-0:0"; variables = "a0"; answers = matches 2 "0" } ∷
+    record { rule = "i0:-7"; slip = "-7:-007"; variables = "i0"; answers = matches 2 "-7" } ∷
+    record { rule = "7"; slip = "-7"; variables = "i0"; answers = fails 1 } ∷
     -- a list variable may take no terms
     record { rule = "i0:l0"; slip = "3"; variables = "i0:l0"; answers = matches 1 "3|empty" } ∷
     record { rule = "l0:2"; slip = "2"; variables = "l0"; answers = matches 1 "empty" } ∷

@@ -130,7 +130,8 @@ sides-leave x (f ∷ y) h = (
   left-clean x (h .0),
   clean-plain (f ∷ y) (h .1 .0) (h .1 .1) (h .1 .2),
   left-linear x (h .0),
-  unknown-tokens (map rawField x) (map rawField (f ∷ y)) .1 (subst (λ (l : OurFields). VarsIn l (fieldsOf (map rawField x))) (sym (back (f ∷ y) (right-ok (f ∷ y) (h .1))))
+  unknown-tokens (map rawField x) (map rawField (f ∷ y)) .1
+      (subst (λ (l : OurFields). VarsIn l (fieldsOf (map rawField x))) (sym (back (f ∷ y) (right-ok (f ∷ y) (h .1))))
       (subst (VarsIn (f ∷ y)) (sym (back x (left-ok x (h .0)))) (h .2))),
 )
 

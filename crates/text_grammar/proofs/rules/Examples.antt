@@ -11,8 +11,9 @@ use Rattle.math_terms.specs.Terms.{con, var}
 use Rattle.text_grammar.specs.Ascii.{ascii}
 use Rattle.text_grammar.specs.Bytes.{digit?, begins, follows, first, holds}
 use Rattle.text_grammar.specs.Tokens.{fifth?, many?, over?, clash?, clashOf?}
-use Rattle.text_grammar.specs.constants.Constants.{int, str}
+use Rattle.text_grammar.specs.constants.Constants.{str}
 use Rattle.text_grammar.specs.Read.{Reason, long, grammar, fields, terms, limits, linear, unknown, OutcomeOf, refused, accepted, readSide, readSlip}
+use Rattle.text_grammar.proofs.Examples.{whole}
 use Rattle.text_grammar.specs.rules.Tokens.{occurs?, has?}
 use Rattle.text_grammar.specs.rules.Sides.{joined}
 use Rattle.text_grammar.specs.rules.Read.{OurRule, readRule}
@@ -77,17 +78,17 @@ written (accepted w) = plainBoth w
 
 pub copies :
     map (λ (t : String). written (readRule (ascii t)))
-    ("\"=>\"=>1" ∷ "l0=>l0:l0|l0" ∷ "007=>empty:empty|empty:08" ∷ "empty=>\"=\":\">\"" ∷ "i0:a0|s15=>s15|a0|i0:i0" ∷ "1:02|l3" ∷ [])
+    ("\"=>\"=>1" ∷ "l0=>l0:l0|l0" ∷ "007=>empty:empty|empty:08" ∷ "empty=>\"=\":\">\"" ∷ "i0:a0|s15=>s15|a0|i0:i0" ∷ "1:02|l3" ∷ "i0:-007=>-0:i0" ∷ [])
     ≡ map (λ (t : String). ascii t)
-    ("\"=>\"=>1" ∷ "l0=>l0:l0|l0" ∷ "7=>empty|8" ∷ "empty=>\"=\":\">\"" ∷ "i0:a0|s15=>s15|a0|i0:i0" ∷ "1:2|l3" ∷ [])
+    ("\"=>\"=>1" ∷ "l0=>l0:l0|l0" ∷ "7=>empty|8" ∷ "empty=>\"=\":\">\"" ∷ "i0:a0|s15=>s15|a0|i0:i0" ∷ "1:2|l3" ∷ "i0:-7=>0:i0" ∷ [])
 unfolding decLe decLt ℕ-discrete digit? begins follows first holds fifth? many? over? any? clash? clashOf? occurs? has?
 copies = refl
 
 pub read-values :
     map (λ (t : String). readRule (ascii t)) ("\"=>\"=>1" ∷ "l0=>l0:l0|l0" ∷ "1" ∷ [])
-    ≡ accepted (((con (str (61 ∷ (62 ∷ []))) ∷ []) ∷ []), ((con (int 1) ∷ []) ∷ []))
+    ≡ accepted (((con (str (61 ∷ (62 ∷ []))) ∷ []) ∷ []), ((whole 1 ∷ []) ∷ []))
     ∷ accepted (((var list 0 ∷ []) ∷ []), ((var list 0 ∷ var list 0 ∷ []) ∷ (var list 0 ∷ []) ∷ []))
-    ∷ accepted (((con (int 1) ∷ []) ∷ []), [])
+    ∷ accepted (((whole 1 ∷ []) ∷ []), [])
     ∷ []
 unfolding decLe decLt ℕ-discrete digit? begins follows first holds fifth? many? over? any? clash? clashOf? occurs? has?
 read-values = refl

@@ -1,5 +1,6 @@
 -- What begins a rule text: a beginning of a side; a side and `=`; a side, `=>`, and a beginning of a side.
 use mathlib.Core.Path.{_≡_, refl, sym, _∙_, ap, ap₂, subst}
+use mathlib.Core.Bool.{true, false}
 use mathlib.Core.Logic.{_⊎_, inl, inr}
 use mathlib.Core.List.{List, [], _∷_, _++_, append-assoc, append-nil, nil≢cons, head-eq-of-cons-eq, tail-eq-of-cons-eq}
 use Prim.Native.Nat.{ℕ}
@@ -44,7 +45,7 @@ pub data Shape (p : List ℕ) : Type 0 where
   in-right : (a u : List ℕ) → Grammar a → Viable u → p ≡ joined a u → Shape p
 
 zero-text : Grammar (48 ∷ [])
-zero-text = ((raw-con (raw-int (48 ∷ [])) ∷ []) ∷ [], ((tt, ((tt, ((tt, ((omega arith, omega arith), tt)), tt)), tt)), refl))
+zero-text = ((raw-con (raw-int false (48 ∷ [])) ∷ []) ∷ [], ((tt, ((tt, ((tt, ((omega arith, omega arith), tt)), tt)), tt)), refl))
 
 pub shape-viable : (p : List ℕ) → Shape p → ViableOf RuleGrammar p
 shape-viable p (in-left v) = (v .0, one-grammar (p ++ v .0) (v .1))

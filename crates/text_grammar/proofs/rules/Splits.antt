@@ -8,7 +8,7 @@ use native.Mathlib.Omega.{arith}
 use Rattle.text_grammar.specs.Bytes.{Digit, Follows, f-digit, f-colon, f-bar, f-none, follows}
 use Rattle.text_grammar.specs.Grammar.{Grammar}
 use Rattle.text_grammar.specs.Place.{Viable}
-use Rattle.text_grammar.specs.Machine.{State, after, digits, number, done, quoted, must, Move, goD, goE, move, Final}
+use Rattle.text_grammar.specs.Machine.{State, after, minus, digits, number, done, quoted, must, Move, goD, goE, move, Final}
 use Rattle.text_grammar.proofs.Place.{run, thenRun, onward, Accepts, grammar-run, viable-run, run-append}
 
 -- no text goes on with c where it may end
@@ -32,6 +32,7 @@ foreign c d k b done h = go (follows c)
     go (f-colon x) = absurd (k x)
     go (f-bar x) = absurd (b x)
     go (f-none x y z) = refl
+foreign c d k b minus h = absurd h
 foreign c d k b quoted h = absurd h
 foreign c d k b (must x xs) h = absurd h
 

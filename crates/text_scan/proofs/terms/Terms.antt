@@ -1,5 +1,6 @@
 -- The value of a written term, case by case as code makes it from its lexeme.
 use mathlib.Core.Path.{_≡_, refl, sym, _∙_, ap, ap₂}
+use mathlib.Core.Bool.{Bool, true, false}
 use mathlib.Core.List.{List, [], _∷_}
 use Prim.Native.Nat.{ℕ, zero, suc, _+_, _%_, _<_, _≤_, min}
 use native.Mathlib.Numerals.{add-one}
@@ -10,9 +11,10 @@ use lib.Seq.{drop-cons, take-all}
 use Rattle.base_limits.specs.Limits.{longestString}
 use Rattle.math_types.specs.declared.Kind.{Kind}
 use Rattle.math_types.specs.Values.{kindFrom}
-use Rattle.text_grammar.specs.Bytes.{Begins, b-digit, b-quote, b-letter, b-e, b-none, begins}
+use Rattle.text_grammar.specs.Bytes.{Begins, b-digit, b-minus, b-quote, b-letter, b-e, b-none, begins}
 use Rattle.text_grammar.specs.Grammar.{Raw, raw-var, raw-empty, raw-con}
-use Rattle.text_grammar.specs.constants.Constants.{raw-int, raw-str}
+use Rattle.text_grammar.specs.constants.Constants.{signOf, raw-int, raw-str}
+use Rattle.text_grammar.specs.Numbers.{value}
 use Rattle.text_grammar.specs.Walk.{leadingDigits, quote1, untilQuote, frontB, front}
 use Rattle.text_values.specs.declared.constants.Constant.the-variants as constant
 use Rattle.text_values.specs.declared.Form.the-variants as form
@@ -22,7 +24,7 @@ use Rattle.text_scan.specs.declared.Lexeme.{Lexeme}
 use Rattle.text_scan.specs.declared.Spelled.{Spelled}
 use Rattle.text_scan.specs.declared.Literal.the-variants.{Int, Str}
 use Rattle.text_scan.specs.declared.Spelled.the-variants.{Con, Var, Empty}
-use Rattle.text_scan.specs.Lexemes.{lexemeOf}
+use Rattle.text_scan.specs.Lexemes.{capped, lexemeOf}
 use Rattle.text_scan.specs.terms.Terms.{termFrom}
 
 never : {A : Type 0} (n : ℕ) → _≡_ {A = ℕ} 0 1 → A
@@ -34,16 +36,20 @@ what-of p r w e h = ap (λ (x : Lexeme). x .what) (sym e) ∙ h
 pub term-past : (t : List ℕ) (place : ℕ) → length t ≤ place → blankTerm ≡ termFrom (front (drop place t))
 term-past t place h = ap (λ (l : List ℕ). termFrom (front l)) (sym (drop-of-length-le t {i = place} h))
 
-pub term-int : (p : Lexeme) (r : Raw) → p ≡ lexemeOf r → p .what ≡ Con Int
-    → record { form = form.Con (constant.Int (p .value)); text = replicate longestString 0 } ≡ termFrom r
-term-int p (raw-con (raw-int ds)) e h = ap (λ (x : Lexeme). record { form = form.Con (constant.Int (x .value)); text = replicate longestString 0 }) e
-term-int p (raw-con (raw-str s)) e h = let q = what-of p (raw-con (raw-str s)) (Con Int) e h in never 0 (cc)
-term-int p (raw-var k ds) e h = let q = what-of p (raw-var k ds) (Con Int) e h in never 0 (cc)
-term-int p raw-empty e h = let q = what-of p raw-empty (Con Int) e h in never 0 (cc)
+pub term-int : (p : Lexeme) (r : Raw) (m s : Bool) → p ≡ lexemeOf r → p .what ≡ Con (Int m) → s ≡ signOf m (p .value)
+    → record { form = form.Con (constant.Int s (p .value)); text = replicate longestString 0 } ≡ termFrom r
+term-int p (raw-con (raw-int n ds)) m s e h k =
+    let q = what-of p (raw-con (raw-int n ds)) (Con (Int m)) e h in
+    let w : n ≡ m = cc in
+    let v : p .value ≡ capped (value ds) = ap (λ (x : Lexeme). x .value) e in
+    ap₂ (λ (b : Bool) (j : ℕ). record { form = form.Con (constant.Int b j); text = replicate longestString 0 }) (k ∙ ap₂ signOf (sym w) v) v
+term-int p (raw-con (raw-str s)) m b e h k = let q = what-of p (raw-con (raw-str s)) (Con (Int m)) e h in never 0 (cc)
+term-int p (raw-var j ds) m b e h k = let q = what-of p (raw-var j ds) (Con (Int m)) e h in never 0 (cc)
+term-int p raw-empty m b e h k = let q = what-of p raw-empty (Con (Int m)) e h in never 0 (cc)
 
 pub term-var : (p : Lexeme) (r : Raw) (k : Kind) → p ≡ lexemeOf r → p .what ≡ Var k
     → record { form = form.Var k (p .value % 256); text = replicate longestString 0 } ≡ termFrom r
-term-var p (raw-con (raw-int ds)) k e h = let q = what-of p (raw-con (raw-int ds)) (Var k) e h in never 0 (cc)
+term-var p (raw-con (raw-int m ds)) k e h = let q = what-of p (raw-con (raw-int m ds)) (Var k) e h in never 0 (cc)
 term-var p (raw-con (raw-str s)) k e h = let q = what-of p (raw-con (raw-str s)) (Var k) e h in never 0 (cc)
 term-var p (raw-var j ds) k e h =
     let q = what-of p (raw-var j ds) (Var k) e h in
@@ -52,7 +58,7 @@ term-var p (raw-var j ds) k e h =
 term-var p raw-empty k e h = let q = what-of p raw-empty (Var k) e h in never 0 (cc)
 
 pub term-empty : (p : Lexeme) (r : Raw) → p ≡ lexemeOf r → p .what ≡ Empty → blankTerm ≡ termFrom r
-term-empty p (raw-con (raw-int ds)) e h = let q = what-of p (raw-con (raw-int ds)) Empty e h in never 0 (cc)
+term-empty p (raw-con (raw-int m ds)) e h = let q = what-of p (raw-con (raw-int m ds)) Empty e h in never 0 (cc)
 term-empty p (raw-con (raw-str s)) e h = let q = what-of p (raw-con (raw-str s)) Empty e h in never 0 (cc)
 term-empty p (raw-var k ds) e h = let q = what-of p (raw-var k ds) Empty e h in never 0 (cc)
 term-empty p raw-empty e h = refl
@@ -78,7 +84,8 @@ take-least s w = go (ℕ-discrete (min (length s) w) w)
 string-is : (b : ℕ) (z : List ℕ) (c : Begins b) (p : Lexeme) (n : ℕ) (bytes : List ℕ) → p ≡ lexemeOf (frontB b z c)
     → p .what ≡ Con Str → n ≡ min (p .size) longestString → bytes ≡ pad longestString 0 (take n z)
     → record { form = form.Con (constant.Str n); text = bytes } ≡ termFrom (frontB b z c)
-string-is b z (b-digit h) p n bytes e w k q = let x = what-of p (raw-con (raw-int (b ∷ leadingDigits z))) (Con Str) e w in never 0 (cc)
+string-is b z (b-digit h) p n bytes e w k q = let x = what-of p (raw-con (raw-int false (b ∷ leadingDigits z))) (Con Str) e w in never 0 (cc)
+string-is b z (b-minus h) p n bytes e w k q = let x = what-of p (raw-con (raw-int true (leadingDigits z))) (Con Str) e w in never 0 (cc)
 string-is b z (b-quote h) p n bytes e w k q =
     let s = untilQuote z in
     let size : p .size ≡ length s = ap (λ (x : Lexeme). x .size) e in
@@ -89,7 +96,7 @@ string-is b z (b-quote h) p n bytes e w k q =
     ∙ ap (pad longestString 0) (until-take z (min (length s) longestString) (omega arith) ∙ take-least s longestString))
 string-is b z (b-letter j h) p n bytes e w k q = let x = what-of p (raw-var j (leadingDigits z)) (Con Str) e w in never 0 (cc)
 string-is b z (b-e h) p n bytes e w k q = let x = what-of p raw-empty (Con Str) e w in never 0 (cc)
-string-is b z (b-none d x l y) p n bytes e w k q = let x = what-of p raw-empty (Con Str) e w in never 0 (cc)
+string-is b z (b-none d m x l y) p n bytes e w k q = let x = what-of p raw-empty (Con Str) e w in never 0 (cc)
 
 pub term-str : (t : List ℕ) (place : ℕ) (p : Lexeme) (n : ℕ) (bytes : List ℕ) → place < length t
     → p ≡ lexemeOf (front (drop place t)) → p .what ≡ Con Str → n ≡ min (p .size) longestString

@@ -10,6 +10,9 @@ enum-known-a c = search needs
 enum-known-b : tie.Need-enum-known-b
 enum-known-b c = search needs
 
+same-integer-requires : tie.Need-same-integer-requires
+same-integer-requires c κs = search needs
+
 enum-told : tie.Need-enum-told
 enum-told c = search needs
 
@@ -29,7 +32,7 @@ same-bytes-requires : tie.Need-same-bytes-requires
 same-bytes-requires c κs = search needs
 
 returns-2 : tie.Need-returns-2
-returns-2 c = rw (c .before .before .before .before .a .given .1, c .before .b .given .1)
+returns-2 c = rw (c .before .before .before .before .before .a .given .1, c .before .before .b .given .1) (c .same-integer .ensures)
 
 returns-3 : tie.Need-returns-3
 returns-3 c = search needs
@@ -48,6 +51,7 @@ same-spec =
     (tie.spec
     enum-known-a
     enum-known-b
+    same-integer-requires
     enum-told
     enum-known-a-2
     enum-told-2

@@ -1,23 +1,20 @@
--- `text_write::constants::put` meets its contract: from what the writers of digits and of strings ensure. Assumes nothing.
+-- `text_write::constants::put` meets its contract: from what the writers of integers and of strings ensure. Assumes nothing.
 use mathlib.Core.Path.{ap}
 use native.Mathlib.Omega.{arith}
 use lib.ListN.{length}
-use borrow.Author.Needs.{needs}
 use Rattle.text_write.proofs.Stores.{put-as}
 use Rattle.text_write.proofs.Terms.{int-text, str-text}
+use borrow.Author.Needs.{needs}
 use Rattle.text_write.proofs.constants.put.Statement.{statement}
 use Rattle.text_write.proofs.constants.put.Tie as tie
 
 enum-known-c : tie.Need-enum-known-c
 enum-known-c c = search needs
 
-cast-put-digits : tie.Need-cast-put-digits
-cast-put-digits c = search needs
-
-put-digits-requires : tie.Need-put-digits-requires
-put-digits-requires c κs =
+put-integer-requires : tie.Need-put-integer-requires
+put-integer-requires c κs =
     let z = c .before .before .before .before .before in
-    omega (arith, z .pre, ap length (int-text (z .args .c) (z .args .text) _ (c .before .before .c .given .1)))
+    omega (arith, z .pre, ap length (int-text (z .args .c) (z .args .text) _ _ (c .before .before .c .given .1)))
 
 enum-known-c-2 : tie.Need-enum-known-c-2
 enum-known-c-2 c = search needs
@@ -33,8 +30,8 @@ same-length c = search needs
 returns : tie.Need-returns
 returns c =
     let z = c .before .before .before .before .before .before .before .before .args in
-    put-as (z .out .now) (z .at) (int-text (z .c) (z .text) _ (c .before .before .before .before .before .c .given .1))
-    (c .before .before .put-digits .ensures)
+    put-as (z .out .now) (z .at) (int-text (z .c) (z .text) _ _ (c .before .before .before .before .before .c .given .1))
+    (c .before .before .put-integer .ensures)
 
 same-length-2 : tie.Need-same-length-2
 same-length-2 c = search needs
@@ -50,8 +47,7 @@ put-spec =
     tie.close
     (tie.spec
     enum-known-c
-    cast-put-digits
-    put-digits-requires
+    put-integer-requires
     enum-known-c-2
     put-string-requires
     same-length
