@@ -1,10 +1,10 @@
-/* Reading tinting rules, listing the overlaps of two, and carrying one out on
- * a slip: the functions of libyopobrush.a, which `rt staticlib yopobrush`
- * writes.
+/* Reading tinting rules, listing the overlaps of two or asking whether there
+ * are any, and carrying one out on a slip: the functions of libyopobrush.a,
+ * which `rt staticlib yopobrush` writes.
  *
  * No pointer may be null, also where its length is 0, and the bytes lent for
  * an answer may share none with the texts. Nothing else is asked. A listing
- * takes up to a megabyte of stack. */
+ * takes up to a megabyte of stack, and asking no more. */
 #ifndef YOPOBRUSH_H
 #define YOPOBRUSH_H
 
@@ -36,6 +36,15 @@ struct yopobrush_listing {
     uint64_t bytes;
 };
 
+/* How each of two texts is read, and whether the rules that they say overlap:
+ * 1 where some slip is matched by both, so that their list has an entry, and 0
+ * where none is, or where a text is refused. */
+struct yopobrush_overlapping {
+    struct yopobrush_reading left;
+    struct yopobrush_reading right;
+    uint64_t overlap;
+};
+
 /* What carrying out a rule on a slip answers. */
 enum yopobrush_answer {
     YOPOBRUSH_NO = 0,        /* no match, or no right side: the slip unchanged */
@@ -65,6 +74,11 @@ struct yopobrush_listing yopobrush_list_overlaps(
     const uint8_t *left, size_t left_length,
     const uint8_t *right, size_t right_length,
     uint8_t *out, size_t out_length);
+
+/* Nothing is listed, so a yes comes with the first entry. */
+struct yopobrush_overlapping yopobrush_texts_overlap(
+    const uint8_t *left, size_t left_length,
+    const uint8_t *right, size_t right_length);
 
 /* The text goes to the front of `out`; the bytes behind it stay. No text has
  * more than 4,607 bytes. */

@@ -19,6 +19,14 @@ pub struct Listing {
     pub bytes: u64,
 }
 
+/// How each text is read; 1 where their rules overlap, or 0.
+#[repr(C)]
+pub struct Overlapping {
+    pub left: Reading,
+    pub right: Reading,
+    pub overlap: u64,
+}
+
 /// How each text is read; 0 for no, 1 for yes, 11 or 8; the bytes of the text
 /// that is written, or that has no room.
 #[repr(C)]
@@ -40,6 +48,13 @@ extern "C" {
         out: *mut u8,
         out_length: usize,
     ) -> Listing;
+
+    fn yopobrush_texts_overlap(
+        left: *const u8,
+        left_length: usize,
+        right: *const u8,
+        right_length: usize,
+    ) -> Overlapping;
 
     fn yopobrush_carry_out(
         rule: *const u8,
@@ -72,8 +87,13 @@ pub fn list_overlaps(left: &[u8], right: &[u8], out: &mut [u8]) -> Listing {
     }
 }
 
+pub fn texts_overlap(left: &[u8], right: &[u8]) -> Overlapping {
+    // SAFETY: as of `read_rule`.
+    unsafe { yopobrush_texts_overlap(left.as_ptr(), left.len(), right.as_ptr(), right.len()) }
+}
+
 pub fn carry_out(rule: &[u8], slip: &[u8], out: &mut [u8]) -> Carrying {
-    // SAFETY: as above.
+    // SAFETY: as of `list_overlaps`.
     unsafe {
         yopobrush_carry_out(
             rule.as_ptr(),
@@ -83,5 +103,28 @@ pub fn carry_out(rule: &[u8], slip: &[u8], out: &mut [u8]) -> Carrying {
             out.as_mut_ptr(),
             out.len(),
         )
+    }
+}
+
+#[cfg(test)]
+mod tests {
+    use super::*;
+
+    /// How both texts are read is told, and a refused one overlaps none.
+    #[test]
+    fn a_refused_text_gives_its_refusal_and_no() {
+        let accepted = ("a0", (0, 0));
+        let refused = [("i01", (2, 2)), ("l0:l1", (6, 3)), ("a0=>i0", (10, 4))];
+        let texts = [&refused[..], &[accepted]].concat();
+        let read = |reading: Reading| (reading.refusal, reading.place);
+        for (left, left_read) in &texts {
+            for (right, right_read) in &texts {
+                let answer = texts_overlap(left.as_bytes(), right.as_bytes());
+                let both = [left_read, right_read] == [&(0, 0), &(0, 0)];
+                assert_eq!(answer.overlap, both as u64, "{left} and {right}");
+                assert_eq!(read(answer.left), *left_read, "{left} and {right}");
+                assert_eq!(read(answer.right), *right_read, "{left} and {right}");
+            }
+        }
     }
 }

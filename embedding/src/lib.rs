@@ -1,6 +1,7 @@
-//! Reading tinting rules, listing the overlaps of two, and carrying one out on
-//! a slip, through the static library `libyopobrush.a`, whose functions are
-//! proved to answer and to write exactly what their definitions say.
+//! Reading tinting rules, listing the overlaps of two or asking whether there
+//! are any, and carrying one out on a slip, through the static library
+//! `libyopobrush.a`, whose functions are proved to answer and to write exactly
+//! what their definitions say.
 //!
 //! ```
 //! let mut room = [0; 100];
@@ -14,7 +15,8 @@
 //! ```
 //!
 //! No input makes a call panic. A listing takes up to a megabyte of the
-//! thread's stack; Rust gives a thread two unless it is told otherwise.
+//! thread's stack, and a question no more; Rust gives a thread two unless it is
+//! told otherwise.
 
 mod boundary;
 
@@ -56,7 +58,8 @@ pub struct Listing {
     pub bytes: usize,
 }
 
-/// Why no overlap list was written.
+/// Why no overlap list was written, or why it is not said whether there is an
+/// entry.
 #[derive(Clone, Copy, Debug, PartialEq, Eq, Hash)]
 pub enum Error {
     /// The left text is no rule.
@@ -153,6 +156,27 @@ fn zeros(count: usize) -> Option<Vec<u8>> {
     zeros.try_reserve_exact(count).ok()?;
     zeros.resize(count, 0);
     Some(zeros)
+}
+
+/// Whether the rules that two texts say overlap, which is whether some slip is
+/// matched by both: whether their overlap list has an entry. The list is not
+/// made, so that a yes comes with its first entry. The order of the two texts
+/// does not matter, but for which refusal is told.
+///
+/// # Errors
+///
+/// A text that is no rule, the left one first; an answer needs no room.
+///
+/// ```
+/// assert!(yopobrush::texts_overlap(b"i0", b"a0")?);
+/// assert!(!yopobrush::texts_overlap(b"i0", b"s0")?);
+/// # Ok::<(), yopobrush::Error>(())
+/// ```
+pub fn texts_overlap(left: &[u8], right: &[u8]) -> Result<bool, Error> {
+    let overlapping = boundary::texts_overlap(left, right);
+    accepted(overlapping.left).map_err(Error::Left)?;
+    accepted(overlapping.right).map_err(Error::Right)?;
+    Ok(overlapping.overlap == 1)
 }
 
 /// What carrying out a rule on a slip answers.

@@ -1,4 +1,5 @@
-//! What each program prints for one line of its input.
+//! What each program prints for one line of its input, and `book` for all of
+//! its lines.
 
 use crate::carrying::{carry_out, Carried};
 use crate::comparing::compared;
@@ -8,8 +9,10 @@ use crate::reading::{read_rule, read_slip, Refusal};
 use crate::terms::{Rule, Slip};
 use crate::writing::{entry_line, plain_filling, plain_rule, plain_slip};
 
+mod book;
 mod solve;
 
+pub use book::book_answer;
 pub use solve::solve_answer;
 
 /// A rule, a tab and a slip, each as long as reading allows.

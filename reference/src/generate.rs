@@ -2,6 +2,7 @@
 //! refusal of the documents comes often, and so do the texts on either side of
 //! each limit.
 
+pub mod books;
 pub mod carries;
 mod halves;
 pub mod large;
@@ -10,6 +11,7 @@ pub mod pairs;
 mod patterns;
 mod rights;
 pub mod searches;
+pub mod wide;
 
 use crate::draw::Draw;
 use crate::terms::{Field, Kind, Rule, Side, Slip, Term};

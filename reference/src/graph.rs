@@ -1,6 +1,7 @@
 //! The atoms of both rules as the points of a graph. Where two of them share
 //! a spot a line joins them, and what hangs together has one value.
 
+use crate::groups::Groups;
 use crate::terms::{Kind, Term};
 
 #[derive(Clone, Copy, Debug, PartialEq, Eq, Hash)]
@@ -57,6 +58,12 @@ impl Points {
             _ => None,
         };
         self.0.iter().enumerate().filter_map(name)
+    }
+
+    /// The points before any is joined with another.
+    pub fn groups(&self) -> Groups {
+        let terms: Vec<&Term> = self.0.iter().map(|point| &point.term).collect();
+        Groups::new(&terms)
     }
 
     /// The parts that the lines make, unless one of them is killed.

@@ -9,17 +9,20 @@
 //! - [`comparing`]: how many items are compared for it.
 //! - [`carrying`]: what a rule makes of a slip.
 //! - [`overlaps`]: which slips two rules share.
+//! - [`book`]: which of several rules a slip gets, and which of them overlap.
 //! - [`search`]: which values make two fields equal.
-//! - [`answers`]: what the programs print for a line.
+//! - [`answers`]: what the programs print for a line, or for a book.
 //! - [`generate`], [`draw`]: seeded texts on which the two are compared.
 
 pub mod answers;
+pub mod book;
 pub mod carrying;
 pub mod comparing;
 pub mod draw;
 pub mod generate;
 mod grammar;
 mod graph;
+mod groups;
 mod layouts;
 pub mod matching;
 pub mod overlaps;

@@ -1,8 +1,10 @@
 //! The overlap list. It looks "at left sides only" (document 02). Every choice
 //! of one layout a field has its graph drawn afresh, from all the fields
-//! chosen so far; no filling is handed on from field to field.
+//! chosen so far; no filling is handed on from field to field. Only where it
+//! does not matter which entries there are, what is joined is handed on.
 
 use crate::graph::{Class, Index, Parts, Points, Side};
+use crate::groups::Groups;
 use crate::layouts::{layouts, Cut, Layout};
 use crate::terms::{Field, Filling, Kind, Rule, Term};
 
@@ -20,6 +22,13 @@ pub fn entries(left: &Rule, right: &Rule) -> impl Iterator<Item = Entry> {
     let pair = Pair::new(&left.left, &right.left);
     let choices = pair.choices().into_iter();
     choices.filter_map(move |choice| pair.entry(&choice))
+}
+
+/// Whether there is an entry. The first whole choice ends the search; those
+/// that begin alike have their first fields joined once.
+pub fn overlap(left: &Rule, right: &Rule) -> bool {
+    let pair = Pair::new(&left.left, &right.left);
+    !pair.fields.is_empty() && pair.goes_on(0, &pair.points.groups())
 }
 
 /// One layout for each of the first fields.
@@ -78,6 +87,19 @@ impl Pair {
         choices
     }
 
+    /// Whether the fields from this one on have candidates that go together
+    /// with the groups.
+    fn goes_on(&self, field: usize, groups: &Groups) -> bool {
+        let Some([left, right]) = self.fields.get(field) else {
+            return true;
+        };
+        layouts(left, right).into_iter().any(|layout| {
+            let mut groups = groups.clone();
+            let mut lines = self.lines(field, layout);
+            lines.all(|(left, right)| groups.join(left, right)) && self.goes_on(field + 1, &groups)
+        })
+    }
+
     /// The points at each spot of the field: the left rule's, the right
     /// rule's, or both.
     fn spots(&self, field: usize, layout: Layout) -> impl Iterator<Item = [Option<Index>; 2]> + '_ {
@@ -86,10 +108,15 @@ impl Pair {
         (0..layout.spots).map(move |spot| [at(left, spot), at(right, spot)])
     }
 
-    fn parts(&self, choice: &[Layout]) -> Option<Parts> {
-        let spots = |(field, layout): (usize, &Layout)| self.spots(field, *layout);
+    /// The points that share a spot of the field.
+    fn lines(&self, field: usize, layout: Layout) -> impl Iterator<Item = (Index, Index)> + '_ {
         let shared = |[left, right]: [Option<Index>; 2]| left.zip(right);
-        let lines = choice.iter().enumerate().flat_map(spots).filter_map(shared);
+        self.spots(field, layout).filter_map(shared)
+    }
+
+    fn parts(&self, choice: &[Layout]) -> Option<Parts> {
+        let lines = |(field, layout): (usize, &Layout)| self.lines(field, *layout);
+        let lines = choice.iter().enumerate().flat_map(lines);
         self.points.parts(lines)
     }
 

@@ -66,6 +66,10 @@ mostListBytes = 65536
 abbrev pub pairLine : ℕ
 pairLine = mostRuleBytes + 1 + mostRuleBytes
 
+-- document 02: "Rules come as a book of up to 16"
+abbrev pub mostRules : ℕ
+mostRules = 16
+
 -- ---- numbers of variables, and the places of variables by type and number
 
 abbrev pub numbersOfSide : ℕ

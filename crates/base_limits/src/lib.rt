@@ -33,6 +33,8 @@ pub const ENTRY_TERMS: usize = 31;
 pub const MOST_LIST_BYTES: usize = 65536;
 // Document 02: "and a line for `pairs` 8,193", which is two of the longest rules and the tab.
 pub const PAIR_LINE: usize = MOST_RULE_BYTES + 1 + MOST_RULE_BYTES;
+// Document 02: "Rules come as a book of up to 16".
+pub const MOST_RULES: usize = 16;
 
 // ---- numbers of variables, and the places of variables by type and number
 

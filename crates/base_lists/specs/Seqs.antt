@@ -1,8 +1,9 @@
 -- Every member, some member, none: predicates on lists that compute, and their decisions; the list of a function's values.
-use mathlib.Core.Path.{_≡_, refl, sym, _∙_, ap₂}
+use mathlib.Core.Path.{_≡_, refl, sym, _∙_, ap, ap₂, subst}
 use mathlib.Core.Logic.{_↔_, _⊎_, inl, inr}
+use mathlib.Core.Bool.{Bool, true, false, _||_, false≢true}
 use mathlib.Core.List.{List, [], _∷_, _++_, map, List·Memᴰ, List·Memᴰ·head, List·Memᴰ·tail, List·Memᴰ·not-nil, List·Memᴰ·cases-cons}
-use Prim.Native.Nat.{ℕ, zero, suc, _<_}
+use Prim.Native.Nat.{ℕ, zero, suc, _+_, _<_}
 use native.Mathlib.Omega.{arith}
 use lib.ListN.{length, getD, length-map}
 
@@ -43,6 +44,10 @@ module _ {A : Type 0} where
   all-map P Q f (x ∷ s) p = (f x (p .0), all-map P Q f s (p .1))
 
   -- what every member has, each has
+  pub all-of : (P : A → Type 0) → ((x : A) → P x) → (s : List A) → All P s
+  all-of P h [] = tt
+  all-of P h (x ∷ s) = (h x, all-of P h s)
+
   pub all-mem : (P : A → Type 0) (s : List A) → All P s → (x : A) → List·Memᴰ x s → P x
   all-mem P (y ∷ s) h x (List·Memᴰ·head e) = rw e (h .0)
   all-mem P (y ∷ s) h x (List·Memᴰ·tail m) = all-mem P s (h .1) x m
@@ -106,6 +111,19 @@ module _ {A : Type 0} where
   cons-is [] = (λ h. omega arith, λ h. absurd h)
   cons-is (x ∷ xs) = (λ h. tt, λ h. omega arith)
 
+  -- the same as a test
+  abbrev pub isCons : List A → Bool
+  isCons [] = false
+  isCons (x ∷ xs) = true
+
+  pub cons-true : (xs : List A) → (isCons xs ≡ true) ↔ (xs ≡ [] → ⊥)
+  cons-true [] = (λ e. absurd (false≢true e), λ n. absurd (n refl))
+  cons-true (x ∷ xs) = (λ e q. subst IsCons q tt, λ n. refl)
+
+  pub cons-append : (s t : List A) → isCons (s ++ t) ≡ (isCons s || isCons t)
+  cons-append [] t = refl
+  cons-append (x ∷ s) t = refl
+
 module _ {A B : Type 0} where
   pub all-mapped : (P : B → Type 0) (g : A → B) (s : List A) → All (λ x. P (g x)) s → All P (map g s)
   all-mapped P g [] h = tt
@@ -114,6 +132,10 @@ module _ {A B : Type 0} where
   pub cons-map : (f : A → B) (l : List A) → IsCons l → IsCons (map f l)
   cons-map f [] h = h
   cons-map f (x ∷ l) h = tt
+
+  pub cons-mapped : (f : A → B) (l : List A) → isCons (map f l) ≡ isCons l
+  cons-mapped f [] = refl
+  cons-mapped f (x ∷ l) = refl
 
 -- what owning an array of structs tells: its length is that of the list under a map
 pub long-mapped : {A B : Type 0} (g : A → B) (l : List A) (n : ℕ) → length (map g l) ≡ n → length l ≡ n
@@ -129,6 +151,12 @@ module _ {A : Type 0} where
   pub tabulate-long : (n : ℕ) (f : ℕ → A) → length (tabulate n f) ≡ n
   tabulate-long zero f = refl
   tabulate-long (suc n) f = omega (arith, tabulate-long n (λ i. f (suc i)))
+
+  pub tabulate-last : (n : ℕ) (f : ℕ → A) → tabulate (n + 1) f ≡ tabulate n f ++ (f n ∷ [])
+  tabulate-last zero f = ap (λ (k : ℕ). tabulate k f) (let e : 0 + 1 ≡ 1 = omega arith in e)
+  tabulate-last (suc n) f =
+      ap (λ (k : ℕ). tabulate k f) (let e : suc n + 1 ≡ suc (n + 1) = omega arith in e)
+      ∙ ap (λ (l : List A). f 0 ∷ l) (tabulate-last n (λ i. f (suc i)))
 
   pub tabulate-at : (n : ℕ) (f : ℕ → A) (i : ℕ) (d : A) → i < n → getD (tabulate n f) i d ≡ f i
   tabulate-at zero f i d h = absurd (omega arith)

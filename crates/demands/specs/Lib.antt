@@ -7,3 +7,4 @@ pub mod Entries
 pub mod Overlaps
 pub mod Pairs
 pub mod Library
+pub mod Books

@@ -1,9 +1,11 @@
--- THE STATIC LIBRARY: what is promised of reading and of the overlap list holds of what another program is answered and lent, of texts.
+-- THE STATIC LIBRARY: what is promised of reading, of the overlap list and of whether it has an entry holds of what another program is
+-- answered and lent, of texts.
 -- Over what the contracts cite, for texts t and u, the lent bytes `old`, the answer r and the bytes `new` afterwards:
 --     yopobrush::yopobrush_read_rule       answers `readingOf (readRule t)`
 --     yopobrush::yopobrush_list_overlaps   `LibraryLists t u old r new`
+--     yopobrush::yopobrush_texts_overlap   `LibraryOverlaps t u r`
 use mathlib.Core.Path.{_≡_, refl, sym, _∙_, ap, subst, subst₂}
-use mathlib.Core.Logic.{_≢_, _↔_, Iff·trans}
+use mathlib.Core.Logic.{_≢_, _↔_, Iff·trans, inr}
 use mathlib.Core.Bool.{Bool, true, false, cond, false≢true}
 use mathlib.Core.Option.{none, some}
 use mathlib.Core.List.{List, [], _++_}
@@ -12,7 +14,8 @@ use native.Mathlib.Omega.{arith}
 use lib.Dec.{leb}
 use lib.ListN.{length, take, drop}
 use borrow.Author.Tests.{le-leb, lt-leb, leb-false}
-use Rattle.text_grammar.specs.Terms.{OurFields}
+use Rattle.base_lists.specs.Seqs.{cons-true}
+use Rattle.text_grammar.specs.Terms.{OurFields, SlipFields}
 use Rattle.text_grammar.specs.Limits.{IsLeft}
 use Rattle.text_grammar.specs.Read.{Reason, long, grammar, fields, terms, limits, linear, variable, unknown, number}
 use Rattle.text_grammar.specs.Read.{OutcomeOf, refused, accepted, earlier, NoReason}
@@ -20,7 +23,11 @@ use Rattle.text_grammar.proofs.Refused.{number-once}
 use Rattle.text_grammar.specs.rules.Read.{OurRule, RefusesRule, readRule}
 use Rattle.text_grammar.proofs.rules.Read.{rule-refused}
 use Rattle.text_grammar.proofs.rules.Accepted.{rule-read}
-use Rattle.overlap_spec.specs.Overlaps.{linesOf, overlapText}
+use Rattle.text_grammar.specs.constants.Matching.{Matches}
+use Rattle.overlap_spec.specs.Overlaps.{linesOf, overlapText, overlapping}
+use Rattle.apply_spec.specs.Rules.{Readable}
+use Rattle.book_spec.specs.Books.{gives}
+use Rattle.book_spec.proofs.Books.{gives-iff, slip-overlaps, overlap-slip}
 use Rattle.overlap_list.proofs.Lists.{no-right}
 use Rattle.overlap_list.proofs.Rules.{none-listed}
 use Rattle.yopobrush.specs.declared.Reading.{Reading}
@@ -28,7 +35,8 @@ use Rattle.overlap_list.specs.declared.Listed.the-variants.{Lines}
 use Rattle.text_read.specs.Answers.{leftSaid}
 use Rattle.overlap_list.specs.Answers.{Lists}
 use Rattle.yopobrush.specs.declared.Listing.{Listing}
-use Rattle.yopobrush.specs.Answers.{readingOf, numbered, LibraryLists}
+use Rattle.yopobrush.specs.declared.Overlapping.{Overlapping}
+use Rattle.yopobrush.specs.Answers.{readingOf, numbered, LibraryLists, LibraryOverlaps}
 use Rattle.demands.specs.Overlaps.{Demand3, rules-3}
 
 -- ---- reading
@@ -171,4 +179,71 @@ module _ {t u old : List ℕ} {r : Listing} {new : List ℕ} (is : LibraryLists 
         refused-old = λ e. stays (too-few .0 e);
         left-none = λ s p e. none-left (ap (λ (o : OutcomeOf OurRule). linesOf (leftSaid o) y₀) e);
         right-none = λ s p e. none-left (ap (λ (o : OutcomeOf OurRule). linesOf x₀ (leftSaid o)) e ∙ no-right x₀);
+      }
+
+-- ---- whether two texts overlap
+
+-- E4 OF THE LIBRARY, of texts that are read as rules with the left sides x and y: document 02's "overlapping pair"
+pub record LibraryMeets (x y : OurFields) (r : Overlapping) : Type 0 where
+  -- "If some such pair has an entry, a slip within the reading limits exists": 1 exactly where both rules match such a slip
+  pub one : (r .overlap ≡ 1) ↔ ((w : SlipFields) × Readable w × Matches x w × Matches y w)
+  -- "for every slip": 0 exactly where they share none, of any length
+  pub zero : (r .overlap ≡ 0) ↔ ((w : SlipFields) → Matches x w → Matches y w → ⊥)
+
+-- what is promised of the texts t and u
+pub record LibraryMeetingSlips (t u : List ℕ) (r : Overlapping) : Type 0 where
+  pub left : r .left ≡ readingOf (readRule t)
+  pub right : r .right ≡ readingOf (readRule u)
+  pub shared : (x y : OurRule) → readRule t ≡ accepted x → readRule u ≡ accepted y → LibraryMeets (x .0) (y .0) r
+  -- the rule with no fields, which a text that is refused says, overlaps none
+  pub left-none : (s : Reason) (p : ℕ) → readRule t ≡ refused s p → r .overlap ≡ 0
+  pub right-none : (s : Reason) (p : ℕ) → readRule u ≡ refused s p → r .overlap ≡ 0
+
+one-is : (b : Bool) → (_≡_ {A = ℕ} (cond b 1 0) 1) ↔ (b ≡ true)
+one-is true = (λ e. refl, λ e. refl)
+one-is false = (λ e. absurd (omega (arith, e)), λ e. absurd (false≢true e))
+
+zero-is : (b : Bool) → (_≡_ {A = ℕ} (cond b 1 0) 0) ↔ (b ≡ true → ⊥)
+zero-is true = (λ e. absurd (omega (arith, e)), λ n. absurd (n refl))
+zero-is false = (λ e q. false≢true q, λ n. refl)
+
+module _ (x y : OurFields) (a : IsLeft x) (b : IsLeft y) where
+  -- a slip that both match makes them overlap
+  match-overlaps : (w : SlipFields) → Matches x w → Matches y w → overlapping x y ≡ true
+  match-overlaps w m n =
+      let p : gives x w ≡ true = gives-iff x (inr a) w .1 (a .0 .0, m) in
+      let q : gives y w ≡ true = gives-iff y (inr b) w .1 (b .0 .0, n) in
+      cons-true (linesOf x y) .1 (slip-overlaps x y (inr a) (inr b) w p q)
+
+  overlap-matches : overlapping x y ≡ true → (w : SlipFields) × Readable w × Matches x w × Matches y w
+  overlap-matches e =
+      let s = overlap-slip x y (inr a) (inr b) (cons-true (linesOf x y) .0 e) in
+      (s .0, s .1, gives-iff x (inr a) (s .0) .0 (s .2) .1, gives-iff y (inr b) (s .0) .0 (s .3) .1)
+
+  meets : (r : Overlapping) → r .overlap ≡ cond (overlapping x y) 1 0 → LibraryMeets x y r
+  meets r is =
+      record {
+        one = (
+          λ e. overlap-matches (one-is (overlapping x y) .0 (sym is ∙ e)),
+          λ h. is ∙ one-is (overlapping x y) .1 (match-overlaps (h .0) (h .2) (h .3)),
+        );
+        zero = (
+          λ e w m n. zero-is (overlapping x y) .0 (sym is ∙ e) (match-overlaps w m n),
+          λ h. is ∙ zero-is (overlapping x y) .1 (λ e. let s = overlap-matches e in h (s .0) (s .2) (s .3)),
+        );
+      }
+
+module _ {t u : List ℕ} {r : Overlapping} (is : LibraryOverlaps t u r) where
+  none-meet : linesOf (leftSaid (readRule t)) (leftSaid (readRule u)) ≡ [] → r .overlap ≡ 0
+  none-meet e = is .overlap ∙ rw e
+
+  pub library-meets : LibraryMeetingSlips t u r
+  library-meets =
+      record {
+        left = is .left;
+        right = is .right;
+        shared = λ x y e f. meets (x .0) (y .0) (rule-read t x e .0) (rule-read u y f .0) r (is .overlap ∙ rw (e, f));
+        left-none = λ s p e. none-meet (ap (λ (o : OutcomeOf OurRule). linesOf (leftSaid o) (leftSaid (readRule u))) e);
+        right-none = λ s p e. none-meet (
+            ap (λ (o : OutcomeOf OurRule). linesOf (leftSaid (readRule t)) (leftSaid o)) e ∙ no-right (leftSaid (readRule t)));
       }

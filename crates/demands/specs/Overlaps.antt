@@ -200,10 +200,10 @@ module _ {x y : OurFields} {old : List ℕ} {r : Listed} {new : List ℕ} (lists
 
 -- ---- of rule values, which no reading need have returned
 
-is-left : (v : Rule) → acceptedRule v ≡ true → IsLeft (countedRule v .0)
+pub is-left : (v : Rule) → acceptedRule v ≡ true → IsLeft (countedRule v .0)
 is-left v h = subst (λ (w : OurRule). IsLeft (w .0)) (sym (counted-yes v h)) (accepted-rule v h .0 .0)
 
-not-counted : (v : Rule) → acceptedRule v ≡ false → countedRule v .0 ≡ []
+pub not-counted : (v : Rule) → acceptedRule v ≡ false → countedRule v .0 ≡ []
 not-counted v e = ap (λ (w : OurRule). w .0) (counted-no v e)
 
 module _ (v w : Rule) {old : List ℕ} {r : Listed} {new : List ℕ} (lists : Lists (countedRule v .0) (countedRule w .0) old r new) where

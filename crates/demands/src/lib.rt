@@ -8,8 +8,14 @@ ghost use Rattle.demands.specs.Carrying.{Carrying};
 ghost use Rattle.demands.specs.Searching.{SearchDemand};
 ghost use Rattle.demands.specs.Overlaps.{ListsSharedSlips, TextsSharedSlips};
 ghost use Rattle.demands.specs.Pairs.{PairSharedSlips};
-ghost use Rattle.demands.specs.Library.{LibrarySharedSlips};
+ghost use Rattle.demands.specs.Library.{LibrarySharedSlips, LibraryMeetingSlips};
+ghost use Rattle.demands.specs.Books.{Picking, Ordering};
+ghost use Rattle.book_rules.specs.Books.{countedBook};
+ghost use Rattle.book_rules.specs.texts.Keeping.{bookIn};
 use apply_rules::Carried;
+use book_rules::Book;
+use book_rules::Picked;
+use book_rules::texts::Kept;
 use match_rules::Comparison;
 use match_rules::Match;
 use overlap_list::Listed;
@@ -23,6 +29,7 @@ use text_values::Rule;
 use text_values::Slip;
 use text_write::Written;
 use yopobrush::Listing;
+use yopobrush::Overlapping;
 
 // ---- reading and writing
 
@@ -115,4 +122,34 @@ pub fn library_list(left: &[u8], right: &[u8], out: &mut [u8]) -> Listing
     ensures { λ r. ⌜ LibrarySharedSlips (now (left .entry)) (now (right .entry)) (now (out .entry)) r (now (out .exit)) ⌝ }
 {
     yopobrush::yopobrush_list_overlaps(left, right, out)
+}
+
+// ---- a maker's book
+
+// The first rule that matches the slip, or none exactly where none does.
+pub fn pick(book: Book, slip: Slip) -> Picked
+    ensures { λ r. ⌜ Picking book slip r ⌝ }
+{
+    book_rules::pick(book, slip)
+}
+
+// The overlapping pairs: none exactly where every order picks the same.
+pub fn write_pairs(book: Book, out: &mut [u8]) -> Written
+    ensures { λ r. ⌜ Ordering (countedBook book) (now (out .entry)) r (now (out .exit)) ⌝ }
+{
+    book_rules::write_pairs(book, out)
+}
+
+// The same of a book as texts.
+pub fn write_pairs_of_texts(kept: Kept, row: &[u8], out: &mut [u8]) -> Written
+    ensures { λ r. ⌜ Ordering (bookIn kept (now (row .entry))) (now (out .entry)) r (now (out .exit)) ⌝ }
+{
+    book_rules::texts::write_pairs(kept, row, out)
+}
+
+// Whether the rules of two texts overlap, as the static library says it: 1 exactly where a slip that can be read is matched by both.
+pub fn library_overlap(left: &[u8], right: &[u8]) -> Overlapping
+    ensures { λ r. ⌜ LibraryMeetingSlips (now (left .entry)) (now (right .entry)) r ⌝ }
+{
+    yopobrush::yopobrush_texts_overlap(left, right)
 }

@@ -3,12 +3,12 @@ use mathlib.Core.Path.{_≡_, refl, sym, _∙_, ap, ap₂, subst, subst₂}
 use mathlib.Core.Logic.{_≢_}
 use mathlib.Core.Bool.{Bool, true, false, cond}
 use mathlib.Core.List.{List, [], _∷_, _++_, map}
-use Prim.Native.Nat.{ℕ, _*_, _≤_}
+use Prim.Native.Nat.{ℕ, _-_, _*_, _≤_}
 use native.Mathlib.Omega.{arith, by-contra}
 use lib.ListN.{length, length-map}
 use borrow.Author.Tests.{le-leb}
 use Rattle.base_limits.specs.Limits.{mostTerms, fieldPlaces, rulePlaces, entryLine}
-use Rattle.base_lists.specs.Seqs.{All}
+use Rattle.base_lists.specs.Seqs.{All, isCons, cons-mapped}
 use Rattle.text_grammar.specs.Told.{byRoom}
 use Rattle.text_grammar.specs.Terms.{OurFields}
 use Rattle.text_grammar.specs.Limits.{IsLeft}
@@ -16,7 +16,7 @@ use Rattle.text_grammar.specs.Read.{rule, accepted, readSide}
 use Rattle.text_grammar.proofs.Read.{read-accepted}
 use Rattle.text_grammar.proofs.Accepted.{rule-read}
 use Rattle.overlap_spec.specs.Lines.{Line, lineText, listText}
-use Rattle.overlap_spec.specs.Overlaps.{linesOf, overlapText}
+use Rattle.overlap_spec.specs.Overlaps.{linesOf, overlapText, overlapping}
 use Rattle.math_codes.specs.Whole.{spotsOf}
 use Rattle.math_codes.proofs.Measures.{spotTerms, spots-few}
 use Rattle.pair_table.specs.Notes.{sideNoted, blankRows}
@@ -30,15 +30,20 @@ use Rattle.text_passes.proofs.Fields.{side-fields}
 use Rattle.text_read.specs.Answers.{sideSaid}
 use Rattle.text_write.specs.Answers.{after}
 use Rattle.text_write.specs.pieces.Stored.{bytesOf}
+use Rattle.pair_row.specs.Row.{tableIn}
+use Rattle.pair_state.specs.declared.State.{State}
+use Rattle.overlap_entries.specs.Entries.{noChoice}
 use Rattle.pair_lines.specs.Lines.{spotsIn}
 use Rattle.pair_lines.proofs.Lines.{line-is, numbers-few}
 use Rattle.overlap_list.specs.declared.Listed.{Listed}
 use Rattle.overlap_list.specs.declared.Listed.the-variants.{Lines}
 use Rattle.overlap_list.specs.Listing.{allLines, choices, noTally, Countable}
 use Rattle.overlap_list.specs.Answers.{told, Lists, Accepts, SidesList, ListsLines}
+use Rattle.overlap_list.specs.shared.Choices.{anyFrom, anyIn}
 use Rattle.overlap_list.proofs.Lists.{LineIs, all-lines, lines-none}
 use Rattle.overlap_list.proofs.Counts.{rule-short, countable-all}
 use Rattle.overlap_list.proofs.Short.{pair-short}
+use Rattle.overlap_list.proofs.shared.Choices.{any-lines}
 
 -- ---- no lines
 
@@ -122,6 +127,9 @@ module _ (t u : List ℕ) (h : Accepts t u) where
   said-listed {old} {r} {new} l =
       subst₂ (λ (a b : OurFields). Lists a b old r new) (sym (ap sideSaid (h .reads-left))) (sym (ap sideSaid (h .reads-right))) l
 
+  said-overlapping : overlapping (sideSaid (readSide t)) (sideSaid (readSide u)) ≡ overlapping x y
+  said-overlapping = ap₂ overlapping (ap sideSaid (h .reads-left)) (ap sideSaid (h .reads-right))
+
   module _ (n m : ℕ) (is-n : n ≡ fieldCount t) (is-m : m ≡ fieldCount u) where
     left-count : n ≡ length x
     left-count = is-n ∙ side-fields t x (h .reads-left) .0
@@ -134,6 +142,9 @@ module _ (t u : List ℕ) (h : Accepts t u) where
 
     pub counts-differ : n ≢ m → (old : List ℕ) → SidesList t u old (Lines 0 0) old
     counts-differ d old = said-listed (none-listed x y (lines-none x y (λ e. d (left-count ∙ e ∙ sym right-count))) old)
+
+    pub counts-apart : n ≢ m → false ≡ overlapping (sideSaid (readSide t)) (sideSaid (readSide u))
+    counts-apart d = sym (said-overlapping ∙ ap isCons (lines-none x y (λ e. d (left-count ∙ e ∙ sym right-count))))
 
     -- both are noted, one after the other, in rows that hold nothing
     module _ (same : n ≡ m) (row₁ texts₁ row₂ texts₂ : List ℕ) (is-row₁ : row₁ ≡ notedIn false t (blankRows .0) (blankRows .1) .0)
@@ -166,7 +177,20 @@ module _ (t u : List ℕ) (h : Accepts t u) where
       read-few =
           pair-few x y (rule-read t x (h .reads-left)) (rule-read u y (h .reads-right)) row₂ texts₂ tables-noted n left-count (same ∙ right-count)
 
+      read-lines : allLines row₂ texts₂ n ≡ map lineText (linesOf x y)
+      read-lines =
+          pair-lines x y (rule-read t x (h .reads-left)) (rule-read u y (h .reads-right)) row₂ texts₂ tables-noted n left-count (same ∙ right-count)
+
       pub read-listed : {old : List ℕ} {r : Listed} {new : List ℕ} → ListsLines (allLines row₂ texts₂ n) old r new → SidesList t u old r new
-      read-listed l =
-          said-listed (lines-list x y
-          (pair-lines x y (rule-read t x (h .reads-left)) (rule-read u y (h .reads-right)) row₂ texts₂ tables-noted n left-count (same ∙ right-count)) l)
+      read-listed l = said-listed (lines-list x y read-lines l)
+
+      -- a choice is left exactly where the list has a line
+      pub read-any : (st : State) → st .atoms ≡ tableIn row₂ .first → anyIn row₂ n 0 st ≡ overlapping (sideSaid (readSide t)) (sideSaid (readSide u))
+      read-any st e =
+          let z : n - 0 ≡ n = omega arith in
+          ap (λ (k : ℕ). anyFrom k row₂ 0 st) z
+          ∙ ap (λ (a : List ℕ). anyFrom n row₂ 0 (record { atoms = a })) e
+          ∙ any-lines n row₂ texts₂ n 0 noChoice (record { atoms = tableIn row₂ .first })
+          ∙ ap isCons read-lines
+          ∙ cons-mapped lineText (linesOf x y)
+          ∙ sym said-overlapping

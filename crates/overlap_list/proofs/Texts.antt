@@ -1,16 +1,18 @@
 -- Listing the overlaps of the rules that two texts say, and of two rule values. Assumes nothing.
-use mathlib.Core.Path.{_≡_, refl, sym, ap, _∙_, subst₂}
+use mathlib.Core.Path.{_≡_, refl, sym, ap, ap₂, _∙_, subst₂}
 use mathlib.Core.Bool.{Bool, true, false, cond}
 use mathlib.Core.List.{List, []}
 use Prim.Native.Nat.{ℕ}
 use native.Mathlib.Decide.{decLt}
 use lib.ListN.{take}
+use Rattle.base_lists.specs.Seqs.{isCons}
 use Rattle.text_grammar.specs.Terms.{OurFields}
 use Rattle.text_grammar.specs.Plain.{plain}
 use Rattle.text_grammar.proofs.Accepted.{rule-plain}
+use Rattle.text_grammar.specs.Read.{readSide}
 use Rattle.text_grammar.specs.rules.Read.{readRule}
 use Rattle.text_grammar.proofs.rules.Before.{one-sided}
-use Rattle.overlap_spec.specs.Overlaps.{linesOf}
+use Rattle.overlap_spec.specs.Overlaps.{linesOf, overlapping}
 use Rattle.text_values.specs.declared.RuleSide.{RuleSide}
 use Rattle.text_values.specs.declared.Rule.{Rule}
 use Rattle.text_values.specs.Values.{viewSide}
@@ -21,12 +23,13 @@ use Rattle.text_accepted.proofs.rules.Rules.{left-counted}
 use Rattle.text_refusals.specs.declared.verdicts.Reason as values
 use Rattle.text_refusals.specs.declared.verdicts.Verdict.the-variants.{Accepted, Refused}
 use Rattle.text_read.specs.declared.LeftJudged.{LeftJudged}
-use Rattle.text_read.specs.Answers.{leftSaid, JudgesLeft}
+use Rattle.text_read.specs.Answers.{sideSaid, leftSaid, JudgesLeft}
 use Rattle.text_read.proofs.Judged.{judged-accepted, judged-refused}
 use Rattle.overlap_list.specs.declared.Listed.{Listed}
 use Rattle.overlap_list.specs.declared.Listed.the-variants.{Lines}
 use Rattle.overlap_list.specs.declared.TextsListed.{TextsListed}
 use Rattle.overlap_list.specs.Answers.{Lists, TextsList, Accepts, SidesList}
+use Rattle.overlap_list.specs.shared.Answers.{TextsMeet}
 use Rattle.overlap_list.proofs.Lists.{no-right}
 use Rattle.overlap_list.proofs.Rules.{none-listed}
 
@@ -62,6 +65,25 @@ module _ (t u : List ℕ) (l r : LeftJudged) (is-l : JudgesLeft t l) (is-r : Jud
       let no = ap leftSaid (judged-refused u r is-r q p e .1) in
       judged (none-listed (leftSaid (readRule t)) (leftSaid (readRule u))
       (ap (linesOf (leftSaid (readRule t))) no ∙ no-right (leftSaid (readRule t))) old)
+
+  -- how each text is read, and whether what they say overlaps
+  met : {b : Bool} → b ≡ overlapping (leftSaid (readRule t)) (leftSaid (readRule u))
+      → TextsMeet t u (record { left = l .verdict; right = r .verdict; overlap = b })
+  met e = record { left = is-l .verdict; right = is-r .verdict; overlap = e }
+
+  pub texts-meet : {b : Bool} → b ≡ overlapping (sideSaid (readSide (take (l .end) t))) (sideSaid (readSide (take (r .end) u)))
+      → TextsMeet t u (record { left = l .verdict; right = r .verdict; overlap = b })
+  texts-meet e = met (e ∙ ap₂ overlapping (is-l .left) (is-r .left))
+
+  pub left-apart : (q : values.Reason) (p : ℕ) → l .verdict ≡ Refused q p
+      → TextsMeet t u (record { left = l .verdict; right = r .verdict; overlap = false })
+  left-apart q p e = met (sym (ap (λ (a : OurFields). overlapping a (leftSaid (readRule u))) (ap leftSaid (judged-refused t l is-l q p e .1))))
+
+  pub right-apart : (q : values.Reason) (p : ℕ) → r .verdict ≡ Refused q p
+      → TextsMeet t u (record { left = l .verdict; right = r .verdict; overlap = false })
+  right-apart q p e =
+      met (sym (ap (overlapping (leftSaid (readRule t))) (ap leftSaid (judged-refused u r is-r q p e .1))
+      ∙ ap isCons (no-right (leftSaid (readRule t)))))
 
 -- ---- values of left sides, by their plain texts
 

@@ -14,6 +14,9 @@ ghost use Rattle.pair_lines.specs.Lines.{lineIn};
 ghost use Rattle.overlap_list.specs.Listing.{candidateOf, noTally, Stores, linesIn, choicesIn, allLines, choices};
 ghost use Rattle.overlap_list.specs.Listing.{spanBound, Moderate, Countable};
 ghost use Rattle.overlap_list.specs.Answers.{Lists, ListsLines, Accepts, SidesList, TextsList};
+
+pub mod shared; // whether two rules overlap, without the list
+
 use base_numbers::at_most;
 use overlap_entries::Choice;
 use overlap_entries::Span;
@@ -73,7 +76,7 @@ fn put_entry(
 }
 
 // The candidate that comes next where k are left.
-fn candidate_of(s: Span, k: u16) -> Candidate
+pub(crate) fn candidate_of(s: Span, k: u16) -> Candidate
     requires { ⌜ (1 ≤ k) × (k ≤ s .count) × (s .least + s .count ≤ spanBound) ⌝ }
     ensures { λ r. ⌜ r ≡ candidateOf s k ⌝ }
 {

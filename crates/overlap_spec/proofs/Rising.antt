@@ -3,8 +3,11 @@ use mathlib.Core.Path.{_≡_, refl, sym, _∙_, ap}
 use mathlib.Core.Logic.{_↔_, _⊎_, inl, inr}
 use mathlib.Core.Bool.{Bool, true, false, cond, true≢false}
 use mathlib.Core.List.{List, [], _∷_, _++_, map, List·Memᴰ, List·Memᴰ·head, List·Memᴰ·tail, List·Memᴰ·not-nil, List·Memᴰ·cases-cons}
+use Prim.Native.Nat.{suc, _≤_}
+use native.Mathlib.Omega.{arith}
+use lib.ListN.{length}
 use Rattle.base_lists.specs.Seqs.{All, all-append, all-mem, all-map, all-mapped}
-use Rattle.math_terms.specs.Seqs.{Distinct}
+use Rattle.math_terms.specs.Seqs.{concat-map, Distinct}
 use Rattle.overlap_spec.specs.Variables.{keep, Rising}
 
 module _ {A : Type 0} where
@@ -68,3 +71,27 @@ module _ {A B : Type 0} where
   pub rising-back : (S : B → B → Type 0) (f : A → B) (xs : List A) → Rising S (map f xs) → Rising (λ x y. S (f x) (f y)) xs
   rising-back S f [] h = tt
   rising-back S f (x ∷ xs) h = (all-back (S (f x)) f xs (h .0), rising-back S f xs (h .1))
+
+-- ---- what is kept of lists put one behind the other, and how much
+
+module _ {Y : Type 0} (p : Y → Bool) where
+  pub keep-append : (s t : List Y) → keep p (s ++ t) ≡ keep p s ++ keep p t
+  keep-append [] t = refl
+  keep-append (y ∷ s) t = go (p y) (keep-append s t)
+    where
+      go : (b : Bool) → keep p (s ++ t) ≡ keep p s ++ keep p t
+          → cond b (y ∷ keep p (s ++ t)) (keep p (s ++ t)) ≡ cond b (y ∷ keep p s) (keep p s) ++ keep p t
+      go true rec = ap (λ (l : List Y). y ∷ l) rec
+      go false rec = rec
+
+  pub keep-short : (l : List Y) → length (keep p l) ≤ length l
+  keep-short [] = omega arith
+  keep-short (y ∷ l) = go (p y) (keep-short l)
+    where
+      go : (b : Bool) → length (keep p l) ≤ length l → length (cond b (y ∷ keep p l) (keep p l)) ≤ suc (length l)
+      go true rec = omega arith
+      go false rec = omega arith
+
+pub keep-concat : {X Y : Type 0} (p : Y → Bool) (f : X → List Y) (l : List X) → keep p (concat-map f l) ≡ concat-map (λ x. keep p (f x)) l
+keep-concat p f [] = refl
+keep-concat p f (x ∷ l) = keep-append p (f x) (concat-map f l) ∙ ap (λ (u : List _). keep p (f x) ++ u) (keep-concat p f l)

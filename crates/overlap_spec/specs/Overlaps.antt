@@ -1,7 +1,9 @@
 -- THE OVERLAP LIST of two of document 01's rules: its entries, their lines, its bytes.
+use mathlib.Core.Bool.{Bool}
 use mathlib.Core.List.{List, [], _∷_, map}
 use Prim.Native.Nat.{ℕ}
 use native.Mathlib.Decide.{ℕ-discrete}
+use Rattle.base_lists.specs.Seqs.{isCons}
 use Rattle.math_types.specs.Types.{Kind, basics}
 use Rattle.text_grammar.specs.Terms.{OurTerm, OurFields, termsOf}
 use Rattle.text_grammar.specs.constants.Constants.{Con, consts}
@@ -32,3 +34,7 @@ linesOf r₁ r₂ = map (lineOf r₁ r₂) (entriesOf r₁ r₂)
 -- the bytes of the whole list
 abbrev pub overlapText : OurFields → OurFields → List ℕ
 overlapText r₁ r₂ = listText (linesOf r₁ r₂)
+
+-- document 02: whether two rules overlap, which is to say that their list "has an entry"
+abbrev pub overlapping : OurFields → OurFields → Bool
+overlapping r₁ r₂ = isCons (linesOf r₁ r₂)

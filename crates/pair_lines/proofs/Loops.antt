@@ -2,14 +2,14 @@
 use mathlib.Core.Path.{_≡_, refl, sym, _∙_, ap, ap₂}
 use mathlib.Core.Bool.{Bool, true, false, _&&_}
 use mathlib.Core.List.{List, [], _∷_, _++_, foldl-append}
-use Prim.Native.Nat.{ℕ, zero, suc, _+_, _-_, _*_, _≤_, _<_}
+use Prim.Native.Nat.{ℕ, suc, _+_, _-_, _*_, _≤_, _<_}
 use native.Mathlib.Omega.{arith}
 use lib.Dec.{leb}
 use lib.ListN.{length, getD, set, replicate, length-replicate}
 use lib.Seq.{sets, length-sets}
 use borrow.Author.Tests.{le-leb, lt-leb}
 use Rattle.base_limits.specs.Limits.{entryTerms, pairPlaces, pairItems, entryPlaces}
-use Rattle.base_lists.specs.Seqs.{tabulate, tabulate-long}
+use Rattle.base_lists.specs.Seqs.{tabulate, tabulate-long, tabulate-last}
 use Rattle.base_lists.specs.Arrays.{sets-append, getD-blank}
 use Rattle.math_codes.specs.Tables.{Table}
 use Rattle.math_codes.specs.Names.{Names, noNames, nameCode, nameCodes, nameFields}
@@ -80,11 +80,6 @@ module _ (row : List ℕ) (right : Bool) (n : ℕ) (c : Choice) (old : List ℕ)
   runs-all j runs v h = v .1 ∙ ap₂ (runsOver row right c old) (let e : j ≡ 0 = omega arith in e) (let e : n - j ≡ n = omega arith in e)
 
 -- ---- the items of a field: the first i of them are laid out and named
-
-tabulate-last : {A : Type 0} (n : ℕ) (f : ℕ → A) → tabulate (n + 1) f ≡ tabulate n f ++ f n ∷ []
-tabulate-last {A} zero f = ap (λ (k : ℕ). tabulate k f) (let e : 0 + 1 ≡ 1 = omega arith in e)
-tabulate-last {A} (suc n) f =
-    ap (λ (k : ℕ). tabulate k f) (let e : suc n + 1 ≡ suc (n + 1) = omega arith in e) ∙ ap (λ (l : List A). f 0 ∷ l) (tabulate-last n (λ i. f (suc i)))
 
 few-names : (T : Table) (cs : List ℕ) (m : ℕ) (x : Names) → Few m (x .counts) → Few (m + length cs) (nameCodes T x cs .counts)
 few-names T [] m x h = rw (let e : m + 0 ≡ m = omega arith in e) h

@@ -1,7 +1,6 @@
 -- HOW LONG an answer's line can get: where the values are of at most 17 terms, and their constants document 01's, `answer-short`.
 use mathlib.Core.Path.{_≡_, refl, sym, ap, ap₂, subst}
 use mathlib.Core.Logic.{_⊎_, inl, inr, ite}
-use mathlib.Core.Bool.{Bool, true, false, cond}
 use mathlib.Core.List.{List, [], _∷_, map, List·Memᴰ, List·Memᴰ·head, List·Memᴰ·tail, Memᴰ·map}
 use Prim.Native.Nat.{ℕ, zero, suc, _+_, _*_, _≤_}
 use native.Mathlib.Omega.{arith}
@@ -25,9 +24,9 @@ use Rattle.text_grammar.proofs.constants.Constants.{con-short}
 use Rattle.math_overlaps.specs.Shapes.{fixed, free, Side, left, right, side-eq, of}
 use Rattle.math_overlaps.specs.Overlaps.{placeOf, without, firsts, namesOf, rename, Origin, named, place, origin-eq}
 use Rattle.overlap_spec.specs.Lines.{Binding, leftTag, rightTag, bindingText, bindingsText}
-use Rattle.overlap_spec.specs.Variables.{Variable, every, occurs, keep, variables}
+use Rattle.overlap_spec.specs.Variables.{Variable, every, occurs, variables}
 use Rattle.overlap_spec.specs.Overlaps.{bindingsOf}
-use Rattle.overlap_spec.proofs.Rising.{keep-mem}
+use Rattle.overlap_spec.proofs.Rising.{keep-mem, keep-short}
 use Rattle.overlap_spec.proofs.Variables.{every-mem, occurs-is}
 use Rattle.math_search.specs.Problems.{atomic, listvar, Tm, Field, Bindings}
 use Rattle.math_search.specs.Fresh.{numbers}
@@ -135,19 +134,11 @@ module _ (tag : ℕ) (θ : Kind → ℕ → List OurTerm) where
 
 -- ---- the variables of a field
 
-keep-most : {A : Type 0} (p : A → Bool) (xs : List A) → length (keep p xs) ≤ length xs
-keep-most p [] = omega arith
-keep-most p (x ∷ xs) = go (p x) (keep-most p xs)
-  where
-    go : (b : Bool) → length (keep p xs) ≤ length xs → length (cond b (x ∷ keep p xs) (keep p xs)) ≤ suc (length xs)
-    go true r = omega arith
-    go false r = omega arith
-
 every-many : length every ≡ variablePlaces
 every-many = refl
 
 variables-most : (r : OurFields) → length (variables r) ≤ variablePlaces
-variables-most r = omega (arith, keep-most (λ (v : Variable). occurs (v .0) (v .1) r) every, every-many)
+variables-most r = omega (arith, keep-short (λ (v : Variable). occurs (v .0) (v .1) r) every, every-many)
 
 -- what occurs is a term of the field
 pub occurring : (k : Kind) (n : ℕ) (f : List OurTerm) → Occurs k n f → List·Memᴰ (var k n) f

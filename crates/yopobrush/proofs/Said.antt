@@ -1,5 +1,6 @@
--- What is said of the values that reading and listing return is what is said of the texts. Assumes nothing.
+-- What is said of the values that reading, listing and asking return is what is said of the texts. Assumes nothing.
 use mathlib.Core.Path.{_≡_, refl, sym, ap, ap₂, _∙_}
+use mathlib.Core.Bool.{Bool, cond}
 use mathlib.Core.List.{List, [], _∷_}
 use Prim.Native.Nat.{ℕ}
 use lib.ListN.{length}
@@ -15,10 +16,13 @@ use Rattle.overlap_list.specs.declared.Listed.{Listed}
 use Rattle.overlap_list.specs.declared.Listed.the-variants.{Lines, TooSmall}
 use Rattle.overlap_list.specs.declared.TextsListed.{TextsListed}
 use Rattle.overlap_list.specs.Answers.{told, TextsList}
+use Rattle.overlap_list.specs.declared.shared.TextsOverlap.{TextsOverlap}
+use Rattle.overlap_list.specs.shared.Answers.{TextsMeet}
 use Rattle.yopobrush.specs.declared.Reading.{Reading}
 use Rattle.yopobrush.specs.declared.Listing.{Listing}
-use Rattle.yopobrush.specs.Answers.{readingOf, listingOf}
-use Rattle.yopobrush.specs.Values.{readingBy, whole, listingBy}
+use Rattle.yopobrush.specs.declared.Overlapping.{Overlapping}
+use Rattle.yopobrush.specs.Answers.{readingOf, listingOf, LibraryOverlaps}
+use Rattle.yopobrush.specs.Values.{readingBy, whole, listingBy, overlappingBy}
 
 pub verdict-said : {X : Type 0} (o : OutcomeOf X) → readingBy (verdictOf o) ≡ readingOf o
 verdict-said (refused r p) = ap (λ (n : ℕ). record { refusal = n; place = p }) (number-is r)
@@ -63,3 +67,17 @@ texts-said t u {old} {said} a b answer is is-a is-b is-answer =
     is-answer
     ∙ ap₂ (λ (x y : Reading). listingBy x y (said .listed)) l r
     ∙ listed-said (readingOf (readRule t)) (readingOf (readRule u)) n (length old) (length (linesOf x y)) n (said .listed) (is .listed .answer)
+
+-- how each text is read, and whether what they say overlaps
+pub texts-meet : (t u : List ℕ) {said : TextsOverlap} (a b : Reading) (answer : Overlapping)
+    → TextsMeet t u said
+    → a ≡ readingBy (said .left)
+    → b ≡ readingBy (said .right)
+    → answer ≡ overlappingBy a b (said .overlap)
+    → LibraryOverlaps t u answer
+texts-meet t u a b answer is is-a is-b is-answer =
+    record {
+      left = ap (λ (r : Overlapping). r .left) is-answer ∙ is-a ∙ ap readingBy (is .left) ∙ verdict-said (readRule t);
+      right = ap (λ (r : Overlapping). r .right) is-answer ∙ is-b ∙ ap readingBy (is .right) ∙ verdict-said (readRule u);
+      overlap = ap (λ (r : Overlapping). r .overlap) is-answer ∙ ap (λ (o : Bool). cond o 1 0) (is .overlap);
+    }

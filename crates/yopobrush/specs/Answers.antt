@@ -1,6 +1,7 @@
--- What the library's functions answer, in the documents' numbers and values: of how a text is read, and of the overlaps that two texts
--- have.
+-- What the library's functions answer, in the documents' numbers and values: of how a text is read, of the overlaps that two texts have,
+-- and of whether they have one.
 use mathlib.Core.Path.{_≡_}
+use mathlib.Core.Bool.{cond}
 use mathlib.Core.List.{List, [], _∷_}
 use mathlib.Core.Option.{Option, none, some}
 use Prim.Native.Nat.{ℕ}
@@ -9,10 +10,11 @@ use Rattle.text_grammar.specs.Told.{byRoom}
 use Rattle.text_grammar.specs.Read.{number, OutcomeOf, refused, accepted}
 use Rattle.text_grammar.specs.rules.Read.{OurRule, readRule}
 use Rattle.text_write.specs.Answers.{after}
-use Rattle.overlap_spec.specs.Overlaps.{linesOf, overlapText}
+use Rattle.overlap_spec.specs.Overlaps.{linesOf, overlapText, overlapping}
 use Rattle.text_read.specs.Answers.{leftSaid}
 use Rattle.yopobrush.specs.declared.Reading.{Reading}
 use Rattle.yopobrush.specs.declared.Listing.{Listing}
+use Rattle.yopobrush.specs.declared.Overlapping.{Overlapping}
 
 -- the documents' number of the refusal and its place; no refusal has the number 0
 abbrev pub readingOf : {X : Type 0} → OutcomeOf X → Reading
@@ -43,3 +45,10 @@ listingOf left right room =
 pub record LibraryLists (t u old : List ℕ) (r : Listing) (new : List ℕ) : Type 0 where
   pub answer : r ≡ listingOf (readRule t) (readRule u) (length old)
   pub bytes : new ≡ after (overlapText (leftSaid (readRule t)) (leftSaid (readRule u))) old
+
+-- WHAT THE LIBRARY PROMISES of the texts t and u where only this is asked (document 02, E4, of a book's rules: "each overlapping pair"):
+-- how each is read, and 1 where the list of their rules has an entry, 0 where it has none
+pub record LibraryOverlaps (t u : List ℕ) (r : Overlapping) : Type 0 where
+  pub left : r .left ≡ readingOf (readRule t)
+  pub right : r .right ≡ readingOf (readRule u)
+  pub overlap : r .overlap ≡ cond (overlapping (leftSaid (readRule t)) (leftSaid (readRule u))) 1 0

@@ -1,11 +1,11 @@
-// The library that a program in another language links: a rule text is read and checked, the overlaps of two rules are listed, and a rule
-// is carried out on a slip.
+// The library that a program in another language links: a rule text is read and checked, the overlaps of two rules are listed, it is said
+// whether there are any, and a rule is carried out on a slip.
 // Numbers and byte slices cross the boundary, and structs of numbers in C's layout; to C a slice is a pointer and a length.
 // A name belongs to the whole program, as in C, so each begins with the library's.
 ghost use mathlib.Core.Path.{_≡_};
 ghost use Rattle.text_grammar.specs.rules.Read.{readRule};
-ghost use Rattle.yopobrush.specs.Answers.{readingOf, LibraryLists};
-ghost use Rattle.yopobrush.specs.Values.{readingBy, listingBy};
+ghost use Rattle.yopobrush.specs.Answers.{readingOf, LibraryLists, LibraryOverlaps};
+ghost use Rattle.yopobrush.specs.Values.{readingBy, listingBy, overlappingBy};
 ghost use Rattle.yopobrush.specs.Carries.{LibraryCarries};
 ghost use Rattle.yopobrush.specs.CarryValues.{numberBy, carryingBy};
 use apply_rules::Carry;
@@ -86,6 +86,39 @@ pub extern "C" fn yopobrush_list_overlaps(left: &[u8], right: &[u8], out: &mut [
     let right_verdict = said.right;
     let listed = said.listed;
     listing_of(reading_of(left_verdict), reading_of(right_verdict), listed)
+}
+
+// ---- whether they overlap
+
+// How each text is read, and whether their rules overlap: 1 for yes, 0 for no.
+#[repr(C)]
+pub struct Overlapping {
+    pub left: Reading,
+    pub right: Reading,
+    pub overlap: u64,
+}
+
+fn overlapping_of(left: Reading, right: Reading, overlap: bool) -> Overlapping
+    ensures { λ r. ⌜ r ≡ overlappingBy left right overlap ⌝ }
+{
+    Overlapping {
+        left: left,
+        right: right,
+        overlap: if overlap { 1 } else { 0 },
+    }
+}
+
+// Says whether the rules of two texts overlap, which is whether their list has an entry, without making it. A text that is refused says
+// the rule with no fields, which overlaps none.
+#[no_mangle]
+pub extern "C" fn yopobrush_texts_overlap(left: &[u8], right: &[u8]) -> Overlapping
+    ensures { λ r. ⌜ LibraryOverlaps (now (left .entry)) (now (right .entry)) r ⌝ }
+{
+    let met = overlap_list::shared::texts_overlap(left, right);
+    let left_verdict = met.left;
+    let right_verdict = met.right;
+    let overlap = met.overlap;
+    overlapping_of(reading_of(left_verdict), reading_of(right_verdict), overlap)
 }
 
 // ---- carrying out

@@ -31,7 +31,7 @@ fn built(name: &str) -> PathBuf {
     program
 }
 
-fn said(program: &Path, texts: [&str; 2]) -> Said {
+fn said(program: &Path, texts: &[&str]) -> Said {
     let output = Command::new(program).args(texts).output().unwrap();
     (output.status.code(), output.stdout, output.stderr)
 }
@@ -47,7 +47,7 @@ fn complains(text: &str) -> Said {
 #[test]
 fn overlaps_from_c() {
     let program = built("overlaps");
-    let said = |left, right| said(&program, [left, right]);
+    let said = |left, right| said(&program, &[left, right]);
     let list = "2 <a0=2 <l0=empty >l0=empty\na0:l0:2 <a0=a0 <l0=l0:2 >l0=a0:l0\n";
     assert_eq!(said("a0:l0", "l0:2"), prints(list));
     assert_eq!(said("i0", "s0"), prints(""));
@@ -58,9 +58,23 @@ fn overlaps_from_c() {
 }
 
 #[test]
+fn overlapping_pairs_from_c() {
+    let program = built("book");
+    let said = |rules: &[&str]| said(&program, rules);
+    assert_eq!(said(&["i0", "s0", "a0"]), prints("1 3\n2 3\n"));
+    assert_eq!(
+        said(&["a0=>1", "i0", "\"m\"", "l0"]),
+        prints("1 2\n1 3\n1 4\n2 4\n3 4\n")
+    );
+    assert_eq!(said(&["i0", "s0"]), prints(""));
+    let refused = complains("rule 2 refused 2 at 2\n");
+    assert_eq!(said(&["a0", "i01", "l0:l1"]), refused);
+}
+
+#[test]
 fn carrying_out_from_c() {
     let program = built("carry");
-    let said = |rule: &str, slip: &str| said(&program, [rule, slip]);
+    let said = |rule: &str, slip: &str| said(&program, &[rule, slip]);
     assert_eq!(said("a0:l0=>l0:a0", "1:2:3"), prints("yes 2:3:1\n"));
     assert_eq!(said("1=>2", "007"), prints("no 7\n"));
     let ones = vec!["1"; 64].join(":");

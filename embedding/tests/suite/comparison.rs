@@ -10,8 +10,8 @@ use reference::reading;
 use reference::terms::Rule;
 use reference::writing::{entry_line, plain_slip};
 use yopobrush::{
-    carried, carry_out, list_overlaps, overlaps, read_rule, Answer, CarryError, Error, Listing,
-    Refusal,
+    carried, carry_out, list_overlaps, overlaps, read_rule, texts_overlap, Answer, CarryError,
+    Error, Listing, Refusal,
 };
 
 const LINES: usize = 4_000;
@@ -73,11 +73,18 @@ fn compare(left: &[u8], right: &[u8]) {
     if let Some(error) = refusal(&left_read, &right_read) {
         assert_eq!(listed, Err(error), "{pair}");
         assert_eq!(overlaps(left, right), Err(error), "{pair}");
+        assert_eq!(texts_overlap(left, right), Err(error), "{pair}");
+    }
+    if let Some(error) = refusal(&right_read, &left_read) {
+        assert_eq!(texts_overlap(right, left), Err(error), "{pair}");
     }
     let (Ok(left_rule), Ok(right_rule)) = (left_read, right_read) else {
         return;
     };
     let (list, listing) = expected_list(&left_rule, &right_rule);
+    let overlap = Ok(listing.entries > 0);
+    assert_eq!(texts_overlap(left, right), overlap, "{pair}");
+    assert_eq!(texts_overlap(right, left), overlap, "{pair}");
     if listing.bytes > LONGEST {
         assert_eq!(listed, Err(Error::TooSmall(listing)), "{pair}");
     } else {

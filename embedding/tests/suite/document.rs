@@ -1,7 +1,7 @@
 //! Document 01's cases, "Pairs on either side of an edge", and document 02's
-//! rules with right sides.
+//! rules with right sides and overlapping pairs.
 
-use yopobrush::{list_overlaps, overlaps, read_rule, Error, Refusal};
+use yopobrush::{list_overlaps, overlaps, read_rule, texts_overlap, Error, Refusal};
 
 fn assert_list(left: &str, right: &str, lines: &[&str]) {
     let list: String = lines.iter().map(|line| format!("{line}\n")).collect();
@@ -11,6 +11,15 @@ fn assert_list(left: &str, right: &str, lines: &[&str]) {
     let listing = list_overlaps(left.as_bytes(), right.as_bytes(), &mut room).unwrap();
     assert_eq!(listing.entries, lines.len(), "{left} and {right}");
     assert_eq!(&room[..listing.bytes], list.as_bytes());
+    assert_overlap(left, right, !lines.is_empty());
+}
+
+/// In both orders.
+fn assert_overlap(left: &str, right: &str, expected: bool) {
+    for [left, right] in [[left, right], [right, left]] {
+        let found = texts_overlap(left.as_bytes(), right.as_bytes());
+        assert_eq!(found, Ok(expected), "{left} and {right}");
+    }
 }
 
 fn assert_refused(text: impl AsRef<[u8]>, number: u8, place: usize) {
@@ -101,6 +110,23 @@ fn right_sides_change_no_list() {
     assert_list("\"=>\"=>1", "s0=>s0", &["\"=>\" >s0=\"=>\""]);
 }
 
+/// "each overlapping pair", and "Overlaps look at left sides only."
+#[test]
+fn whether_two_rules_overlap() {
+    assert_overlap("i0", "a0", true);
+    assert_overlap("s0", "a0", true);
+    assert_overlap("i0", "s0", false);
+    assert_overlap("i0=>1", "a0=>a0|2", true);
+    assert_overlap("i0=>1", "s0=>1", false);
+    assert_overlap("007", "7", true);
+    assert_overlap("1|l0", "1|2", true);
+    assert_overlap("1|l0:3", "1|2", false);
+    assert_overlap("1", "1|empty", false);
+    assert_overlap("a0:l0|a0", "l0:2|1", true);
+    assert_overlap("a0|a0:l0", "1|l0:2:3", true);
+    assert_overlap("a0|a0:l0", "1|2:l0:3", false);
+}
+
 #[test]
 fn the_left_refusal_goes_first() {
     let refusal = |number, place| Refusal { number, place };
@@ -109,6 +135,20 @@ fn the_left_refusal_goes_first() {
     assert_eq!(list(b"a0", b"l0:l1"), Err(Error::Right(refusal(6, 3))));
     assert_eq!(overlaps(b"", b""), Err(Error::Left(refusal(2, 0))));
     assert_eq!(overlaps(b"1", b""), Err(Error::Right(refusal(2, 0))));
+    assert_eq!(
+        texts_overlap(b"i01", b"l0:l1"),
+        Err(Error::Left(refusal(2, 2)))
+    );
+    assert_eq!(
+        texts_overlap(b"a0", b"l0:l1"),
+        Err(Error::Right(refusal(6, 3)))
+    );
+    assert_eq!(
+        texts_overlap(b"i0=>a0", b"a0"),
+        Err(Error::Left(refusal(10, 4)))
+    );
+    assert_eq!(texts_overlap(b"", b""), Err(Error::Left(refusal(2, 0))));
+    assert_eq!(texts_overlap(b"1", b""), Err(Error::Right(refusal(2, 0))));
 }
 
 #[test]

@@ -2,7 +2,7 @@
 
 use std::thread;
 
-use yopobrush::{list_overlaps, overlaps, Error, Listing};
+use yopobrush::{list_overlaps, overlaps, texts_overlap, Error, Listing};
 
 const LEFT: &[u8] = b"a0:l0";
 const RIGHT: &[u8] = b"l0:2";
@@ -44,6 +44,7 @@ fn nothing_is_lent() {
     };
     assert_eq!(list_overlaps(b"1", b"2", &mut []), Ok(none));
     assert!(list_overlaps(&[], &[], &mut []).is_err());
+    assert!(texts_overlap(&[], &[]).is_err());
 }
 
 /// Fifteen variables before or behind a list variable, in each field: as many
@@ -79,4 +80,16 @@ fn a_megabyte_of_stack_is_enough() {
         bytes: 47_250_381,
     };
     assert_eq!(listed, Err(Error::TooSmall(needed)));
+}
+
+/// Also where the last field leaves none of the 4,096 choices before it.
+#[test]
+fn asking_takes_no_more_stack() {
+    let (left, right) = deepest(4);
+    let (front, other) = deepest(3);
+    let (front, other) = ([&front[..], b"|i0"].concat(), [&other[..], b"|s0"].concat());
+    let ask = move || [texts_overlap(&left, &right), texts_overlap(&front, &other)];
+    let thread = thread::Builder::new().stack_size(1 << 20);
+    let asked = thread.spawn(ask).unwrap().join().unwrap();
+    assert_eq!(asked, [Ok(true), Ok(false)]);
 }

@@ -94,7 +94,7 @@ fn with_other_sign(draw: &mut Draw) -> Vec<u8> {
     line(&left, &right, draw)
 }
 
-fn common_slip(draw: &mut Draw) -> Vec<Field> {
+pub(super) fn common_slip(draw: &mut Draw) -> Vec<Field> {
     let longest = if draw.one_in(5) { 15 } else { 4 };
     let field = |draw: &mut Draw| {
         let length = draw.below(longest + 1);

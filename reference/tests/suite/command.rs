@@ -1,10 +1,12 @@
 //! The program as it is run.
 
 use std::io::Write;
-use std::process::{Command, Output, Stdio};
-use std::thread;
+use std::process::{self, Command, Output, Stdio};
+use std::{env, fs, thread};
 
-use crate::support::Draw;
+use reference::generate::wide::{clashing_book, overlapping_book};
+
+use crate::support::{lines_of, Draw};
 
 fn run(arguments: &[&str], input: &[u8]) -> Output {
     let mut child = Command::new(env!("CARGO_BIN_EXE_reference"))
@@ -35,10 +37,8 @@ fn read(input: &[u8]) -> String {
     answer("read", input)
 }
 
-/// The lines of the input, the last one with or without its newline.
 fn count_lines(input: &[u8]) -> usize {
-    let pieces = input.split(|&byte| byte == b'\n').count();
-    pieces - usize::from(input.is_empty() || input.ends_with(b"\n"))
+    lines_of(input).len()
 }
 
 #[test]
@@ -218,6 +218,16 @@ refusal 8 lines 2 bytes 2
     assert_eq!(answer("solve", input), expected);
 }
 
+#[test]
+fn the_book_of_document_02_whole() {
+    assert_eq!(answer("book", b"i0\ns0\na0\n"), "1 3\n2 3\n");
+    assert_eq!(answer("book", b"i0\ns0\na0"), "1 3\n2 3\n");
+    assert_eq!(answer("book", b""), "");
+    assert_eq!(answer("book", b"l0\n\nl0\n"), "refused 2 2 at 0\n");
+    assert_eq!(answer("book", &b"l0\n".repeat(18)), "refused 17 12 at 0\n");
+    assert_eq!(answer("book", &[b'1'; 1_000_000]), "refused 1 1 at 4096\n");
+}
+
 const GENERATORS: [&str; 5] = [
     "generate",
     "generate-matches",
@@ -254,6 +264,38 @@ fn some_generated_sets_end_without_a_newline() {
     }
 }
 
+/// The files of a folder of its own, in the order of their numbers.
+fn generate_books(seed: &str, count: usize) -> Vec<Vec<u8>> {
+    let name = format!("books-{}-{seed}-{count}", process::id());
+    let folder = env::temp_dir().join(name);
+    let path = folder.to_str().unwrap();
+    let output = run(&["generate-books", seed, &count.to_string(), path], b"");
+    assert_eq!(output.status.code(), Some(0));
+    assert!(output.stdout.is_empty());
+    assert_eq!(fs::read_dir(&folder).unwrap().count(), count);
+    let book = |number: usize| fs::read(folder.join(number.to_string())).unwrap();
+    let books = (1..=count).map(book).collect();
+    fs::remove_dir_all(&folder).unwrap();
+    books
+}
+
+#[test]
+fn generated_books_are_those_of_the_seed() {
+    let books = generate_books("7", 50);
+    assert!(books.iter().any(|book| book.ends_with(b"\n")));
+    assert!(books.iter().any(|book| !book.ends_with(b"\n")));
+    assert_eq!(books[..20], generate_books("7", 20));
+    assert_ne!(books[..20], generate_books("8", 20));
+    assert!(generate_books("7", 0).is_empty());
+}
+
+#[test]
+fn wide_books_are_written_whole() {
+    let book = |kind| run(&["generate-wide-book", kind], b"").stdout;
+    assert_eq!(book("overlapping"), overlapping_book());
+    assert_eq!(book("clashing"), clashing_book());
+}
+
 #[test]
 fn other_commands_are_refused() {
     let misuses = [
@@ -280,6 +322,13 @@ fn other_commands_are_refused() {
         &["generate-pairs", "1", "2", "3"],
         &["solve", "1"],
         &["generate-solve", "1"],
+        &["book", "1"],
+        &["generate-books", "1", "2"],
+        &["generate-books", "1", "two", "folder"],
+        &["generate-books", "1", "2", "folder", "3"],
+        &["generate-wide-book"],
+        &["generate-wide-book", "1"],
+        &["generate-wide-book", "clashing", "overlapping"],
     ];
     for arguments in misuses {
         let output = run(arguments, b"1\n");

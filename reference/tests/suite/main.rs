@@ -1,5 +1,7 @@
 //! Tests of each part against documents 01 and 02.
 
+mod book;
+mod book_by_trial;
 mod carrying;
 mod carrying_by_trial;
 mod command;

@@ -8,7 +8,6 @@ use std::slice::from_ref;
 use reference::answers::pairs_answer;
 use reference::generate::pairs::pair_line;
 use reference::matching::{fillings, match_rule};
-use reference::reading::read_rule;
 use reference::terms::{Field, Filling, Kind, Rule, Slip, Term};
 use reference::writing::plain_rule;
 
@@ -194,13 +193,6 @@ fn any_filling(fields: &[Field], draw: &mut Draw) -> Filling {
     };
     let names = names_of(fields).into_iter();
     names.map(|name| (name, value(name.0))).collect()
-}
-
-fn read_pair(line: &[u8]) -> Option<(Rule, Rule)> {
-    let tab = line.iter().position(|&byte| byte == b'\t')?;
-    let left = read_rule(&line[..tab]).ok()?;
-    let right = read_rule(&line[tab + 1..]).ok()?;
-    Some((left, right))
 }
 
 /// Rules of all sizes: slips of each entry, and slips of each rule that the

@@ -74,16 +74,7 @@ fn the_edges_of_document_01() {
 
 #[test]
 fn every_refusal_on_either_side() {
-    let table = [
-        ("x".repeat(4097), "1 at 4096"),
-        ("emp".to_string(), "2 at 3"),
-        ("1|2|3|4|5".to_string(), "3 at 8"),
-        (times(17, "1"), "4 at 32"),
-        ("a16".to_string(), "5 at 0"),
-        ("l0:1:l0".to_string(), "6 at 5"),
-        ("l0=>l0:l1".to_string(), "10 at 7"),
-    ];
-    for (text, refusal) in &table {
+    for (text, refusal) in &refused_rules() {
         assert_pair(text, "l0", &[&format!("refused left {refusal}")]);
         assert_pair("l0", text, &[&format!("refused right {refusal}")]);
         if text.len() < 4096 {

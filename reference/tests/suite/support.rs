@@ -28,6 +28,19 @@ pub fn times(count: usize, term: &str) -> String {
     vec![term; count].join(":")
 }
 
+/// A text for each refusal of a rule, with its number and place.
+pub fn refused_rules() -> Vec<(String, &'static str)> {
+    vec![
+        ("x".repeat(4097), "1 at 4096"),
+        ("emp".to_string(), "2 at 3"),
+        ("1|2|3|4|5".to_string(), "3 at 8"),
+        (times(17, "1"), "4 at 32"),
+        ("a16".to_string(), "5 at 0"),
+        ("l0:1:l0".to_string(), "6 at 5"),
+        ("l0=>l0:l1".to_string(), "10 at 7"),
+    ]
+}
+
 /// For messages; texts of many bytes stay readable.
 pub fn show(text: &[u8]) -> String {
     text.escape_ascii().to_string()
@@ -52,6 +65,23 @@ pub fn read_both(line: &[u8]) -> Option<(Rule, Slip)> {
     let rule = read_rule(&line[..tab]).ok()?;
     let slip = read_slip(&line[tab + 1..]).ok()?;
     Some((rule, slip))
+}
+
+/// The rules of a line, where both are accepted.
+pub fn read_pair(line: &[u8]) -> Option<(Rule, Rule)> {
+    let tab = line.iter().position(|&byte| byte == b'\t')?;
+    let left = read_rule(&line[..tab]).ok()?;
+    let right = read_rule(&line[tab + 1..]).ok()?;
+    Some((left, right))
+}
+
+/// The lines of an input, the last one with or without its newline.
+pub fn lines_of(input: &[u8]) -> Vec<&[u8]> {
+    let mut lines: Vec<&[u8]> = input.split(|&byte| byte == b'\n').collect();
+    if lines.last().is_some_and(|line| line.is_empty()) {
+        lines.pop();
+    }
+    lines
 }
 
 pub fn assert_rule(text: impl AsRef<[u8]>, fields: Vec<Field>) {

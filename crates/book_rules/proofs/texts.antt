@@ -1,0 +1,4 @@
+pub mod Books
+pub mod Keeping
+pub mod Lines
+pub mod Pairs
