@@ -43,19 +43,24 @@ yes-gives (f ∷ r) (w ∷ ws) = found-yes (f ∷ r) (map constants (w ∷ ws)) 
 
 -- ---- the book of a value
 
-module _ (book : BookValue) (few : book .n ≤ mostRules) (long : length (book .rules) ≡ mostRules) where
-  counted-is : countedBook book ≡ map leftOf (take (book .n) (book .rules))
-  counted-is = ap (λ (b : Bool). cond b (map leftOf (take (book .n) (book .rules))) []) (le-leb (book .n) mostRules few)
+module _ (book : BookValue) where
+  pub counted-is : book .n ≤ mostRules → countedBook book ≡ map leftOf (take (book .n) (book .rules))
+  counted-is h = ap (λ (b : Bool). cond b (map leftOf (take (book .n) (book .rules))) []) (le-leb (book .n) mostRules h)
 
+  -- more than 16 rules are an empty book
+  pub none-counted : mostRules < book .n → countedBook book ≡ []
+  none-counted h = ap (λ (b : Bool). cond b (map leftOf (take (book .n) (book .rules))) []) (lt-leb (book .n) mostRules h)
+
+module _ (book : BookValue) (few : book .n ≤ mostRules) (long : length (book .rules) ≡ mostRules) where
   front-long : length (take (book .n) (book .rules)) ≡ book .n
   front-long = length-take-le (book .n) (book .rules) (omega (arith, long))
 
   pub counted-long : length (countedBook book) ≡ book .n
-  counted-long = ap length counted-is ∙ length-map (take (book .n) (book .rules)) leftOf ∙ front-long
+  counted-long = ap length (counted-is book few) ∙ length-map (take (book .n) (book .rules)) leftOf ∙ front-long
 
   pub counted-at : (i : ℕ) (d : RuleValue) → i < book .n → ruleAt (countedBook book) i ≡ leftOf (getD (book .rules) i d)
   counted-at i d h =
-      ap (λ (B : Book). ruleAt B i) counted-is
+      ap (λ (B : Book). ruleAt B i) (counted-is book few)
       ∙ mapped-at leftOf (take (book .n) (book .rules)) i d [] (omega (arith, front-long))
       ∙ ap leftOf (getD-take (book .n) (book .rules) i d h)
 
@@ -100,9 +105,5 @@ module _ (B : Book) (s : OurFields) where
       let z : 0 ≡ n - i = omega arith in
       ap (Option·map suc) (ap (λ (m : ℕ). pickIn test (numbersFrom m i)) z ∙ p)
 
--- more than 16 rules are an empty book
 pub too-many : (book : BookValue) (s : OurFields) → mostRules < book .n → PicksRule (countedBook book) s Nothing
-too-many book s h = ap (λ (B : Book). Option·map suc (pick B (map constants s))) (sym (empty-is book h))
-  where
-    empty-is : (b : BookValue) → mostRules < b .n → countedBook b ≡ []
-    empty-is b k = ap (λ (t : Bool). cond t (map leftOf (take (b .n) (b .rules))) []) (lt-leb (b .n) mostRules k)
+too-many book s h = ap (λ (B : Book). Option·map suc (pick B (map constants s))) (sym (none-counted book h))

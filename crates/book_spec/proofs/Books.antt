@@ -11,25 +11,20 @@ use mathlib.Core.Path.{_≡_, refl, sym, _∙_, ap, subst}
 use mathlib.Core.Logic.{_↔_, inl, inr}
 use mathlib.Core.Bool.{Bool, true, false, cond, false≢true}
 use mathlib.Core.Option.{Option, none, some, Option·map, IsSome, Option·none-ne-some, Option·some-injective}
-use mathlib.Core.List.{List, [], _∷_, map, List·Memᴰ, List·Memᴰ·head, cons≢nil}
+use mathlib.Core.List.{List, [], _∷_, List·Memᴰ, List·Memᴰ·head, cons≢nil}
 use Prim.Native.Nat.{ℕ, zero, suc, _<_}
 use native.Mathlib.Omega.{arith}
-use native.Mathlib.Decide.{ℕ-discrete}
 use lib.ListN.{length, getD, getElem?}
 use Rattle.base_lists.specs.Seqs.{IsCons}
 use Rattle.base_lists.specs.Truths.{false-is}
-use Rattle.math_types.specs.Types.{basics}
-use Rattle.math_overlaps.specs.Shapes.{left, both, shapeOf, shapesOf}
-use Rattle.math_overlaps.specs.Overlaps.{PairShape, listed}
-use Rattle.text_grammar.specs.Terms.{OurField, OurFields, SlipFields}
+use Rattle.text_grammar.specs.Terms.{OurFields, SlipFields}
 use Rattle.text_grammar.specs.Limits.{IsLeft}
-use Rattle.text_grammar.specs.constants.Constants.{consts}
 use Rattle.text_grammar.specs.constants.Matching.{Matches, matcher}
 use Rattle.text_grammar.proofs.constants.Matching.{match-iff}
 use Rattle.overlap_spec.specs.Lines.{Line}
 use Rattle.overlap_spec.specs.Variables.{numbersFrom}
-use Rattle.overlap_spec.specs.Overlaps.{entriesOf, lineOf, linesOf}
-use Rattle.overlap_spec.proofs.Exact.{lines-exact}
+use Rattle.overlap_spec.specs.Overlaps.{linesOf}
+use Rattle.overlap_spec.proofs.Exact.{no-right, lines-exact}
 use Rattle.overlap_spec.proofs.Variables.{numbers-mem}
 use Rattle.apply_spec.specs.Rules.{Readable}
 use Rattle.book_spec.specs.Picks.{pickIn, IsOrder}
@@ -67,19 +62,9 @@ left-has : (r s : OurFields) → (linesOf r s ≡ [] → ⊥) → IsCons r
 left-has [] s n = absurd (n refl)
 left-has (f ∷ r) s n = tt
 
--- a rule with fields has no entry with one that has none; `entriesOf` looks only whether the left one has fields
-no-entries : (f : OurField) (r : OurFields) → entriesOf (f ∷ r) [] ≡ []
-no-entries f r = go (shapeOf left f) (shapesOf left r)
-  where
-    go : (o : Option (PairShape basics consts ℕ-discrete)) (p : Option (List (PairShape basics consts ℕ-discrete)))
-        → listed basics consts ℕ-discrete (both o p) (some []) ≡ []
-    go none p = refl
-    go (some S) none = refl
-    go (some S) (some Ss) = refl
-
 right-has : (r s : OurFields) → (linesOf r s ≡ [] → ⊥) → IsCons s
 right-has [] s n = absurd (n refl)
-right-has (f ∷ r) [] n = absurd (n (ap (map (lineOf (f ∷ r) [])) (no-entries f r)))
+right-has (f ∷ r) [] n = absurd (n (no-right (f ∷ r)))
 right-has (f ∷ r) (g ∷ s) n = tt
 
 module _ (r s : OurFields) (c : Counted r) (d : Counted s) where

@@ -11,7 +11,7 @@ use native.Mathlib.Omega.{arith}
 use native.Mathlib.Decide.{decLt}
 use lib.ListN.{length, length-append, length-map}
 use Rattle.base_limits.specs.Limits.{mostRules}
-use Rattle.base_lists.specs.Seqs.{All, all-append, all-map, all-mapped, cons-true}
+use Rattle.base_lists.specs.Seqs.{All, all-append, all-of, all-map, all-mapped, cons-true}
 use Rattle.math_terms.specs.Seqs.{concat-map, Distinct}
 use Rattle.math_terms.proofs.Seqs.{concat-map-twice}
 use Rattle.text_grammar.specs.Terms.{SlipFields}
@@ -24,7 +24,8 @@ use Rattle.overlap_spec.proofs.Rising.{keep-short, keep-concat, rising-append, 
 use Rattle.overlap_spec.proofs.Variables.{numbers-rising, numbers-mem}
 use Rattle.apply_spec.specs.Rules.{Readable}
 use Rattle.book_spec.specs.Picks.{IsOrder}
-use Rattle.book_spec.specs.Books.{Book, IsBook, ruleAt, pickBy, Apart, pairsWith, pairsBelow, meet, pairsOf, pairText, bookText, longestBookText}
+use Rattle.book_spec.specs.Books.{Book, IsBook, ruleAt, pickBy, Apart, pairsWith, pairsBelow, Sorted, meet, pairsOf}
+use Rattle.book_spec.specs.Books.{pairText, bookText, longestPair, longestBookText}
 use Rattle.book_spec.proofs.Picks.{numbers-long}
 use Rattle.book_spec.proofs.Books.{none-there, empty-symmetric, rule-counted, order-iff}
 
@@ -70,17 +71,11 @@ in-below n i j = (to, from)
         in-concat (pairsWith n) (i, j) (numbersFrom n 0) .1
         (i, numbers-mem n 0 i .1 (omega arith, omega arith), Memᴰ·map (λ (k : ℕ). (i, k)) (numbers-mem (n - suc i) (suc i) j .1 (omega arith, omega arith)))
 
--- "sorted by I, then by J, as numbers"
-abbrev pub Sorted : ℕ × ℕ → ℕ × ℕ → Type 0
-Sorted a b = (a .0 < b .0) ⊎ ((a .0 ≡ b .0) × (a .1 < b .1))
-
 -- all of row a have a for their first
 in-row : (n a : ℕ) (P : ℕ × ℕ → Type 0) → ((j : ℕ) → P (a, j)) → All P (pairsWith n a)
-in-row n a P h = all-mapped P (λ (j : ℕ). (a, j)) (numbersFrom (n - suc a) (suc a)) (each (numbersFrom (n - suc a) (suc a)))
-  where
-    each : (js : List ℕ) → All (λ j. P (a, j)) js
-    each [] = tt
-    each (j ∷ js) = (h j, each js)
+in-row n a P h =
+    let js = numbersFrom (n - suc a) (suc a) in
+    all-mapped P (λ (j : ℕ). (a, j)) js (all-of (λ j. P (a, j)) h js)
 
 firsts-above : (n m a b : ℕ) → b < a → All (λ (v : ℕ × ℕ). b < v .0) (concat-map (pairsWith n) (numbersFrom m a))
 firsts-above n zero a b h = tt
@@ -181,10 +176,11 @@ pair-length v =
     length-append (a ++ ascii " " ++ b) newline ∙ omega (arith, length-append (a ++ ascii " ") b, length-append a (ascii " "))
 
 -- positions below 16 are shown as numbers of two digits at most
-pub pair-short : (v : ℕ × ℕ) → v .0 < mostRules → v .1 < mostRules → length (pairText v) ≤ 6
+pub pair-short : (v : ℕ × ℕ) → v .0 < mostRules → v .1 < mostRules → length (pairText v) ≤ longestPair
 pair-short v a b = omega (arith, pair-length v, digits-most 1 (suc (v .0)) (omega arith), digits-most 1 (suc (v .1)) (omega arith))
 
-pairs-short : (ps : List (ℕ × ℕ)) → ((v : ℕ × ℕ) → List·Memᴰ v ps → length (pairText v) ≤ 6) → length (concat-map pairText ps) ≤ length ps * 6
+pairs-short : (ps : List (ℕ × ℕ)) → ((v : ℕ × ℕ) → List·Memᴰ v ps → length (pairText v) ≤ longestPair)
+    → length (concat-map pairText ps) ≤ length ps * longestPair
 pairs-short [] h = omega arith
 pairs-short (v ∷ ps) h =
     omega (arith, length-append (pairText v) (concat-map pairText ps), h v (List·Memᴰ·head refl), pairs-short ps (λ u m. h u (List·Memᴰ·tail m)))
@@ -210,5 +206,5 @@ module _ (B : Book) where
   text-short h =
       omega (arith, pairs-short (pairsOf B) each, keep-short (meet B) (pairsBelow (length B)), below-count (length B) h)
     where
-      each : (v : ℕ × ℕ) → List·Memᴰ v (pairsOf B) → length (pairText v) ≤ 6
+      each : (v : ℕ × ℕ) → List·Memᴰ v (pairsOf B) → length (pairText v) ≤ longestPair
       each v m = let b = in-pairs B (v .0) (v .1) .0 m in let l = b .0 in let u = b .1 in pair-short v (omega arith) (omega arith)

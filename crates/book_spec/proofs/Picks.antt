@@ -100,8 +100,6 @@ module _ (g : ℕ → Bool) where
           from : Lowest (suc n) a → Lowest n (suc a)
           from h = let l = h .0 in let u = h .1 in (omega (arith, other h), omega arith, h .2, λ j b c. h .3 j (omega arith) c)
 
--- ---- what is an order
-
 -- positions one further on
 pub pick-behind : (g : ℕ → Bool) (n a : ℕ) → pickIn g (numbersFrom n (suc a)) ≡ Option·map suc (pickIn (λ i. g (suc i)) (numbersFrom n a))
 pick-behind g zero a = refl
@@ -112,6 +110,8 @@ pick-behind g (suc n) a = go (g (suc a)) (pick-behind g n (suc a))
         ≡ Option·map suc (cond b (some a) (pickIn (λ i. g (suc i)) (numbersFrom n (suc a))))
     go true rec = refl
     go false rec = rec
+
+-- ---- what is an order
 
 -- the positions as they stand
 pub own-order : (n : ℕ) → IsOrder n (numbersFrom n 0)

@@ -40,13 +40,13 @@ with-rules x (rules ys) xs e = (ys, refl, rules-once e)
 
 module _ (k : ℕ) (t : List ℕ) (ts : List (List ℕ)) where
   -- a line that there is room for, and one that there is none for
-  in-room : k < mostRules → readFrom k (t ∷ ts) ≡ lineRead (suc k) (readRule t) (readFrom (suc k) ts)
+  pub in-room : k < mostRules → readFrom k (t ∷ ts) ≡ lineRead (suc k) (readRule t) (readFrom (suc k) ts)
   in-room h = ap (λ (b : Bool). cond b (lineRead (suc k) (readRule t) (readFrom (suc k) ts)) (stopped (suc k) bookFull 0)) (lt-ltb k mostRules h)
 
-  no-room : mostRules ≤ k → readFrom k (t ∷ ts) ≡ stopped (suc k) bookFull 0
+  pub no-room : mostRules ≤ k → readFrom k (t ∷ ts) ≡ stopped (suc k) bookFull 0
   no-room h = ap (λ (b : Bool). cond b (lineRead (suc k) (readRule t) (readFrom (suc k) ts)) (stopped (suc k) bookFull 0)) (le-ltb k mostRules h)
 
-  one-accepted : (x : OurRule) → k < mostRules → readRule t ≡ accepted x → readFrom k (t ∷ ts) ≡ withRule x (readFrom (suc k) ts)
+  pub one-accepted : (x : OurRule) → k < mostRules → readRule t ≡ accepted x → readFrom k (t ∷ ts) ≡ withRule x (readFrom (suc k) ts)
   one-accepted x h e = in-room h ∙ ap (λ (o : OutcomeOf OurRule). lineRead (suc k) o (readFrom (suc k) ts)) e
 
 -- ---- where it stops: behind i more lines than the k before them

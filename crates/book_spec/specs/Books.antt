@@ -74,6 +74,10 @@ pairsWith n i = map (λ (j : ℕ). (i, j)) (numbersFrom (n - suc i) (suc i))
 abbrev pub pairsBelow : ℕ → List (ℕ × ℕ)
 pairsBelow n = concat-map (pairsWith n) (numbersFrom n 0)
 
+-- which of two pairs comes before the other
+abbrev pub Sorted : ℕ × ℕ → ℕ × ℕ → Type 0
+Sorted a b = (a .0 < b .0) ⊎ ((a .0 ≡ b .0) × (a .1 < b .1))
+
 -- whether the rules at two positions overlap
 abbrev pub meet : Book → ℕ × ℕ → Bool
 meet B v = overlapping (ruleAt B (v .0)) (ruleAt B (v .1))
@@ -95,5 +99,8 @@ bookText B = concat-map pairText (pairsOf B)
 abbrev pub mostPairs : ℕ
 mostPairs = mostRules * (mostRules - 1) / 2
 
+abbrev pub longestPair : ℕ
+longestPair = 2 + 1 + 2 + 1
+
 abbrev pub longestBookText : ℕ
-longestBookText = mostPairs * (2 + 1 + 2 + 1)
+longestBookText = mostPairs * longestPair

@@ -15,7 +15,7 @@ use Prim.Native.Nat.{ℕ, suc, _<_}
 use native.Mathlib.Omega.{arith}
 use lib.Dec.{leb}
 use lib.ListN.{length, take}
-use borrow.Author.Tests.{le-leb, lt-leb}
+use borrow.Author.Tests.{le-leb}
 use Rattle.base_limits.specs.Limits.{mostRules}
 use Rattle.base_lists.specs.Seqs.{IsNil, IsCons, all-of, all-mapped}
 use Rattle.math_terms.specs.Seqs.{concat-map}
@@ -36,14 +36,15 @@ use Rattle.text_write.specs.declared.Written.{Written}
 use Rattle.text_write.specs.Answers.{told, Writes}
 use Rattle.apply_spec.specs.Rules.{Readable}
 use Rattle.book_spec.specs.Picks.{IsOrder}
-use Rattle.book_spec.specs.Books.{Book, Counted, IsBook, ruleAt, pickBy, pick, Apart, pairsOf, pairText, bookText}
+use Rattle.book_spec.specs.Books.{Book, Counted, IsBook, ruleAt, pickBy, pick, Apart, Sorted, pairsOf, pairText, bookText}
 use Rattle.book_spec.proofs.Books.{order-free, order-matters, order-iff, pick-matches, none-matches}
-use Rattle.book_spec.proofs.Pairs.{Sorted, in-pairs, pairs-rising, apart-pairs, text-none}
+use Rattle.book_spec.proofs.Pairs.{in-pairs, pairs-rising, apart-pairs, text-none}
 use Rattle.book_rules.specs.declared.Book.{Book as BookValue}
 use Rattle.book_rules.specs.declared.Picked.{Picked}
 use Rattle.book_rules.specs.declared.texts.Kept.{Kept}
 use Rattle.book_rules.specs.Books.{leftOf, countedBook, shown, PicksRule}
 use Rattle.book_rules.specs.texts.Keeping.{textsIn, saidBy, bookIn}
+use Rattle.book_rules.proofs.Picks.{none-counted}
 use Rattle.demands.specs.Overlaps.{is-left, not-counted}
 
 -- ---- picks
@@ -174,9 +175,6 @@ counted-book b = go (leb (b .n) mostRules)
     go : (f : Bool) → IsBook (cond f (map leftOf (take (b .n) (b .rules))) [])
     go true = all-mapped Counted leftOf (take (b .n) (b .rules)) (all-of (λ v. Counted (leftOf v)) counted-rule (take (b .n) (b .rules)))
     go false = tt
-
-none-counted : (b : BookValue) → mostRules < b .n → countedBook b ≡ []
-none-counted b h = ap (λ (f : Bool). cond f (map leftOf (take (b .n) (b .rules))) []) (lt-leb (b .n) mostRules h)
 
 pub picking : (b : BookValue) (s : Slip) {r : Picked} → PicksRule (countedBook b) (countedSlip s) r → Picking b s r
 picking b s {r} e =

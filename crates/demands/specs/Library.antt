@@ -28,7 +28,7 @@ use Rattle.overlap_spec.specs.Overlaps.{linesOf, overlapText, overlapping}
 use Rattle.apply_spec.specs.Rules.{Readable}
 use Rattle.book_spec.specs.Books.{gives}
 use Rattle.book_spec.proofs.Books.{gives-iff, slip-overlaps, overlap-slip}
-use Rattle.overlap_list.proofs.Lists.{no-right}
+use Rattle.overlap_spec.proofs.Exact.{no-right}
 use Rattle.overlap_list.proofs.Rules.{none-listed}
 use Rattle.yopobrush.specs.declared.Reading.{Reading}
 use Rattle.overlap_list.specs.declared.Listed.the-variants.{Lines}

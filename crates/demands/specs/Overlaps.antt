@@ -37,7 +37,7 @@ use Rattle.overlap_spec.specs.Lines.{Line, listText, WritableLine}
 use Rattle.overlap_spec.specs.Overlaps.{linesOf, overlapText}
 use Rattle.overlap_spec.specs.Fits.{OurSlip, Fits, Shows, Solution, Covers}
 use Rattle.overlap_spec.proofs.Lines.{lines-one}
-use Rattle.overlap_spec.proofs.Exact.{lines-exact, lines-once, lines-fillings, lines-slips, lines-least, lines-writable}
+use Rattle.overlap_spec.proofs.Exact.{no-right, lines-exact, lines-once, lines-fillings, lines-slips, lines-least, lines-writable}
 use Rattle.text_values.specs.declared.Rule.{Rule}
 use Rattle.text_values.specs.Values.{encodeRule}
 use Rattle.text_accepted.specs.rules.Rules.{acceptedRule, countedRule}
@@ -50,7 +50,7 @@ use Rattle.overlap_list.specs.declared.Listed.the-variants.{Lines, TooSmall}
 use Rattle.overlap_list.specs.declared.TextsListed.{TextsListed}
 use Rattle.overlap_list.specs.Answers.{told, Lists, TextsList}
 use Rattle.overlap_list.proofs.Answers.{eight-iff, fits-iff, counts-are, written, kept}
-use Rattle.overlap_list.proofs.Lists.{no-right, lines-none}
+use Rattle.overlap_list.proofs.Lists.{lines-none}
 use Rattle.overlap_list.proofs.Rules.{none-listed}
 use Rattle.demands.specs.Entries.{Filled, lines-filled}
 

@@ -5,7 +5,6 @@ use mathlib.Core.Bool.{true, false}
 use mathlib.Core.Option.{Option, none, some}
 use mathlib.Core.List.{List, [], _∷_, _++_, map}
 use Prim.Native.Nat.{ℕ, suc}
-use native.Mathlib.Omega.{arith}
 use native.Mathlib.Decide.{ℕ-discrete}
 use lib.ListN.{length}
 use Rattle.base_limits.specs.Limits.{fieldPlaces, rulePlaces}
@@ -102,7 +101,3 @@ lines-none [] r₂ n = refl
 lines-none (f ∷ r₁) r₂ n =
     ap (map (lineOf (f ∷ r₁) r₂)) (listed-none (shapesOf left (f ∷ r₁)) (shapesOf right r₂)
     (λ Ss Ts a b e. n (sym (shapes-count left (f ∷ r₁) Ss a) ∙ e ∙ shapes-count right r₂ Ts b)))
-
-pub no-right : (r : OurFields) → linesOf r [] ≡ []
-no-right [] = refl
-no-right (f ∷ r) = lines-none (f ∷ r) [] (λ e. absurd (omega (arith, e)))

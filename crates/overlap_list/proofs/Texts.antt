@@ -13,6 +13,7 @@ use Rattle.text_grammar.specs.Read.{readSide}
 use Rattle.text_grammar.specs.rules.Read.{readRule}
 use Rattle.text_grammar.proofs.rules.Before.{one-sided}
 use Rattle.overlap_spec.specs.Overlaps.{linesOf, overlapping}
+use Rattle.overlap_spec.proofs.Exact.{no-right}
 use Rattle.text_values.specs.declared.RuleSide.{RuleSide}
 use Rattle.text_values.specs.declared.Rule.{Rule}
 use Rattle.text_values.specs.Values.{viewSide}
@@ -30,7 +31,6 @@ use Rattle.overlap_list.specs.declared.Listed.the-variants.{Lines}
 use Rattle.overlap_list.specs.declared.TextsListed.{TextsListed}
 use Rattle.overlap_list.specs.Answers.{Lists, TextsList, Accepts, SidesList}
 use Rattle.overlap_list.specs.shared.Answers.{TextsMeet}
-use Rattle.overlap_list.proofs.Lists.{no-right}
 use Rattle.overlap_list.proofs.Rules.{none-listed}
 
 -- ---- rule texts, of which the left sides' texts are listed

@@ -1,7 +1,7 @@
 -- The lines of the overlap list of two rules that reading returns: the theorems of the overlap list, said of its lines.
 use mathlib.Core.Path.{_≡_, refl, sym, _∙_, ap, subst}
 use mathlib.Core.Logic.{_↔_, _⊎_, inl, inr}
-use mathlib.Core.Option.{some, Option·none-ne-some, Option·some-injective}
+use mathlib.Core.Option.{Option, none, some, Option·none-ne-some, Option·some-injective}
 use mathlib.Core.List.{List, [], _∷_, map, List·Memᴰ, List·Memᴰ·head, List·Memᴰ·tail, List·Memᴰ·cases-cons, List·Memᴰ·not-nil, Memᴰ·of-map}
 use Prim.Native.Nat.{ℕ, zero, suc, _≤_}
 use native.Mathlib.Omega.{arith}
@@ -22,7 +22,8 @@ use Rattle.text_grammar.proofs.constants.Linear.{left-linear}
 use Rattle.text_grammar.proofs.constants.Constants.{in-ok, some-in}
 use Rattle.math_overlaps.specs.Substitutions.{Subst, substitute}
 use Rattle.math_overlaps.specs.Constants.{ConstantIn}
-use Rattle.math_overlaps.specs.Overlaps.{overlaps}
+use Rattle.math_overlaps.specs.Shapes.{left, both, shapeOf, shapesOf}
+use Rattle.math_overlaps.specs.Overlaps.{PairShape, overlaps, listed}
 use Rattle.math_overlaps.proofs.Seqs.{at-in}
 use Rattle.math_overlaps.proofs.Overlaps as list
 use Rattle.overlap_spec.specs.Lines.{Binding, Line, WritableBinding, WritableLine}
@@ -99,6 +100,17 @@ shown-by rule r σ ψ w t h = (names-are rule σ (variables (termsOf rule)), val
 pub entries-cons : (r₁ r₂ : OurFields) → IsCons r₁ → entriesOf r₁ r₂ ≡ overlaps basics consts ℕ-discrete (termsOf r₁) (termsOf r₂)
 entries-cons [] r₂ h = absurd h
 entries-cons (f ∷ r₁) r₂ h = refl
+
+-- a rule has no entry with one that has no fields either; `entriesOf` looks only whether the left one has any
+pub no-right : (r : OurFields) → linesOf r [] ≡ []
+no-right [] = refl
+no-right (f ∷ r) = ap (map (lineOf (f ∷ r) [])) (go (shapeOf left f) (shapesOf left r))
+  where
+    go : (o : Option (PairShape basics consts ℕ-discrete)) (p : Option (List (PairShape basics consts ℕ-discrete)))
+        → listed basics consts ℕ-discrete (both o p) (some []) ≡ []
+    go none p = refl
+    go (some S) none = refl
+    go (some S) (some Ss) = refl
 
 module _ (r₁ r₂ : OurFields) (is₁ : IsLeft r₁) (is₂ : IsLeft r₂) where
   lin₁ : LeftLinear (termsOf r₁)

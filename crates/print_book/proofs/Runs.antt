@@ -1,6 +1,6 @@
 -- What `book` prints is the answer to its lines: all of them are taken, and the pairs are those of their rules; or one is refused,
 -- and whatever is behind it is not read. Assumes nothing.
-use mathlib.Core.Path.{_≡_, refl, sym, _∙_, ap, ap₂, subst₂}
+use mathlib.Core.Path.{_≡_, refl, sym, _∙_, ap, ap₂, subst, subst₂}
 use mathlib.Core.Bool.{Bool, cond}
 use mathlib.Core.Option.{some}
 use mathlib.Core.List.{List, [], _∷_, _++_, map, append-assoc, append-nil}
@@ -8,11 +8,10 @@ use Prim.Native.Nat.{ℕ, suc, _+_, _*_, _≤_, _<_}
 use native.Mathlib.Omega.{arith}
 use native.Mathlib.Decide.{decLt}
 use lib.Dec.{ltb}
-use lib.ListN.{length, take, length-set}
-use lib.Seq.{sets, length-sets, length-take-le, take-all}
-use borrow.Author.Tests.{le-leb, lt-leb, lt-ltb, le-ltb}
+use lib.ListN.{length, take}
+use lib.Seq.{sets, length-take-le, take-all}
+use borrow.Author.Tests.{le-leb, lt-leb}
 use Rattle.base_limits.specs.Limits.{mostRules, mostRuleBytes, longestRule}
-use Rattle.text_grammar.specs.Terms.{OurFields}
 use Rattle.text_grammar.specs.Told.{Told}
 use Rattle.text_grammar.specs.Read.{number, OutcomeOf, refused, accepted}
 use Rattle.text_grammar.specs.rules.Read.{OurRule, readRule}
@@ -26,38 +25,21 @@ use Rattle.book_rules.specs.declared.texts.Kept.{Kept}
 use Rattle.book_rules.specs.declared.texts.Added.{Added}
 use Rattle.book_rules.specs.declared.texts.Added.the-variants as line
 use Rattle.book_rules.specs.declared.texts.Adding.{Adding}
-use Rattle.book_rules.specs.texts.Keeping.{bookBytes, noTexts, roomFor, saidBy, bookIn, keptMore, keptBy, rowBy, told, addedBy, addedAs, AddsLine}
-use Rattle.book_rules.proofs.texts.Keeping.{book-more}
+use Rattle.book_rules.specs.texts.Keeping.{bookBytes, noTexts, roomFor, bookIn, keptMore, keptBy, rowBy, told, addedBy, addedAs, AddsLine}
+use Rattle.book_spec.proofs.Reading.{in-room, no-room, one-accepted}
+use Rattle.book_rules.proofs.texts.Keeping.{Stands, stands-none, stands-more}
 use Rattle.print_book.specs.Book.{stopText, answerTo, bookAnswer, refusalText, addedText}
 use Rattle.print_book.specs.Runs.{Takes}
 
 -- ---- a line that is taken is a rule behind those before it; one that is not, stops the reading
-
--- n lines are taken, as the rules of the book B
-record Stands (n : ℕ) (B : Book) (kept : Kept) (row : List ℕ) : Type 0 where
-  count : kept .n ≡ n
-  few : n ≤ mostRules
-  sizes : length (kept .sizes) ≡ mostRules
-  bytes : length row ≡ bookBytes
-  book : bookIn kept row ≡ B
-
-start-stands : (row : List ℕ) → length row ≡ bookBytes → Stands 0 [] noTexts row
-start-stands row e =
-    record {
-      count = refl;
-      few = omega arith;
-      sizes = refl;
-      bytes = e;
-      book = ap (λ (b : Bool). map saidBy (cond b [] [])) (le-leb 0 (roomFor (length row)) (omega arith));
-    }
 
 -- what it says that a line is taken, and that it is not
 module _ (n : ℕ) (o : OutcomeOf OurRule) where
   room-left : n < mostRules → addedAs n mostRules o ≡ addedBy o
   room-left h = ap (λ (b : Bool). cond b line.Full (addedBy o)) (lt-leb mostRules n h)
 
-  no-room : mostRules ≤ n → addedAs n mostRules o ≡ line.Full
-  no-room h = ap (λ (b : Bool). cond b line.Full (addedBy o)) (le-leb mostRules n h)
+  is-full : mostRules ≤ n → addedAs n mostRules o ≡ line.Full
+  is-full h = ap (λ (b : Bool). cond b line.Full (addedBy o)) (le-leb mostRules n h)
 
   taken-of : addedAs n mostRules o ≡ line.Taken → (n < mostRules) × ((x : OurRule) × (o ≡ accepted x))
   taken-of e = go (decLt n mostRules)
@@ -69,7 +51,7 @@ module _ (n : ℕ) (o : OutcomeOf OurRule) where
       go : Dec (n < mostRules) → (n < mostRules) × ((x : OurRule) × (o ≡ accepted x))
       go (yes h) = (h, by-reading o (sym (room-left h) ∙ e))
       go (no h) =
-          let f : line.Full ≡ line.Taken = sym (no-room (omega (arith, h))) ∙ e in
+          let f : line.Full ≡ line.Taken = sym (is-full (omega (arith, h))) ∙ e in
           let z : _≡_ {A = ℕ} 0 1 = cc in
           absurd (omega arith)
 
@@ -89,16 +71,8 @@ module _ {n : ℕ} {B : Book} {kept : Kept} {row : List ℕ} (S : Stands n B kep
           x,
           is,
           w .0,
-          record {
-            count = ap (λ (y : Kept). y .n) k ∙ ap (λ (i : ℕ). i + 1) (S .count) ∙ s;
-            few = omega (arith, w .0);
-            sizes = ap (λ (y : Kept). length (y .sizes)) k ∙ length-set (kept .sizes) (kept .n) (length t) ∙ S .sizes;
-            bytes = ap length r ∙ length-sets row (kept .n * longestRule) t ∙ S .bytes;
-            book =
-                ap₂ bookIn k r
-                ∙ book-more kept (S .sizes) t row (omega (arith, S .count, w .0, ap roomFor (S .bytes))) (rule-bytes t x is)
-                ∙ ap₂ (λ (b : Book) (y : OurFields). b ++ (y ∷ [])) (S .book) (ap leftSaid is);
-          },
+          subst (λ (i : ℕ). Stands i (B ++ (x .0 ∷ [])) (a .kept) m) s
+              (stands-more S (w .0) t (x .0) (a .kept) m (rule-bytes t x is) (ap leftSaid is) (k, r)),
         )
 
     -- where it is not taken it stops the reading, whatever lines are behind it
@@ -121,22 +95,16 @@ module _ {n : ℕ} {B : Book} {kept : Kept} {row : List ℕ} (S : Stands n B kep
               w .0,
               w .1,
               ap told added ∙ w .2,
-              ap (λ (b : Bool). cond b (lineRead (suc n) (readRule t) rest) (stopped (suc n) bookFull 0)) (lt-ltb n mostRules h) ∙ w .3,
+              in-room n t us h ∙ w .3,
             )
         go (no h) = (
           bookFull,
           0,
-          ap told (said ∙ no-room n (readRule t) (omega (arith, h))),
-          ap (λ (b : Bool). cond b (lineRead (suc n) (readRule t) rest) (stopped (suc n) bookFull 0)) (le-ltb n mostRules (omega (arith, h))),
+          ap told (said ∙ is-full n (readRule t) (omega (arith, h))),
+          no-room n t us (omega (arith, h)),
         )
 
 -- ---- all lines
-
-next-read : (n : ℕ) (t : List ℕ) (ts : List (List ℕ)) (x : OurRule) → n < mostRules → readRule t ≡ accepted x
-    → readFrom n (t ∷ ts) ≡ withRule x (readFrom (suc n) ts)
-next-read n t ts x h e =
-    ap (λ (b : Bool). cond b (lineRead (suc n) (readRule t) (readFrom (suc n) ts)) (stopped (suc n) bookFull 0)) (lt-ltb n mostRules h)
-    ∙ ap (λ (o : OutcomeOf OurRule). lineRead (suc n) o (readFrom (suc n) ts)) e
 
 all-from : (ts : List (List ℕ)) (kept′ : Kept) (row′ : List ℕ) {n : ℕ} {B : Book} {kept : Kept} {row : List ℕ} → Stands n B kept row
     → Takes ts kept row kept′ row′ → (xs : List OurRule) × (readFrom n ts ≡ rules xs) × (bookIn kept′ row′ ≡ B ++ bookOf xs)
@@ -146,7 +114,7 @@ all-from (t ∷ ts) kept′ row′ {n} {B} S T =
     let x = w .0 in
     let r = all-from ts kept′ row′ (w .3) (T .4) in (
       x ∷ r .0,
-      next-read n t ts x (w .2) (w .1) ∙ ap (withRule x) (r .1),
+      one-accepted n t ts x (w .2) (w .1) ∙ ap (withRule x) (r .1),
       r .2 ∙ append-assoc B (x .0 ∷ []) (bookOf (r .0)),
     )
 
@@ -164,14 +132,14 @@ stops-from (u ∷ ts) kept′ row′ {n} S T t a m adds not-taken us =
       r .0,
       r .1,
       r .2,
-      next-read n u (ts ++ (t ∷ us)) (w .0) (w .2) (w .1) ∙ ap (withRule (w .0)) (r .3) ∙ ap (λ (k : ℕ). stopped (suc k) (r .0) (r .1)) z,
+      one-accepted n u (ts ++ (t ∷ us)) (w .0) (w .2) (w .1) ∙ ap (withRule (w .0)) (r .3) ∙ ap (λ (k : ℕ). stopped (suc k) (r .0) (r .1)) z,
     )
 
 -- NO LINE IS REFUSED: the pairs of what is kept are printed, and these are the answer
 pub run-all : (ts : List (List ℕ)) (row : List ℕ) (kept′ : Kept) (row′ : List ℕ) → length row ≡ bookBytes → Takes ts noTexts row kept′ row′
     → bookText (bookIn kept′ row′) ≡ bookAnswer ts
 run-all ts row kept′ row′ e T =
-    let r = all-from ts kept′ row′ (start-stands row e) T in
+    let r = all-from ts kept′ row′ (stands-none row e) T in
     ap bookText (r .2) ∙ sym (ap answerTo (r .1))
 
 -- A LINE IS REFUSED behind those taken: what is said of it is the answer, whatever lines are behind it
@@ -179,7 +147,7 @@ pub run-stops : (ts : List (List ℕ)) (row : List ℕ) (kept′ : Kept) (row′
     → (t : List ℕ) (a : Adding) (m : List ℕ) → AddsLine kept′ t row′ a m → (a .added ≡ line.Taken → ⊥) → (us : List (List ℕ))
     → addedText (suc (length ts)) (a .added) ≡ bookAnswer (ts ++ (t ∷ us))
 run-stops ts row kept′ row′ e T t a m adds not-taken us =
-    let r = stops-from ts kept′ row′ (start-stands row e) T t a m adds not-taken us in
+    let r = stops-from ts kept′ row′ (stands-none row e) T t a m adds not-taken us in
     let z : 0 + length ts ≡ length ts = omega arith in
     ap (λ (x : Told). refusalText (suc (length ts)) (x .number) (x .values)) (r .2)
     ∙ sym (ap answerTo (r .3) ∙ ap (λ (k : ℕ). stopText (suc k) (r .0) (r .1)) z)

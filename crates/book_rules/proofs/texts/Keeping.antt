@@ -4,16 +4,17 @@ use mathlib.Core.Bool.{Bool, cond}
 use mathlib.Core.List.{List, [], _∷_, _++_, map, append-assoc, map-append}
 use Prim.Native.Nat.{ℕ, _+_, _-_, _*_, _≤_, _<_, min}
 use native.Mathlib.Omega.{arith}
-use lib.ListN.{length, take, drop, getD, length-map}
+use lib.ListN.{length, take, drop, getD, length-map, length-set}
 use lib.Seq.{sets, sets-eq, length-sets, length-take-le, take-take, take-at, drop-at, getD-set-same, getD-set-other}
 use borrow.Author.Tests.{le-leb, lt-leb}
 use Rattle.base_limits.specs.Limits.{mostRules, longestRule}
 use Rattle.base_lists.specs.Seqs.{tabulate, tabulate-same, tabulate-long, tabulate-last, tabulate-at}
 use Rattle.base_lists.specs.Arrays.{part-of, mapped-at}
-use Rattle.book_spec.specs.Books.{ruleAt, meet}
+use Rattle.text_grammar.specs.Terms.{OurFields}
+use Rattle.book_spec.specs.Books.{Book, ruleAt, meet}
 use Rattle.overlap_spec.specs.Overlaps.{overlapping}
 use Rattle.book_rules.specs.declared.texts.Kept.{Kept}
-use Rattle.book_rules.specs.texts.Keeping.{roomFor, textAt, textsIn, saidBy, bookIn, keptMore}
+use Rattle.book_rules.specs.texts.Keeping.{bookBytes, noTexts, roomFor, textAt, textsIn, saidBy, bookIn, keptMore, Keeps}
 
 -- what there is room for, there is room for as a whole
 pub room-in : (n k : ℕ) → k < roomFor n → (k < mostRules) × (k * longestRule + longestRule ≤ n)
@@ -113,3 +114,35 @@ module _ (kept : Kept) (long : length (kept .sizes) ≡ mostRules) (text old : L
 
   pub book-more : bookIn (keptMore kept text) new ≡ bookIn kept old ++ (saidBy text ∷ [])
   book-more = ap (map saidBy) texts-more ∙ map-append saidBy (textsIn kept old) (text ∷ [])
+
+-- ---- texts kept one after the other, in the bytes of a whole book
+
+pub nothing-in : (row : List ℕ) → bookIn noTexts row ≡ []
+nothing-in row = ap (λ (b : Bool). map saidBy (cond b [] [])) (le-leb 0 (roomFor (length row)) (omega arith))
+
+-- n texts are kept, and say the book B
+pub record Stands (n : ℕ) (B : Book) (kept : Kept) (row : List ℕ) : Type 0 where
+  pub count : kept .n ≡ n
+  pub sizes : length (kept .sizes) ≡ mostRules
+  pub bytes : length row ≡ bookBytes
+  pub book : bookIn kept row ≡ B
+
+pub stands-none : (row : List ℕ) → length row ≡ bookBytes → Stands 0 [] noTexts row
+stands-none row e = record { count = refl; sizes = refl; bytes = e; book = nothing-in row }
+
+module _ {n : ℕ} {B : Book} {kept : Kept} {row : List ℕ} (S : Stands n B kept row) (h : n < mostRules) where
+  pub stands-room : kept .n < roomFor (length row)
+  stands-room = omega (arith, S .count, h, ap roomFor (S .bytes))
+
+  pub stands-more : (text : List ℕ) (x : OurFields) (next : Kept) (new : List ℕ) → length text ≤ longestRule → saidBy text ≡ x
+      → Keeps kept text row next new → Stands (n + 1) (B ++ (x ∷ [])) next new
+  stands-more text x next new short is k =
+      record {
+        count = ap (λ (y : Kept). y .n) (k .0) ∙ ap (λ (m : ℕ). m + 1) (S .count);
+        sizes = ap (λ (y : Kept). length (y .sizes)) (k .0) ∙ length-set (kept .sizes) (kept .n) (length text) ∙ S .sizes;
+        bytes = ap length (k .1) ∙ length-sets row (kept .n * longestRule) text ∙ S .bytes;
+        book =
+            ap₂ bookIn (k .0) (k .1)
+            ∙ book-more kept (S .sizes) text row stands-room short
+            ∙ ap₂ (λ (C : Book) (y : OurFields). C ++ (y ∷ [])) (S .book) is;
+      }

@@ -1,10 +1,11 @@
 -- Whether a choice is left is whether the list has a line; and the candidates of a field one after the other, up to the first that leads to
 -- a choice. Assumes nothing.
 use mathlib.Core.Path.{_≡_, refl, sym, _∙_, ap, ap₂, subst}
-use mathlib.Core.Bool.{Bool, true, false, cond, not, _||_, or-false, false≢true, true≢false}
+use mathlib.Core.Bool.{Bool, true, false, cond, not, _||_, or-false, true≢false}
 use mathlib.Core.List.{List, []}
 use Prim.Native.Nat.{ℕ, zero, suc, _+_, _-_, _≤_, _<_}
 use native.Mathlib.Omega.{arith}
+use borrow.Author.Tests.{not-true}
 use Rattle.base_lists.specs.Seqs.{isCons, cons-append}
 use Rattle.pair_state.specs.declared.State.{State}
 use Rattle.pair_state.specs.declared.Joined.{Joined}
@@ -42,10 +43,6 @@ any-lines (suc m) row texts n j ch st =
     candidates-any (anyFrom m row (j + 1)) (linesFrom m row texts n (j + 1)) row j (λ d s. any-lines m row texts n (j + 1) d s) (spanAt row j .count) ch st
 
 -- ---- the candidates of field j one after the other
-
-pub unfound : (found : Bool) → not found ≡ true → found ≡ false
-unfound true e = absurd (false≢true e)
-unfound false e = refl
 
 module _ (row : List ℕ) (n j : ℕ) (st : State) where
   pub any-end : n ≤ j → true ≡ anyIn row n j st
@@ -104,7 +101,7 @@ module _ (row : List ℕ) (n j : ℕ) (st : State) where
 
   -- nothing is found yet
   pub seeking-on : (s : Span) (k : ℕ) (found : Bool) → Seeking s k found → not found ≡ true → Seeking s k false
-  seeking-on s k found S e = subst (Seeking s k) (unfound found e) S
+  seeking-on s k found S e = subst (Seeking s k) (not-true found e) S
 
   -- a choice is found
   pub seeking-found : (s : Span) (k : ℕ) (found : Bool) → Seeking s k found → not found ≡ false → found ≡ anyIn row n j st

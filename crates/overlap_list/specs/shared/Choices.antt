@@ -3,7 +3,6 @@
 use mathlib.Core.Bool.{Bool, true, false, cond, _||_}
 use mathlib.Core.List.{List}
 use Prim.Native.Nat.{ℕ, zero, suc, _+_, _-_}
-use Rattle.pair_row.specs.Row.{tableIn}
 use Rattle.pair_state.specs.declared.State.{State}
 use Rattle.pair_state.specs.declared.Joined.{Joined}
 use Rattle.overlap_list.specs.Listing.{spanAt, candidateOf, joinsAt}
@@ -26,7 +25,3 @@ anyFrom (suc m) row j st = anyCandidate (anyFrom m row (j + 1)) row j (spanAt ro
 -- of n fields those from j on
 abbrev pub anyIn : List ℕ → ℕ → ℕ → State → Bool
 anyIn row n j st = anyFrom (n - j) row j st
-
--- from the first field on: each atom stands for itself
-abbrev pub anyChoice : List ℕ → ℕ → Bool
-anyChoice row n = anyFrom n row 0 (record { atoms = tableIn row .first })

@@ -14,7 +14,7 @@ use Rattle.text_refusals.specs.verdicts.Verdicts.{reasonFrom, numberOf, verdict
 use Rattle.text_refusals.proofs.verdicts.Verdicts.{number-is}
 use Rattle.overlap_spec.specs.Overlaps.{linesOf, overlapText}
 use Rattle.text_read.specs.Answers.{leftSaid}
-use Rattle.overlap_list.proofs.Lists.{no-right}
+use Rattle.overlap_spec.proofs.Exact.{no-right}
 use Rattle.text_write.specs.pieces.Refusals.{numberAt}
 use Rattle.print_pairs.specs.overlaps.Texts.{listedText, readText, textsIn}
 

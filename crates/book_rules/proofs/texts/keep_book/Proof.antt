@@ -7,7 +7,7 @@ use Rattle.base_limits.specs.Limits.{mostRules}
 use Rattle.base_lists.specs.Seqs.{long-mapped}
 use Rattle.book_rules.specs.declared.texts.Kept.{Kept}
 use Rattle.book_rules.specs.texts.Keeping.{bookIn}
-use Rattle.book_rules.proofs.texts.Books.{none-counted, Holds, holds-none, holds-room, holds-more, holds-all}
+use Rattle.book_rules.proofs.texts.Books.{none-kept, Holds, holds-none, holds-room, holds-more, holds-all}
 use borrow.Author.Needs.{needs}
 use Rattle.book_rules.proofs.texts.keep_book.Statement.{statement}
 use Rattle.book_rules.proofs.texts.keep_book.Tie as tie
@@ -24,7 +24,7 @@ no-texts-requires c κs = search needs
 returns : tie.Need-returns Inv-loop μ-loop
 returns c =
     let z = c .before .before .before .args in
-    ap (λ (k : Kept). bookIn k (z .row .now)) (c .before .no-texts .ensures) ∙ none-counted (z .t1) (z .row .now) (c .if1 .taken)
+    ap (λ (k : Kept). bookIn k (z .row .now)) (c .before .no-texts .ensures) ∙ none-kept (z .t1) (z .row .now) (c .if1 .taken)
 
 loop-holds : tie.Need-loop-holds Inv-loop μ-loop
 loop-holds c =
@@ -61,7 +61,7 @@ loop-again c =
     holds-more (z .t1) (l .kept) (l .row) (l .i) (l .inv) (c .before .before .before .before .before .loop-test .taken) _ (k .result) _ (k .ensures)
 
 same-length : tie.Need-same-length Inv-loop μ-loop
-same-length c = c .before .loop .inv .bytes ∙ sym (c .before .before .before .before .before .pre)
+same-length c = c .before .loop .inv .stands .bytes ∙ sym (c .before .before .before .before .before .pre)
 
 returns-2 : tie.Need-returns-2 Inv-loop μ-loop
 returns-2 c =

@@ -4,8 +4,9 @@ use mathlib.Core.Path.{sym, _∙_, subst}
 use mathlib.Core.Logic.{⊎-elim}
 use native.Mathlib.Omega.{arith}
 use borrow.Author.Needs.{needs}
+use borrow.Author.Tests.{not-true}
 use Rattle.overlap_list.proofs.Spans.{few-candidates, span-is, join-is}
-use Rattle.overlap_list.proofs.shared.Choices.{any-end, Seeking, seeking-start, unfound, seeking-on, seeking-clash, seeking-alive}
+use Rattle.overlap_list.proofs.shared.Choices.{any-end, Seeking, seeking-start, seeking-on, seeking-clash, seeking-alive}
 use Rattle.overlap_list.proofs.shared.Choices.{seeking-found, seeking-over}
 use Prim.Native.Nat.{ℕ, _+_, _*_, _-_, _≤_, _<_}
 use borrow.Fn.Kinds.{In}
@@ -232,7 +233,7 @@ choose-loop-again t c =
     (λ w. subst (Seeking (z .row .now) (z .fields) (z .j) (z .st) s (L .k - 1)) (sym (w .2))
     (seeking-alive (z .row .now) (z .fields) (z .j) (z .st) s (L .k) S h (d .result) (r .result) (d .ensures) is-r (w .1 .result) (w .0 .taken)
     (w .1 .ensures)))
-    (λ w. subst (Seeking (z .row .now) (z .fields) (z .j) (z .st) s (L .k - 1)) (sym (w .1 ∙ unfound (L .found) (c .before .before .before .if1 .taken)))
+    (λ w. subst (Seeking (z .row .now) (z .fields) (z .j) (z .st) s (L .k - 1)) (sym (w .1 ∙ not-true (L .found) (c .before .before .before .if1 .taken)))
     (seeking-clash (z .row .now) (z .fields) (z .j) (z .st) s (L .k) S h (d .result) (r .result) (d .ensures) is-r (w .0 .left)))
     (c .if2 .came)
 
