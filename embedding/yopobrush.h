@@ -1,6 +1,6 @@
-/* Reading tinting rules, listing the overlaps of two or asking whether there
- * are any, and carrying one out on a slip: the functions of libyopobrush.a,
- * which `rt staticlib yopobrush` writes.
+/* Reading tinting rules, listing the overlaps of two, asking for the size of
+ * the list first or only whether there are any, and carrying one out on a slip:
+ * the functions of libyopobrush.a, which `rt staticlib yopobrush` writes.
  *
  * No pointer may be null, also where its length is 0, and the bytes lent for
  * an answer may share none with the texts. Nothing else is asked. A listing
@@ -25,13 +25,29 @@ struct yopobrush_reading {
 
 /* How each of two texts is read, and the overlap list of the rules that they
  * say, which looks at left sides only; a text that is refused has no
- * overlaps. The refusal is 0, or 8 where
- * the list needs more bytes than are lent: then none is written. The counts
- * are the list's in both cases. */
+ * overlaps. The refusal is 0, or 8 where the list needs more bytes than are
+ * lent, or 13 (YOPOBRUSH_STALE) where a commit's counts are not the list's.
+ * Only with 0 is anything written. The counts are the list's, and with 13 both
+ * are 0. */
 struct yopobrush_listing {
     struct yopobrush_reading left;
     struct yopobrush_reading right;
     uint64_t refusal;
+    uint64_t entries;
+    uint64_t bytes;
+};
+
+/* The refusal of a commit whose counts are not those of its rules: it is tried
+ * before 8. */
+enum yopobrush_refusal {
+    YOPOBRUSH_STALE = 13
+};
+
+/* How each of two texts is read, and how many entries and bytes the overlap
+ * list of the rules that they say has; of a text that is refused, 0 and 0. */
+struct yopobrush_asking {
+    struct yopobrush_reading left;
+    struct yopobrush_reading right;
     uint64_t entries;
     uint64_t bytes;
 };
@@ -71,6 +87,21 @@ struct yopobrush_reading yopobrush_read_rule(const uint8_t *text, size_t length)
 
 /* The lines go to the front of `out`; the bytes behind them stay. */
 struct yopobrush_listing yopobrush_list_overlaps(
+    const uint8_t *left, size_t left_length,
+    const uint8_t *right, size_t right_length,
+    uint8_t *out, size_t out_length);
+
+/* The size of the list, so that as many bytes can be lent to a commit. Nothing
+ * is written. */
+struct yopobrush_asking yopobrush_ask_overlaps(
+    const uint8_t *left, size_t left_length,
+    const uint8_t *right, size_t right_length);
+
+/* Writes the list as yopobrush_list_overlaps does, where `entries` and `bytes`
+ * are its counts: what the ask returned for the same texts. Any counts may be
+ * passed; with others the answer is 13, and `out` stays as it is. */
+struct yopobrush_listing yopobrush_commit_overlaps(
+    uint64_t entries, uint64_t bytes,
     const uint8_t *left, size_t left_length,
     const uint8_t *right, size_t right_length,
     uint8_t *out, size_t out_length);

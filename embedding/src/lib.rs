@@ -1,7 +1,7 @@
-//! Reading tinting rules, listing the overlaps of two or asking whether there
-//! are any, and carrying one out on a slip, through the static library
-//! `libyopobrush.a`, whose functions are proved to answer and to write exactly
-//! what their definitions say.
+//! Reading tinting rules, listing the overlaps of two, asking for the size of
+//! the list first or only whether there are any, and carrying one out on a
+//! slip, through the static library `libyopobrush.a`, whose functions are
+//! proved to answer and to write exactly what their definitions say.
 //!
 //! ```
 //! let mut room = [0; 100];
@@ -58,8 +58,8 @@ pub struct Listing {
     pub bytes: usize,
 }
 
-/// Why no overlap list was written, or why it is not said whether there is an
-/// entry.
+/// Why no overlap list was written, or why its size is not said, or whether
+/// there is an entry.
 #[derive(Clone, Copy, Debug, PartialEq, Eq, Hash)]
 pub enum Error {
     /// The left text is no rule.
@@ -68,6 +68,8 @@ pub enum Error {
     Right(Refusal),
     /// The list needs more bytes than were lent: refusal 8.
     TooSmall(Listing),
+    /// The counts are not those of the rules: refusal 13.
+    Stale,
 }
 
 impl fmt::Display for Error {
@@ -76,6 +78,7 @@ impl fmt::Display for Error {
             Error::Left(refusal) => write!(out, "left rule {refusal}"),
             Error::Right(refusal) => write!(out, "right rule {refusal}"),
             Error::TooSmall(Listing { bytes, .. }) => write!(out, "{bytes} bytes are needed"),
+            Error::Stale => write!(out, "the counts are not those of the rules"),
         }
     }
 }
@@ -108,22 +111,86 @@ pub fn read_rule(text: &[u8]) -> Result<(), Refusal> {
 ///
 /// A text that is no rule, the left one first, or a list without room.
 pub fn list_overlaps(left: &[u8], right: &[u8], out: &mut [u8]) -> Result<Listing, Error> {
-    let listed = boundary::list_overlaps(left, right, out);
-    accepted(listed.left).map_err(Error::Left)?;
-    accepted(listed.right).map_err(Error::Right)?;
-    let listing = Listing {
-        entries: listed.entries as usize,
-        bytes: listed.bytes as usize,
-    };
-    if listed.refusal == 0 {
-        Ok(listing)
-    } else {
-        Err(Error::TooSmall(listing))
+    written(boundary::list_overlaps(left, right, out))
+}
+
+/// The size of the overlap list of the rules that two texts say. Nothing is
+/// written: a [commit](commit_overlaps) with this size writes the list.
+///
+/// # Errors
+///
+/// A text that is no rule, the left one first; the answer needs no room.
+///
+/// ```
+/// use yopobrush::{ask_overlaps, Listing};
+///
+/// let asked = ask_overlaps(b"a0:l0", b"l0:2")?;
+/// assert_eq!(asked, Listing { entries: 2, bytes: 62 });
+/// # Ok::<(), yopobrush::Error>(())
+/// ```
+pub fn ask_overlaps(left: &[u8], right: &[u8]) -> Result<Listing, Error> {
+    let asked = boundary::ask_overlaps(left, right);
+    both_accepted(asked.left, asked.right)?;
+    Ok(size(asked.entries, asked.bytes))
+}
+
+/// Writes the overlap list whose size was [asked for](ask_overlaps), as
+/// [`list_overlaps`] does, where it still has this size. What stands behind the
+/// list is left as it was, and on an error all of `out` is.
+///
+/// # Errors
+///
+/// A text that is no rule, the left one first, or other counts than the list
+/// has, or a list without room.
+///
+/// ```
+/// use yopobrush::{ask_overlaps, commit_overlaps, Error};
+///
+/// let asked = ask_overlaps(b"i0", b"2:l0")?;
+/// let mut room = vec![0; asked.bytes];
+/// commit_overlaps(asked, b"i0", b"2:l0", &mut room)?;
+/// assert_eq!(room, b"2 <i0=2 >l0=empty\n");
+///
+/// let other = commit_overlaps(asked, b"i0", b"2", &mut room);
+/// assert_eq!(other, Err(Error::Stale));
+/// # Ok::<(), yopobrush::Error>(())
+/// ```
+pub fn commit_overlaps(
+    asked: Listing,
+    left: &[u8],
+    right: &[u8],
+    out: &mut [u8],
+) -> Result<Listing, Error> {
+    let (entries, bytes) = (asked.entries as u64, asked.bytes as u64);
+    written(boundary::commit_overlaps(entries, bytes, left, right, out))
+}
+
+/// The size of the list that was written, or why none was.
+fn written(listed: boundary::Listing) -> Result<Listing, Error> {
+    both_accepted(listed.left, listed.right)?;
+    let listing = size(listed.entries, listed.bytes);
+    match listed.refusal {
+        0 => Ok(listing),
+        13 => Err(Error::Stale),
+        _ => Err(Error::TooSmall(listing)),
     }
 }
 
-/// The overlap list of the rules that two texts say, in memory of its own. A
-/// list has up to 65,536 entries and can have well over a hundred megabytes.
+fn both_accepted(left: Reading, right: Reading) -> Result<(), Error> {
+    accepted(left).map_err(Error::Left)?;
+    accepted(right).map_err(Error::Right)
+}
+
+fn size(entries: u64, bytes: u64) -> Listing {
+    Listing {
+        entries: entries as usize,
+        bytes: bytes as usize,
+    }
+}
+
+/// The overlap list of the rules that two texts say, in memory of its own, as
+/// many bytes as it has. A list has up to 65,536 entries and can have well over
+/// a hundred megabytes.
 ///
 /// # Errors
 ///
@@ -136,20 +203,11 @@ pub fn list_overlaps(left: &[u8], right: &[u8], out: &mut [u8]) -> Result<Listin
 /// # Ok::<(), yopobrush::Error>(())
 /// ```
 pub fn overlaps(left: &[u8], right: &[u8]) -> Result<Vec<u8>, Error> {
-    let mut list = vec![0; OFTEN_ENOUGH];
-    let listing = match list_overlaps(left, right, &mut list) {
-        Err(Error::TooSmall(needed)) => {
-            list = zeros(needed.bytes).ok_or(Error::TooSmall(needed))?;
-            list_overlaps(left, right, &mut list)?
-        }
-        listed => listed?,
-    };
-    list.truncate(listing.bytes);
+    let asked = ask_overlaps(left, right)?;
+    let mut list = zeros(asked.bytes).ok_or(Error::TooSmall(asked))?;
+    commit_overlaps(asked, left, right, &mut list)?;
     Ok(list)
 }
-
-/// Room for most lists, so that they are listed once only.
-const OFTEN_ENOUGH: usize = 4096;
 
 fn zeros(count: usize) -> Option<Vec<u8>> {
     let mut zeros = Vec::new();
@@ -174,8 +232,7 @@ fn zeros(count: usize) -> Option<Vec<u8>> {
 /// ```
 pub fn texts_overlap(left: &[u8], right: &[u8]) -> Result<bool, Error> {
     let overlapping = boundary::texts_overlap(left, right);
-    accepted(overlapping.left).map_err(Error::Left)?;
-    accepted(overlapping.right).map_err(Error::Right)?;
+    both_accepted(overlapping.left, overlapping.right)?;
     Ok(overlapping.overlap == 1)
 }
 

@@ -9,6 +9,7 @@
 //! - [`comparing`]: how many items are compared for it.
 //! - [`carrying`]: what a rule makes of a slip.
 //! - [`overlaps`]: which slips two rules share.
+//! - [`committing`]: how long the list of these is, and the list in a buffer.
 //! - [`book`]: which of several rules a slip gets, and which of them overlap.
 //! - [`search`]: which values make two fields equal.
 //! - [`answers`]: what the programs print for a line, or for a book.
@@ -17,6 +18,7 @@
 pub mod answers;
 pub mod book;
 pub mod carrying;
+pub mod committing;
 pub mod comparing;
 pub mod draw;
 pub mod generate;

@@ -5,6 +5,8 @@ pub mod Carrying
 pub mod Searching
 pub mod Entries
 pub mod Overlaps
+pub mod Committing
 pub mod Pairs
 pub mod Library
+pub mod LibraryCommitting
 pub mod Books

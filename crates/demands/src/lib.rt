@@ -7,8 +7,10 @@ ghost use Rattle.demands.specs.Comparing.{Comparing};
 ghost use Rattle.demands.specs.Carrying.{Carrying};
 ghost use Rattle.demands.specs.Searching.{SearchDemand};
 ghost use Rattle.demands.specs.Overlaps.{ListsSharedSlips, TextsSharedSlips};
+ghost use Rattle.demands.specs.Committing.{RulesAsking, RulesCommitting, AskingFirst, TextsAsking, TextsCommitting};
 ghost use Rattle.demands.specs.Pairs.{PairSharedSlips};
 ghost use Rattle.demands.specs.Library.{LibrarySharedSlips, LibraryMeetingSlips};
+ghost use Rattle.demands.specs.LibraryCommitting.{LibraryAsking, LibraryCommitting};
 ghost use Rattle.demands.specs.Books.{Picking, Ordering};
 ghost use Rattle.book_rules.specs.Books.{countedBook};
 ghost use Rattle.book_rules.specs.texts.Keeping.{bookIn};
@@ -18,8 +20,12 @@ use book_rules::Picked;
 use book_rules::texts::Kept;
 use match_rules::Comparison;
 use match_rules::Match;
+use overlap_counts::Committed;
+use overlap_counts::Counts;
 use overlap_list::Listed;
 use overlap_list::TextsListed;
+use overlap_list::asking::TextsAsked;
+use overlap_list::asking::TextsCommitted;
 use search_problems::Problem;
 use search_row::Searched;
 use text_read::RuleRead;
@@ -28,6 +34,7 @@ use text_values::Field;
 use text_values::Rule;
 use text_values::Slip;
 use text_write::Written;
+use yopobrush::Asking;
 use yopobrush::Listing;
 use yopobrush::Overlapping;
 
@@ -110,6 +117,41 @@ pub fn list_texts(left: &[u8], right: &[u8], out: &mut [u8]) -> TextsListed
     overlap_list::list_texts(left, right, out)
 }
 
+// The counts of the list of two rule values: 0 and 0 where one has no fields.
+pub fn ask(left: Rule, right: Rule) -> Counts
+    ensures { λ c. ⌜ RulesAsking left right c ⌝ }
+{
+    overlap_list::asking::ask(left, right)
+}
+
+// The list of two rule values that was asked for: 13 exactly where the counts are not its own, and else demand 3 in the room for it.
+pub fn commit(asked: Counts, left: Rule, right: Rule, out: &mut [u8]) -> Committed
+    ensures { λ r. ⌜ RulesCommitting asked left right (now (out .entry)) r (now (out .exit)) ⌝ }
+{
+    overlap_list::asking::commit(asked, left, right, out)
+}
+
+// An ask and then a commit: what the one call answers and leaves.
+pub fn ask_then_commit(left: Rule, right: Rule, out: &mut [u8]) -> Committed
+    ensures { λ r. ⌜ AskingFirst left right (now (out .entry)) r (now (out .exit)) ⌝ }
+{
+    let counts = overlap_list::asking::ask(left, right);
+    overlap_list::asking::commit(counts, left, right, out)
+}
+
+// The same of the rules that two texts say.
+pub fn ask_texts(left: &[u8], right: &[u8]) -> TextsAsked
+    ensures { λ r. ⌜ TextsAsking (now (left .entry)) (now (right .entry)) r ⌝ }
+{
+    overlap_list::asking::ask_texts(left, right)
+}
+
+pub fn commit_texts(asked: Counts, left: &[u8], right: &[u8], out: &mut [u8]) -> TextsCommitted
+    ensures { λ r. ⌜ TextsCommitting asked (now (left .entry)) (now (right .entry)) (now (out .entry)) r (now (out .exit)) ⌝ }
+{
+    overlap_list::asking::commit_texts(asked, left, right, out)
+}
+
 // What `pairs` prints for a line.
 pub fn pair_answer(k: u64, line: &[u8], out: &mut [u8]) -> Written
     ensures { λ r. ⌜ PairSharedSlips k (now (line .entry)) (now (out .entry)) r (now (out .exit)) ⌝ }
@@ -122,6 +164,26 @@ pub fn library_list(left: &[u8], right: &[u8], out: &mut [u8]) -> Listing
     ensures { λ r. ⌜ LibrarySharedSlips (now (left .entry)) (now (right .entry)) (now (out .entry)) r (now (out .exit)) ⌝ }
 {
     yopobrush::yopobrush_list_overlaps(left, right, out)
+}
+
+// The static library's ask and commit of two texts.
+pub fn library_ask(left: &[u8], right: &[u8]) -> Asking
+    ensures { λ r. ⌜ LibraryAsking (now (left .entry)) (now (right .entry)) r ⌝ }
+{
+    yopobrush::yopobrush_ask_overlaps(left, right)
+}
+
+pub fn library_commit(
+    entries: u64,
+    bytes: u64,
+    left: &[u8],
+    right: &[u8],
+    out: &mut [u8],
+) -> Listing
+    ensures { λ r. ⌜ LibraryCommitting (record { entries = entries; bytes = bytes }) (now (left .entry)) (now (right .entry))
+        (now (out .entry)) r (now (out .exit)) ⌝ }
+{
+    yopobrush::yopobrush_commit_overlaps(entries, bytes, left, right, out)
 }
 
 // ---- a maker's book

@@ -24,13 +24,17 @@ use Rattle.overlap_entries.specs.Entries.{noChoice, chosenAt}
 use Rattle.overlap_entries.proofs.Laws.{span-few}
 use Rattle.text_write.specs.pieces.Stored.{bytesOf}
 use Rattle.text_write.proofs.pieces.Pieces.{sets-out}
-use Rattle.overlap_list.specs.declared.Tally.{Tally}
+use Rattle.overlap_counts.specs.declared.Counts.{Counts}
 use Rattle.overlap_list.specs.declared.Candidate.{Candidate}
 use Rattle.overlap_list.specs.declared.Listed.the-variants.{Lines, TooSmall}
+use Rattle.overlap_list.specs.declared.Pairing.{Pairing}
+use Rattle.overlap_list.specs.declared.Pairing.the-variants.{Fields, Apart}
 use Rattle.overlap_list.specs.Answers.{ListsLines}
+use Rattle.overlap_list.specs.asking.Answers.{lineCounts}
 use Rattle.pair_lines.specs.Lines.{spotsIn}
 use Rattle.overlap_list.specs.Listing.{spanAt, candidateOf, joinsAt, afterJoin, candidateLines, choiceLines, linesFrom, linesIn, allLines}
-use Rattle.overlap_list.specs.Listing.{noTally, tallied, Stores, mostEntries, Countable}
+use Rattle.overlap_counts.specs.Answers.{noCounts}
+use Rattle.overlap_list.specs.Listing.{tallied, Stores, mostEntries, Countable, pairLines}
 
 -- ---- how many lines: no field pair of two rules has more than 17 candidates
 
@@ -86,7 +90,7 @@ module _ (row texts : List ℕ) (n : ℕ) (short-left : Short row false n) (shor
     pub countable : length (allLines row texts n) ≤ mostEntries
     countable = omega (arith, lines-few n 0 noChoice (record { atoms = tableIn row .first }) (omega arith), most-few n h)
 
-    pub countable-all : Countable noTally (allLines row texts n)
+    pub countable-all : Countable noCounts (allLines row texts n)
     countable-all = (omega arith, omega (arith, countable))
 
 -- so have those of a rule that reading returns
@@ -107,34 +111,47 @@ module _ (row : List ℕ) (right : Bool) (n : ℕ) where
 
 -- ---- every choice from the first field on
 
-module _ (row texts : List ℕ) (n : ℕ) (ch : Choice) (st : State) (t : Tally) (is-ch : ch ≡ noChoice) (is-st : st .atoms ≡ tableIn row .first)
-    (is-t : t ≡ noTally) where
-  all-are : linesIn row texts n 0 ch st ≡ allLines row texts n
+-- rules that are apart have no line
+pub none-stored : (p : Pairing) (row texts old : List ℕ) (u : Counts) → p ≡ Apart → u ≡ noCounts → Stores (pairLines p row texts) noCounts old u old
+none-stored p row texts old u is-p is-u =
+    let none : pairLines p row texts ≡ [] = ap (λ (q : Pairing). pairLines q row texts) is-p in (
+      is-u ∙ ap (tallied noCounts) (sym none),
+      ap (λ (ls : List (List ℕ)). sets old 0 (bytesOf ls)) (sym none),
+    )
+
+module _ (p : Pairing) (row texts : List ℕ) (n : ℕ) (is-p : p ≡ Fields n) (ch : Choice) (st : State) (t : Counts) (is-ch : ch ≡ noChoice)
+    (is-st : st .atoms ≡ tableIn row .first) (is-t : t ≡ noCounts) where
+  all-are : linesIn row texts n 0 ch st ≡ pairLines p row texts
   all-are =
       ap (λ (m : ℕ). linesFrom m row texts n 0 ch st) (let e : n - 0 ≡ n = omega arith in e)
       ∙ ap₂ (λ (c : Choice) (l : List ℕ). linesFrom n row texts n 0 c (record { atoms = l })) is-ch is-st
+      ∙ ap (λ (q : Pairing). pairLines q row texts) (sym is-p)
 
-  pub all-requires : Countable noTally (allLines row texts n) → (0 ≤ n) × Countable t (linesIn row texts n 0 ch st)
-  all-requires h = (omega arith, subst (Countable t) (sym all-are) (subst (λ (x : Tally). Countable x (allLines row texts n)) (sym is-t) h))
+  pub all-requires : Countable noCounts (pairLines p row texts) → (0 ≤ n) × Countable t (linesIn row texts n 0 ch st)
+  all-requires h = (omega arith, subst (Countable t) (sym all-are) (subst (λ (x : Counts). Countable x (pairLines p row texts)) (sym is-t) h))
 
-  pub all-listed : (u : Tally) (old new : List ℕ) → Stores (linesIn row texts n 0 ch st) t old u new → Stores (allLines row texts n) noTally old u new
+  pub all-listed : (u : Counts) (old new : List ℕ) → Stores (linesIn row texts n 0 ch st) t old u new → Stores (pairLines p row texts) noCounts old u new
   all-listed u old new h = (
     h .0 ∙ ap₂ tallied is-t all-are,
-    h .1 ∙ ap₂ (λ (ls : List (List ℕ)) (x : Tally). sets old (x .bytes) (bytesOf ls)) all-are is-t,
+    h .1 ∙ ap₂ (λ (ls : List (List ℕ)) (x : Counts). sets old (x .bytes) (bytesOf ls)) all-are is-t,
   )
 
 -- ---- the answer, by the count
+
+-- lines that are counted from none on have their counts
+pub counted-all : (ls : List (List ℕ)) (u : Counts) → u ≡ tallied noCounts ls → u ≡ lineCounts ls
+counted-all ls u e = e ∙ ap₂ (λ (n b : ℕ). record { entries = n; bytes = b }) (zero-add (length ls)) (zero-add (length (bytesOf ls)))
 
 -- where there is no room nothing is put
 pub measured : (t old : List ℕ) {m : List ℕ} → m ≡ sets [] 0 t → m ++ old ≡ old
 measured t old e = ap (λ (l : List ℕ). l ++ old) (e ∙ sets-out t [] 0 (omega arith))
 
-module _ (ls : List (List ℕ)) (old : List ℕ) (t : Tally) (is-t : t ≡ tallied noTally ls) where
+module _ (ls : List (List ℕ)) (old : List ℕ) (t : Counts) (is-t : t ≡ tallied noCounts ls) where
   entries-are : t .entries ≡ length ls
-  entries-are = ap (λ (x : Tally). x .entries) is-t ∙ zero-add (length ls)
+  entries-are = ap (λ (x : Counts). x .entries) (counted-all ls t is-t)
 
   bytes-are : t .bytes ≡ length (bytesOf ls)
-  bytes-are = ap (λ (x : Tally). x .bytes) is-t ∙ zero-add (length (bytesOf ls))
+  bytes-are = ap (λ (x : Counts). x .bytes) (counted-all ls t is-t)
 
   pub too-small : length old < t .bytes → ListsLines ls old (TooSmall (t .entries) (t .bytes)) old
   too-small h =

@@ -16,38 +16,38 @@ use Rattle.overlap_entries.specs.declared.Span.{Span}
 use Rattle.overlap_entries.specs.declared.Choice.{Choice}
 use Rattle.overlap_entries.specs.Entries.{chosenAt}
 use Rattle.pair_lines.specs.Lines.{lineIn, lineBound}
-use Rattle.overlap_list.specs.declared.Tally.{Tally}
+use Rattle.overlap_counts.specs.declared.Counts.{Counts}
 use Rattle.overlap_list.specs.declared.Candidate.{Candidate}
 use Rattle.overlap_list.specs.Listing.{spanAt, candidateOf, joinsAt, candidateLines, choiceLines, linesFrom, linesIn, choicesIn}
 use Rattle.overlap_list.specs.Listing.{tallied, Stores, Moderate, Countable}
 
 -- ---- counts
 
-pub tally-none : (t : Tally) → tallied t [] ≡ t
+pub tally-none : (t : Counts) → tallied t [] ≡ t
 tally-none t = ap₂ (λ (e b : ℕ). record { entries = e; bytes = b }) (omega arith) (omega arith)
 
 -- one line more
 one-more : (l : List ℕ) → length (bytesOf (l ∷ [])) ≡ length l
 one-more l = ap length (append-nil l)
 
-pub tally-one : (t : Tally) (l : List ℕ) (n : ℕ) → n ≡ 0 + length l → record { entries = t .entries + 1; bytes = t .bytes + n } ≡ tallied t (l ∷ [])
+pub tally-one : (t : Counts) (l : List ℕ) (n : ℕ) → n ≡ 0 + length l → record { entries = t .entries + 1; bytes = t .bytes + n } ≡ tallied t (l ∷ [])
 tally-one t l n e =
     ap (λ (m : ℕ). record { entries = t .entries + 1; bytes = t .bytes + m })
     (let q : n ≡ length l = omega (arith, e) in q ∙ sym (one-more l))
 
-module _ (t : Tally) (l : List ℕ) (n : ℕ) (short : n ≤ lineBound) (h : Countable t (l ∷ [])) where
+module _ (t : Counts) (l : List ℕ) (n : ℕ) (short : n ≤ lineBound) (h : Countable t (l ∷ [])) where
   pub still-moderate : t .bytes + n ≤ lineBound * (t .entries + 1)
   still-moderate = omega (arith, h .0, short)
 
-pub tally-append : (t : Tally) (a b : List (List ℕ)) → tallied (tallied t a) b ≡ tallied t (a ++ b)
+pub tally-append : (t : Counts) (a b : List (List ℕ)) → tallied (tallied t a) b ≡ tallied t (a ++ b)
 tally-append t a b = ap₂ (λ (e n : ℕ). record { entries = e; bytes = n }) (omega (arith, length-append a b)) (omega (arith, bytes-length a b))
 
-module _ (t : Tally) (a b : List (List ℕ)) (h : Countable t (a ++ b)) where
+module _ (t : Counts) (a b : List (List ℕ)) (h : Countable t (a ++ b)) where
   pub countable-first : Countable t a
   countable-first = (h .0, omega (arith, h .1, length-append a b))
 
-  pub countable-next : (u : Tally) → u ≡ tallied t a → Moderate u → Countable u b
-  countable-next u e m = (m, omega (arith, h .1, length-append a b, ap (λ (x : Tally). x .entries) e))
+  pub countable-next : (u : Counts) → u ≡ tallied t a → Moderate u → Countable u b
+  countable-next u e m = (m, omega (arith, h .1, length-append a b, ap (λ (x : Counts). x .entries) e))
 
 -- ---- bytes
 
@@ -99,14 +99,14 @@ module _ (next : Choice → State → List (List ℕ)) (row : List ℕ) (j k : �
         ∙ ap (λ (b : Bool). cond b (next (chosenAt ch j (c .items) (c .long)) (r .next)) [] ++ choiceLines next row j (k - 1) ch st) e
         ∙ ap (λ (x : Choice). next x (r .next) ++ choiceLines next row j (k - 1) ch st) (sym is-d)
 
--- ---- what a call leaves: the counts and the bytes of its lines, from a tally t and the bytes old
+-- ---- what a call leaves: the counts and the bytes of its lines, from the counts t and the bytes old
 
-module _ (t : Tally) (old : List ℕ) where
-  pub listed-as : (ls ms : List (List ℕ)) {u : Tally} {new : List ℕ} → ls ≡ ms → Stores ms t old u new → Stores ls t old u new
+module _ (t : Counts) (old : List ℕ) where
+  pub listed-as : (ls ms : List (List ℕ)) {u : Counts} {new : List ℕ} → ls ≡ ms → Stores ms t old u new → Stores ls t old u new
   listed-as ls ms e h = (h .0 ∙ ap (tallied t) (sym e), h .1 ∙ ap (λ (l : List (List ℕ)). sets old (t .bytes) (bytesOf l)) (sym e))
 
   -- the bytes stay as many
-  pub listed-length : (ls : List (List ℕ)) {u : Tally} {new : List ℕ} → Stores ls t old u new → length new ≡ length old
+  pub listed-length : (ls : List (List ℕ)) {u : Counts} {new : List ℕ} → Stores ls t old u new → length new ≡ length old
   listed-length ls h = ap length (h .1) ∙ length-sets old (t .bytes) (bytesOf ls)
 
 -- lines behind others
@@ -114,9 +114,9 @@ stores-append : (a b : List (List ℕ)) (at : ℕ) (old : List ℕ)
     → sets (sets old at (bytesOf a)) (at + length (bytesOf a)) (bytesOf b) ≡ sets old at (bytesOf (a ++ b))
 stores-append a b at old = sets-append (bytesOf a) (bytesOf b) old at ∙ ap (sets old at) (sym (concat-map-append (λ l. l) a b))
 
--- ---- the candidates of field j one after the other, from a tally t and the bytes old: k are left, and what is left makes what was to list
+-- ---- the candidates of field j one after the other, from the counts t and the bytes old: k are left, and what is left makes what was to list
 
-module _ (row texts : List ℕ) (n j : ℕ) (ch : Choice) (st : State) (t : Tally) (old : List ℕ) where
+module _ (row texts : List ℕ) (n j : ℕ) (ch : Choice) (st : State) (t : Counts) (old : List ℕ) where
   abbrev next : Choice → State → List (List ℕ)
   next = linesFrom (n - (j + 1)) row texts n (j + 1)
 
@@ -126,7 +126,7 @@ module _ (row texts : List ℕ) (n j : ℕ) (ch : Choice) (st : State) (t : Tall
   abbrev all : List (List ℕ)
   all = choicesIn row texts n j ch st
 
-  pub record Choosing (s : Span) (k : ℕ) (u : Tally) (out : List ℕ) : Type 0 where
+  pub record Choosing (s : Span) (k : ℕ) (u : Counts) (out : List ℕ) : Type 0 where
     pub span-is : s ≡ spanAt row j
     pub within : k ≤ spanAt row j .count
     pub counts : tallied u (rest k) ≡ tallied t all
@@ -146,10 +146,10 @@ module _ (row texts : List ℕ) (n j : ℕ) (ch : Choice) (st : State) (t : Tall
         long = refl;
       }
 
-  pub choosing-as : (s : Span) (k : ℕ) (u v : Tally) (out new : List ℕ) → new ≡ out → v ≡ u → Choosing s k u out → Choosing s k v new
-  choosing-as s k u v out new e f C = subst (λ (x : Tally). Choosing s k x new) (sym f) (subst (λ (l : List ℕ). Choosing s k u l) (sym e) C)
+  pub choosing-as : (s : Span) (k : ℕ) (u v : Counts) (out new : List ℕ) → new ≡ out → v ≡ u → Choosing s k u out → Choosing s k v new
+  choosing-as s k u v out new e f C = subst (λ (x : Counts). Choosing s k x new) (sym f) (subst (λ (l : List ℕ). Choosing s k u l) (sym e) C)
 
-  module _ (s : Span) (k : ℕ) (u : Tally) (out : List ℕ) (C : Choosing s k u out) where
+  module _ (s : Span) (k : ℕ) (u : Counts) (out : List ℕ) (C : Choosing s k u out) where
     module _ (h : 1 ≤ k) (c : Candidate) (r : Joined) (is-c : c ≡ candidateOf s k) (is-r : r ≡ joinsAt row j (c .items) st) where
       pub choosing-clash : r .ok ≡ false → Choosing s (k - 1) u out
       choosing-clash q =
@@ -176,18 +176,18 @@ module _ (row texts : List ℕ) (n j : ℕ) (ch : Choice) (st : State) (t : Tall
         pub choosing-first : Countable u here
         choosing-first = countable-first u here (rest (k - 1)) can-both
 
-        pub choosing-alive : (v : Tally) (m : List ℕ) → Stores here u out v m → Moderate v → Choosing s (k - 1) v m
+        pub choosing-alive : (v : Counts) (m : List ℕ) → Stores here u out v m → Moderate v → Choosing s (k - 1) v m
         choosing-alive v m l o =
             record {
               span-is = C .span-is;
               within = omega (arith, C .within);
               counts =
-                  ap (λ (x : Tally). tallied x (rest (k - 1))) (l .0)
+                  ap (λ (x : Counts). tallied x (rest (k - 1))) (l .0)
                   ∙ tally-append u here (rest (k - 1))
                   ∙ ap (tallied u) (sym splits)
                   ∙ C .counts;
               stores =
-                  ap₂ (λ (x : List ℕ) (y : Tally). sets x (y .bytes) (bytesOf (rest (k - 1)))) (l .1) (l .0)
+                  ap₂ (λ (x : List ℕ) (y : Counts). sets x (y .bytes) (bytesOf (rest (k - 1)))) (l .1) (l .0)
                   ∙ stores-append here (rest (k - 1)) (u .bytes) out
                   ∙ ap (λ (x : List (List ℕ)). sets out (u .bytes) (bytesOf x)) (sym splits)
                   ∙ C .stores;

@@ -7,7 +7,7 @@ use Prim.Native.Nat.{ℕ, zero, suc, _+_, _-_, _*_, _^_, _≤_}
 use lib.Dec.{eqb}
 use lib.ListN.{length}
 use lib.Seq.{sets}
-use Rattle.base_limits.specs.Limits.{mostFields, mostTerms}
+use Rattle.base_limits.specs.Limits.{mostFields, mostTerms, entryLine}
 use Rattle.math_types.specs.Types.{entry}
 use Rattle.math_codes.specs.Spots.{cellAt, joinFrom}
 use Rattle.text_write.specs.pieces.Stored.{bytesOf}
@@ -19,8 +19,11 @@ use Rattle.overlap_entries.specs.declared.Span.{Span}
 use Rattle.overlap_entries.specs.declared.Choice.{Choice}
 use Rattle.overlap_entries.specs.Entries.{spanOf, noChoice, chosenAt}
 use Rattle.pair_lines.specs.Lines.{lineIn, lineBound}
-use Rattle.overlap_list.specs.declared.Tally.{Tally}
+use Rattle.overlap_counts.specs.declared.Counts.{Counts}
+use Rattle.overlap_counts.specs.Answers.{noCounts}
 use Rattle.overlap_list.specs.declared.Candidate.{Candidate}
+use Rattle.overlap_list.specs.declared.Pairing.{Pairing}
+use Rattle.overlap_list.specs.declared.Pairing.the-variants.{Fields, Apart}
 
 -- ---- the candidates of a field pair
 
@@ -75,14 +78,11 @@ choices row j (suc n) = spanAt row j .count * choices row (j + 1) n
 
 -- ---- counts
 
-abbrev pub noTally : Tally
-noTally = record { entries = 0; bytes = 0 }
-
-abbrev pub tallied : Tally → List (List ℕ) → Tally
+abbrev pub tallied : Counts → List (List ℕ) → Counts
 tallied t ls = record { entries = t .entries + length ls; bytes = t .bytes + length (bytesOf ls) }
 
 -- lines put behind those before, as far as there is room: what is counted, and the bytes
-abbrev pub Stores : List (List ℕ) → Tally → List ℕ → Tally → List ℕ → Type 0
+abbrev pub Stores : List (List ℕ) → Counts → List ℕ → Counts → List ℕ → Type 0
 Stores ls t old u new = (u ≡ tallied t ls) × (new ≡ sets old (t .bytes) (bytesOf ls))
 
 -- how many items the candidates of a field pair have stays small, whatever the row holds
@@ -94,8 +94,34 @@ spanBound = 1024
 abbrev pub mostEntries : ℕ
 mostEntries = suc mostTerms ^ mostFields
 
-abbrev pub Moderate : Tally → Type 0
+abbrev pub Moderate : Counts → Type 0
 Moderate t = t .bytes ≤ lineBound * t .entries
 
-abbrev pub Countable : Tally → List (List ℕ) → Type 0
+abbrev pub Countable : Counts → List (List ℕ) → Type 0
 Countable t ls = Moderate t × (t .entries + length ls ≤ mostEntries)
+
+-- ---- two rules
+
+-- "Rules with different field counts have no entries", and "A rule with no fields counts as having no entries": of n and of m fields
+abbrev pub pairingOf : ℕ → ℕ → Pairing
+pairingOf zero m = Apart
+pairingOf (suc n) m = cond (eqb (suc n) m) (Fields (suc n)) Apart
+
+abbrev pub pairLines : Pairing → List ℕ → List ℕ → List (List ℕ)
+pairLines (Fields n) row texts = allLines row texts n
+pairLines Apart row texts = []
+
+abbrev pub pairChoices : Pairing → List ℕ → ℕ
+pairChoices (Fields n) row = choices row 0 n
+pairChoices Apart row = 0
+
+abbrev pub Few : Pairing → Type 0
+Few (Fields n) = n ≤ mostFields
+Few Apart = Unit {0}
+
+-- what listing asks of the tables of a pair: those of two rules have it
+pub record Listable (p : Pairing) (row texts : List ℕ) : Type 0 where
+  pub few : Few p
+  pub can : Countable noCounts (pairLines p row texts)
+  -- no line is longer than the longest
+  pub short : length (bytesOf (pairLines p row texts)) ≤ pairChoices p row * entryLine

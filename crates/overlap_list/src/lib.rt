@@ -6,30 +6,28 @@ ghost use mathlib.Core.Path.{_≡_};
 ghost use mathlib.Core.List.{[], _∷_};
 ghost use Prim.Native.Nat.{_+_, _-_, _*_, _≤_, _<_};
 ghost use lib.ListN.{length};
-ghost use Rattle.base_limits.specs.Limits.{mostFields, entryLine};
-ghost use Rattle.text_accepted.specs.Accepted.{countedLeft};
+ghost use Rattle.base_limits.specs.Limits.{mostFields};
 ghost use Rattle.text_accepted.specs.rules.Rules.{countedRule};
-ghost use Rattle.text_write.specs.pieces.Stored.{bytesOf};
+ghost use Rattle.text_write.specs.Answers.{after};
+ghost use Rattle.pair_table.specs.Notes.{blankRows};
 ghost use Rattle.pair_lines.specs.Lines.{lineIn};
-ghost use Rattle.overlap_list.specs.Listing.{candidateOf, noTally, Stores, linesIn, choicesIn, allLines, choices};
+ghost use Rattle.overlap_counts.specs.Answers.{noCounts};
+ghost use Rattle.overlap_list.specs.Listing.{candidateOf, Stores, linesIn, choicesIn, choices};
 ghost use Rattle.overlap_list.specs.Listing.{spanBound, Moderate, Countable};
-ghost use Rattle.overlap_list.specs.Answers.{Lists, ListsLines, Accepts, SidesList, TextsList};
+ghost use Rattle.overlap_list.specs.Listing.{pairLines, pairChoices, pairingOf, Few, Listable};
+ghost use Rattle.overlap_list.specs.Answers.{Lists, ListsLines, NotesTexts, TextsList, leftPlain};
 
+pub mod asking; // the counts of the list without a buffer, and the list that was asked for
 pub mod shared; // whether two rules overlap, without the list
 
 use base_numbers::at_most;
+use overlap_counts::Counts;
 use overlap_entries::Choice;
 use overlap_entries::Span;
 use pair_state::State;
 use text_refusals::verdicts::Verdict;
 use text_values::Rule;
 use text_values::RuleSide;
-
-// How many lines so far, and how many bytes they have.
-pub struct Tally {
-    pub entries: usize,
-    pub bytes: usize,
-}
 
 // The answer of a listing: the entry count and the byte count. `told` of specs/Answers has document 01's number of each.
 pub enum Listed {
@@ -46,6 +44,19 @@ pub struct TextsListed {
     pub listed: Listed,
 }
 
+// Whether two rules can have an entry: only those with as many fields can, and a rule with no fields has none.
+enum Pairing {
+    Fields(u8),
+    Apart,
+}
+
+// How two texts are read, and whether the rules that they say can have an entry.
+struct TextsNoted {
+    left: Verdict,
+    right: Verdict,
+    pair: Pairing,
+}
+
 // How many atoms a field has, and whether a list variable stands among them.
 struct Candidate {
     items: u16,
@@ -60,8 +71,8 @@ fn put_entry(
     ch: Choice,
     st: State,
     out: &mut [u8],
-    t: Tally,
-) -> Tally
+    t: Counts,
+) -> Counts
     requires { ⌜ Countable t (lineIn (now row) (now texts) fields ch (st .atoms) ∷ []) ⌝ }
     ensures { λ r. ⌜ Stores (lineIn (now (row .entry)) (now (texts .entry)) fields ch (st .atoms) ∷ []) t (now (out .entry)) r
         (now (out .exit)) ⌝ }
@@ -69,7 +80,7 @@ fn put_entry(
 {
     let at = at_most(t.bytes, out.len());
     let n = pair_lines::put_line(row, texts, fields, ch, &st.atoms, &mut out[at..]);
-    Tally {
+    Counts {
         entries: t.entries + 1,
         bytes: t.bytes + n,
     }
@@ -99,8 +110,8 @@ fn next_field(
     ch: Choice,
     st: State,
     out: &mut [u8],
-    t: Tally,
-) -> Tally
+    t: Counts,
+) -> Counts
     requires { ⌜ (j ≤ fields) × Countable t (linesIn (now row) (now texts) fields j ch st) ⌝ }
     ensures { λ r. ⌜ Stores (linesIn (now (row .entry)) (now (texts .entry)) fields j ch st) t (now (out .entry)) r (now (out .exit)) ⌝ }
     ensures { λ r. ⌜ Moderate r ⌝ }
@@ -120,8 +131,8 @@ fn choose(
     ch: Choice,
     st: State,
     out: &mut [u8],
-    t: Tally,
-) -> Tally
+    t: Counts,
+) -> Counts
     requires { ⌜ (j < fields) × Countable t (choicesIn (now row) (now texts) fields j ch st) ⌝ }
     ensures { λ r. ⌜ Stores (choicesIn (now (row .entry)) (now (texts .entry)) fields j ch st) t (now (out .entry)) r (now (out .exit)) ⌝ }
     ensures { λ r. ⌜ Moderate r ⌝ }
@@ -145,30 +156,33 @@ fn choose(
 
 // ---- the whole list
 
-fn no_tally() -> Tally
-    ensures { λ r. ⌜ r ≡ noTally ⌝ }
+fn no_counts() -> Counts
+    ensures { λ r. ⌜ r ≡ noCounts ⌝ }
 {
-    Tally {
+    Counts {
         entries: 0,
         bytes: 0,
     }
 }
 
-// Every choice from the first field on.
-fn all_lines(row: &[u8], texts: &[u8], fields: u8, out: &mut [u8]) -> Tally
-    requires { ⌜ Countable noTally (allLines (now row) (now texts) fields) ⌝ }
-    ensures { λ r. ⌜ Stores (allLines (now (row .entry)) (now (texts .entry)) fields) noTally (now (out .entry)) r (now (out .exit)) ⌝ }
+// Every choice from the first field on; none of rules that are apart.
+pub(crate) fn all_lines(pair: Pairing, row: &[u8], texts: &[u8], out: &mut [u8]) -> Counts
+    requires { ⌜ Countable noCounts (pairLines pair (now row) (now texts)) ⌝ }
+    ensures { λ r. ⌜ Stores (pairLines pair (now (row .entry)) (now (texts .entry))) noCounts (now (out .entry)) r (now (out .exit)) ⌝ }
 {
-    next_field(
-        row,
-        texts,
-        fields,
-        0,
-        overlap_entries::no_choice(),
-        pair_state::start(row),
-        out,
-        no_tally(),
-    )
+    match pair {
+        Pairing::Apart => no_counts(),
+        Pairing::Fields(n) => next_field(
+            row,
+            texts,
+            n,
+            0,
+            overlap_entries::no_choice(),
+            pair_state::start(row),
+            out,
+            no_counts(),
+        ),
+    }
 }
 
 // How many choices of one candidate a field there are, with those that something kills.
@@ -187,83 +201,110 @@ fn choices(row: &[u8], fields: u8) -> usize
     n
 }
 
+// No pair has more lines than that.
+fn most_lines(pair: Pairing, row: &[u8]) -> usize
+    requires { ⌜ Few pair ⌝ }
+    ensures { λ r. ⌜ r ≡ pairChoices pair (now (row .entry)) ⌝ }
+{
+    match pair {
+        Pairing::Apart => 0,
+        Pairing::Fields(n) => choices(row, n),
+    }
+}
+
 // Measured with no room unless it surely fits, so that a buffer that is too small keeps its old bytes; then written.
-fn list_pair(row: &[u8], texts: &[u8], fields: u8, out: &mut [u8]) -> Listed
-    requires { ⌜ fields ≤ mostFields ⌝ }
-    requires { ⌜ Countable noTally (allLines (now row) (now texts) fields) ⌝ }
-    requires { ⌜ length (bytesOf (allLines (now row) (now texts) fields)) ≤ choices (now row) 0 fields * entryLine ⌝ }
-    ensures { λ r. ⌜ ListsLines (allLines (now (row .entry)) (now (texts .entry)) fields) (now (out .entry)) r (now (out .exit)) ⌝ }
+fn list_pair(pair: Pairing, row: &[u8], texts: &[u8], out: &mut [u8]) -> Listed
+    requires { ⌜ Listable pair (now row) (now texts) ⌝ }
+    ensures { λ r. ⌜ ListsLines (pairLines pair (now (row .entry)) (now (texts .entry))) (now (out .entry)) r (now (out .exit)) ⌝ }
 {
     // No list has more bytes than its choices have lines of the longest: one that then fits need not be measured.
-    if choices(row, fields) <= out.len() / base_limits::ENTRY_LINE {
-        let u = all_lines(row, texts, fields, out);
+    if most_lines(pair, row) <= out.len() / base_limits::ENTRY_LINE {
+        let u = all_lines(pair, row, texts, out);
         return Listed::Lines(u.entries, u.bytes);
     }
-    let t = all_lines(row, texts, fields, &mut out[..0]);
+    let t = all_lines(pair, row, texts, &mut out[..0]);
     if out.len() < t.bytes {
         return Listed::TooSmall(t.entries, t.bytes);
     }
-    let u = all_lines(row, texts, fields, out);
+    let u = all_lines(pair, row, texts, out);
     Listed::Lines(u.entries, u.bytes)
 }
 
-// The list of two left sides by their texts, which are accepted.
-fn list_read(left: &[u8], right: &[u8], out: &mut [u8]) -> Listed
-    requires { ⌜ Accepts (now left) (now right) ⌝ }
-    ensures { λ r. ⌜ SidesList (now (left .entry)) (now (right .entry)) (now (out .entry)) r (now (out .exit)) ⌝ }
+// ---- texts
+
+// Whether rules with n and m fields can have an entry.
+fn pair_of(n: usize, m: usize) -> Pairing
+    requires { ⌜ n ≤ mostFields ⌝ }
+    ensures { λ r. ⌜ r ≡ pairingOf n m ⌝ }
 {
-    let mut row = [0u8; pair_row::ROW_BYTES];
-    let mut texts = [0u8; pair_row::TEXTS_BYTES];
-    let n = text_passes::note_side(left, false, &mut row, &mut texts);
-    let m = text_passes::note_side(right, true, &mut row, &mut texts);
-    if n != m {
-        return Listed::Lines(0, 0);
+    if n == 0 {
+        return Pairing::Apart;
     }
-    list_pair(&row, &texts, n as u8, out)
+    if n != m {
+        return Pairing::Apart;
+    }
+    Pairing::Fields(n as u8)
 }
 
-// THE OVERLAP LIST of the rules that two texts say, and how each is read: every choice of one candidate a field that nothing kills,
-// a line for each, the first field slowest. What a rule makes of a slip is no part of it, so only the bytes of each left side go along.
-// Rules with different field counts have no entries, and a text that is refused says the rule with no fields, which has none.
-pub fn list_texts(left: &[u8], right: &[u8], out: &mut [u8]) -> TextsListed
-    ensures { λ r. ⌜ TextsList (now (left .entry)) (now (right .entry)) (now (out .entry)) r (now (out .exit)) ⌝ }
+// How two texts are read, and the tables of the rules that they say. What a rule makes of a slip is no part of an overlap, so only the
+// bytes of each left side are noted; of a text that is refused there are none, so that it says the rule with no fields.
+pub(crate) fn note_texts(left: &[u8], right: &[u8], row: &mut [u8], texts: &mut [u8]) -> TextsNoted
+    requires { ⌜ (now row ≡ blankRows .0) × (now texts ≡ blankRows .1) ⌝ }
+    ensures { λ r. ⌜ NotesTexts (now (left .entry)) (now (right .entry)) r (now (row .exit)) (now (texts .exit)) ⌝ }
 {
     let l = text_read::judge_left(left);
     let r = text_read::judge_left(right);
     let left_verdict = l.verdict;
     let right_verdict = r.verdict;
-    let listed = match left_verdict {
-        Verdict::Accepted => match right_verdict {
-            Verdict::Accepted => list_read(&left[..l.end], &right[..r.end], out),
-            Verdict::Refused(_, _) => Listed::Lines(0, 0),
-        },
-        Verdict::Refused(_, _) => Listed::Lines(0, 0),
-    };
-    TextsListed {
+    let n = text_passes::note_side(&left[..l.end], false, row, texts);
+    let m = text_passes::note_side(&right[..r.end], true, row, texts);
+    TextsNoted {
         left: left_verdict,
         right: right_verdict,
-        listed,
+        pair: pair_of(n, m),
     }
 }
 
-// The list of two left sides: that of their plain texts. What no reading returns has no text,
-// and so no overlaps.
-fn list_sides(left: RuleSide, right: RuleSide, out: &mut [u8]) -> Listed
-    ensures { λ r. ⌜ Lists (countedLeft left) (countedLeft right) (now (out .entry)) r (now (out .exit)) ⌝ }
+// THE OVERLAP LIST of the rules that two texts say, and how each is read: every choice of one candidate a field that nothing kills,
+// a line for each, the first field slowest.
+// Rules with different field counts have no entries, and a text that is refused says the rule with no fields, which has none.
+pub fn list_texts(left: &[u8], right: &[u8], out: &mut [u8]) -> TextsListed
+    ensures { λ r. ⌜ TextsList (now (left .entry)) (now (right .entry)) (now (out .entry)) r (now (out .exit)) ⌝ }
 {
-    let mut a = [0u8; base_limits::LONGEST_SIDE];
-    let mut b = [0u8; base_limits::LONGEST_SIDE];
-    let n = text_write::pieces::size_of(text_plain::write_side(left, &mut a));
-    let m = text_write::pieces::size_of(text_plain::write_side(right, &mut b));
-    let said = list_texts(&a[..n], &b[..m], out);
-    said.listed
+    let mut row = [0u8; pair_row::ROW_BYTES];
+    let mut texts = [0u8; pair_row::TEXTS_BYTES];
+    let noted = note_texts(left, right, &mut row, &mut texts);
+    let left_verdict = noted.left;
+    let right_verdict = noted.right;
+    let pair = noted.pair;
+    TextsListed {
+        left: left_verdict,
+        right: right_verdict,
+        listed: list_pair(pair, &row, &texts, out),
+    }
 }
 
-// The list of two rule values: a value counts as one with no fields also where only its right side is none that reading returns.
+// ---- values
+
+// The plain text of the left side of what a rule counts as: a value counts as one with no fields, which has no text, also where only its
+// right side is none that reading returns. And its size.
+pub(crate) fn put_left(rule: Rule, out: &mut [u8]) -> usize
+    ensures { λ r. ⌜ r ≡ length (leftPlain rule) ⌝ }
+    ensures { λ _. ⌜ now (out .exit) ≡ after (leftPlain rule) (now (out .entry)) ⌝ }
+{
+    let side = text_accepted::rules::left_of(rule);
+    let written = text_plain::write_side(side, out);
+    text_write::pieces::size_of(written)
+}
+
+// The list of two rule values: that of their left sides' plain texts.
 pub fn list_overlaps(left: Rule, right: Rule, out: &mut [u8]) -> Listed
     ensures { λ r. ⌜ Lists ((countedRule left) .0) ((countedRule right) .0) (now (out .entry)) r (now (out .exit)) ⌝ }
 {
-    let x = text_accepted::rules::left_of(left);
-    let y = text_accepted::rules::left_of(right);
-    list_sides(x, y, out)
+    let mut a = [0u8; base_limits::LONGEST_SIDE];
+    let mut b = [0u8; base_limits::LONGEST_SIDE];
+    let n = put_left(left, &mut a);
+    let m = put_left(right, &mut b);
+    let said = list_texts(&a[..n], &b[..m], out);
+    said.listed
 }

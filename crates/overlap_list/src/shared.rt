@@ -2,12 +2,9 @@
 // the answer does not wait for a list that may have 65,536 entries.
 ghost use mathlib.Core.Path.{_≡_};
 ghost use Prim.Native.Nat.{_≤_, _<_};
-ghost use Rattle.text_read.specs.Answers.{sideSaid};
-ghost use Rattle.text_grammar.specs.Read.{readSide};
-ghost use Rattle.overlap_spec.specs.Overlaps.{overlapping};
-ghost use Rattle.overlap_list.specs.Answers.{Accepts};
-ghost use Rattle.overlap_list.specs.shared.Choices.{anyIn};
+ghost use Rattle.overlap_list.specs.shared.Choices.{anyIn, anyOf};
 ghost use Rattle.overlap_list.specs.shared.Answers.{TextsMeet};
+use crate::Pairing;
 use pair_state::State;
 use text_refusals::verdicts::Verdict;
 
@@ -50,19 +47,14 @@ fn choose(row: &[u8], fields: u8, j: u8, st: State) -> bool
     found
 }
 
-// Whether two left sides overlap, by their texts, which are accepted.
-fn sides_overlap(left: &[u8], right: &[u8]) -> bool
-    requires { ⌜ Accepts (now left) (now right) ⌝ }
-    ensures { λ r. ⌜ r ≡ overlapping (sideSaid (readSide (now (left .entry)))) (sideSaid (readSide (now (right .entry)))) ⌝ }
+// Every choice from the first field on; none of rules that are apart.
+fn any_choice(pair: Pairing, row: &[u8]) -> bool
+    ensures { λ r. ⌜ r ≡ anyOf pair (now (row .entry)) ⌝ }
 {
-    let mut row = [0u8; pair_row::ROW_BYTES];
-    let mut texts = [0u8; pair_row::TEXTS_BYTES];
-    let n = text_passes::note_side(left, false, &mut row, &mut texts);
-    let m = text_passes::note_side(right, true, &mut row, &mut texts);
-    if n != m {
-        return false;
+    match pair {
+        Pairing::Apart => false,
+        Pairing::Fields(n) => next_field(row, n, 0, pair_state::start(row)),
     }
-    next_field(&row, n as u8, 0, pair_state::start(&row))
 }
 
 // WHETHER THE RULES THAT TWO TEXTS SAY OVERLAP, and how each is read. A text that is refused says the rule with no fields,
@@ -70,20 +62,15 @@ fn sides_overlap(left: &[u8], right: &[u8]) -> bool
 pub fn texts_overlap(left: &[u8], right: &[u8]) -> TextsOverlap
     ensures { λ r. ⌜ TextsMeet (now (left .entry)) (now (right .entry)) r ⌝ }
 {
-    let l = text_read::judge_left(left);
-    let r = text_read::judge_left(right);
-    let left_verdict = l.verdict;
-    let right_verdict = r.verdict;
-    let overlap = match left_verdict {
-        Verdict::Accepted => match right_verdict {
-            Verdict::Accepted => sides_overlap(&left[..l.end], &right[..r.end]),
-            Verdict::Refused(_, _) => false,
-        },
-        Verdict::Refused(_, _) => false,
-    };
+    let mut row = [0u8; pair_row::ROW_BYTES];
+    let mut texts = [0u8; pair_row::TEXTS_BYTES];
+    let noted = crate::note_texts(left, right, &mut row, &mut texts);
+    let left_verdict = noted.left;
+    let right_verdict = noted.right;
+    let pair = noted.pair;
     TextsOverlap {
         left: left_verdict,
         right: right_verdict,
-        overlap,
+        overlap: any_choice(pair, &row),
     }
 }

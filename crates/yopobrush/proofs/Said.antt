@@ -8,6 +8,7 @@ use Rattle.text_grammar.specs.Told.{Told, byRoom}
 use Rattle.text_grammar.specs.Read.{OutcomeOf, refused, accepted}
 use Rattle.text_grammar.specs.rules.Read.{OurRule, readRule}
 use Rattle.text_read.specs.declared.RuleRead.{RuleRead}
+use Rattle.text_refusals.specs.declared.verdicts.Verdict.{Verdict}
 use Rattle.text_refusals.specs.verdicts.Verdicts.{verdictOf}
 use Rattle.text_read.specs.Answers.{ruleRead, leftSaid}
 use Rattle.text_refusals.proofs.verdicts.Verdicts.{number-is}
@@ -35,6 +36,10 @@ reading-said (accepted x) = refl
 pub text-said : (t : List ℕ) (l : RuleRead) (a : Reading) → l ≡ ruleRead (readRule t) → a ≡ readingBy (l .verdict) → a ≡ readingOf (readRule t)
 text-said t l a is-l is-a = is-a ∙ ap (λ (v : RuleRead). readingBy (v .verdict)) is-l ∙ reading-said (readRule t)
 
+-- how a text is read, from the verdict alone
+pub read-said : (t : List ℕ) {v : Verdict} {a : Reading} → v ≡ verdictOf (readRule t) → a ≡ readingBy v → a ≡ readingOf (readRule t)
+read-said t is is-a = is-a ∙ ap readingBy is ∙ verdict-said (readRule t)
+
 -- the answer that tells so many bytes needed, of so many lent, with the two counts
 module _ (l r : Reading) (needed lent n b : ℕ) where
   abbrev counted : Told
@@ -59,8 +64,8 @@ pub texts-said : (t u : List ℕ) {old : List ℕ} {said : TextsListed} {new : L
     → answer ≡ listingBy a b (said .listed)
     → answer ≡ listingOf (readRule t) (readRule u) (length old)
 texts-said t u {old} {said} a b answer is is-a is-b is-answer =
-    let l = is-a ∙ ap readingBy (is .left) ∙ verdict-said (readRule t) in
-    let r = is-b ∙ ap readingBy (is .right) ∙ verdict-said (readRule u) in
+    let l = read-said t (is .left) is-a in
+    let r = read-said u (is .right) is-b in
     let x = leftSaid (readRule t) in
     let y = leftSaid (readRule u) in
     let n = length (overlapText x y) in
@@ -77,7 +82,7 @@ pub texts-meet : (t u : List ℕ) {said : TextsOverlap} (a b : Reading) (answer 
     → LibraryOverlaps t u answer
 texts-meet t u a b answer is is-a is-b is-answer =
     record {
-      left = ap (λ (r : Overlapping). r .left) is-answer ∙ is-a ∙ ap readingBy (is .left) ∙ verdict-said (readRule t);
-      right = ap (λ (r : Overlapping). r .right) is-answer ∙ is-b ∙ ap readingBy (is .right) ∙ verdict-said (readRule u);
+      left = ap (λ (r : Overlapping). r .left) is-answer ∙ read-said t (is .left) is-a;
+      right = ap (λ (r : Overlapping). r .right) is-answer ∙ read-said u (is .right) is-b;
       overlap = ap (λ (r : Overlapping). r .overlap) is-answer ∙ ap (λ (o : Bool). cond o 1 0) (is .overlap);
     }

@@ -1,14 +1,18 @@
-// The library that a program in another language links: a rule text is read and checked, the overlaps of two rules are listed, it is said
-// whether there are any, and a rule is carried out on a slip.
+// The library that a program in another language links: a rule text is read and checked, the overlaps of two rules are listed, their counts
+// are asked for first, it is said whether there are any, and a rule is carried out on a slip.
 // Numbers and byte slices cross the boundary, and structs of numbers in C's layout; to C a slice is a pointer and a length.
 // A name belongs to the whole program, as in C, so each begins with the library's.
 ghost use mathlib.Core.Path.{_≡_};
 ghost use Rattle.text_grammar.specs.rules.Read.{readRule};
 ghost use Rattle.yopobrush.specs.Answers.{readingOf, LibraryLists, LibraryOverlaps};
 ghost use Rattle.yopobrush.specs.Values.{readingBy, listingBy, overlappingBy};
+ghost use Rattle.yopobrush.specs.Asks.{LibraryAsks, LibraryCommits};
+ghost use Rattle.yopobrush.specs.AskValues.{askingBy, committingBy};
 ghost use Rattle.yopobrush.specs.Carries.{LibraryCarries};
 ghost use Rattle.yopobrush.specs.CarryValues.{numberBy, carryingBy};
 use apply_rules::Carry;
+use overlap_counts::Committed;
+use overlap_counts::Counts;
 use overlap_list::Listed;
 use text_refusals::verdicts::Verdict;
 use text_write::Written;
@@ -20,7 +24,8 @@ pub struct Reading {
     pub place: u64,
 }
 
-// How each text is read; whether the list is refused, by 8, or by none, which is 0; and how many entries and bytes it has.
+// How each text is read; whether the list is refused, by 8, or of a commit by 13, or by none, which is 0; and how many entries and bytes it
+// has, or 0 and 0 with 13.
 #[repr(C)]
 pub struct Listing {
     pub left: Reading,
@@ -86,6 +91,84 @@ pub extern "C" fn yopobrush_list_overlaps(left: &[u8], right: &[u8], out: &mut [
     let right_verdict = said.right;
     let listed = said.listed;
     listing_of(reading_of(left_verdict), reading_of(right_verdict), listed)
+}
+
+// ---- asking first
+
+// How each text is read, and how many entries and bytes the list has.
+#[repr(C)]
+pub struct Asking {
+    pub left: Reading,
+    pub right: Reading,
+    pub entries: u64,
+    pub bytes: u64,
+}
+
+fn asking_of(left: Reading, right: Reading, counts: Counts) -> Asking
+    ensures { λ r. ⌜ r ≡ askingBy left right counts ⌝ }
+{
+    Asking {
+        left: left,
+        right: right,
+        entries: counts.entries as u64,
+        bytes: counts.bytes as u64,
+    }
+}
+
+fn committing_of(left: Reading, right: Reading, committed: Committed) -> Listing
+    ensures { λ r. ⌜ r ≡ committingBy left right committed ⌝ }
+{
+    match committed {
+        Committed::Lines(n, b) => listing_of(left, right, Listed::Lines(n, b)),
+        Committed::TooSmall(n, b) => listing_of(left, right, Listed::TooSmall(n, b)),
+        Committed::Stale => Listing {
+            left: left,
+            right: right,
+            refusal: 13,
+            entries: 0,
+            bytes: 0,
+        },
+    }
+}
+
+// Says how many entries and bytes the list of two rule texts has, and has no buffer. A text that is refused says the rule with no fields,
+// which has none.
+#[no_mangle]
+pub extern "C" fn yopobrush_ask_overlaps(left: &[u8], right: &[u8]) -> Asking
+    ensures { λ r. ⌜ LibraryAsks (now (left .entry)) (now (right .entry)) r ⌝ }
+{
+    let asked = overlap_list::asking::ask_texts(left, right);
+    let left_verdict = asked.left;
+    let right_verdict = asked.right;
+    let counts = asked.counts;
+    asking_of(reading_of(left_verdict), reading_of(right_verdict), counts)
+}
+
+// Lists the overlaps of two rule texts into the lent bytes where the counts are those of their list.
+#[no_mangle]
+pub extern "C" fn yopobrush_commit_overlaps(
+    entries: u64,
+    bytes: u64,
+    left: &[u8],
+    right: &[u8],
+    out: &mut [u8],
+) -> Listing
+    ensures { λ r. ⌜ LibraryCommits (record { entries = entries; bytes = bytes }) (now (left .entry)) (now (right .entry))
+        (now (out .entry)) r (now (out .exit)) ⌝ }
+{
+    let asked = Counts {
+        entries: entries as usize,
+        bytes: bytes as usize,
+    };
+    let made = overlap_list::asking::commit_texts(asked, left, right, out);
+    let left_verdict = made.left;
+    let right_verdict = made.right;
+    let committed = made.committed;
+    committing_of(
+        reading_of(left_verdict),
+        reading_of(right_verdict),
+        committed,
+    )
 }
 
 // ---- whether they overlap

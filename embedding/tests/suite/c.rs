@@ -5,6 +5,10 @@ use std::env;
 use std::path::{Path, PathBuf};
 use std::process::Command;
 
+use yopobrush::overlaps;
+
+use crate::memory::deepest;
+
 /// The status, standard output and standard error of a program.
 type Said = (Option<i32>, Vec<u8>, Vec<u8>);
 
@@ -51,6 +55,34 @@ fn overlaps_from_c() {
     let list = "2 <a0=2 <l0=empty >l0=empty\na0:l0:2 <a0=a0 <l0=l0:2 >l0=a0:l0\n";
     assert_eq!(said("a0:l0", "l0:2"), prints(list));
     assert_eq!(said("i0", "s0"), prints(""));
+    let left = complains("left rule refused 2 at 2\n");
+    assert_eq!(said("i01", "l0:l1"), left);
+    let right = complains("right rule refused 6 at 3\n");
+    assert_eq!(said("1", "l0:l1"), right);
+    let (left, right, list) = long_list();
+    let needed = format!("{} bytes are needed\n", list.len());
+    assert_eq!(said(&left, &right), complains(&needed));
+}
+
+/// Two rules whose list has more than the 65,536 bytes that `overlaps` lends.
+fn long_list() -> (String, String, String) {
+    let (left, right) = deepest(3);
+    let list = overlaps(&left, &right).unwrap();
+    let text = |bytes| String::from_utf8(bytes).unwrap();
+    (text(left), text(right), text(list))
+}
+
+#[test]
+fn asking_first_from_c() {
+    let program = built("ask");
+    let said = |left, right| said(&program, &[left, right]);
+    let list = "2 <a0=2 <l0=empty >l0=empty\na0:l0:2 <a0=a0 <l0=l0:2 >l0=a0:l0\n";
+    let sized = format!("2 entries, 62 bytes\n{list}");
+    assert_eq!(said("a0:l0", "l0:2"), prints(&sized));
+    let (left, right, list) = long_list();
+    let sized = format!("4096 entries, {} bytes\n{list}", list.len());
+    assert!(said(&left, &right) == prints(&sized), "a long list");
+    assert_eq!(said("i0", "s0"), prints("0 entries, 0 bytes\n"));
     let left = complains("left rule refused 2 at 2\n");
     assert_eq!(said("i01", "l0:l1"), left);
     let right = complains("right rule refused 6 at 3\n");

@@ -95,7 +95,7 @@ fn compare(left: &[u8], right: &[u8]) {
 }
 
 /// What stands before the first tab, and what behind it.
-fn divided(line: &[u8]) -> (&[u8], &[u8]) {
+pub fn divided(line: &[u8]) -> (&[u8], &[u8]) {
     let mut parts = line.splitn(2, |&byte| byte == b'\t');
     let first = parts.next().unwrap_or_default();
     (first, parts.next().unwrap_or_default())

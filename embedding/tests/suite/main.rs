@@ -3,6 +3,7 @@
 
 mod c;
 mod carrying;
+mod committing;
 mod comparison;
 mod document;
 mod memory;

@@ -2,28 +2,35 @@
 
 use std::thread;
 
-use yopobrush::{list_overlaps, overlaps, texts_overlap, Error, Listing};
+use yopobrush::{
+    ask_overlaps, commit_overlaps, list_overlaps, overlaps, texts_overlap, Error, Listing,
+};
 
 const LEFT: &[u8] = b"a0:l0";
 const RIGHT: &[u8] = b"l0:2";
 const LIST: &[u8] = b"2 <a0=2 <l0=empty >l0=empty\na0:l0:2 <a0=a0 <l0=l0:2 >l0=a0:l0\n";
 
+const ASKED: Listing = Listing {
+    entries: 2,
+    bytes: LIST.len(),
+};
+
 #[test]
 fn a_list_takes_as_many_bytes_as_it_has() {
+    let list = |out: &mut [u8]| list_overlaps(LEFT, RIGHT, out);
+    let commit = |out: &mut [u8]| commit_overlaps(ASKED, LEFT, RIGHT, out);
     for room in 0..LIST.len() + 10 {
-        let mut out = vec![7; room];
-        let listing = Listing {
-            entries: 2,
-            bytes: LIST.len(),
-        };
-        let listed = list_overlaps(LEFT, RIGHT, &mut out);
-        if room < LIST.len() {
-            assert_eq!(listed, Err(Error::TooSmall(listing)));
-            assert_eq!(out, vec![7; room]);
-        } else {
-            assert_eq!(listed, Ok(listing));
-            assert_eq!(&out[..LIST.len()], LIST);
-            assert_eq!(&out[LIST.len()..], vec![7; room - LIST.len()]);
+        for call in [&list as &dyn Fn(&mut [u8]) -> _, &commit] {
+            let mut out = vec![7; room];
+            let listed = call(&mut out);
+            if room < LIST.len() {
+                assert_eq!(listed, Err(Error::TooSmall(ASKED)));
+                assert_eq!(out, vec![7; room]);
+            } else {
+                assert_eq!(listed, Ok(ASKED));
+                assert_eq!(&out[..LIST.len()], LIST);
+                assert_eq!(&out[LIST.len()..], vec![7; room - LIST.len()]);
+            }
         }
     }
 }
@@ -33,6 +40,8 @@ fn what_is_refused_leaves_the_lent_bytes() {
     let mut out = [7; 100];
     assert!(list_overlaps(b"i01", RIGHT, &mut out).is_err());
     assert!(list_overlaps(LEFT, b"i01", &mut out).is_err());
+    assert!(commit_overlaps(ASKED, b"i01", RIGHT, &mut out).is_err());
+    assert!(commit_overlaps(ASKED, LEFT, b"i01", &mut out).is_err());
     assert_eq!(out, [7; 100]);
 }
 
@@ -43,13 +52,17 @@ fn nothing_is_lent() {
         bytes: 0,
     };
     assert_eq!(list_overlaps(b"1", b"2", &mut []), Ok(none));
+    assert_eq!(ask_overlaps(b"1", b"2"), Ok(none));
+    assert_eq!(commit_overlaps(none, b"1", b"2", &mut []), Ok(none));
+    assert!(ask_overlaps(&[], &[]).is_err());
+    assert!(commit_overlaps(none, &[], &[], &mut []).is_err());
     assert!(list_overlaps(&[], &[], &mut []).is_err());
     assert!(texts_overlap(&[], &[]).is_err());
 }
 
 /// Fifteen variables before or behind a list variable, in each field: as many
 /// choices as two rules can have.
-fn deepest(fields: usize) -> (Vec<u8>, Vec<u8>) {
+pub fn deepest(fields: usize) -> (Vec<u8>, Vec<u8>) {
     let atoms = (0..15).map(|n| format!("a{n}")).collect::<Vec<_>>();
     let atoms = atoms.join(":");
     let field = |n: usize| (format!("{atoms}:l{n}"), format!("l{n}:{atoms}"));
@@ -58,7 +71,7 @@ fn deepest(fields: usize) -> (Vec<u8>, Vec<u8>) {
 }
 
 #[test]
-fn a_list_beyond_the_first_room() {
+fn a_list_of_many_lines() {
     let (left, right) = deepest(2);
     let list = overlaps(&left, &right).unwrap();
     let lines = list.iter().filter(|&&byte| byte == b'\n').count();
@@ -67,19 +80,30 @@ fn a_list_beyond_the_first_room() {
     let listing = list_overlaps(&left, &right, &mut room).unwrap();
     assert_eq!((listing.entries, listing.bytes), (256, list.len()));
     assert_eq!(room, list);
+    assert_eq!(ask_overlaps(&left, &right), Ok(listing));
+    let mut room = vec![0; list.len()];
+    commit_overlaps(listing, &left, &right, &mut room).unwrap();
+    assert_eq!(room, list);
 }
 
 #[test]
 fn a_megabyte_of_stack_is_enough() {
     let (left, right) = deepest(4);
-    let list = move || list_overlaps(&left, &right, &mut [7; 10]);
-    let thread = thread::Builder::new().stack_size(1 << 20);
-    let listed = thread.spawn(list).unwrap().join().unwrap();
     let needed = Listing {
         entries: 65_536,
         bytes: 47_250_381,
     };
+    let list = move || {
+        let listed = list_overlaps(&left, &right, &mut [7; 10]);
+        let asked = ask_overlaps(&left, &right);
+        let committed = commit_overlaps(needed, &left, &right, &mut [7; 10]);
+        (listed, asked, committed)
+    };
+    let thread = thread::Builder::new().stack_size(1 << 20);
+    let (listed, asked, committed) = thread.spawn(list).unwrap().join().unwrap();
     assert_eq!(listed, Err(Error::TooSmall(needed)));
+    assert_eq!(asked, Ok(needed));
+    assert_eq!(committed, Err(Error::TooSmall(needed)));
 }
 
 /// Also where the last field leaves none of the 4,096 choices before it.

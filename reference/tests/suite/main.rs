@@ -5,6 +5,7 @@ mod book_by_trial;
 mod carrying;
 mod carrying_by_trial;
 mod command;
+mod committing;
 mod comparing;
 mod comparing_by_trial;
 mod generated;

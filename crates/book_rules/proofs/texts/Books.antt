@@ -1,40 +1,21 @@
 -- The rules of a book value kept as texts, one after the other. Assumes nothing.
-use mathlib.Core.Path.{_≡_, refl, sym, _∙_, ap, subst}
+use mathlib.Core.Path.{_≡_, sym, _∙_, ap, subst}
 use mathlib.Core.List.{List, [], _∷_, _++_, map, map-append}
 use Prim.Native.Nat.{ℕ, suc, _+_, _≤_, _<_}
 use native.Mathlib.Omega.{arith}
 use lib.ListN.{length, take, getD}
 use lib.Seq.{take-suc}
-use Rattle.base_limits.specs.Limits.{mostRules, longestRule}
-use Rattle.text_grammar.specs.Terms.{OurFields}
+use Rattle.base_limits.specs.Limits.{mostRules}
 use Rattle.text_grammar.specs.Plain.{plain}
-use Rattle.text_values.specs.declared.RuleSide.{RuleSide}
 use Rattle.text_values.specs.declared.Rule.{Rule as RuleValue}
-use Rattle.text_accepted.specs.Accepted.{countedLeft}
-use Rattle.text_accepted.specs.rules.Rules.{leftValue}
-use Rattle.text_accepted.proofs.rules.Rules.{left-counted}
-use Rattle.text_plain.proofs.Lengths.{plain-short}
-use Rattle.overlap_list.proofs.Texts.{said-again}
+use Rattle.overlap_list.proofs.Texts.{rule-again, left-short}
 use Rattle.book_spec.specs.Books.{Book}
 use Rattle.book_rules.specs.declared.Book.{Book as BookValue}
 use Rattle.book_rules.specs.declared.texts.Kept.{Kept}
 use Rattle.book_rules.specs.Books.{leftOf, countedBook}
-use Rattle.book_rules.specs.texts.Keeping.{bookBytes, noTexts, roomFor, saidBy, bookIn, Keeps}
+use Rattle.book_rules.specs.texts.Keeping.{bookBytes, noTexts, roomFor, bookIn, Keeps}
 use Rattle.book_rules.proofs.Picks.{counted-is, none-counted}
 use Rattle.book_rules.proofs.texts.Keeping.{nothing-in, Stands, stands-none, stands-room, stands-more}
-
--- the plain text of a rule's left side says it again
-pub says-again : (r : RuleValue) → saidBy (plain (leftOf r)) ≡ leftOf r
-says-again r =
-    ap (λ (x : OurFields). saidBy (plain x)) (sym (left-counted r)) ∙ said-again (leftValue r) ∙ left-counted r
-
--- it is that of the left side's value, and has room where a rule's text has
-module _ (r : RuleValue) {x : RuleSide} (is-x : x ≡ leftValue r) where
-  pub plain-is : plain (countedLeft x) ≡ plain (leftOf r)
-  plain-is = ap (λ (y : RuleSide). plain (countedLeft y)) is-x ∙ ap plain (left-counted r)
-
-plain-fits : (r : RuleValue) → length (plain (leftOf r)) ≤ longestRule
-plain-fits r = let e = ap length (plain-is r refl) in omega (arith, plain-short (leftValue r))
 
 pub keeps-as : {t u : List ℕ} (kept : Kept) (old : List ℕ) {r : Kept} {new : List ℕ} → t ≡ u → Keeps kept t old r new → Keeps kept u old r new
 keeps-as kept old {r} {new} e h = subst (λ (s : List ℕ). Keeps kept s old r new) e h
@@ -77,7 +58,7 @@ module _ (book : BookValue) where
           within = omega (arith, h);
           stands =
               subst (λ (B : Book). Stands (i + 1) B next new) all
-              (stands-more (H .stands) below (plain (leftOf r)) (leftOf r) next new (plain-fits r) (says-again r) k);
+              (stands-more (H .stands) below (plain (leftOf r)) (leftOf r) next new (omega (arith, left-short r)) (rule-again r) k);
         }
 
   pub holds-all : (kept : Kept) (row : List ℕ) (i : ℕ) → Holds kept row i → book .n ≤ i → bookIn kept row ≡ countedBook book

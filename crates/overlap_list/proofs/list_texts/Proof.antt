@@ -1,82 +1,42 @@
--- `overlap_list::list_texts` meets its contract: the left sides' texts of two rule texts that are accepted are accepted. Assumes nothing.
-use mathlib.Core.Path.{sym}
-use native.Mathlib.Omega.{arith}
-use lib.Seq.{length-take-le}
+-- `overlap_list::list_texts` meets its contract. Assumes nothing.
 use borrow.Author.Needs.{needs}
-use Rattle.overlap_list.proofs.Texts.{both-accepted, texts-listed, left-refused, right-refused}
+use Rattle.overlap_list.proofs.Texts.{texts-listed}
 use Rattle.overlap_list.proofs.list_texts.Statement.{statement}
 use Rattle.overlap_list.proofs.list_texts.Tie as tie
 
-judge-left-requires : tie.Need-judge-left-requires
-judge-left-requires c κs = search needs
+slice-aggregate-note-texts : tie.Need-slice-aggregate-note-texts
+slice-aggregate-note-texts c = search needs
 
-judge-left-requires-2 : tie.Need-judge-left-requires-2
-judge-left-requires-2 c κs = search needs
+slice-aggregate-note-texts-2 : tie.Need-slice-aggregate-note-texts-2
+slice-aggregate-note-texts-2 c = search needs
 
-enum-told : tie.Need-enum-told
-enum-told c = search needs
+note-texts-requires : tie.Need-note-texts-requires
+note-texts-requires c κs = search needs
 
-enum-told-2 : tie.Need-enum-told-2
-enum-told-2 c = search needs
+slice-aggregate-list-pair : tie.Need-slice-aggregate-list-pair
+slice-aggregate-list-pair c = search needs
 
-slice-aggregate-list-read : tie.Need-slice-aggregate-list-read
-slice-aggregate-list-read c = sym (length-take-le _ _ (omega (arith, c .before .before .before .before .before .before .judge-left .ensures .inside)))
+slice-aggregate-list-pair-2 : tie.Need-slice-aggregate-list-pair-2
+slice-aggregate-list-pair-2 c = search needs
 
-slice-aggregate-list-read-2 : tie.Need-slice-aggregate-list-read-2
-slice-aggregate-list-read-2 c = sym (length-take-le _ _ (omega (arith, c .before .before .before .before .before .before .judge-left2 .ensures .inside)))
-
-list-read-requires : tie.Need-list-read-requires
-list-read-requires c κs =
-    let z = c .before .before .before .before .before .before .before .before .before .before .before .before .args in
-    let l = c .before .before .before .before .before .before .before .before .judge-left in
-    let r = c .before .before .before .before .before .before .before .judge-left2 in
-    both-accepted (z .left .now) (z .right .now) (l .result) (r .result) (l .ensures) (r .ensures)
-    (c .before .before .before .before .before .enum-told .given .1) (c .before .before .before .enum-told2 .given .1)
-
-enum-told-3 : tie.Need-enum-told-3
-enum-told-3 c = search needs
-
-enum-told-4 : tie.Need-enum-told-4
-enum-told-4 c = search needs
+list-pair-requires : tie.Need-list-pair-requires
+list-pair-requires c κs = c .before .before .before .before .before .note-texts .ensures .listable
 
 same-length : tie.Need-same-length
 same-length c = search needs
 
 returns : tie.Need-returns
-returns c =
-    let z = c .before .before .before .before .before .before .before .before .before .before .before .before .before .before .before .args in
-    let l = c .before .before .before .before .before .before .before .before .before .before .before .judge-left in
-    let r = c .before .before .before .before .before .before .before .before .before .before .judge-left2 in
-    texts-listed (z .left .now) (z .right .now) (l .result) (r .result) (l .ensures) (r .ensures) (c .before .before .list-read .ensures)
-
-returns-2 : tie.Need-returns-2
-returns-2 c =
-    let z = c .before .before .before .before .before .before .before .before .before .args in
-    let l = c .before .before .before .before .before .judge-left in
-    let r = c .before .before .before .before .judge-left2 in
-    right-refused (z .left .now) (z .right .now) (l .result) (r .result) (l .ensures) (r .ensures) _ _ (c .enum-told3 .given .1) (z .out .now)
-
-returns-3 : tie.Need-returns-3
-returns-3 c =
-    let z = c .before .before .before .before .before .before .before .args in
-    let l = c .before .before .before .judge-left in
-    let r = c .before .before .judge-left2 in
-    left-refused (z .left .now) (z .right .now) (l .result) (r .result) (l .ensures) (r .ensures) _ _ (c .enum-told4 .given .1) (z .out .now)
+returns c = texts-listed (c .before .before .before .before .before .before .before .before .note-texts .ensures) (c .before .before .list-pair .ensures)
 
 pub list-texts-spec : {M : Type 1} → statement M
 list-texts-spec =
     tie.close
     (tie.spec
-    judge-left-requires
-    judge-left-requires-2
-    enum-told
-    enum-told-2
-    slice-aggregate-list-read
-    slice-aggregate-list-read-2
-    list-read-requires
-    enum-told-3
-    enum-told-4
+    slice-aggregate-note-texts
+    slice-aggregate-note-texts-2
+    note-texts-requires
+    slice-aggregate-list-pair
+    slice-aggregate-list-pair-2
+    list-pair-requires
     same-length
-    returns
-    returns-2
-    returns-3)
+    returns)

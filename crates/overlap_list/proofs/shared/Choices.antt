@@ -7,14 +7,17 @@ use Prim.Native.Nat.{ℕ, zero, suc, _+_, _-_, _≤_, _<_}
 use native.Mathlib.Omega.{arith}
 use borrow.Author.Tests.{not-true}
 use Rattle.base_lists.specs.Seqs.{isCons, cons-append}
+use Rattle.pair_row.specs.Row.{tableIn}
 use Rattle.pair_state.specs.declared.State.{State}
 use Rattle.pair_state.specs.declared.Joined.{Joined}
 use Rattle.overlap_entries.specs.declared.Span.{Span}
 use Rattle.overlap_entries.specs.declared.Choice.{Choice}
-use Rattle.overlap_entries.specs.Entries.{chosenAt}
+use Rattle.overlap_entries.specs.Entries.{noChoice, chosenAt}
 use Rattle.overlap_list.specs.declared.Candidate.{Candidate}
-use Rattle.overlap_list.specs.Listing.{spanAt, candidateOf, joinsAt, afterJoin, candidateLines, choiceLines, linesFrom}
-use Rattle.overlap_list.specs.shared.Choices.{ifJoined, anyCandidate, anyFrom, anyIn}
+use Rattle.overlap_list.specs.declared.Pairing.{Pairing}
+use Rattle.overlap_list.specs.declared.Pairing.the-variants.{Fields, Apart}
+use Rattle.overlap_list.specs.Listing.{spanAt, candidateOf, joinsAt, afterJoin, candidateLines, choiceLines, linesFrom, pairLines}
+use Rattle.overlap_list.specs.shared.Choices.{ifJoined, anyCandidate, anyFrom, anyIn, anyOf}
 
 -- ---- the list has a line
 
@@ -41,6 +44,18 @@ pub any-lines : (m : ℕ) (row texts : List ℕ) (n j : ℕ) (ch : Choice) (st :
 any-lines zero row texts n j ch st = refl
 any-lines (suc m) row texts n j ch st =
     candidates-any (anyFrom m row (j + 1)) (linesFrom m row texts n (j + 1)) row j (λ d s. any-lines m row texts n (j + 1) d s) (spanAt row j .count) ch st
+
+pub any-pair : (p : Pairing) (row texts : List ℕ) → anyOf p row ≡ isCons (pairLines p row texts)
+any-pair (Fields n) row texts = any-lines n row texts n 0 noChoice (record { atoms = tableIn row .first })
+any-pair Apart row texts = refl
+
+-- from the first field on, where each atom stands for itself
+pub any-start : (p : Pairing) (row : List ℕ) (n : ℕ) → p ≡ Fields n → (st : State) → st .atoms ≡ tableIn row .first → anyIn row n 0 st ≡ anyOf p row
+any-start p row n is-p st e =
+    let z : n - 0 ≡ n = omega arith in
+    ap (λ (k : ℕ). anyFrom k row 0 st) z
+    ∙ ap (λ (a : List ℕ). anyFrom n row 0 (record { atoms = a })) e
+    ∙ ap (λ (q : Pairing). anyOf q row) (sym is-p)
 
 -- ---- the candidates of field j one after the other
 

@@ -3,8 +3,11 @@
 use mathlib.Core.Bool.{Bool, true, false, cond, _||_}
 use mathlib.Core.List.{List}
 use Prim.Native.Nat.{ℕ, zero, suc, _+_, _-_}
+use Rattle.pair_row.specs.Row.{tableIn}
 use Rattle.pair_state.specs.declared.State.{State}
 use Rattle.pair_state.specs.declared.Joined.{Joined}
+use Rattle.overlap_list.specs.declared.Pairing.{Pairing}
+use Rattle.overlap_list.specs.declared.Pairing.the-variants.{Fields, Apart}
 use Rattle.overlap_list.specs.Listing.{spanAt, candidateOf, joinsAt}
 
 -- what follows a join, no where it clashes
@@ -25,3 +28,8 @@ anyFrom (suc m) row j st = anyCandidate (anyFrom m row (j + 1)) row j (spanAt ro
 -- of n fields those from j on
 abbrev pub anyIn : List ℕ → ℕ → ℕ → State → Bool
 anyIn row n j st = anyFrom (n - j) row j st
+
+-- of two rules: each atom stands for itself at first
+abbrev pub anyOf : Pairing → List ℕ → Bool
+anyOf (Fields n) row = anyFrom n row 0 (record { atoms = tableIn row .first })
+anyOf Apart row = false

@@ -7,7 +7,8 @@ use Rattle.text_grammar.specs.Plain.{plain}
 use Rattle.text_accepted.specs.Accepted.{countedLeft}
 use Rattle.text_write.proofs.pieces.Pieces.{written-long, written-count, written-front}
 use Rattle.text_plain.proofs.Lengths.{plain-short}
-use Rattle.book_rules.proofs.texts.Books.{plain-is, keeps-as}
+use Rattle.overlap_list.proofs.Texts.{plain-is}
+use Rattle.book_rules.proofs.texts.Books.{keeps-as}
 use borrow.Author.Needs.{needs}
 use Rattle.book_rules.proofs.texts.keep_rule.Statement.{statement}
 use Rattle.book_rules.proofs.texts.keep_rule.Tie as tie
