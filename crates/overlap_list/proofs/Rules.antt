@@ -181,13 +181,12 @@ module _ (t u row₀ texts₀ row₁ texts₁ row₂ texts₂ : List ℕ) (is-ro
     ok-right : IsLeft y
     ok-right = rule-read u y reads-right
 
-    pub same-listable : Listable (Fields n) row₂ texts₂
-    same-listable =
-        record {
-          few = omega (arith, left-count, ok-left .0 .1);
-          can = pair-countable x y ok-left ok-right row₂ texts₂ tables-noted n left-count right-count;
-          short = pair-few x y ok-left ok-right row₂ texts₂ tables-noted n left-count right-count;
-        }
-
-    pub same-lines : allLines row₂ texts₂ n ≡ map lineText (linesOf x y)
-    same-lines = pair-lines x y ok-left ok-right row₂ texts₂ tables-noted n left-count right-count
+    pub same-noted : Listable (Fields n) row₂ texts₂ × (allLines row₂ texts₂ n ≡ map lineText (linesOf x y))
+    same-noted = (
+      record {
+        few = omega (arith, left-count, ok-left .0 .1);
+        can = pair-countable x y ok-left ok-right row₂ texts₂ tables-noted n left-count right-count;
+        short = pair-few x y ok-left ok-right row₂ texts₂ tables-noted n left-count right-count;
+      },
+      pair-lines x y ok-left ok-right row₂ texts₂ tables-noted n left-count right-count,
+    )

@@ -57,8 +57,7 @@ use Rattle.overlap_list.specs.shared.Choices.{anyOf}
 use Rattle.overlap_list.specs.shared.Answers.{TextsMeet}
 use Rattle.overlap_list.specs.asking.Answers.{countsOf, Commits, TextsAsk, TextsCommit, CommitsLines}
 use Rattle.overlap_list.proofs.Lists.{lines-none}
-use Rattle.overlap_list.proofs.Rules.{lines-list, lines-counted, lines-commit, pairing-none, pairing-other, pairing-same}
-use Rattle.overlap_list.proofs.Rules.{same-listable, same-lines}
+use Rattle.overlap_list.proofs.Rules.{lines-list, lines-counted, lines-commit, pairing-none, pairing-other, pairing-same, same-noted}
 use Rattle.overlap_list.proofs.shared.Choices.{any-pair}
 
 -- ---- the tables of what two texts say
@@ -124,11 +123,9 @@ module _ (t u : List ℕ) (l r : LeftJudged) (is-l : JudgesLeft t l) (is-r : Jud
 
       go : Dec (n ≡ m) → Noted
       go (yes q) =
-          let can = same-listable (take (l .end) t) (take (r .end) u) row₀ texts₀ row₁ texts₁ row₂ texts₂ is-row₀ is-texts₀ is-row₁ is-texts₁
+          let s = same-noted (take (l .end) t) (take (r .end) u) row₀ texts₀ row₁ texts₁ row₂ texts₂ is-row₀ is-texts₀ is-row₁ is-texts₁
           is-row₂ is-texts₂ x y reads-x reads-y n left-count (q ∙ right-count) in
-          let are = same-lines (take (l .end) t) (take (r .end) u) row₀ texts₀ row₁ texts₁ row₂ texts₂ is-row₀ is-texts₀ is-row₁ is-texts₁
-          is-row₂ is-texts₂ x y reads-x reads-y n left-count (q ∙ right-count) in
-          noted (Fields n) (pairing-same n m some q) can (are ∙ ap (map lineText) (sym (ap₂ linesOf e f)))
+          noted (Fields n) (pairing-same n m some q) (s .0) (s .1 ∙ ap (map lineText) (sym (ap₂ linesOf e f)))
       go (no d) = apart (pairing-other n m d) (ap₂ linesOf e f ∙ lines-none x y (λ q. d (left-count ∙ q ∙ sym right-count)))
 
   pub texts-noted : Noted

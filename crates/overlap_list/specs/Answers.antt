@@ -49,7 +49,8 @@ pub record ListsLines (ls : List (List ℕ)) (old : List ℕ) (r : Listed) (new 
   pub answer : told r ≡ byRoom (length (bytesOf ls)) (length old) (length ls ∷ length (bytesOf ls) ∷ [])
   pub bytes : new ≡ after (bytesOf ls) old
 
--- the tables of the rules that the texts t and u say: how each text is read, and that the lines on the tables are those of the list
+-- the tables of the rules that two texts say, from which list, ask, commit and the test of an overlap start: how each text is read, and
+-- that the lines on the tables are those of the list
 pub record NotesTexts (t u : List ℕ) (r : TextsNoted) (row texts : List ℕ) : Type 0 where
   pub left : r .left ≡ verdictOf (readRule t)
   pub right : r .right ≡ verdictOf (readRule u)

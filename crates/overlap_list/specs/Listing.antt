@@ -107,6 +107,7 @@ abbrev pub pairingOf : ℕ → ℕ → Pairing
 pairingOf zero m = Apart
 pairingOf (suc n) m = cond (eqb (suc n) m) (Fields (suc n)) Apart
 
+-- the lines on their tables, and how many choices there are
 abbrev pub pairLines : Pairing → List ℕ → List ℕ → List (List ℕ)
 pairLines (Fields n) row texts = allLines row texts n
 pairLines Apart row texts = []
@@ -115,6 +116,7 @@ abbrev pub pairChoices : Pairing → List ℕ → ℕ
 pairChoices (Fields n) row = choices row 0 n
 pairChoices Apart row = 0
 
+-- no rule has more than four fields
 abbrev pub Few : Pairing → Type 0
 Few (Fields n) = n ≤ mostFields
 Few Apart = Unit {0}

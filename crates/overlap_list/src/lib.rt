@@ -4,7 +4,7 @@
 // measured first where it might not fit, and then written.
 ghost use mathlib.Core.Path.{_≡_};
 ghost use mathlib.Core.List.{[], _∷_};
-ghost use Prim.Native.Nat.{_+_, _-_, _*_, _≤_, _<_};
+ghost use Prim.Native.Nat.{_+_, _≤_, _<_};
 ghost use lib.ListN.{length};
 ghost use Rattle.base_limits.specs.Limits.{mostFields};
 ghost use Rattle.text_accepted.specs.rules.Rules.{countedRule};
@@ -27,7 +27,6 @@ use overlap_entries::Span;
 use pair_state::State;
 use text_refusals::verdicts::Verdict;
 use text_values::Rule;
-use text_values::RuleSide;
 
 // The answer of a listing: the entry count and the byte count. `told` of specs/Answers has document 01's number of each.
 pub enum Listed {
