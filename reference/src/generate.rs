@@ -4,6 +4,7 @@
 
 pub mod books;
 pub mod carries;
+pub mod commits;
 mod halves;
 pub mod large;
 pub mod matches;

@@ -9,14 +9,14 @@
 -- The counts that an ask returned for the rules are those of its contract: the premise of demand 3 is `asked ≡ countsOf x y`.
 use mathlib.Core.Path.{_≡_, refl, sym, _∙_, ap, ap₂, subst, subst₂}
 use mathlib.Core.Logic.{_↔_, _⊎_, inl, inr, _≢_}
-use mathlib.Core.Bool.{Bool, true, false, cond}
+use mathlib.Core.Bool.{true, false}
 use mathlib.Core.Option.{none, some}
-use mathlib.Core.List.{List, [], _∷_, _++_}
+use mathlib.Core.List.{List, [], _∷_}
 use Prim.Native.Nat.{ℕ, _≤_, _<_}
 use native.Mathlib.Omega.{arith}
 use native.Mathlib.Decide.{decLe}
 use lib.ListN.{length, take, drop}
-use borrow.Author.Tests.{le-leb, lt-leb}
+use borrow.Author.Tests.{le-leb}
 use Rattle.text_grammar.specs.Told.{Told, byRoom}
 use Rattle.text_grammar.specs.Terms.{OurFields}
 use Rattle.text_grammar.specs.Limits.{IsLeft}
@@ -34,7 +34,8 @@ use Rattle.text_write.specs.Answers.{after}
 use Rattle.overlap_counts.specs.declared.Counts.{Counts}
 use Rattle.overlap_counts.specs.declared.Committed.{Committed}
 use Rattle.overlap_counts.specs.Answers.{noCounts, told, commitTold}
-use Rattle.overlap_counts.proofs.Answers.{same-iff, other-iff, told-fresh, told-stale, thirteen-iff, eight-iff, fits-iff, same-counts}
+use Rattle.overlap_counts.proofs.Answers.{told-fresh, told-stale, thirteen-iff, eight-iff, fits-iff, same-counts}
+use Rattle.overlap_counts.proofs.Answers.{leaves-fresh, leaves-stale, leaves-small}
 use Rattle.overlap_list.specs.declared.Listed.{Listed}
 use Rattle.overlap_list.specs.declared.Listed.the-variants.{Lines}
 use Rattle.overlap_list.specs.declared.asking.TextsAsked.{TextsAsked}
@@ -100,16 +101,13 @@ module _ (x y : OurFields) {asked : Counts} {old : List ℕ} {r : Committed} {ne
   abbrev text : List ℕ
   text = overlapText x y
 
-  abbrev leaves : Bool → List ℕ
-  leaves b = cond b (after text old) old
-
   -- "Ask then commit on the same rules": `asked` is what the ask returned
   module _ (same : asked ≡ countsOf x y) where
     fresh : told r ≡ byRoom (length text) (length old) (length (linesOf x y) ∷ length text ∷ [])
     fresh = is .answer ∙ told-fresh asked (countsOf x y) (length old) same
 
     fresh-bytes : new ≡ after text old
-    fresh-bytes = is .bytes ∙ ap leaves (same-iff asked (countsOf x y) .1 same)
+    fresh-bytes = is .bytes ∙ leaves-fresh asked (countsOf x y) text old same
 
     -- "leaves the bytes that the old call left", and answers as it does, also where they have no room
     pub old-call : AsOldCall x y old r new
@@ -139,10 +137,10 @@ module _ (x y : OurFields) {asked : Counts} {old : List ℕ} {r : Committed} {ne
       (λ e. iff .0 (sym number-is ∙ e), λ h. number-is ∙ iff .1 h)
 
   stale-bytes : asked ≢ countsOf x y → new ≡ old
-  stale-bytes n = is .bytes ∙ ap leaves (other-iff asked (countsOf x y) .1 n)
+  stale-bytes n = is .bytes ∙ leaves-stale asked (countsOf x y) text old n
 
   small-bytes : asked ≡ countsOf x y → length old < length text → new ≡ old
-  small-bytes e h = fresh-bytes e ∙ ap (λ (b : Bool). cond b (text ++ drop (length text) old) old) (lt-leb (length text) (length old) h)
+  small-bytes e h = is .bytes ∙ leaves-small asked (countsOf x y) text old e h
 
   pub by-counts : RefusedByCounts asked x y old r new
   by-counts =

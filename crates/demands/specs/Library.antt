@@ -7,14 +7,15 @@
 use mathlib.Core.Path.{_≡_, refl, sym, _∙_, ap, subst, subst₂}
 use mathlib.Core.Logic.{_≢_, _↔_, Iff·trans, inr}
 use mathlib.Core.Bool.{Bool, true, false, cond, false≢true}
-use mathlib.Core.Option.{none, some}
-use mathlib.Core.List.{List, [], _++_}
+use mathlib.Core.Option.{Option, none, some}
+use mathlib.Core.List.{List, [], _∷_}
 use Prim.Native.Nat.{ℕ, _≤_, _<_}
 use native.Mathlib.Omega.{arith}
-use lib.Dec.{leb}
 use lib.ListN.{length, take, drop}
-use borrow.Author.Tests.{le-leb, lt-leb, leb-false}
+use borrow.Author.Tests.{le-leb}
 use Rattle.base_lists.specs.Seqs.{cons-true}
+use Rattle.text_grammar.specs.Told.{byRoom}
+use Rattle.text_grammar.proofs.Told as told-by
 use Rattle.text_grammar.specs.Terms.{OurFields, SlipFields}
 use Rattle.text_grammar.specs.Limits.{IsLeft}
 use Rattle.text_grammar.specs.Read.{Reason, long, grammar, fields, terms, limits, linear, variable, unknown, number}
@@ -32,6 +33,7 @@ use Rattle.overlap_spec.proofs.Exact.{no-right}
 use Rattle.overlap_list.proofs.Rules.{none-listed}
 use Rattle.yopobrush.specs.declared.Reading.{Reading}
 use Rattle.overlap_list.specs.declared.Listed.the-variants.{Lines}
+use Rattle.text_write.proofs.Answers.{after-small}
 use Rattle.text_read.specs.Answers.{leftSaid}
 use Rattle.overlap_list.specs.Answers.{Lists}
 use Rattle.yopobrush.specs.declared.Listing.{Listing}
@@ -113,10 +115,10 @@ pub record LibrarySharedSlips (t u old : List ℕ) (r : Listing) (new : List ℕ
   pub left-none : (s : Reason) (p : ℕ) → readRule t ≡ refused s p → LibraryNone t u old r new
   pub right-none : (s : Reason) (p : ℕ) → readRule u ≡ refused s p → LibraryNone t u old r new
 
--- the number told of a list is 8 where it has no room
-eight-numbered : (f : Bool) → (numbered (cond f none (some 8)) ≡ 8) ↔ (f ≡ false)
-eight-numbered true = (λ e. absurd (omega (arith, e)), λ e. absurd (false≢true (sym e)))
-eight-numbered false = (λ e. refl, λ e. refl)
+-- a refusal's number is no 0, so it is told exactly where there is that refusal
+pub numbered-iff : (o : Option ℕ) (n : ℕ) → 0 < n → (numbered o ≡ n) ↔ (o ≡ some n)
+numbered-iff none n h = (λ e. absurd (omega (arith, e)), λ e. let z : _≡_ {A = ℕ} 0 1 = cc in absurd (omega arith))
+numbered-iff (some m) n h = (λ e. ap some e, λ e. cc)
 
 module _ {t u old : List ℕ} {r : Listing} {new : List ℕ} (is : LibraryLists t u old r new) where
   abbrev x₀ : OurFields
@@ -128,17 +130,20 @@ module _ {t u old : List ℕ} {r : Listing} {new : List ℕ} (is : LibraryLists 
   abbrev size : ℕ
   size = length (overlapText x₀ y₀)
 
-  refusal-is : r .refusal ≡ numbered (cond (leb size (length old)) none (some 8))
+  abbrev counts : List ℕ
+  counts = length (linesOf x₀ y₀) ∷ size ∷ []
+
+  refusal-is : r .refusal ≡ numbered (byRoom size (length old) counts .number)
   refusal-is = ap (λ (a : Listing). a .refusal) (is .answer)
 
   too-few : (r .refusal ≡ 8) ↔ (length old < size)
-  too-few = (
-    λ e. leb-false size (length old) (eight-numbered (leb size (length old)) .0 (sym refusal-is ∙ e)),
-    λ h. refusal-is ∙ eight-numbered (leb size (length old)) .1 (lt-leb size (length old) h),
-  )
+  too-few =
+      let told = numbered-iff (byRoom size (length old) counts .number) 8 (omega arith) in
+      let small = told-by.eight-iff size (length old) counts in
+      (λ e. small .0 (told .0 (sym refusal-is ∙ e)), λ h. refusal-is ∙ told .1 (small .1 h))
 
   stays : length old < size → new ≡ old
-  stays h = is .bytes ∙ ap (λ (f : Bool). cond f (overlapText x₀ y₀ ++ drop size old) old) (lt-leb size (length old) h)
+  stays h = is .bytes ∙ after-small (overlapText x₀ y₀) old h
 
   -- the list as the lister has it, where there is room
   lists : size ≤ length old → Lists x₀ y₀ old (Lines (length (linesOf x₀ y₀)) size) new

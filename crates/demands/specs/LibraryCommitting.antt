@@ -1,29 +1,26 @@
 -- What follows from the promises of the static library's ask and commit: document 02's sentences of E5, of whatever two texts.
 use mathlib.Core.Path.{_≡_, sym, _∙_, ap, subst}
 use mathlib.Core.Logic.{_↔_, _⊎_, inl, inr, _≢_}
-use mathlib.Core.Bool.{Bool, true, false, cond}
-use mathlib.Core.Option.{none, some}
+use mathlib.Core.Option.{some}
 use mathlib.Core.List.{List}
 use Prim.Native.Nat.{ℕ, _≤_, _<_}
 use native.Mathlib.Omega.{arith}
-use lib.Dec.{leb}
 use lib.ListN.{length}
 use Rattle.text_grammar.specs.Told.{Told}
 use Rattle.text_grammar.specs.Read.{Reason, refused, accepted}
 use Rattle.text_grammar.specs.rules.Read.{OurRule, readRule}
 use Rattle.text_read.specs.Answers.{leftSaid}
-use Rattle.text_write.specs.Answers.{after}
 use Rattle.overlap_spec.specs.Overlaps.{overlapText}
 use Rattle.overlap_counts.specs.declared.Counts.{Counts}
-use Rattle.overlap_counts.specs.Answers.{noCounts}
-use Rattle.overlap_counts.proofs.Answers.{same-iff, other-iff, same-counts, told-fresh, told-stale}
+use Rattle.overlap_counts.specs.Answers.{noCounts, commitTold}
+use Rattle.overlap_counts.proofs.Answers.{told-fresh, told-stale, thirteen-iff, eight-iff, leaves-fresh, leaves-stale, leaves-small}
 use Rattle.overlap_list.specs.asking.Answers.{countsOf}
 use Rattle.yopobrush.specs.declared.Asking.{Asking}
 use Rattle.yopobrush.specs.declared.Listing.{Listing}
-use Rattle.yopobrush.specs.Answers.{readingOf, numbered, LibraryLists}
+use Rattle.yopobrush.specs.Answers.{readingOf, LibraryLists}
 use Rattle.yopobrush.specs.Asks.{countsSaid, listingTold, LibraryAsks, LibraryCommits}
 use Rattle.demands.specs.Committing.{AskedCounts, asked-counts, no-fields-left, no-fields-right}
-use Rattle.demands.specs.Library.{LibraryShared, library-demand-3, library-shared}
+use Rattle.demands.specs.Library.{LibraryShared, numbered-iff, library-demand-3}
 
 -- ---- the ask
 
@@ -71,11 +68,6 @@ pub record LibraryCommitting (asked : Counts) (t u old : List ℕ) (r : Listing)
   -- "and leaves the buffer's old bytes"; so does 8
   pub refused-old : (r .refusal ≡ 13) ⊎ (r .refusal ≡ 8) → new ≡ old
 
--- no refusal by room is 13
-room-other : (b : Bool) → numbered (cond b none (some 8)) ≡ 13 → ⊥
-room-other true e = absurd (omega (arith, e))
-room-other false e = absurd (omega (arith, e))
-
 module _ {asked : Counts} {t u old : List ℕ} {r : Listing} {new : List ℕ} (is : LibraryCommits asked t u old r new) where
   abbrev said : Counts
   said = countsSaid (readRule t) (readRule u)
@@ -83,37 +75,34 @@ module _ {asked : Counts} {t u old : List ℕ} {r : Listing} {new : List ℕ} (i
   abbrev answered : Told → Listing
   answered a = listingTold (readingOf (readRule t)) (readingOf (readRule u)) a
 
-  abbrev leaves : Bool → List ℕ
-  leaves b = cond b (after (overlapText (leftSaid (readRule t)) (leftSaid (readRule u))) old) old
+  abbrev text : List ℕ
+  text = overlapText (leftSaid (readRule t)) (leftSaid (readRule u))
 
   -- with the list's own counts: what the old call promises
   fresh : asked ≡ said → LibraryLists t u old r new
   fresh e =
       record {
         answer = is .answer ∙ ap answered (told-fresh asked said (length old) e);
-        bytes = is .bytes ∙ ap leaves (same-iff asked said .1 e);
+        bytes = is .bytes ∙ leaves-fresh asked said text old e;
       }
 
   -- with others: 13, both counts 0, the old bytes
   stale : asked ≢ said
       → (r ≡ record { left = readingOf (readRule t); right = readingOf (readRule u); refusal = 13; entries = 0; bytes = 0 }) × (new ≡ old)
-  stale n = (is .answer ∙ ap answered (told-stale asked said (length old) n), is .bytes ∙ ap leaves (other-iff asked said .1 n))
+  stale n = (is .answer ∙ ap answered (told-stale asked said (length old) n), is .bytes ∙ leaves-stale asked said text old n)
 
-  not-thirteen : asked ≡ said → r .refusal ≡ 13 → ⊥
-  not-thirteen e q = room-other (leb (said .bytes) (length old)) (sym (ap (λ (a : Listing). a .refusal) (fresh e .answer)) ∙ q)
+  -- a refusal is told by its number
+  by-number : {A : Type 0} (n : ℕ) → 0 < n → (commitTold asked said (length old) .number ≡ some n) ↔ A → (r .refusal ≡ n) ↔ A
+  by-number n h iff =
+      let told = numbered-iff (commitTold asked said (length old) .number) n h in
+      let number-is = ap (λ (a : Listing). a .refusal) (is .answer) in
+      (λ e. iff .0 (told .0 (sym number-is ∙ e)), λ a. number-is ∙ told .1 (iff .1 a))
 
   thirteen : (r .refusal ≡ 13) ↔ (asked ≢ said)
-  thirteen = (λ q e. not-thirteen e q, λ n. ap (λ (a : Listing). a .refusal) (stale n .0))
-
-  not-eight : asked ≢ said → r .refusal ≡ 8 → ⊥
-  not-eight n q = let e = thirteen .1 n in absurd (omega (arith, e, q))
+  thirteen = by-number 13 (omega arith) (thirteen-iff asked said (length old))
 
   eight : (r .refusal ≡ 8) ↔ ((asked ≡ said) × (length old < said .bytes))
-  eight = (λ q. go q (same-counts asked said), λ h. library-shared (fresh (h .0)) .eight-only .1 (h .1))
-    where
-      go : r .refusal ≡ 8 → Dec (asked ≡ said) → (asked ≡ said) × (length old < said .bytes)
-      go q (yes e) = (e, library-shared (fresh e) .eight-only .0 q)
-      go q (no n) = absurd (not-eight n q)
+  eight = by-number 8 (omega arith) (eight-iff asked said (length old))
 
   pub library-committing : LibraryCommitting asked t u old r new
   library-committing =
@@ -134,4 +123,4 @@ module _ {asked : Counts} {t u old : List ℕ} {r : Listing} {new : List ℕ} (i
 
       old-left : (r .refusal ≡ 13) ⊎ (r .refusal ≡ 8) → new ≡ old
       old-left (inl q) = stale (thirteen .0 q) .1
-      old-left (inr q) = let h = eight .0 q in library-shared (fresh (h .0)) .refused-old q
+      old-left (inr q) = let h = eight .0 q in is .bytes ∙ leaves-small asked said text old (h .0) (h .1)

@@ -22,6 +22,7 @@ use Rattle.text_grammar.proofs.rules.Read.{rule-accepted}
 use Rattle.text_grammar.proofs.rules.Accepted.{rule-read}
 use Rattle.text_write.specs.declared.Written.{Written}
 use Rattle.text_write.specs.Answers.{told, Writes}
+use Rattle.text_write.proofs.Answers.{after-fits}
 use Rattle.text_write.specs.pieces.Refusals.{numberAt}
 use Rattle.overlap_spec.specs.Overlaps.{linesOf, overlapText}
 use Rattle.print_pairs.specs.overlaps.Texts.{listedText, readText}
@@ -48,7 +49,7 @@ prints {text} {old} {r} {new} is room =
     fits = le-leb (length text) (length old) room
 
     whole : new ≡ text ++ drop (length text) old
-    whole = is .bytes ∙ ap (λ (b : Bool). cond b (text ++ drop (length text) old) old) fits
+    whole = is .bytes ∙ after-fits text old room
 
 -- ---- what is said of a line
 

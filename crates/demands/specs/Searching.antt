@@ -19,7 +19,7 @@ use native.Mathlib.Decide.{decLe}
 use lib.Dec.{leb}
 use lib.ListN.{length, take, drop, length-map}
 use lib.Seq.{take-at, drop-at}
-use borrow.Author.Tests.{le-leb, lt-leb}
+use borrow.Author.Tests.{le-leb}
 use Rattle.base_lists.specs.Seqs.{All}
 use Rattle.math_types.specs.Types.{Kind, basics}
 use Rattle.math_terms.specs.Terms.{con}
@@ -66,6 +66,7 @@ use Rattle.text_values.specs.Values.{viewField, viewSide, oneField}
 use Rattle.text_accepted.specs.Accepted.{acceptedField, countedField}
 use Rattle.text_accepted.proofs.Accepted.{accepted-field}
 use Rattle.text_write.specs.Answers.{after}
+use Rattle.text_write.proofs.Answers.{after-fits, after-small}
 use Rattle.search_problems.specs.declared.Problem.{Problem}
 use Rattle.search_steps.specs.Row.{blanks}
 use Rattle.search_row.specs.declared.Searched.{Searched}
@@ -232,7 +233,7 @@ no-right room (f ∷ r) = refl
 
 -- where the bytes have no room, or there are none, the old ones stay
 after-none : (t old : List ℕ) → (length old < length t) ⊎ (t ≡ []) → after t old ≡ old
-after-none t old (inl h) = ap (λ (c : Bool). cond c (t ++ drop (length t) old) old) (lt-leb (length t) (length old) h)
+after-none t old (inl h) = after-small t old h
 after-none t old (inr e) = ap (λ (s : List ℕ). after s old) e ∙ ap (λ (c : Bool). cond c old old) (le-leb 0 (length old) (omega arith))
 
 -- ---- the theorem
@@ -312,7 +313,7 @@ module _ (v w : Field) (records : List Problem) (old : List ℕ) (r : Searched) 
           let text = bytesOf (lines ls) in
           let left-behind : new ≡ text ++ drop (length text) old = searches .output
           ∙ ap (λ (x : Found). after (bytesOf x) old) e
-          ∙ ap (λ (c : Bool). cond c (text ++ drop (length text) old) old) (le-leb (length text) (length old) room) in
+          ∙ after-fits text old room in
           let front : take b new ≡ text = ap (take b) left-behind ∙ take-at text (drop (length text) old) b size in
           let behind : drop b new ≡ drop b old = ap (drop b) left-behind ∙ drop-at text (drop (length text) old) b size
           ∙ ap (λ (m : ℕ). drop m old) size in (

@@ -10,10 +10,9 @@ use mathlib.Core.Option.{none, some, Option·some-ne-none}
 use mathlib.Core.List.{List, [], _∷_, _++_}
 use Prim.Native.Nat.{ℕ, suc, _≤_, _<_}
 use native.Mathlib.Omega.{arith}
-use lib.Dec.{leb}
 use lib.ListN.{length, take, drop}
 use lib.Seq.{take-at, drop-at}
-use borrow.Author.Tests.{le-leb, lt-leb}
+use borrow.Author.Tests.{le-leb}
 use Rattle.base_limits.specs.Limits.{mostFields, mostTerms, mostItems}
 use Rattle.base_lists.specs.Seqs.{All, all-map}
 use Rattle.math_types.specs.Types.{Kind}
@@ -53,6 +52,7 @@ use Rattle.text_read.specs.declared.SlipRead.{SlipRead}
 use Rattle.text_read.specs.Answers.{ruleRead, slipRead, ReadsRule, ReadsSlip}
 use Rattle.text_write.specs.declared.Written.{Written}
 use Rattle.text_write.specs.Answers.{after, Writes}
+use Rattle.text_write.proofs.Answers.{after-fits, after-small}
 use Rattle.text_write.specs.Answers as writing
 use Rattle.text_plain.proofs.rules.Again as rules
 use Rattle.text_plain.proofs.slips.Again as slips
@@ -339,16 +339,13 @@ text-writing text old r new w =
       eight = rw (w .answer) (eight-iff (length text) (length old) (length text ∷ []));
       fits = rw (w .answer) (fits-iff (length text) (length old) (length text ∷ []));
       count = ap (λ (x : Told). x .values) (w .answer);
-      refused-old = λ h. w .bytes ∙ by (lt-leb (length text) (length old) h);
+      refused-old = λ h. w .bytes ∙ after-small text old h;
       front = λ h. ap (take (length text)) (left h) ∙ take-at text (drop (length text) old) (length text) refl;
       behind = λ h. ap (drop (length text)) (left h) ∙ drop-at text (drop (length text) old) (length text) refl;
     }
   where
-    by : {b : Bool} → leb (length text) (length old) ≡ b → after text old ≡ cond b (text ++ drop (length text) old) old
-    by e = ap (λ (c : Bool). cond c (text ++ drop (length text) old) old) e
-
     left : length text ≤ length old → new ≡ text ++ drop (length text) old
-    left h = w .bytes ∙ by (le-leb (length text) (length old) h)
+    left h = w .bytes ∙ after-fits text old h
 
 -- WRITING A VALUE, and reading what was written: whether some reading returns it, its plain text, and what reading that text returns
 pub record WritingOf (readable : Bool) (text : List ℕ) (Again : List ℕ → Type 0) (old : List ℕ) (r : Written) (new : List ℕ) : Type 0 where

@@ -1,19 +1,22 @@
--- What follows from a commit's promise: which answer comes when, and the lent bytes by it. Assumes nothing.
+-- Which answer to a commit comes when, and what it leaves. Assumes nothing.
 use mathlib.Core.Path.{_≡_, refl, sym, ap, ap₂, _∙_}
 use mathlib.Core.Logic.{_↔_, _≢_}
 use mathlib.Core.Bool.{Bool, true, false, cond, _&&_}
-use mathlib.Core.List.{[], _∷_}
+use mathlib.Core.List.{List, [], _∷_}
 use mathlib.Core.Option.{Option, none, some}
 use Prim.Native.Nat.{ℕ, _≤_, _<_}
 use native.Mathlib.Omega.{arith}
 use lib.Dec.{eqb, leb}
+use lib.ListN.{length}
 use borrow.Author.Tests.{eq-eqb, ne-eqb, eqb-true}
 use Rattle.base_lists.specs.Truths.{both-is, false-is}
 use Rattle.text_grammar.specs.Told.{Told, byRoom}
 use Rattle.text_grammar.proofs.Told as told-by
+use Rattle.text_write.specs.Answers.{after}
+use Rattle.text_write.proofs.Answers.{after-small}
 use Rattle.overlap_counts.specs.declared.Counts.{Counts}
 use Rattle.overlap_counts.specs.declared.Committed.the-variants.{Lines, TooSmall, Stale}
-use Rattle.overlap_counts.specs.Answers.{told, sameCounts, commitTold}
+use Rattle.overlap_counts.specs.Answers.{told, sameCounts, commitTold, commitLeaves}
 
 -- ---- the test of both counts
 
@@ -60,7 +63,7 @@ module _ (asked c : Counts) (lent : ℕ) where
   fresh = byRoom (c .bytes) lent (c .entries ∷ c .bytes ∷ [])
 
   abbrev by : Bool → Told
-  by b = cond b fresh (record { number = some 13; values = 0 ∷ 0 ∷ [] })
+  by b = cond b fresh (told Stale)
 
   -- no refusal by room is 13
   room-other : by true .number ≡ some 13 → ⊥
@@ -70,7 +73,7 @@ module _ (asked c : Counts) (lent : ℕ) where
       go true q = let z : _≡_ {A = ℕ} 0 1 = cc in absurd (omega arith)
       go false q = let z : _≡_ {A = ℕ} 8 13 = cc in absurd (omega arith)
 
-  pub told-stale : asked ≢ c → commitTold asked c lent ≡ record { number = some 13; values = 0 ∷ 0 ∷ [] }
+  pub told-stale : asked ≢ c → commitTold asked c lent ≡ told Stale
   told-stale n = ap by (other-iff asked c .1 n)
 
   pub told-fresh : asked ≡ c → commitTold asked c lent ≡ fresh
@@ -118,3 +121,18 @@ module _ (asked c : Counts) (lent : ℕ) where
         λ e. let f = not-stale none (λ q. let z : _≡_ {A = ℕ} 1 0 = cc in absurd (omega arith)) e in (f .0, iff .0 (f .1)),
         λ h. ap (λ (a : Told). a .number) (told-fresh (h .0)) ∙ iff .1 (h .1),
       )
+
+-- ---- the lent bytes, by the counts
+
+module _ (asked c : Counts) (text old : List ℕ) where
+  abbrev left-by : Bool → List ℕ
+  left-by b = cond b (after text old) old
+
+  pub leaves-stale : asked ≢ c → commitLeaves asked c text old ≡ old
+  leaves-stale n = ap left-by (other-iff asked c .1 n)
+
+  pub leaves-fresh : asked ≡ c → commitLeaves asked c text old ≡ after text old
+  leaves-fresh e = ap left-by (same-iff asked c .1 e)
+
+  pub leaves-small : asked ≡ c → length old < length text → commitLeaves asked c text old ≡ old
+  leaves-small e h = leaves-fresh e ∙ after-small text old h

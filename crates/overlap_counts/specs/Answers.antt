@@ -30,10 +30,14 @@ sameCounts asked c = eqb (asked .entries) (c .entries) && eqb (asked .bytes) (c 
 -- "tried before 8": what is told of a list with the counts c where so many bytes are lent
 abbrev pub commitTold : Counts → Counts → ℕ → Told
 commitTold asked c lent =
-    cond (sameCounts asked c) (byRoom (c .bytes) lent (c .entries ∷ c .bytes ∷ [])) (record { number = some 13; values = 0 ∷ 0 ∷ [] })
+    cond (sameCounts asked c) (byRoom (c .bytes) lent (c .entries ∷ c .bytes ∷ [])) (told Stale)
+
+-- what the lent bytes `old` are afterwards, where the list has the bytes `text`: 13 "leaves the buffer's old bytes", as 8 does (`after`)
+abbrev pub commitLeaves : Counts → Counts → List ℕ → List ℕ → List ℕ
+commitLeaves asked c text old = cond (sameCounts asked c) (after text old) old
 
 -- WHAT A COMMIT PROMISES of a list with the counts c and the bytes `text`, and of the lent bytes `old`: the answer, and what the bytes are
 -- afterwards
 pub record Commits (asked c : Counts) (text old : List ℕ) (r : Committed) (new : List ℕ) : Type 0 where
   pub answer : told r ≡ commitTold asked c (length old)
-  pub bytes : new ≡ cond (sameCounts asked c) (after text old) old
+  pub bytes : new ≡ commitLeaves asked c text old

@@ -1,15 +1,14 @@
 -- What follows from a listing's promise: which answer comes when, its counts, and the lent bytes by it. Assumes nothing.
 use mathlib.Core.Path.{_≡_, sym, ap, _∙_}
 use mathlib.Core.Logic.{_↔_}
-use mathlib.Core.Bool.{Bool, cond}
 use mathlib.Core.Option.{none, some}
 use mathlib.Core.List.{List, [], _∷_, _++_}
 use Prim.Native.Nat.{ℕ, _≤_, _<_}
 use lib.ListN.{length, drop}
-use borrow.Author.Tests.{le-leb, lt-leb}
 use Rattle.text_grammar.specs.Told.{Told}
 use Rattle.text_grammar.specs.Terms.{OurFields}
 use Rattle.text_grammar.proofs.Told as told-by
+use Rattle.text_write.proofs.Answers.{after-fits, after-small}
 use Rattle.overlap_spec.specs.Overlaps.{linesOf, overlapText}
 use Rattle.overlap_list.specs.declared.Listed.{Listed}
 use Rattle.overlap_list.specs.declared.Listed.the-variants.{Lines, TooSmall}
@@ -41,10 +40,10 @@ module _ {x y : OurFields} {old : List ℕ} {r : Listed} {new : List ℕ} (is : 
 
   -- the lent bytes by the room
   pub written : length text ≤ length old → new ≡ text ++ drop (length text) old
-  written h = is .bytes ∙ ap (λ (b : Bool). cond b (text ++ drop (length text) old) old) (le-leb (length text) (length old) h)
+  written h = is .bytes ∙ after-fits text old h
 
   pub kept : length old < length text → new ≡ old
-  kept h = is .bytes ∙ ap (λ (b : Bool). cond b (text ++ drop (length text) old) old) (lt-leb (length text) (length old) h)
+  kept h = is .bytes ∙ after-small text old h
 
   -- the counts of each answer
   module _ (e b : ℕ) where

@@ -6,12 +6,12 @@
 use mathlib.Core.Path.{_≡_, refl, sym, _∙_, ap, ap₂, subst}
 use mathlib.Core.Bool.{Bool, true, false, _&&_, cond}
 use mathlib.Core.Logic.{_⊎_, inl, inr}
-use mathlib.Core.List.{List, [], _++_, map}
+use mathlib.Core.List.{List, [], map}
 use Prim.Native.Nat.{ℕ, zero, suc, _*_, _^_, _≤_, _<_}
 use native.Mathlib.Omega.{arith}
 use lib.Dec.{leb, ltb, eqb}
 use lib.ListN.{length, length-map, length-set, drop}
-use borrow.Author.Tests.{leb-true, leb-false, le-leb, lt-leb, lt-ltb, ne-eqb}
+use borrow.Author.Tests.{leb-true, leb-false, le-leb, lt-ltb, ne-eqb}
 use Rattle.base_limits.specs.Limits.{mostTerms}
 use Rattle.text_values.specs.declared.Field.{Field}
 use Rattle.text_accepted.specs.Accepted.{acceptedField}
@@ -20,6 +20,7 @@ use Rattle.search_problems.specs.declared.Problem.{Problem}
 use Rattle.search_steps.specs.tables.Tables.{rowsIn}
 use Rattle.search_problems.specs.Roots.{rootValue}
 use Rattle.text_write.specs.pieces.Stored.{bytesOf, storeAll}
+use Rattle.text_write.proofs.Answers.{after-small}
 use Rattle.text_write.proofs.pieces.Stored.{stored}
 use Rattle.search_steps.specs.declared.turns.State.{State}
 use Rattle.search_steps.specs.starts.Starts.{begun, again}
@@ -229,8 +230,7 @@ module _ (f g : Field) (row : List Problem) (out : List ℕ) where
                   ∙ stored (map text xs) out (omega (arith, fin .2, leb-true (t .state .bytes) (length out) h))
               go false h =
                   as-it-was v s (idle-small (fin .0) h) (fin .3 refl)
-                  ∙ sym (ap (λ (c : Bool). cond c (bytesOf (map text xs) ++ drop (length (bytesOf (map text xs))) out) out)
-                  (lt-leb (length (bytesOf (map text xs))) (length out) (omega (arith, fin .2, leb-false (t .state .bytes) (length out) h))))
+                  ∙ sym (after-small (bytesOf (map text xs)) out (omega (arith, fin .2, leb-false (t .state .bytes) (length out) h)))
 
           answered-by : (x : Result E) → searching E (length row) A B ≡ x → Final E text false out t x → Answered (isRefused E x) (map text (given E x)) t v
           answered-by (answers xs) is fin =

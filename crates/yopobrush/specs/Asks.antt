@@ -2,7 +2,6 @@
 -- "Listing splits into an ask, which returns the entry count and byte count and touches no buffer, and a commit, which takes those two
 -- counts, the rules and the buffer".
 use mathlib.Core.Path.{_≡_}
-use mathlib.Core.Bool.{cond}
 use mathlib.Core.List.{List}
 use Prim.Native.Nat.{ℕ}
 use lib.ListN.{length, getD}
@@ -10,10 +9,9 @@ use Rattle.text_grammar.specs.Told.{Told}
 use Rattle.text_grammar.specs.Read.{OutcomeOf}
 use Rattle.text_grammar.specs.rules.Read.{OurRule, readRule}
 use Rattle.text_read.specs.Answers.{leftSaid}
-use Rattle.text_write.specs.Answers.{after}
 use Rattle.overlap_spec.specs.Overlaps.{overlapText}
 use Rattle.overlap_counts.specs.declared.Counts.{Counts}
-use Rattle.overlap_counts.specs.Answers.{sameCounts, commitTold}
+use Rattle.overlap_counts.specs.Answers.{commitTold, commitLeaves}
 use Rattle.overlap_list.specs.asking.Answers.{countsOf}
 use Rattle.yopobrush.specs.declared.Reading.{Reading}
 use Rattle.yopobrush.specs.declared.Listing.{Listing}
@@ -44,7 +42,7 @@ committingOf asked left right room = listingTold (readingOf left) (readingOf rig
 -- "Ask then commit on the same rules leaves the bytes that the old call left"; 13 "leaves the buffer's old bytes"
 abbrev pub committedBytes : Counts → OutcomeOf OurRule → OutcomeOf OurRule → List ℕ → List ℕ
 committedBytes asked left right old =
-    cond (sameCounts asked (countsSaid left right)) (after (overlapText (leftSaid left) (leftSaid right)) old) old
+    commitLeaves asked (countsSaid left right) (overlapText (leftSaid left) (leftSaid right)) old
 
 -- WHAT THE LIBRARY PROMISES of the texts t and u where their list is asked for: no bytes are lent
 pub record LibraryAsks (t u : List ℕ) (r : Asking) : Type 0 where

@@ -3,29 +3,13 @@
 
 use reference::committing::{self, Committed, Counts};
 use reference::draw::Draw;
+use reference::generate::commits::{old_bytes, other_counts, sizes, PAIRS};
 use reference::generate::pairs::pair_line;
 use reference::reading::read_rule;
 use reference::terms::Rule;
 use yopobrush::{ask_overlaps, commit_overlaps, list_overlaps, overlaps, Error, Listing, Refusal};
 
 use crate::comparison::divided;
-
-/// Document 01's pairs, and how many lines and bytes their lists have.
-const PAIRS: [(&str, &str, usize, usize); 13] = [
-    ("a0:l0", "l0:2", 2, 62),
-    ("l0", "l0", 1, 17),
-    ("empty", "empty", 1, 6),
-    ("i0", "2:l0", 1, 18),
-    ("i0", "s0", 0, 0),
-    ("1:2:l0", "l0:2:3", 2, 51),
-    ("a0|a0", "1|\"m\"", 0, 0),
-    ("a0", "1", 1, 8),
-    ("a0", "\"m\"", 1, 12),
-    ("i0|i0:l0", "3|a0", 1, 26),
-    ("a0:a0", "i0:l0", 1, 27),
-    ("a0:a0", "1:\"1\"", 0, 0),
-    ("l0", "l0|l1", 0, 0),
-];
 
 const GENERATED: usize = 600;
 
@@ -90,35 +74,14 @@ impl Pair {
         (answer, out)
     }
 
-    /// No room, and room on either side of what the list needs.
     fn rooms(&self) -> [usize; 4] {
-        let bytes = self.ask().bytes;
-        [0, bytes.saturating_sub(1), bytes, bytes + 1]
+        sizes(self.ask().bytes)
     }
 
-    /// Counts next to this list's or made of them; some may be its own.
     fn other_counts(&self) -> Vec<Listing> {
-        let Listing { entries, bytes } = self.ask();
-        let (fewer, less) = (entries.wrapping_sub(1), bytes.wrapping_sub(1));
-        vec![
-            listing(fewer, bytes),
-            listing(entries + 1, bytes),
-            listing(entries, less),
-            listing(entries, bytes + 1),
-            listing(bytes, entries),
-            listing(0, 0),
-            listing(0, bytes),
-            listing(entries, 0),
-            listing(usize::MAX, bytes),
-            listing(entries, usize::MAX),
-            listing(usize::MAX, usize::MAX),
-        ]
+        let counts = other_counts(theirs(self.ask()));
+        counts.into_iter().map(ours).collect()
     }
-}
-
-/// Bytes that no list has, other ones side by side.
-fn old_bytes(room: usize) -> Vec<u8> {
-    (0..room).map(|index| 128 + (index % 127) as u8).collect()
 }
 
 fn documented_pairs() -> impl Iterator<Item = Pair> {

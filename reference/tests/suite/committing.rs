@@ -5,29 +5,13 @@ use std::collections::HashMap;
 
 use reference::answers::pairs_answer;
 use reference::committing::{ask, commit, list_into, Committed, Counts};
+use reference::generate::commits::{old_bytes, other_counts, sizes, PAIRS};
 use reference::generate::large::overfull_list;
 use reference::generate::pairs::pair_line;
 use reference::reading::read_rule;
 use reference::terms::Rule;
 
 use crate::support::*;
-
-/// Document 01's pairs, and how many lines and bytes their lists have.
-const PAIRS: [(&str, &str, usize, usize); 13] = [
-    ("a0:l0", "l0:2", 2, 62),
-    ("l0", "l0", 1, 17),
-    ("empty", "empty", 1, 6),
-    ("i0", "2:l0", 1, 18),
-    ("i0", "s0", 0, 0),
-    ("1:2:l0", "l0:2:3", 2, 51),
-    ("a0|a0", "1|\"m\"", 0, 0),
-    ("a0", "1", 1, 8),
-    ("a0", "\"m\"", 1, 12),
-    ("i0|i0:l0", "3|a0", 1, 26),
-    ("a0:a0", "i0:l0", 1, 27),
-    ("a0:a0", "1:\"1\"", 0, 0),
-    ("l0", "l0|l1", 0, 0),
-];
 
 fn counts(entries: usize, bytes: usize) -> Counts {
     Counts { entries, bytes }
@@ -100,38 +84,13 @@ impl Pair {
         assert_eq!(found, self.expected(asked, size), "{asked:?} {self:?}");
     }
 
-    /// Buffers of no bytes and on either side of what the list needs.
     fn sizes(&self) -> [usize; 4] {
-        let bytes = self.list.len();
-        [0, bytes.saturating_sub(1), bytes, bytes + 1]
+        sizes(self.list.len())
     }
 
-    /// Counts next to this list's or made of them; some may be its own.
     fn other_counts(&self) -> Vec<Counts> {
-        let Counts { entries, bytes } = self.counts();
-        let (fewer, less) = (entries.wrapping_sub(1), bytes.wrapping_sub(1));
-        vec![
-            counts(fewer, bytes),
-            counts(entries + 1, bytes),
-            counts(entries, less),
-            counts(entries, bytes + 1),
-            // The sum is right.
-            counts(entries + 1, less),
-            counts(fewer, bytes + 1),
-            counts(bytes, entries),
-            counts(0, 0),
-            counts(0, bytes),
-            counts(entries, 0),
-            counts(usize::MAX, bytes),
-            counts(entries, usize::MAX),
-            counts(usize::MAX, usize::MAX),
-        ]
+        other_counts(self.counts())
     }
-}
-
-/// Bytes that no list has, other ones side by side.
-fn old_bytes(size: usize) -> Vec<u8> {
-    (0..size).map(|index| 128 + (index % 127) as u8).collect()
 }
 
 fn documented_pairs() -> impl Iterator<Item = Pair> {

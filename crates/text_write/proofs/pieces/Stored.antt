@@ -1,6 +1,5 @@
 -- Laws of lines stored one behind the other: their counts, and the lent bytes. Assumes nothing.
 use mathlib.Core.Path.{_≡_, refl, sym, _∙_, ap, ap₂}
-use mathlib.Core.Bool.{Bool, cond}
 use mathlib.Core.List.{List, [], _∷_, _++_, append-nil}
 use Prim.Native.Nat.{ℕ, suc, _+_, _-_, _≤_, _<_, min}
 use native.Mathlib.Nat.{zero-add}
@@ -8,10 +7,10 @@ use native.Mathlib.Omega.{arith}
 use native.Mathlib.Decide.{decLt}
 use lib.ListN.{length, set, take, drop, length-append, length-take, length-drop, take-append-drop, drop-of-length-le}
 use lib.Seq.{sets, sets-eq, take-all}
-use borrow.Author.Tests.{le-leb}
 use Rattle.base_lists.specs.Arrays.{sets-append}
 use Rattle.math_terms.proofs.Seqs.{concat-map-append}
 use Rattle.text_write.specs.Answers.{after}
+use Rattle.text_write.proofs.Answers.{after-fits}
 use Rattle.text_write.proofs.pieces.Pieces.{sets-out}
 use Rattle.text_write.specs.pieces.Stored.{bytesOf, storeLine, storeAll}
 
@@ -68,4 +67,4 @@ stored ls old h =
     stores ls 0 old
     ∙ sets-eq (bytesOf ls) old 0 (omega arith)
     ∙ ap (λ (k : ℕ). bytesOf ls ++ drop k old) (zero-add (length (bytesOf ls)))
-    ∙ sym (ap (λ (b : Bool). cond b (bytesOf ls ++ drop (length (bytesOf ls)) old) old) (le-leb (length (bytesOf ls)) (length old) h))
+    ∙ sym (after-fits (bytesOf ls) old h)
