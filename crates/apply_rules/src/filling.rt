@@ -10,7 +10,7 @@ use match_fields::bindings::{Filling, Run};
 use text_values::{Field, Form, RuleSide, Slip, SlipField, Term};
 
 // The filled side; `ok` is false where a field has more terms than a slip's may have, and the slip is blank then.
-#[derive(Drop)]
+#[derive(Clone, Copy)]
 pub struct Filled {
     pub ok: bool,
     pub slip: Slip,

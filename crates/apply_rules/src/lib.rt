@@ -1,4 +1,5 @@
 // Carrying out a rule on a slip: the right side with the filling put in.
+#![tactic(auto)]
 ghost use Rattle.std.specs.Prelude.{◌≡◌};
 ghost use Rattle.apply_rules.specs.Answers.{carried_of};
 
@@ -7,14 +8,14 @@ mod filling; // a filling put into a side
 use text_values::{Rule, Slip};
 
 // Yes with the result; no; or a field of the result would have more terms than a slip's may have, refusal 11.
-#[derive(Drop)]
+#[derive(Clone, Copy)]
 pub enum Carry {
     Yes,
     No,
     TooLong,
 }
 
-#[derive(Drop)]
+#[derive(Clone, Copy)]
 pub struct Carried {
     pub answer: Carry,
     pub slip: Slip,

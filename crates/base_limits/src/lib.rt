@@ -1,5 +1,6 @@
 // The limits of documents 01 and 02 in their order, and the sizes that follow from them. specs/Limits has each under the same name,
 // spelled `most_fields` for MOST_FIELDS; `kind_count` and `atom_kind_count` are KINDS and ATOM_KINDS.
+#![tactic(auto)]
 
 // ---- limits
 

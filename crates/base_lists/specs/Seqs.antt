@@ -50,10 +50,12 @@ module _ {A : Type 0} where
   pub all_mem : (P : A → Type 0) (s : List A) → All P s → (x : A) → Memᴰ x s → P x
   all_mem P (y ∷ s) h x (Memᴰ.head e) = rw e h.0
   all_mem P (y ∷ s) h x (Memᴰ.tail m) = all_mem P s h.1 x m
+  all_mem P [] h x x4 = elim x4 [ ]
 
   pub any_left : (P : A → Type 0) (s t : List A) → Any P s → Any P (s ++ t)
   any_left P (x ∷ s) t (inl p) = inl p
   any_left P (x ∷ s) t (inr a) = inr (any_left P s t a)
+  any_left P [] t x' = elim x' [ ]
 
   pub any_right : (P : A → Type 0) (s t : List A) → Any P t → Any P (s ++ t)
   any_right P [] t a = a
@@ -62,6 +64,7 @@ module _ {A : Type 0} where
   pub any_map : (P Q : A → Type 0) → ((x : A) → P x → Q x) → (s : List A) → Any P s → Any Q s
   any_map P Q f (x ∷ s) (inl p) = inl (f x p)
   any_map P Q f (x ∷ s) (inr a) = inr (any_map P Q f s a)
+  any_map P Q f [] x' = elim x' [ ]
 
   unfoldable pub all? : (P : A → Type 0) → ((x : A) → Dec (P x)) → (s : List A) → Dec (All P s)
   all? P d [] = yes tt

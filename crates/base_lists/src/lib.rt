@@ -1,1 +1,2 @@
 // Facts on lists and tables that the kit does not have: specs only.
+#![tactic(auto)]

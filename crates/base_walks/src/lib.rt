@@ -1,1 +1,2 @@
 // No code: proofs/ has what the proofs that walk the code by hand share.
+#![tactic(auto)]

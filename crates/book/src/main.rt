@@ -1,10 +1,11 @@
 // Shows for a book of rules on standard input, one a line, which pairs of them overlap.
+#![tactic(auto)]
 use book_rules::texts::{Added, Kept};
 use line_io::{Output, State};
 use text_write::Written;
 
 // Where the lines stand, which rules are taken so far, and whether a line was refused.
-#[derive(Drop)]
+#[derive(Clone, Copy)]
 struct Reading {
     state: State,
     kept: Kept,

@@ -1,4 +1,5 @@
 // A maker's book as a value: which rule a slip gets, and which pairs of its rules overlap.
+#![tactic(auto)]
 ghost use Rattle.text_accepted.specs.slips.Slips.{counted_slip};
 ghost use Rattle.text_write.specs.Answers.{Writes};
 ghost use Rattle.book_spec.specs.Books.{book_text};
@@ -10,14 +11,14 @@ use text_values::{Rule, Slip};
 use text_write::Written;
 
 // Document 02: "Rules come as a book of up to 16". Of more than 16 it counts as an empty one.
-#[derive(Drop)]
+#[derive(Clone, Copy)]
 pub struct Book {
     pub n: usize,
     pub rules: [Rule; base_limits::MOST_RULES],
 }
 
 // The rule that a slip gets. `shown` of specs/Books has its number.
-#[derive(Drop)]
+#[derive(Clone, Copy)]
 pub enum Picked {
     // the rule of this number, from 1
     Rule(usize),

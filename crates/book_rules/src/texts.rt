@@ -23,14 +23,14 @@ pub const LONGEST_TEXT: usize = base_limits::MOST_RULES * (base_limits::MOST_RUL
     * (2 + 1 + 2 + 1);
 
 // How many texts are kept, and how many bytes each has.
-#[derive(Drop)]
+#[derive(Clone, Copy)]
 pub struct Kept {
     pub n: usize,
     pub sizes: [usize; base_limits::MOST_RULES],
 }
 
 // What is said of a line that is to be the next rule. `told` of specs/texts/Keeping has document 02's number and place of each.
-#[derive(Drop)]
+#[derive(Clone, Copy)]
 pub enum Added {
     Taken,
     Refused(Reason, usize),
@@ -38,7 +38,7 @@ pub enum Added {
     Full,
 }
 
-#[derive(Drop)]
+#[derive(Clone, Copy)]
 pub struct Adding {
     pub added: Added,
     pub kept: Kept,

@@ -1,5 +1,6 @@
 // Lines: from standard input, and to standard output, in constant memory. No contract can say what is read or written;
 // what is done with the bytes once they are read, and before they are written, is an equation.
+#![tactic(auto)]
 ghost use Rattle.std.specs.Prelude.{◌≡◌, ◌≤◌, ltb, length};
 ghost use Rattle.line_io.specs.Taking.{no_line, added_line, added_bytes, untaken, in_chunk, taken};
 ghost use Rattle.line_io.specs.Going.{nothing_yet, is_open};
@@ -10,7 +11,7 @@ use base_numbers::at_most;
 use libc::{STDERR_FILENO, STDIN_FILENO, STDOUT_FILENO};
 
 // Where the reading stands: the chunk's bytes from `at` to `end` were read and are not taken yet.
-#[derive(Drop)]
+#[derive(Clone, Copy)]
 pub struct Input {
     pub at: usize,
     pub end: usize,
@@ -20,7 +21,7 @@ pub struct Input {
 }
 
 // What is known of a line.
-#[derive(Drop)]
+#[derive(Clone, Copy)]
 pub struct Line {
     // whether there is one: behind the last newline there may be nothing
     pub found: bool,
@@ -33,14 +34,14 @@ pub struct Line {
 }
 
 // How many bytes of the output buffer wait to be written, and whether a write failed.
-#[derive(Drop)]
+#[derive(Clone, Copy)]
 pub struct Output {
     pub used: usize,
     pub failed: bool,
 }
 
 // The state of a program that goes through the lines.
-#[derive(Drop)]
+#[derive(Clone, Copy)]
 pub struct State {
     pub input: Input,
     pub output: Output,
@@ -48,7 +49,7 @@ pub struct State {
 }
 
 // What is taken of a chunk.
-#[derive(Drop)]
+#[derive(Clone, Copy)]
 struct Taken {
     input: Input,
     line: Line,

@@ -7,21 +7,21 @@ use math_types::Kind;
 use text_values::Term;
 
 // The values of the atom variables: as many places for each type below list as there are numbers, blank where a variable has no value.
-#[derive(Drop)]
+#[derive(Clone, Copy)]
 pub struct Values {
     pub known: [bool; base_limits::ATOM_PLACES],
     pub terms: [Term; base_limits::ATOM_PLACES],
 }
 
 // A list variable's value: a run of the terms of one of the slip's fields.
-#[derive(Drop)]
+#[derive(Clone, Copy)]
 pub struct Run {
     pub field: usize,
     pub start: usize,
     pub count: usize,
 }
 
-#[derive(Drop)]
+#[derive(Clone, Copy)]
 pub struct Filling {
     pub values: Values,
     pub runs: [Run; base_limits::NUMBERS_OF_SIDE],

@@ -9,7 +9,7 @@ use math_types::Kind;
 use text_values::{Form, Term};
 
 // The values so far, or that a test has failed.
-#[derive(Drop)]
+#[derive(Clone, Copy)]
 pub struct Tested {
     pub ok: bool,
     pub values: Values,

@@ -1,4 +1,5 @@
 // Matching one field of a rule with one field of a slip: first the length, then the terms from the left.
+#![tactic(auto)]
 ghost use Rattle.std.specs.Prelude.{◌≡◌, ◌≤◌, get_or};
 ghost use Rattle.base_limits.specs.Limits.{most_terms, most_items};
 ghost use Rattle.text_values.specs.Values.{blank_term};
@@ -14,14 +15,14 @@ use base_numbers::at_most;
 use text_values::{Field, Form, SlipField, Term};
 
 // How far the tests got: the values so far or that a test has failed, and how many of the slip's items were compared.
-#[derive(Drop)]
+#[derive(Clone, Copy)]
 pub struct Progress {
     pub tested: Tested,
     pub compared: usize,
 }
 
 // How many of a field's terms are atoms, and how many list variables.
-#[derive(Drop)]
+#[derive(Clone, Copy)]
 struct Shape {
     atoms: usize,
     lists: usize,

@@ -22,7 +22,7 @@ use Rattle.math_terms.specs.Linear.{OneList}
 use Rattle.math_terms.proofs.Slices.{span, room_span}
 use Rattle.math_terms.proofs.Seqs.{item_at_lem}
 use Rattle.text_grammar.specs.Terms.{OurTerm, OurFields, SlipFields}
-use Rattle.text_grammar.specs.constants.Constants.{Con, con_eq, kind_of_lem, some_of, consts}
+use Rattle.text_grammar.specs.constants.Constants.{Con, con_eq, con_kind, some_of, consts}
 use Rattle.text_grammar.specs.Limits.{TermIn}
 use Rattle.text_values.specs.declared.SlipField.{SlipField}
 use Rattle.text_values.specs.constants.Constants.{encode_constant}
@@ -122,8 +122,8 @@ same_agrees v φ d c (no n) b s h = go b refl
     go true e = absurd (n (sym ((same_constant_is d c).0 (sym s ∙ e))))
     go false e = e
 
-item_kind_lem : (c : Con) → item_kind (enc c).form ≡ basic (kind_of_lem c)
-item_kind_lem c = constant_kind_lem (encode_constant c).0 (encode_constant c).1 ∙ ap (λ (d : Con). basic (kind_of_lem d)) (view_encode_constant c)
+item_kind_lem : (c : Con) → item_kind (enc c).form ≡ basic (con_kind c)
+item_kind_lem c = constant_kind_lem (encode_constant c).0 (encode_constant c).1 ∙ ap (λ (d : Con). basic (con_kind d)) (view_encode_constant c)
 
 meets_agrees : (v : Values) (φ : Filling Con Kind ℕ) (k : Basic) (n : ℕ) (c : Con) → Holds v φ → n ≤ largest_number
     → Agrees (met (get_or v.known (slot (basic k) n) false) (basic k) (slot (basic k) n) (enc c) v) (meets basics consts ℕ_discrete k n (φ (basic k) n) c φ)
@@ -137,7 +137,7 @@ meets_agrees v φ k n c h l = go (φ (basic k) n) (h.held k n l)
     go [] e =
         subst (λ (b : Bool). Agrees (met b (basic k) i (enc c) v) (meets basics consts ℕ_discrete k n [] c φ)) (sym e.0)
         (subst (λ (q : Kind). Agrees (cond (le q (basic k)) (record { ok = true; values = bound v i (enc c) }) (record { ok = false; values = v }))
-        (meets basics consts ℕ_discrete k n [] c φ)) (sym (item_kind_lem c)) (new (le (basic (kind_of_lem c)) (basic k))))
+        (meets basics consts ℕ_discrete k n [] c φ)) (sym (item_kind_lem c)) (new (le (basic (con_kind c)) (basic k))))
       where
         new : (b : Bool)
             → Agrees (cond b (record { ok = true; values = bound v i (enc c) }) (record { ok = false; values = v }))

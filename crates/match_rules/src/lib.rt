@@ -1,4 +1,5 @@
 // Matching a rule against a slip: yes with the one filling of the rule's variables, or no.
+#![tactic(auto)]
 ghost use Rattle.std.specs.Prelude.{◌≡◌, ◌-◌, ◌≤◌, take};
 ghost use Rattle.base_limits.specs.Limits.{most_fields};
 ghost use Rattle.match_rules.specs.Tests.{fields_progress, no_values, with_run, runs_in, runs_all};
@@ -15,14 +16,14 @@ use match_fields::bindings::{Filling, Run, Values};
 use match_fields::items::Tested;
 use text_values::{Field, Form, Rule, RuleSide, Slip, SlipField, Term};
 
-#[derive(Drop)]
+#[derive(Clone, Copy)]
 pub struct Match {
     pub yes: bool,
     pub filling: Filling,
 }
 
 // A match, and how many of the slip's items were compared until it was known.
-#[derive(Drop)]
+#[derive(Clone, Copy)]
 pub struct Comparison {
     pub found: Match,
     pub compared: usize,

@@ -1,4 +1,5 @@
 // Shows for each line of standard input, a rule and a slip with a tab between them, how the rule matches the slip.
+#![tactic(auto)]
 use line_io::{Output, State};
 use text_write::Written;
 

@@ -19,7 +19,7 @@ use Rattle.math_codes.proofs.Tables.{holds_below, is_code, same_code, same_atom}
 
 module _ (O : Order) (C : Consts O) (N : Vars O) (t : List (Option (At O C N))) where
   open O use {le}
-  open C use {Con, con_eq, kind_of_lem}
+  open C use {Con, con_eq, con_kind}
   open N use {Var, var_eq, sort}
 
   -- c is the code of a
@@ -108,13 +108,13 @@ module _ (O : Order) (C : Consts O) (N : Vars O) (t : List (Option (At O C N))) 
           go (yes e) = one x y (fixed c) (fixed d) hx hy (some s) (ap fixed e) h
           go (no n) = two x y (fixed c) (fixed d) hx hy none (λ e. n (fixed_once e)) tt
       classes_agree x y (fixed c) (free v) hx hy =
-          two x y (fixed c) (free v) hx hy (join_classes O C N s (fixed c) (free v)) fixed≢free (go (le (kind_of_lem c) (sort v)))
+          two x y (fixed c) (free v) hx hy (join_classes O C N s (fixed c) (free v)) fixed≢free (go (le (con_kind c) (sort v)))
         where
           go : (q : Bool) → Agrees (joined_by false false q x y atoms) (cond q (some (bind O C N v (fixed c) s)) none)
           go true = represents_bind v (fixed c) y x hy hx atoms s h
           go false = tt
       classes_agree x y (free u) (fixed d) hx hy =
-          two x y (free u) (fixed d) hx hy (join_classes O C N s (free u) (fixed d)) (λ e. fixed≢free (sym e)) (go (le (kind_of_lem d) (sort u)))
+          two x y (free u) (fixed d) hx hy (join_classes O C N s (free u) (fixed d)) (λ e. fixed≢free (sym e)) (go (le (con_kind d) (sort u)))
         where
           go : (q : Bool) → Agrees (joined_by false q false x y atoms) (cond q (some (bind O C N u (fixed d) s)) none)
           go true = represents_bind u (fixed d) x y hx hy atoms s h

@@ -116,7 +116,7 @@ pub record OurTables (r₁ r₂ : List (List OurTerm)) (T : Table) (texts : ℕ 
 -- such tables: by place and list variable the rank, whether it is a variable, and a constant's plain text
 abbrev pub rank_term : Option OurOriginTerm → ℕ
 rank_term none = 0
-rank_term (some (con c)) = rank (basic (consts.kind_of_lem c))
+rank_term (some (con c)) = rank (basic (consts.con_kind c))
 rank_term (some (var k b)) = rank k
 
 -- whether it is a variable

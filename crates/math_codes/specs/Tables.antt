@@ -52,7 +52,7 @@ module _ (O : Order) (C : Consts O) (N : Vars O) where
 
   -- an atom's type
   abbrev pub kind_a : At O C N → O.Kind
-  kind_a (fixed c) = C.kind_of_lem c
+  kind_a (fixed c) = C.con_kind c
   kind_a (free x) = N.sort x
 
   -- whether it is a variable

@@ -32,7 +32,7 @@ some_of_le (leaf string) = refl
 some_of_le atom = refl
 
 abbrev pub constants : Consts basics
-constants = record { Con = Constant; con_eq = constant-eq ℕ_discrete; kind_of_lem = kind_of; some_of = some_of; some_of_le = some_of_le }
+constants = record { Con = Constant; con_eq = constant-eq ℕ_discrete; con_kind = kind_of; some_of = some_of; some_of_le = some_of_le }
 
 abbrev pub T : Type 0
 T = Term Constant (Full Basic) ℕ

@@ -28,16 +28,16 @@ module _ {C X Z Y : Type 0} where
 
 module _ (O : Order) (C : Consts O) (N : Vars O) where
   open O use {Kind, le, le_refl, le_trans, le_meet}
-  open C use {Con, con_eq, kind_of_lem}
+  open C use {Con, con_eq, con_kind}
   open N use {Var, var_eq, sort}
 
   abbrev pub kind_a : At O C N → Kind
-  kind_a (fixed c) = kind_of_lem c
+  kind_a (fixed c) = con_kind c
   kind_a (free x) = sort x
 
   -- a ground filling, well-kinded
   abbrev pub Typed : (Var → Con) → Type 0
-  Typed θ = (x : Var) → le (kind_of_lem (θ x)) (sort x) ≡ true
+  Typed θ = (x : Var) → le (con_kind (θ x)) (sort x) ≡ true
 
   -- θ gives a variable what it gives the atom that the state has for it; for ground fillings, and for fillings by terms
   module _ {Y : Type 0} (ι : Con → Y) where
@@ -84,7 +84,7 @@ module _ (O : Order) (C : Consts O) (N : Vars O) where
   one_self x w = if_pos (var_eq x x) refl w (free x)
 
   kind_one : (x : Var) (w : At O C N) → le (kind_a w) (sort x) ≡ true → (a : At O C N) → le (kind_a (replace O C N x w a)) (kind_a a) ≡ true
-  kind_one x w h (fixed c) = le_refl (kind_of_lem c)
+  kind_one x w h (fixed c) = le_refl (con_kind c)
   kind_one x w h (free z) = go (var_eq z x)
     where
       go : (d : Dec (z ≡ x)) → le (kind_a (ite d w (free z))) (sort z) ≡ true
@@ -167,20 +167,20 @@ module _ (O : Order) (C : Consts O) (N : Vars O) where
       go : (q : Dec (c ≡ d)) → Out s (Eqn (fixed c) (fixed d)) (ite q (some s) none)
       go (yes e) = out_refl s g (fixed c) (fixed d) (ap {B = At O C N} fixed e)
       go (no n) = λ θ t r e. n e
-  classes_out s g (fixed c) (free y) ha hb = go (le (kind_of_lem c) (sort y)) refl
+  classes_out s g (fixed c) (free y) ha hb = go (le (con_kind c) (sort y)) refl
     where
-      go : (b : Bool) → le (kind_of_lem c) (sort y) ≡ b → Out s (Eqn (fixed c) (free y)) (cond b (some (bind O C N y (fixed c) s)) none)
+      go : (b : Bool) → le (con_kind c) (sort y) ≡ b → Out s (Eqn (fixed c) (free y)) (cond b (some (bind O C N y (fixed c) s)) none)
       go true e = out_flip s (free y) (fixed c) (some (bind O C N y (fixed c) s)) (out_bind s g y (fixed c) hb refl fixed≢free e)
-      go false e = λ θ t r e'. false≢true (sym e ∙ ap (λ (k : Con). le (kind_of_lem k) (sort y)) e' ∙ t y)
-  classes_out s g (free x) (fixed d) ha hb = go (le (kind_of_lem d) (sort x)) refl
+      go false e = λ θ t r e'. false≢true (sym e ∙ ap (λ (k : Con). le (con_kind k) (sort y)) e' ∙ t y)
+  classes_out s g (free x) (fixed d) ha hb = go (le (con_kind d) (sort x)) refl
     where
-      go : (b : Bool) → le (kind_of_lem d) (sort x) ≡ b → Out s (Eqn (free x) (fixed d)) (cond b (some (bind O C N x (fixed d) s)) none)
+      go : (b : Bool) → le (con_kind d) (sort x) ≡ b → Out s (Eqn (free x) (fixed d)) (cond b (some (bind O C N x (fixed d) s)) none)
       go true e = out_bind s g x (fixed d) ha refl fixed≢free e
-      go false e = λ θ t r e'. false≢true (sym e ∙ ap (λ (k : Con). le (kind_of_lem k) (sort x)) (sym e') ∙ t x)
+      go false e = λ θ t r e'. false≢true (sym e ∙ ap (λ (k : Con). le (con_kind k) (sort x)) (sym e') ∙ t x)
   classes_out s g (free x) (free y) ha hb = go₁ (var_eq x y)
     where
       no_meet : le (sort y) (sort x) ≡ false → le (sort x) (sort y) ≡ false → (θ : Var → Con) → Typed θ → θ x ≡ θ y → ⊥
-      no_meet e f θ t e' = clash (le_meet (kind_of_lem (θ x)) (sort x) (sort y) (t x) (ap (λ (k : Con). le (kind_of_lem k) (sort y)) e' ∙ t y))
+      no_meet e f θ t e' = clash (le_meet (con_kind (θ x)) (sort x) (sort y) (t x) (ap (λ (k : Con). le (con_kind k) (sort y)) e' ∙ t y))
         where
           clash : (le (sort x) (sort y) ≡ true) ⊎ (le (sort y) (sort x) ≡ true) → ⊥
           clash (inl p) = false≢true (sym f ∙ p)
@@ -246,10 +246,10 @@ module _ (O : Order) (C : Consts O) (N : Vars O) where
         go : (q : Dec (c ≡ d)) → Snd s (EqnY (fixed c) (fixed d)) (ite q (some s) none)
         go (yes e) = snd_refl s (fixed c) (fixed d) (ap {B = At O C N} fixed e)
         go (no n) = tt
-    classes_snd s (fixed c) (free y) ha hb = snd_cond (le (kind_of_lem c) (sort y)) s (EqnY (fixed c) (free y)) (some (bind O C N y (fixed c) s)) none
+    classes_snd s (fixed c) (free y) ha hb = snd_cond (le (con_kind c) (sort y)) s (EqnY (fixed c) (free y)) (some (bind O C N y (fixed c) s)) none
         (snd_flip s (free y) (fixed c) (some (bind O C N y (fixed c) s)) (snd_bind s y (fixed c) hb)) tt
     classes_snd s (free x) (fixed d) ha hb =
-        snd_cond (le (kind_of_lem d) (sort x)) s (EqnY (free x) (fixed d)) (some (bind O C N x (fixed d) s)) none (snd_bind s x (fixed d) ha) tt
+        snd_cond (le (con_kind d) (sort x)) s (EqnY (free x) (fixed d)) (some (bind O C N x (fixed d) s)) none (snd_bind s x (fixed d) ha) tt
     classes_snd s (free x) (free y) ha hb = go (var_eq x y)
       where
         rest : Option (State O C N)

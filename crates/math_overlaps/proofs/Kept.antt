@@ -197,9 +197,9 @@ module _ (O : Order) (C : Consts O) (N : Vars O) (P : At O C N → Type 0) where
       go (yes e) = k
       go (no n) = tt
   classes_keep s k (fixed c) (free y) h h' =
-      cond_keeps (O.le (C.kind_of_lem c) (N.sort y)) (some (bind O C N y (fixed c) s)) none (bind_keeps s k y (fixed c) h) tt
+      cond_keeps (O.le (C.con_kind c) (N.sort y)) (some (bind O C N y (fixed c) s)) none (bind_keeps s k y (fixed c) h) tt
   classes_keep s k (free x) (fixed d) h h' =
-      cond_keeps (O.le (C.kind_of_lem d) (N.sort x)) (some (bind O C N x (fixed d) s)) none (bind_keeps s k x (fixed d) h') tt
+      cond_keeps (O.le (C.con_kind d) (N.sort x)) (some (bind O C N x (fixed d) s)) none (bind_keeps s k x (fixed d) h') tt
   classes_keep s k (free x) (free y) h h' = go (N.var_eq x y)
     where
       rest : Option (State O C N)

@@ -183,13 +183,13 @@ module _ (O : Order) (C : Consts O) {A : Type 0} (name_eq : Discrete A) (Ss Ts :
 
         φ : FillingOver O C (Origin A)
         φ (basic k) (named s a) = h.0 (of s k a) ∷ []
-        φ (basic k) (place g) = C.Some-of k ∷ []
+        φ (basic k) (place g) = C.some_of k ∷ []
         φ list (named s a) = []
         φ list (place g) = run_of ℕ_discrete shapes w g
 
         typed : Typed O C φ
         typed (basic k) (named s a) = (h.0 (of s k a), refl, h.1 (of s k a))
-        typed (basic k) (place g) = (C.Some-of k, refl, C.some_of_le k)
+        typed (basic k) (place g) = (C.some_of k, refl, C.some_of_le k)
         typed list m = tt
 
     pub covered : (w : List (List C.Con)) → Matches O C r₁ w → Matches O C r₂ w

@@ -189,7 +189,7 @@ module _ (O : Order) (C : Consts O) {A : Type 0} (name_eq : Discrete A)
 
   -- ---- constants that can be read: no others come in, and they are enough for a slip and for minimality
 
-  module _ (Ours : C.Con → Type 0) (ours : (k : O.Kind) → Ours (C.Some-of k))
+  module _ (Ours : C.Con → Type 0) (ours : (k : O.Kind) → Ours (C.some_of k))
       (ours₁ : All (All (ConstantIn Ours)) r₁) (ours₂ : All (All (ConstantIn Ours)) r₂) where
     pub entry_constants : (e : Entry O C A) → Memᴰ e (overlaps O C name_eq r₁ r₂)
         → All (All (ConstantIn Ours)) e.fields × ((k : Full O.Kind) (a : A) → All (ConstantIn Ours) (e.left k a))

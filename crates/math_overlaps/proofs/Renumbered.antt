@@ -60,10 +60,12 @@ module _ {C K B : Type 0} (kind_eq : Discrete K) where
       go (yes e) (inr i) rec = Memᴰ.tail (rec i)
       go (no n) (inl p) rec = absurd (n p.0)
       go (no n) (inr i) rec = rec i
+  in_names k b [] o = elim o [ ]
 
   pub in_all_names : (k : K) (b : B) (fs : List (List (Term C K B))) → Any (Occurs k b) fs → Memᴰ b (concat_map (names_of kind_eq k) fs)
   in_all_names k b (f ∷ fs) (inl o) = Memᴰ.append_left (concat_map (names_of kind_eq k) fs) (in_names k b f o)
   in_all_names k b (f ∷ fs) (inr o) = Memᴰ.append_right (names_of kind_eq k f) (in_all_names k b fs o)
+  in_all_names k b [] x' = elim x' [ ]
 
 module _ {C K B : Type 0} (kind_eq : Discrete K) (name_eq : Discrete B) (fs : List (List (Term C K B))) where
   -- the name of a number
@@ -99,11 +101,11 @@ module _ {C K A B D : Type 0} (ν : K → B → D) (σ : Subst C K A B) where
 -- ---- the renumbered fields match the same slips
 module _ (O : Order) (C : Consts O) where
   abbrev pub some_value : Full O.Kind → List C.Con
-  some_value (basic k) = C.Some-of k ∷ []
+  some_value (basic k) = C.some_of k ∷ []
   some_value list = []
 
   pub some_value_typed : (k : Full O.Kind) → OfKind O C k (some_value k)
-  some_value_typed (basic k) = (C.Some-of k, refl, C.some_of_le k)
+  some_value_typed (basic k) = (C.some_of k, refl, C.some_of_le k)
   some_value_typed list = tt
 
   abbrev get_or : {B : Type 0} → Option B → (B → List C.Con) → Full O.Kind → List C.Con

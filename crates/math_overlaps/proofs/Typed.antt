@@ -32,7 +32,7 @@ module _ (O : Order) (C : Consts O) {A B : Type 0} (σ : Subst C.Con (Full O.Kin
       go (var (basic j) b) e h = (
         (u (basic j) b).0,
         ap (fill ψ) e ∙ append-nil (ψ (basic j) b) ∙ (u (basic j) b).1,
-        O.le_trans (C.kind_of_lem (u (basic j) b).0) j k (u (basic j) b).2 h,
+        O.le_trans (C.con_kind (u (basic j) b).0) j k (u (basic j) b).2 h,
       )
 
   pub rename_typed : {D : Type 0} (ν : Full O.Kind → B → D) → TypedSubst O C (λ k a. map (rename ν) (σ k a))

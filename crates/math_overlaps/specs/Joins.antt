@@ -9,7 +9,7 @@ use Rattle.math_overlaps.specs.Shapes.{Atom, fixed, free, val, Vars}
 
 module _ (O : Order) (C : Consts O) (N : Vars O) where
   open O use {le}
-  open C use {Con, con_eq, kind_of_lem}
+  open C use {Con, con_eq, con_kind}
   open N use {Var, var_eq, sort}
 
   abbrev pub At : Type 0
@@ -41,8 +41,8 @@ module _ (O : Order) (C : Consts O) (N : Vars O) where
   -- Of two classes, given by their atoms:
   abbrev pub join_classes : State → At → At → Option State
   join_classes s (fixed c) (fixed d) = ite (con_eq c d) (some s) none
-  join_classes s (fixed c) (free y) = cond (le (kind_of_lem c) (sort y)) (some (bind y (fixed c) s)) none
-  join_classes s (free x) (fixed d) = cond (le (kind_of_lem d) (sort x)) (some (bind x (fixed d) s)) none
+  join_classes s (fixed c) (free y) = cond (le (con_kind c) (sort y)) (some (bind y (fixed c) s)) none
+  join_classes s (free x) (fixed d) = cond (le (con_kind d) (sort x)) (some (bind x (fixed d) s)) none
   join_classes s (free x) (free y) =
       ite (var_eq x y) (some s)
       (cond (le (sort y) (sort x)) (some (bind x (free y) s)) (cond (le (sort x) (sort y)) (some (bind y (free x) s)) none))

@@ -23,7 +23,7 @@ module _ {C K A B : Type 0} where
 module _ (O : Order) (C : Consts O) {B : Type 0} where
   -- a constant has its kind, a variable the kind that it is written with
   abbrev pub kind_of : TermOver O C B → Full O.Kind
-  kind_of (con c) = basic (C.kind_of_lem c)
+  kind_of (con c) = basic (C.con_kind c)
   kind_of (var k b) = k
 
   -- of `list` any run of terms ("A list variable's value there is any run of terms"), of a kind below it one term at or below it

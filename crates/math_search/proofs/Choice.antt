@@ -22,7 +22,7 @@ use Rattle.math_search.proofs.Bound.{rest_right, heads_differ}
 module _ (E : Setting) where
   open E use {order, constants, variables, names}
   open order use {le, le_refl, le_meet}
-  open constants use {Con, con_eq, kind_of_lem}
+  open constants use {Con, con_eq, con_kind}
   open variables use {Var, sort}
   open names use {Name, name_eq}
 
@@ -47,16 +47,16 @@ module _ (E : Setting) where
       concat_map_agree (ground E ρ (extend m f w)) (ground E ρ m) L
       (all_map (Other E (listvar f)) (λ t. ground E ρ (extend m f w) t ≡ ground E ρ m t) (extend_term ρ m f w) L h)
 
-  pub atom_typed : (ρ : Var → Con) → WellTyped E ρ → (a : At E) → le (kind_of_lem (atom_value E ρ a)) (kind_of E a) ≡ true
-  atom_typed ρ ty (fixed c) = le_refl (kind_of_lem c)
+  pub atom_typed : (ρ : Var → Con) → WellTyped E ρ → (a : At E) → le (con_kind (atom_value E ρ a)) (kind_of E a) ≡ true
+  atom_typed ρ ty (fixed c) = le_refl (con_kind c)
   atom_typed ρ ty (free x) = ty x
 
   -- two atoms with one value have comparable kinds
   comparable : (ρ : Var → Con) → WellTyped E ρ → (a b : At E) → atom_value E ρ a ≡ atom_value E ρ b
       → (le (kind_of E a) (kind_of E b) ≡ true) ⊎ (le (kind_of E b) (kind_of E a) ≡ true)
   comparable ρ ty a b e =
-      le_meet (kind_of_lem (atom_value E ρ a)) (kind_of E a) (kind_of E b) (atom_typed ρ ty a)
-      (subst (λ (c : Con). le (kind_of_lem c) (kind_of E b) ≡ true) (sym e) (atom_typed ρ ty b))
+      le_meet (con_kind (atom_value E ρ a)) (kind_of E a) (kind_of E b) (atom_typed ρ ty a)
+      (subst (λ (c : Con). le (con_kind c) (kind_of E b) ≡ true) (sym e) (atom_typed ρ ty b))
 
   apart_no : (p q : Bool) → (p ≡ true) ⊎ (q ≡ true) → (not p && not q) ≡ false
   apart_no true q h = refl
@@ -147,7 +147,7 @@ module _ (E : Setting) where
       above : (b : At E) → a ≡ b → le (kind_of E b) (sort x) ≡ false
           → (le (sort x) (kind_of E b) ≡ true) ⊎ (le (kind_of E b) (sort x) ≡ true) → Choice (atomic (free x) ∷ L) (atomic b ∷ M) f ρ m
       above b p h (inr k) = absurd (false≢true (sym h ∙ k))
-      above (fixed c) p h (inl k) = absurd (false≢true (sym h ∙ subst (λ (d : Con). le (kind_of_lem d) (sort x) ≡ true) (e ∙ ap (atom_value E ρ) p) (ty x)))
+      above (fixed c) p h (inl k) = absurd (false≢true (sym h ∙ subst (λ (d : Con). le (con_kind d) (sort x) ≡ true) (e ∙ ap (atom_value E ρ) p) (ty x)))
       above (free z) p h (inl k) =
           kept (atomic (free x) ∷ L) (atomic (free z) ∷ M) f ρ m Orient3 (equation (atomic (free z) ∷ M) (atomic (free x) ∷ L)) (rw (k, h))
 

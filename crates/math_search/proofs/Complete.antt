@@ -21,7 +21,7 @@ use Rattle.math_search.proofs.Tree.{Fine, child_fine, fine_known}
 module _ (E : Setting) where
   open E use {order, constants, variables, names}
   open order use {le_trans}
-  open constants use {Con, kind_of_lem}
+  open constants use {Con, con_kind}
   open variables use {Var, sort}
   open names use {Name, pick, pick_new}
 
@@ -101,7 +101,7 @@ module _ (E : Setting) where
   through σ g ρ m ty = (
     λ x. atom_value E ρ (g (atomic (free x))).0,
     λ n. concat_map (ground E ρ m) (σ (listvar n)),
-    λ x. le_trans (kind_of_lem (atom_value E ρ (g (atomic (free x))).0)) (kind_of E (g (atomic (free x))).0) (sort x)
+    λ x. le_trans (con_kind (atom_value E ρ (g (atomic (free x))).0)) (kind_of E (g (atomic (free x))).0) (sort x)
         (atom_typed E ρ ty (g (atomic (free x))).0) (g (atomic (free x))).2,
     at,
   )

@@ -12,7 +12,7 @@ use Rattle.math_search.specs.Problems.{Problem, rest, bindings}
 module _ (E : Setting) where
   open E use {order, constants, variables, names}
   open order use {le}
-  open constants use {Con, kind_of_lem}
+  open constants use {Con, con_kind}
   open variables use {Var, sort}
   open names use {Name, name_eq}
 
@@ -91,7 +91,7 @@ module _ (E : Setting) where
   ground ρ m (listvar n) = m n
 
   abbrev pub WellTyped : (Var → Con) → Type 0
-  WellTyped ρ = (x : Var) → le (kind_of_lem (ρ x)) (sort x) ≡ true
+  WellTyped ρ = (x : Var) → le (con_kind (ρ x)) (sort x) ≡ true
 
   -- the values (ρ, m) are, on the terms R, an instance of σ: by values of σ's own variables
   abbrev pub Covers : (Tm E → Type 0) → (Var → Con) → (Name → List Con) → Bindings E → Type 0

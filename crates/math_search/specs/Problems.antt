@@ -34,7 +34,7 @@ pub data FieldTerm (A L : Type 0) : Type 0 where
 module _ (E : Setting) where
   open E use {order, constants, variables, names}
   open order use {Kind}
-  open constants use {Con, con_eq, kind_of_lem}
+  open constants use {Con, con_eq, con_kind}
   open variables use {Var, var_eq, sort}
   open names use {Name, name_eq}
 
@@ -60,7 +60,7 @@ module _ (E : Setting) where
   -- ---- types
 
   abbrev pub kind_of : At → Kind
-  kind_of (fixed c) = kind_of_lem c
+  kind_of (fixed c) = con_kind c
   kind_of (free x) = sort x
 
   abbrev pub term_type : Tm → Full Kind

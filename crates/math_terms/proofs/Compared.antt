@@ -117,7 +117,7 @@ module _ {X : Type 0} where
 
 module _ (O : Order) (C : Consts O) {A : Type 0} (name_eq : Discrete A) where
   open O use {Kind, kind_eq, le}
-  open C use {Con, con_eq, kind_of_lem}
+  open C use {Con, con_eq, con_kind}
 
   abbrev pub compared_walk : ℕ → List Con → List (TermOver O C A) → ℕ → FillingOver O C A → ℕ
   compared_walk gap w [] p φ = 0
@@ -181,7 +181,7 @@ module _ (O : Order) (C : Consts O) {A : Type 0} (name_eq : Discrete A) where
     var_tested k a none = failed (var (basic k) a, none) refl
     var_tested k a (some c) = go (earlier O C name_eq (basic k) a before) refl
       where
-        first : (b : Bool) → le (kind_of_lem c) k ≡ b → earlier O C name_eq (basic k) a before ≡ none
+        first : (b : Bool) → le (con_kind c) k ≡ b → earlier O C name_eq (basic k) a before ≡ none
             → Tested before ((var (basic k) a, some c) ∷ []) 1 (cond b (some (bind (full-eq kind_eq) name_eq (basic k) a (c ∷ []) φ)) none)
         first true e is =
             passed (bind (full-eq kind_eq) name_eq (basic k) a (c ∷ []) φ) (var (basic k) a, some c) (bound k a c)
@@ -200,7 +200,7 @@ module _ (O : Order) (C : Consts O) {A : Type 0} (name_eq : Discrete A) where
             (meets O C name_eq k a (φ (basic k) a) c φ)
         go none is =
             subst (λ (l : List Con). Tested before ((var (basic k) a, some c) ∷ []) 1 (meets O C name_eq k a l c φ)) (sym (keeps k a ∙ ap held is))
-            (first (le (kind_of_lem c) k) refl is)
+            (first (le (con_kind c) k) refl is)
         go (some d) is =
             subst (λ (l : List Con). Tested before ((var (basic k) a, some c) ∷ []) 1 (meets O C name_eq k a l c φ)) (sym (keeps k a ∙ ap held is))
             (later d (con_eq c d) refl is)

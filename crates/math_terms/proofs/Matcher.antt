@@ -120,7 +120,7 @@ module _ (O : Order) (C : Consts O) {A : Type 0} (name_eq : Discrete A) where
         where
           go : (k : Full O.Kind) → Occurs k a (onto_all rule []) ⊎ (φ k a ≡ []) → OfKind O C k (complete O C φ k a)
           go k (inl i) = let h = out.0.kinds k a i in subst (OfKind O C k) (sym (complete_is k a h)) h
-          go (basic k) (inr e) = (C.Some-of k, ap (or_some O C k) e, C.some_of_le k)
+          go (basic k) (inr e) = (C.some_of k, ap (or_some O C k) e, C.some_of_le k)
           go list (inr e) = tt
 
       -- the answer, completed for the variables that the rule lacks, is a filling that matches

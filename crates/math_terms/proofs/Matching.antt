@@ -19,6 +19,7 @@ module _ {C K A : Type 0} (φ ψ : Filling C (Full K) A) (gap : ℕ) (w : List C
   slices_agree (con c ∷ f) p s t j b i = slices_agree f (p + 1) s.1 t.1 j b i
   slices_agree (var k a ∷ f) p s t j b (inl e) = rw (e.0, e.1) (s.0 ∙ sym t.0)
   slices_agree (var k a ∷ f) p s t j b (inr i) = slices_agree f (p + width {C = C} gap (var k a)) s.1 t.1 j b i
+  slices_agree mathlib.Core.List.[] p s t j b i = elim i [ ]
 
 module _ (O : Order) (C : Consts O) {A : Type 0} where
   pub typed_one : (φ : FillingOver O C A) → Typed O C φ → (k : O.Kind) (a : A) → length (φ (basic k) a) ≡ 1
@@ -35,3 +36,4 @@ module _ (O : Order) (C : Consts O) {A : Type 0} where
         → (k : Full O.Kind) (a : A) → Any (Occurs k a) rule → φ k a ≡ ψ k a
     match_unique (f ∷ rule) o e k a (inl i) = unique_field f o.0 (head-eq_of_cons-eq e) k a i
     match_unique (f ∷ rule) o e k a (inr i) = match_unique rule o.1 (tail-eq_of_cons-eq e) k a i
+    match_unique mathlib.Core.List.[] o e k a x3 = elim x3 [ ]

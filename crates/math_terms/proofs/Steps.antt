@@ -70,7 +70,7 @@ module _ {X : Type 0} where
 
 module _ (O : Order) (C : Consts O) {A : Type 0} (name_eq : Discrete A) where
   open O use {Kind, kind_eq, le}
-  open C use {Con, con_eq, kind_of_lem}
+  open C use {Con, con_eq, con_kind}
 
   -- ---- a variable gets its first value
   module _ (done : List (TermOver O C A)) (φ : FillingOver O C A) (g : Good O C done φ) (k : Full Kind) (a : A) (v : List Con) where
@@ -119,15 +119,15 @@ module _ (O : Order) (C : Consts O) {A : Type 0} (name_eq : Discrete A) where
     -- ---- an atom variable
     module _ (k : Kind) (a : A) where
       first_out : φ (basic k) a ≡ [] → (c : Con) → Out O C done (var (basic k) a ∷ done) φ (λ θ. θ (basic k) a ≡ c ∷ []) (meets O C name_eq k a [] c φ)
-      first_out e c = go (le (kind_of_lem c) k) refl
+      first_out e c = go (le (con_kind c) k) refl
         where
-          go : (b : Bool) → le (kind_of_lem c) k ≡ b
+          go : (b : Bool) → le (con_kind c) k ≡ b
               → Out O C done (var (basic k) a ∷ done) φ (λ θ. θ (basic k) a ≡ c ∷ [])
               (cond b (some (bind (full-eq kind_eq) name_eq (basic k) a (c ∷ []) φ)) none)
           go true h = bind_out done φ g (basic k) a (c ∷ []) (λ i. nil≢cons (sym e ∙ (g.kinds (basic k) a i).1)) (c, refl, h)
           go false h = λ θ t _ q.
               let v = t (basic k) a in
-              false≢true (sym h ∙ ap (λ (z : Con). le (kind_of_lem z) k) (head-eq_of_cons-eq (sym q ∙ v.1)) ∙ v.2)
+              false≢true (sym h ∙ ap (λ (z : Con). le (con_kind z) k) (head-eq_of_cons-eq (sym q ∙ v.1)) ∙ v.2)
 
       again_out : (d : Con) (r : List Con) → φ (basic k) a ≡ d ∷ r → (c : Con)
           → Out O C done (var (basic k) a ∷ done) φ (λ θ. θ (basic k) a ≡ c ∷ []) (meets O C name_eq k a (d ∷ r) c φ)

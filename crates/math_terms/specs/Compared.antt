@@ -81,11 +81,11 @@ module _ (O : Order) (C : Consts O) {A : Type 0} where
 
 module _ (O : Order) (C : Consts O) where
   open O use {Kind, le}
-  open C use {Con, con_eq, kind_of_lem}
+  open C use {Con, con_eq, con_kind}
 
   -- the item c for a variable of kind k, which has this earlier value or none
   abbrev pub suits_variable : Kind → Option Con → Con → Bool
-  suits_variable k none c = le (kind_of_lem c) k
+  suits_variable k none c = le (con_kind c) k
   suits_variable k (some d) c = ite (con_eq c d) true false
 
 module _ (O : Order) (C : Consts O) {A : Type 0} (name_eq : Discrete A) where

@@ -7,9 +7,9 @@ use Rattle.math_terms.specs.Terms.{Term}
 pub record Consts (O : Order) : Type 1 where
   pub Con : Type 0
   pub con_eq : Discrete Con
-  pub kind_of_lem : Con → O.Kind
+  pub con_kind : Con → O.Kind
   pub some_of : O.Kind → Con
-  pub some_of_le : (k : O.Kind) → O.le (kind_of_lem (some_of k)) k ≡ true
+  pub some_of_le : (k : O.Kind) → O.le (con_kind (some_of k)) k ≡ true
 
 -- terms over them, with names A; `list` is one of the kinds of a variable
 abbrev pub TermOver : (O : Order) → Consts O → Type 0 → Type 0

@@ -17,7 +17,7 @@ FillingOver O C A = Filling C.Con (Full O.Kind) A
 module _ (O : Order) (C : Consts O) where
   -- the values of a kind: of `list` any run, of a kind below it exactly one constant, whose kind is at or below it
   abbrev pub OfKind : Full O.Kind → List C.Con → Type 0
-  OfKind (basic k) w = (c : C.Con) × (w ≡ c ∷ []) × (O.le (C.kind_of_lem c) k ≡ true)
+  OfKind (basic k) w = (c : C.Con) × (w ≡ c ∷ []) × (O.le (C.con_kind c) k ≡ true)
   OfKind list w = Unit {0}
 
 module _ (O : Order) (C : Consts O) {A : Type 0} where

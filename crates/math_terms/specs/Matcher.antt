@@ -60,7 +60,7 @@ module _ {C K A : Type 0} (kind_eq : Discrete K) (name_eq : Discrete A) where
 
 module _ (O : Order) (C : Consts O) {A : Type 0} (name_eq : Discrete A) where
   open O use {Kind, kind_eq, le}
-  open C use {Con, con_eq, kind_of_lem}
+  open C use {Con, con_eq, con_kind}
 
   -- the item c must be the constant d
   abbrev pub same : Con → Con → FillingOver O C A → Option (FillingOver O C A)
@@ -69,7 +69,7 @@ module _ (O : Order) (C : Consts O) {A : Type 0} (name_eq : Discrete A) where
   -- the item c for an atom variable, whose value so far is `old`
   abbrev pub meets : Kind → A → List Con → Con → FillingOver O C A → Option (FillingOver O C A)
   -- met first: c must be of its kind, and becomes its value
-  meets k a [] c φ = cond (le (kind_of_lem c) k) (some (bind (full-eq kind_eq) name_eq (basic k) a (c ∷ []) φ)) none
+  meets k a [] c φ = cond (le (con_kind c) k) (some (bind (full-eq kind_eq) name_eq (basic k) a (c ∷ []) φ)) none
   -- met again: c must be its value
   meets k a (d ∷ old) c φ = same d c φ
 
@@ -102,7 +102,7 @@ module _ (O : Order) (C : Consts O) {A : Type 0} (name_eq : Discrete A) where
 
 module _ (O : Order) (C : Consts O) where
   abbrev pub or_some : O.Kind → List C.Con → List C.Con
-  or_some k [] = C.Some-of k ∷ []
+  or_some k [] = C.some_of k ∷ []
   or_some k (c ∷ w) = c ∷ w
 
 module _ (O : Order) (C : Consts O) {A : Type 0} where

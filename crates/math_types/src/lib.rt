@@ -1,12 +1,14 @@
 // The type order: which kind of term is below which, and the meet of two.
 // Every answer is read from one table, whose laws and whose agreement with document 01 stand in specs/Types.antt.
+#![tactic(auto)]
+
 ghost use Rattle.std.specs.Prelude.{◌≡◌};
 ghost use Rattle.math_types.specs.Types.{rank, kind_at, le, same, is_list, entry};
 ghost use Rattle.math_types.specs.Values.{kind_of, meet_rank};
 
 use base_limits::KINDS;
 
-#[derive(Drop)]
+#[derive(Clone, Copy)]
 pub enum Kind {
     Integer,
     String,
@@ -15,7 +17,7 @@ pub enum Kind {
 }
 
 // The answer of `meet_rank`: the meet's rank.
-#[derive(Drop)]
+#[derive(Clone, Copy)]
 pub enum Met {
     Is(u8),
     Nothing,

@@ -1,16 +1,17 @@
 // The counts of a list, which an ask returns, and what a commit answers by them, whatever list it is.
+#![tactic(auto)]
 ghost use Rattle.std.specs.Prelude.{◌≡◌};
 ghost use Rattle.overlap_counts.specs.Answers.{told, same_counts, commit_told};
 
 // How many lines a list has, and how many bytes they have.
-#[derive(Drop)]
+#[derive(Clone, Copy)]
 pub struct Counts {
     pub entries: usize,
     pub bytes: usize,
 }
 
 // The answer of a commit. `told` of specs/Answers has the documents' number and values of each.
-#[derive(Drop)]
+#[derive(Clone, Copy)]
 pub enum Committed {
     // the lines were written: their number and that of their bytes
     Lines(usize, usize),

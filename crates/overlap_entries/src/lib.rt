@@ -1,4 +1,5 @@
 // Two fields laid over each other: the candidates, the joins of one, and the items that it gives an entry's field.
+#![tactic(auto)]
 ghost use Rattle.std.specs.Prelude.{◌≡◌, max};
 ghost use Rattle.math_types.specs.Types.{entry};
 ghost use Rattle.math_codes.specs.Spots.{cell_at, pick_cell, join_cells, join_from};
@@ -11,7 +12,7 @@ use pair_state::{Joined, State};
 
 // The candidates of a field pair: how many items the first has, how many there are, each with an item more,
 // and whether the last has a list variable among its items.
-#[derive(Drop)]
+#[derive(Clone, Copy)]
 pub struct Span {
     pub least: u16,
     pub count: u16,
@@ -19,14 +20,14 @@ pub struct Span {
 }
 
 // A candidate for each field: how many atoms it has, and whether a list variable stands among them.
-#[derive(Drop)]
+#[derive(Clone, Copy)]
 pub struct Choice {
     pub sizes: [u16; base_limits::MOST_FIELDS],
     pub longs: [bool; base_limits::MOST_FIELDS],
 }
 
 // The place of the atom at a position of a field, if there is one.
-#[derive(Drop)]
+#[derive(Clone, Copy)]
 enum Cell {
     At(usize),
     Nothing,

@@ -12,7 +12,7 @@ use text_refusals::verdicts::Verdict;
 use text_values::Rule;
 
 // How two texts are read, and the counts of the list of what they say.
-#[derive(Drop)]
+#[derive(Clone, Copy)]
 pub struct TextsAsked {
     pub left: Verdict,
     pub right: Verdict,
@@ -20,7 +20,7 @@ pub struct TextsAsked {
 }
 
 // How two texts are read, and the answer of a commit to what they say.
-#[derive(Drop)]
+#[derive(Clone, Copy)]
 pub struct TextsCommitted {
     pub left: Verdict,
     pub right: Verdict,

@@ -2,6 +2,7 @@
 // the first field slowest.
 // The two sides are read into the tables of a pair; the list is made on these alone,
 // measured first where it might not fit, and then written.
+#![tactic(auto)]
 ghost use Rattle.std.specs.Prelude.{◌≡◌, [], ◌∷◌, ◌+◌, ◌≤◌, ◌<◌, length};
 ghost use Rattle.base_limits.specs.Limits.{most_fields};
 ghost use Rattle.text_accepted.specs.rules.Rules.{counted_rule};
@@ -25,7 +26,7 @@ use text_refusals::verdicts::Verdict;
 use text_values::Rule;
 
 // The answer of a listing: the entry count and the byte count. `told` of specs/Answers has document 01's number of each.
-#[derive(Drop)]
+#[derive(Clone, Copy)]
 pub enum Listed {
     // the lines were written
     Lines(usize, usize),
@@ -34,7 +35,7 @@ pub enum Listed {
 }
 
 // How two texts are read, and the answer of listing what they say.
-#[derive(Drop)]
+#[derive(Clone, Copy)]
 pub struct TextsListed {
     pub left: Verdict,
     pub right: Verdict,
@@ -42,14 +43,14 @@ pub struct TextsListed {
 }
 
 // Whether two rules can have an entry: only those with as many fields can, and a rule with no fields has none.
-#[derive(Drop)]
+#[derive(Clone, Copy)]
 enum Pairing {
     Fields(u8),
     Apart,
 }
 
 // How two texts are read, and whether the rules that they say can have an entry.
-#[derive(Drop)]
+#[derive(Clone, Copy)]
 struct TextsNoted {
     left: Verdict,
     right: Verdict,
@@ -57,7 +58,7 @@ struct TextsNoted {
 }
 
 // How many atoms a field has, and whether a list variable stands among them.
-#[derive(Drop)]
+#[derive(Clone, Copy)]
 struct Candidate {
     items: u16,
     long: bool,

@@ -9,7 +9,7 @@ use pair_state::State;
 use text_refusals::verdicts::Verdict;
 
 // How two texts are read, and whether the rules that they say overlap.
-#[derive(Drop)]
+#[derive(Clone, Copy)]
 pub struct TextsOverlap {
     pub left: Verdict,
     pub right: Verdict,

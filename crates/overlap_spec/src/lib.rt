@@ -1,1 +1,2 @@
 // The text of overlap lines, which variables a line binds, and that the bytes of a list determine its lines. Specs and their proofs only.
+#![tactic(auto)]

@@ -1,5 +1,6 @@
 // The line of an entry: its items, the numbers that their variables get, and its bytes. And that of an answer of the search.
 // The writers store a byte where there is room and go on counting where there is none: with no room a line is measured.
+#![tactic(auto)]
 ghost use Rattle.std.specs.Prelude.{◌≡◌, true, false, List, [], ◌∷◌, ◌++◌, ◌+◌, ◌-◌, ◌*◌, ◌^◌, ◌≤◌, ◌<◌, length, get_or};
 ghost use Rattle.std.proofs.lemmas.List.Edits.{sets};
 ghost use Rattle.base_limits.specs.Limits.{most_fields, entry_terms};
@@ -31,14 +32,14 @@ const PAIR_ITEMS: u8 = base_limits::PAIR_ITEMS as u8;
 const KINDS: u8 = base_limits::KINDS as u8;
 
 // The items of an entry, and by item the number that it got and one; 0 for none.
-#[derive(Drop)]
+#[derive(Clone, Copy)]
 struct Laid {
     items: [u8; base_limits::ENTRY_PLACES],
     numbers: [u8; base_limits::PAIR_ITEMS],
 }
 
 // Where a run of items begins and ends in that row.
-#[derive(Drop)]
+#[derive(Clone, Copy)]
 struct Run {
     from: usize,
     to: usize,

@@ -1,6 +1,7 @@
 // The tables of a pair of rules in a lent row of bytes: by place a term's type, whether it is a variable, and its code, the first place
 // with the same atom; by field its shape; by variable where it stands. The constants' bytes have a row of their own.
 // Reading a place that a row lacks gives 0. An item is a code, or from LISTS on a list variable.
+#![tactic(auto)]
 ghost use Rattle.std.specs.Prelude.{◌≡◌, ◌+◌, ◌*◌, get_or, set};
 ghost use Rattle.math_codes.specs.Index.{slot_at};
 ghost use Rattle.pair_row.specs.Row.{table_in, shape_in, field_of, index_in, top_in};
@@ -36,7 +37,7 @@ pub const TEXTS_BYTES: usize = CELL_BYTES * base_limits::PAIR_PLACES;
 
 // A field of a rule: its first place, how many atoms stand before and behind its list variable, that variable's number, and whether there
 // is one.
-#[derive(Drop)]
+#[derive(Clone, Copy)]
 pub struct Shape {
     pub base: u16,
     pub head: u8,

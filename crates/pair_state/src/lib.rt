@@ -1,4 +1,5 @@
 // The state of the fillings of a pair of rules: by place the code of what its atom stands for, and the join of two atoms.
+#![tactic(auto)]
 ghost use Rattle.std.specs.Prelude.{◌≡◌, ◌&&◌, eqb};
 ghost use Rattle.math_types.specs.Types.{entry};
 ghost use Rattle.math_codes.specs.States.{replaced, join_places};
@@ -8,13 +9,13 @@ ghost use Rattle.pair_state.specs.States.{joined_of};
 use math_types::Met;
 
 // Document 01: "Each join of two atoms turns one state of the fillings into the next".
-#[derive(Drop)]
+#[derive(Clone, Copy)]
 pub struct State {
     pub atoms: [u8; base_limits::PAIR_PLACES],
 }
 
 // The next state, or a clash with the state as it was.
-#[derive(Drop)]
+#[derive(Clone, Copy)]
 pub struct Joined {
     pub ok: bool,
     pub next: State,

@@ -20,7 +20,7 @@ use Rattle.text_grammar.specs.Limits.{IsLeft}
 use Rattle.text_grammar.specs.Plain.{term_text}
 use Rattle.text_grammar.specs.Read.{accepted, read_side}
 use Rattle.text_grammar.specs.Terms.{OurTerm}
-use Rattle.text_grammar.specs.constants.Constants.{Con, int, str, consts, kind_of_lem}
+use Rattle.text_grammar.specs.constants.Constants.{Con, int, str, consts, con_kind}
 use Rattle.text_grammar.proofs.Accepted.{rule_read_lem}
 use Rattle.math_overlaps.specs.Shapes.{fixed, free, left, right, of}
 use Rattle.math_overlaps.specs.Candidates.{range}
@@ -294,7 +294,7 @@ module _ (r₁ r₂ : List (List OurTerm)) (ok₁ : IsLeft r₁) (ok₂ : IsLeft
       o : Cell texts p (bytes_of d) × (length (bytes_of d) ≤ longest_string)
       o = c.cells p d l h
 
-      go : (b : Con) → get_or row (kinds_at + p) 0 ≡ rank (basic (kind_of_lem b)) → bytes_in texts p ≡ bytes_of b → text_in row texts p ≡ term_text (con b)
+      go : (b : Con) → get_or row (kinds_at + p) 0 ≡ rank (basic (con_kind b)) → bytes_in texts p ≡ bytes_of b → text_in row texts p ≡ term_text (con b)
       go (int m n) k e = ap (λ (j : ℕ). cond (eqb j 1) (34 ∷ (bytes_in texts p ++ 34 ∷ [])) (bytes_in texts p)) k ∙ e
       go (str b) k e =
           ap (λ (j : ℕ). cond (eqb j 1) (34 ∷ (bytes_in texts p ++ 34 ∷ [])) (bytes_in texts p)) k ∙ ap (λ (z : List ℕ). 34 ∷ (z ++ 34 ∷ [])) e

@@ -15,7 +15,7 @@ use Rattle.base_lists.specs.Truths.{both_is}
 use Rattle.math_types.specs.Order.{basic}
 use Rattle.math_types.specs.Types.{rank}
 use Rattle.text_grammar.specs.Numbers.{digits_of}
-use Rattle.text_grammar.specs.constants.Constants.{signed, Con, int, str, kind_of_lem, ConIn}
+use Rattle.text_grammar.specs.constants.Constants.{signed, Con, int, str, con_kind, ConIn}
 use Rattle.text_grammar.proofs.constants.Constants.{limit_ten}
 use Rattle.math_codes.proofs.Texts.{integer_once}
 use Rattle.pair_row.specs.Row.{kinds_at, members_at, texts_bytes, bytes_in, cell_bytes}
@@ -140,14 +140,14 @@ bytes_short (int false n) h = omega (arith, limit_ten false n h.1)
 bytes_short (str s) h = h.1
 
 -- equal types and bytes, equal constants
-bytes_once : (c d : Con) → rank (basic (kind_of_lem c)) ≡ rank (basic (kind_of_lem d)) → bytes_of c ≡ bytes_of d → c ≡ d
+bytes_once : (c d : Con) → rank (basic (con_kind c)) ≡ rank (basic (con_kind d)) → bytes_of c ≡ bytes_of d → c ≡ d
 bytes_once (int x m) (int y n) k e = integer_once x y m n e
 bytes_once (int x m) (str s) k e = absurd (omega (arith, k))
 bytes_once (str s) (int y n) k e = absurd (omega (arith, k))
 bytes_once (str s) (str t) k e = ap str e
 
 module _ (row texts : List ℕ) (p q : ℕ) (c d : Con) (a : Cell texts p (bytes_of c)) (b : Cell texts q (bytes_of d))
-    (m : get_or row (kinds_at + p) 0 ≡ rank (basic (kind_of_lem c))) (n : get_or row (kinds_at + q) 0 ≡ rank (basic (kind_of_lem d))) where
+    (m : get_or row (kinds_at + p) 0 ≡ rank (basic (con_kind c))) (n : get_or row (kinds_at + q) 0 ≡ rank (basic (con_kind d))) where
   -- THE COMPARISON of two cells is that of the constants
   pub same_constant_lem : same_constant row texts p q ≡ true → c ≡ d
   same_constant_lem e =
@@ -166,7 +166,7 @@ module _ (row texts : List ℕ) (p q : ℕ) (c d : Con) (a : Cell texts p (bytes
       let z = cell_size texts p (bytes_of c) a in
       (both_is (eqb (get_or row (kinds_at + p) 0) (get_or row (kinds_at + q) 0))
       (same_from texts (cell_bytes * p) (cell_bytes * q) (suc (get_or texts (cell_bytes * p) 0)))).1 (
-        eq-eqb (get_or row (kinds_at + p) 0) (get_or row (kinds_at + q) 0) (m ∙ ap (λ (x : Con). rank (basic (kind_of_lem x))) e ∙ sym n),
+        eq-eqb (get_or row (kinds_at + p) 0) (get_or row (kinds_at + q) 0) (m ∙ ap (λ (x : Con). rank (basic (con_kind x))) e ∙ sym n),
         same_from_lem texts (suc (get_or texts (cell_bytes * p) 0)) (cell_bytes * p) (cell_bytes * q)
             (λ i h. a i (omega (arith, z)) ∙ ap (λ (x : Con). get_or (length (bytes_of x) ∷ bytes_of x) i 0) e
             ∙ sym (b i (omega (arith, z, ap (λ (x : Con). length (bytes_of x)) e)))),

@@ -13,7 +13,7 @@ use borrow.Author.Tests.{eq-eqb, ne_eqb}
 use Rattle.base_limits.specs.Limits.{longest_string, pair_places}
 use Rattle.math_types.specs.Order.{basic}
 use Rattle.math_types.specs.Types.{basics, rank}
-use Rattle.text_grammar.specs.constants.Constants.{Con, consts, kind_of_lem}
+use Rattle.text_grammar.specs.constants.Constants.{Con, consts, con_kind}
 use Rattle.math_overlaps.specs.Shapes.{fixed, fixed_once}
 use Rattle.math_codes.specs.Tables.{Holds}
 use Rattle.math_codes.specs.Tables.{same as alike}
@@ -34,25 +34,25 @@ module _ (t : List (Option OurAtom)) (p : ℕ) (d : Con) (row texts : List ℕ) 
   z = celled p (bytes_of d) texts
 
   abbrev r : List ℕ
-  r = classed p (rank (basic (kind_of_lem d))) 0 row
+  r = classed p (rank (basic (con_kind d))) 0 row
 
   abbrev c : ℕ
   c = code_in r z p
 
   long_r : length r ≡ row_bytes
-  long_r = classed_long p (rank (basic (kind_of_lem d))) 0 row ∙ long
+  long_r = classed_long p (rank (basic (con_kind d))) 0 row ∙ long
 
   codes_r : Codes t p r
-  codes_r = codes_keep t p row r h (λ j l a b e. classed_other p (rank (basic (kind_of_lem d))) 0 row j b e) cs
+  codes_r = codes_keep t p row r h (λ j l a b e. classed_other p (rank (basic (con_kind d))) 0 row j b e) cs
 
   high : (j : ℕ) → shapes_at ≤ j → Same row r j
-  high j l = classed_other p (rank (basic (kind_of_lem d))) 0 row j (λ e. omega arith) (λ e. omega arith)
+  high j l = classed_other p (rank (basic (con_kind d))) 0 row j (λ e. omega arith) (λ e. omega arith)
 
   members_r : Members t p r
   members_r = members_keep t p p row r (omega arith) (λ j l. high j (omega arith)) (λ q b l m v. absurd (omega arith)) ms
 
-  kind_r : get_or r (kinds_at + p) 0 ≡ rank (basic (kind_of_lem d))
-  kind_r = classed_kind p (rank (basic (kind_of_lem d))) 0 row (omega (arith, long, h))
+  kind_r : get_or r (kinds_at + p) 0 ≡ rank (basic (con_kind d))
+  kind_r = classed_kind p (rank (basic (con_kind d))) 0 row (omega (arith, long, h))
 
   own_cell : Cell z p (bytes_of d)
   own_cell = celled_cell p (bytes_of d) texts few h wide
@@ -107,7 +107,7 @@ module _ (t : List (Option OurAtom)) (p : ℕ) (d : Con) (row texts : List ℕ) 
       (here_from t p s (fixed d) k (get_or-set_same r p c 0 (omega (arith, long_r, h)) ∙ sym e)
       (get_or-set_other r p (kinds_at + p) c 0 (λ u. omega arith) ∙ kind_r)
       (ap is_set (get_or-set_other r p (variables_at + p) c 0 (λ u. omega arith)
-      ∙ classed_variable p (rank (basic (kind_of_lem d))) 0 row (omega (arith, long, h)))))
+      ∙ classed_variable p (rank (basic (con_kind d))) 0 row (omega (arith, long, h)))))
 
   high_s : (j : ℕ) → shapes_at ≤ j → Same row s j
   high_s j l = get_or-set_other r p j c 0 (λ u. omega arith) ∙ high j l
@@ -136,7 +136,7 @@ module _ (t : List (Option OurAtom)) (p : ℕ) (d : Con) (row texts : List ℕ) 
   )
 
   -- THE ROW
-  pub constant_out : Out (constant_noted p (rank (basic (kind_of_lem d))) z row)
+  pub constant_out : Out (constant_noted p (rank (basic (con_kind d))) z row)
   constant_out = go (found (member_found r z p (get_or r count_at 0) 0))
     where
       go : Found → Out (cond (eqb c p) (joined_member p s) s)

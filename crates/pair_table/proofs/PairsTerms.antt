@@ -13,7 +13,7 @@ use Rattle.math_types.specs.Order.{basic, list}
 use Rattle.math_types.specs.Types.{Basic, Kind, rank}
 use Rattle.math_terms.specs.Terms.{con, var}
 use Rattle.text_grammar.specs.Terms.{OurTerm}
-use Rattle.text_grammar.specs.constants.Constants.{Con, kind_of_lem}
+use Rattle.text_grammar.specs.constants.Constants.{Con, con_kind}
 use Rattle.math_overlaps.specs.Shapes.{fixed, free, Side, of, fixed≢free}
 use Rattle.math_codes.specs.Tables.{Holds}
 use Rattle.math_codes.specs.Entries.{atom_of}
@@ -129,10 +129,10 @@ module _ (t : List (Option OurAtom)) (G : ℕ → List OurTerm) where
     -- A CONSTANT
     pub constant_next : (b : Con) → Holds t p (fixed b) → length (bytes_of b) ≤ longest_string
         → Noted s f (fs ++ con b ∷ []) (d ++ con b ∷ []) e (suc p)
-        (constant_noted p (rank (basic (kind_of_lem b))) (celled p (bytes_of b) texts) (shape_noted f false 0 row)) (celled p (bytes_of b) texts)
+        (constant_noted p (rank (basic (con_kind b))) (celled p (bytes_of b) texts) (shape_noted f false 0 row)) (celled p (bytes_of b) texts)
     constant_next b k few =
         let u = con b in
-        let r = constant_noted p (rank (basic (kind_of_lem b))) (celled p (bytes_of b) texts) (shape_noted f false 0 row) in
+        let r = constant_noted p (rank (basic (con_kind b))) (celled p (bytes_of b) texts) (shape_noted f false 0 row) in
         let o = constant_out t p b (w u) texts low few (long_w u) c.wide k (codes_w u) (members_w u) c.cells in
         record {
           place = next_place u;

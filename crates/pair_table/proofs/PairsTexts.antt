@@ -19,7 +19,7 @@ use Rattle.math_types.specs.Values.{kind_of_from}
 use Rattle.math_terms.specs.Terms.{con}
 use Rattle.text_grammar.specs.Bytes.{Digit}
 use Rattle.text_grammar.specs.Grammar.{Raw, raw_var, raw_empty, spell, Proper, colons, spell_f, bars, spell_t, raw_con}
-use Rattle.text_grammar.specs.constants.Constants.{signed, sign_size, limit, sign_of, raw_int, raw_str, Con, kind_of_lem, RawCon, spell_con, ProperCon, OverCon, con_of}
+use Rattle.text_grammar.specs.constants.Constants.{signed, sign_size, limit, sign_of, raw_int, raw_str, Con, con_kind, RawCon, spell_con, ProperCon, OverCon, con_of}
 use Rattle.text_grammar.specs.Numbers.{value, digits_of}
 use Rattle.text_grammar.specs.Tokens.{Token, tokens_f, tokens_t, tokens, Over}
 use Rattle.text_grammar.specs.Terms.{OurTerm, term_of, field_of}
@@ -128,7 +128,7 @@ literal_cell_lem text q (raw_int m ds) p o h =
     ap₂ (λ (v : ℕ) (l : List ℕ). signed (sign_of m v) l) v (digits_part text (q + sign_size m) ds p (behind_sign text q m ds h))
 literal_cell_lem text q (raw_str b) p o h = string_part text q b h
 
-literal_kind_lem : (r : RawCon) → literal_kind (literal_of r) ≡ kind_of_lem (con_of r)
+literal_kind_lem : (r : RawCon) → literal_kind (literal_of r) ≡ con_kind (con_of r)
 literal_kind_lem (raw_int m ds) = refl
 literal_kind_lem (raw_str b) = refl
 
@@ -191,12 +191,12 @@ module _ (t : List (Option OurAtom)) (G : ℕ → List OurTerm) (s : Bool) (text
       constant_read : (b : Con) (v : List ℕ) (a : Lexeme) → length fs < most_terms → q < length text → a.size ≤ longest_string
           → get_or t p none ≡ atom_of (side_in s) (con b)
           → length (bytes_of b) ≤ longest_string → v ≡ bytes_of b
-          → (constant_noted p (rank (basic (kind_of_lem b))) (celled p v x.1) (shape_noted f false 0 x.0), celled p v x.1)
+          → (constant_noted p (rank (basic (con_kind b))) (celled p v x.1) (shape_noted f false 0 x.0), celled p v x.1)
           ≡ note_by s text q f p a.what a.size a.value x.0 x.1
           → NotedBy f (fs ++ con b ∷ []) (d ++ con b ∷ []) (p + 1) (note_lexeme s text q n a x.0 x.1)
       constant_read b v a m h z k few w g =
           noted_as f refl refl (sym next)
-          (ap (λ (u : List ℕ). (constant_noted p (rank (basic (kind_of_lem b))) (celled p u x.1) (shape_noted f false 0 x.0), celled p u x.1)) (sym w)
+          (ap (λ (u : List ℕ). (constant_noted p (rank (basic (con_kind b))) (celled p u x.1) (shape_noted f false 0 x.0), celled p u x.1)) (sym w)
           ∙ g ∙ lexeme_is a m h z)
           (constant_next t G s f fs d e p x.0 x.1 low m c b k few)
 

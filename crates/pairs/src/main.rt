@@ -1,4 +1,5 @@
 // Shows for each line of standard input, two rules with a tab between them, the overlaps of the rules.
+#![tactic(auto)]
 use line_io::{Output, State};
 use text_write::Written;
 

@@ -24,7 +24,7 @@ use text_values::{Field, Form, SlipField, Term};
 const NUMBERS_OF_SIDE: u8 = base_limits::NUMBERS_OF_SIDE as u8;
 
 // Which variables a rule has: a place for each number of each type, in the order of the types.
-#[derive(Drop)]
+#[derive(Clone, Copy)]
 struct Variables {
     has: [bool; base_limits::VARIABLE_PLACES],
 }

@@ -3,7 +3,7 @@ ghost use Rattle.std.specs.Prelude.{◌≡◌};
 ghost use Rattle.print_parts.specs.sizes.Sizes.{is_digit, decimal, is_left_open, size_of, size_value};
 
 // How many records or bytes a part asks for.
-#[derive(Drop)]
+#[derive(Clone, Copy)]
 pub enum Size {
     Of(usize),
     Bad,

@@ -1,5 +1,6 @@
 // Lists of codes as values: the sides of an equation of the search, and what a list variable stands for; substitution into them, their
 // equality, and the occurs check.
+#![tactic(auto)]
 ghost use Rattle.std.specs.Prelude.{◌≡◌, min, get_or, drop};
 ghost use mathlib.Core.List.{[], ◌∷◌, foldl};
 ghost use Rattle.math_terms.specs.Seqs.{concat_map};
@@ -10,7 +11,7 @@ ghost use Rattle.search_items.specs.Substitution.{put_code, same_codes, occurs_i
 pub const MOST_CODES: usize = base_limits::MOST_TERMS + 1;
 
 // So many codes. Unused places are 0.
-#[derive(Drop)]
+#[derive(Clone, Copy)]
 pub struct Items {
     pub n: usize,
     pub codes: [u8; MOST_CODES],

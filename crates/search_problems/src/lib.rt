@@ -2,6 +2,7 @@
 // a move makes of a record; a step of the search: whether a problem fails, the child that a rule gives it, the next rule that gives one;
 // and the record where the search starts.
 // A lent row has the tables of the pair (`pair_row`).
+#![tactic(auto)]
 ghost use Rattle.std.specs.Prelude.{◌≡◌, cond, ◌-◌};
 ghost use mathlib.Core.List.{foldl};
 ghost use Rattle.search_problems.specs.variables.Sets.{with_name, list_variables};
@@ -22,7 +23,7 @@ use search_rules::{Head, Move};
 // A problem. `open`: an equation left = right is left to solve; else it is solved.
 // `atoms`: what each atom of the two fields stands for, by place. `lists`: what the left field's list variable stands for, and the right
 // field's; blank where the field has none. `used`: the list variables of the problem and its bindings, bound ones too.
-#[derive(Drop)]
+#[derive(Clone, Copy)]
 pub struct Problem {
     pub open: bool,
     pub left: Items,
@@ -136,7 +137,7 @@ fn applied(p: Problem, m: Move, fresh: u8) -> Problem
 // ---- a step
 
 // The child that a rule gives, or that it gives none, with the blank record.
-#[derive(Drop)]
+#[derive(Clone, Copy)]
 pub struct Child {
     pub ok: bool,
     pub problem: Problem,

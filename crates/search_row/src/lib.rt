@@ -1,4 +1,5 @@
 // The search for one field pair, over a row of problem records that the caller lends.
+#![tactic(auto)]
 ghost use Rattle.std.specs.Prelude.{◌≡◌, length, set, get_or};
 ghost use Rattle.search_problems.specs.Values.{blank_problem};
 ghost use Rattle.search_steps.specs.Row.{blanks};
@@ -12,7 +13,7 @@ use search_steps::turns::State;
 use text_values::Field;
 
 // The answer of a search: the line count and the byte count. `told` of specs/Answers has document 01's number and values of each.
-#[derive(Drop)]
+#[derive(Clone, Copy)]
 pub enum Searched {
     // the lines were written
     Lines(usize, usize),

@@ -1,5 +1,6 @@
 // The search's rules on codes: what they ask of a side of an equation, which equations have no solution, and what each rule makes of one.
 // A lent row has the tables of the pair (`pair_row`).
+#![tactic(auto)]
 ghost use Rattle.std.specs.Prelude.{◌≡◌, false, ◌∷◌, get_or, drop};
 ghost use Rattle.math_terms.specs.Seqs.{concat_map};
 ghost use Rattle.pair_row.specs.Row.{table_in};
@@ -23,7 +24,7 @@ use search_items::Items;
 //   kind      the rank of the first one's type; list's where there is none
 //   whole     the rank of the side's type: of one term that term's, else list
 //   first     the first one's code; 0 where there is none
-#[derive(Drop)]
+#[derive(Clone, Copy)]
 pub struct Head {
     pub some: bool,
     pub longer: bool,
@@ -246,7 +247,7 @@ pub fn brings(rule: usize) -> bool
 //   open     an equation is left, left = right; else it is solved, and both are blank
 //   binds    the variable is bound to the value; else both are blank
 //   fresh    the fresh list variable was brought in
-#[derive(Drop)]
+#[derive(Clone, Copy)]
 pub struct Move {
     pub applies: bool,
     pub open: bool,

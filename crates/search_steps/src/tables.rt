@@ -6,7 +6,7 @@ ghost use Rattle.search_steps.specs.tables.Tables.{text_of, tables_of};
 use text_values::Field;
 
 // The row of the tables, and the constants' bytes.
-#[derive(Drop)]
+#[derive(Clone, Copy)]
 pub struct Tables {
     pub row: [u8; pair_row::ROW_BYTES],
     pub texts: [u8; pair_row::TEXTS_BYTES],

@@ -8,7 +8,7 @@ ghost use Rattle.search_steps.specs.turns.Turns.{joined, full, child_turn, rule_
 use search_problems::Problem;
 
 // Where the search is. `row`, `texts`: the tables of the two fields.
-#[derive(Drop)]
+#[derive(Clone, Copy)]
 pub struct State {
     pub busy: bool,
     pub writing: bool,
@@ -27,7 +27,7 @@ pub struct State {
 }
 
 // What a turn makes of the record that it reads, and the state after it.
-#[derive(Drop)]
+#[derive(Clone, Copy)]
 pub struct Turn {
     pub problem: Problem,
     pub state: State,

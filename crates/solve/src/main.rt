@@ -1,5 +1,6 @@
 // Shows for each line of standard input, two field texts, a row and a room with tabs between them,
 // the lines of the search for the two fields.
+#![tactic(auto)]
 use line_io::{Output, State};
 use text_write::Written;
 

@@ -3,7 +3,7 @@ ghost use Rattle.std.specs.Prelude.{◌≡◌};
 ghost use Rattle.text_accepted.specs.linearity.Lists.{no_lists, next_field, still_ok, add_list};
 
 // The list variables met so far: whether all of them were left-linear, whether one stands in this field, and their numbers.
-#[derive(Drop)]
+#[derive(Clone, Copy)]
 pub struct Lists {
     pub ok: bool,
     pub here: bool,

@@ -1,6 +1,7 @@
 // Going through the terms of a text: all refusals of one side from 3 on in one pass, the first variable that a left side lacks,
 // and the value that a text without refusals says.
 // The passes move a reader from term to term. They are proved by hand; the public functions over them have plain parameters.
+#![tactic(auto)]
 ghost use Rattle.std.specs.Prelude.{◌≡◌, ◌+◌, ◌≤◌, ◌<◌, ltb, length, drop};
 ghost use mathlib.Core.List.{foldl};
 ghost use Rattle.base_limits.specs.Limits.{most_slip_bytes};
@@ -25,7 +26,7 @@ use text_scan::{Found, Lexeme, Literal, Spelled};
 use text_values::{Field, RuleSide, Slip, SlipField, Term};
 
 // A text with the place where it is read. Document 01: "the reading place travels together with the text it reads".
-#[derive(Drop)]
+#[derive(Clone, Copy)]
 struct Reader<'a> {
     text: &'a [u8],
     at: At,

@@ -1,5 +1,6 @@
 // Reading a rule and a slip: the grammar first, then one pass over each side that meets every other refusal of one side, then refusal 10,
 // then the value.
+#![tactic(auto)]
 ghost use Rattle.std.specs.Prelude.{◌≡◌, ◌≤◌, length};
 ghost use Rattle.base_limits.specs.Limits.{most_rule_bytes, most_slip_bytes};
 ghost use Rattle.text_grammar.specs.Read.{read_slip};
@@ -16,20 +17,20 @@ use text_scan::Found;
 use text_scan::split::Split;
 use text_values::{Rule, Slip};
 
-#[derive(Drop)]
+#[derive(Clone, Copy)]
 pub struct RuleRead {
     pub verdict: Verdict,
     pub rule: Rule,
 }
 
-#[derive(Drop)]
+#[derive(Clone, Copy)]
 pub struct SlipRead {
     pub verdict: Verdict,
     pub slip: Slip,
 }
 
 // How a rule text is read, and how many bytes its left side has.
-#[derive(Drop)]
+#[derive(Clone, Copy)]
 pub struct LeftJudged {
     pub verdict: Verdict,
     pub end: usize,

@@ -1,4 +1,5 @@
 // Which refusal from 3 on a written term meets, and the first that is tried over the terms of a text so far.
+#![tactic(auto)]
 ghost use Rattle.std.specs.Prelude.{◌≡◌};
 ghost use Rattle.text_refusals.specs.verdicts.Verdicts.{sort_of};
 ghost use Rattle.text_refusals.specs.Refusals.{over_literal, over_lexeme, clash_by, variable_by, last_bad, last_reason, met, add_by};
@@ -13,7 +14,7 @@ use text_accepted::linearity::Lists;
 use text_scan::{Lexeme, Literal, Spelled};
 
 // Where a term stands: its first byte, the number of its field and its number there, both from 1.
-#[derive(Drop)]
+#[derive(Clone, Copy)]
 pub struct At {
     pub place: usize,
     pub field: usize,
@@ -21,7 +22,7 @@ pub struct At {
 }
 
 // The first refusal from 3 on that a term has met, at the place of the first term that met it, and the list variables so far.
-#[derive(Drop)]
+#[derive(Clone, Copy)]
 pub struct Survey {
     pub verdict: Verdict,
     pub lists: Lists,

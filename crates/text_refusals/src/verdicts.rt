@@ -3,7 +3,7 @@ ghost use Rattle.std.specs.Prelude.{◌≡◌};
 ghost use Rattle.text_refusals.specs.verdicts.Verdicts.{number_of, first_of};
 
 // Why a text is refused: document 01's refusals 1 to 7 and document 02's 10, in their order.
-#[derive(Drop)]
+#[derive(Clone, Copy)]
 pub enum Reason {
     Long,
     Grammar,
@@ -16,7 +16,7 @@ pub enum Reason {
 }
 
 // Accepted, or refused for a reason at a place.
-#[derive(Drop)]
+#[derive(Clone, Copy)]
 pub enum Verdict {
     Accepted,
     Refused(Reason, usize),

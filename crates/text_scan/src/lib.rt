@@ -1,5 +1,6 @@
 // Texts from the left, byte by byte: where a text stops being of the grammar, and which term stands at a place.
 // The place goes by one table over all bytes (tables.rt); what its classes mean, and that they are the grammar's, is in specs/Classes.antt.
+#![tactic(auto)]
 ghost use Rattle.std.specs.Prelude.{◌≡◌, ◌<◌, ◌≤◌, length, drop};
 ghost use Rattle.text_grammar.specs.Bytes.{begins};
 ghost use Rattle.text_grammar.specs.Machine.{place2};
@@ -17,14 +18,14 @@ use math_types::Kind;
 use tables::{BEFORE, BEHIND, CLASSES, IN_DIGITS, REFUSED, STEPS, WIDTH};
 
 // Document 01's place of refusal 2, where there is one.
-#[derive(Drop)]
+#[derive(Clone, Copy)]
 pub enum Found {
     At(usize),
     Nothing,
 }
 
 // What a constant is written as.
-#[derive(Drop)]
+#[derive(Clone, Copy)]
 pub enum Literal {
     // with a minus or not
     Int(bool),
@@ -32,7 +33,7 @@ pub enum Literal {
 }
 
 // What a term is written as.
-#[derive(Drop)]
+#[derive(Clone, Copy)]
 pub enum Spelled {
     Con(Literal),
     Var(Kind),
@@ -41,7 +42,7 @@ pub enum Spelled {
 
 // A term as it is written: how many digits an integer or a variable has, or how many bytes a string, and the digits' value.
 // The value is exact up to the largest magnitude of an integer and stops one above it, so that any number of digits can be read.
-#[derive(Drop)]
+#[derive(Clone, Copy)]
 pub struct Lexeme {
     pub what: Spelled,
     pub size: usize,
@@ -49,7 +50,7 @@ pub struct Lexeme {
 }
 
 // How many digits stand at a place, and their value, kept as a lexeme keeps it.
-#[derive(Drop)]
+#[derive(Clone, Copy)]
 struct Digits {
     count: usize,
     value: u32,
@@ -163,7 +164,7 @@ fn with_digits(what: Spelled, d: Digits) -> Lexeme
 }
 
 // What a term is made of: digits behind so many bytes, bytes between quotes, or a word.
-#[derive(Drop)]
+#[derive(Clone, Copy)]
 enum Part {
     Numeral(usize),
     Text,

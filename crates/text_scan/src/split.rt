@@ -7,7 +7,7 @@ ghost use Rattle.text_scan.specs.split.Splits.{split_of};
 
 use crate::Found;
 
-#[derive(Drop)]
+#[derive(Clone, Copy)]
 pub enum Split {
     // one side
     One,

@@ -8,7 +8,7 @@ use math_types::Kind;
 
 // A constant: an integer's sign, whether it is below zero, and its magnitude; or a string's length,
 // whose bytes stand beside it, since an enum holds no array.
-#[derive(Drop)]
+#[derive(Clone, Copy)]
 pub enum Constant {
     Int(bool, u32),
     Str(u8),

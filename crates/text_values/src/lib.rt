@@ -1,4 +1,5 @@
 // Terms, fields, rules and slips as values. A value's unused places are blank (every number zero), so that there is one value for one rule.
+#![tactic(auto)]
 ghost use Rattle.std.specs.Prelude.{◌≡◌};
 ghost use Rattle.text_values.specs.Values.{blank_term, blank_field, blank_side, blank_rule, blank_slip_field, blank_slip, one_field};
 
@@ -9,45 +10,45 @@ use crate::constants::Constant;
 use math_types::Kind;
 
 // What a term is: a constant, or a variable's type and number.
-#[derive(Drop)]
+#[derive(Clone, Copy)]
 pub enum Form {
     Con(Constant),
     Var(Kind, u8),
 }
 
-#[derive(Drop)]
+#[derive(Clone, Copy)]
 pub struct Term {
     pub form: Form,
     pub text: [u8; base_limits::LONGEST_STRING],
 }
 
-#[derive(Drop)]
+#[derive(Clone, Copy)]
 pub struct Field {
     pub n: usize,
     pub terms: [Term; base_limits::MOST_TERMS],
 }
 
 // One side of a rule.
-#[derive(Drop)]
+#[derive(Clone, Copy)]
 pub struct RuleSide {
     pub n: usize,
     pub fields: [Field; base_limits::MOST_FIELDS],
 }
 
 // A rule. A right side with no fields is none: a right side has one field at least.
-#[derive(Drop)]
+#[derive(Clone, Copy)]
 pub struct Rule {
     pub left: RuleSide,
     pub right: RuleSide,
 }
 
-#[derive(Drop)]
+#[derive(Clone, Copy)]
 pub struct SlipField {
     pub n: usize,
     pub terms: [Term; base_limits::MOST_ITEMS],
 }
 
-#[derive(Drop)]
+#[derive(Clone, Copy)]
 pub struct Slip {
     pub n: usize,
     pub fields: [SlipField; base_limits::MOST_FIELDS],

@@ -1,6 +1,7 @@
 // Writing: a number's digits and a term's text, into lent bytes.
 // The bytes are counted first, so that a buffer that is too small keeps its old bytes (refusal 8);
 // then they are written into room that is known.
+#![tactic(auto)]
 ghost use Rattle.std.specs.Prelude.{◌≡◌, ◌≤◌, length};
 ghost use Rattle.base_limits.specs.Limits.{longest_term};
 ghost use Rattle.text_write.specs.Sizes.{longest_number};
@@ -19,7 +20,7 @@ use math_types::Kind;
 use text_values::{Form, Term};
 
 // The answer of a writer. `refusal` of specs/Answers has document 01's number of each.
-#[derive(Drop)]
+#[derive(Clone, Copy)]
 pub enum Written {
     // so many bytes were written
     Bytes(usize),

@@ -1,4 +1,5 @@
 // Shows how each line of standard input is read: as a rule, and as a slip.
+#![tactic(auto)]
 use line_io::{Output, State};
 use text_write::Written;
 

@@ -2,6 +2,7 @@
 // listed, their counts are asked for first, it is said whether there are any, and a rule is carried out on a slip.
 // Numbers and byte slices cross the boundary, and structs of numbers in C's layout; to C a slice is a pointer and a length.
 // A name belongs to the whole program, as in C, so each begins with the library's.
+#![tactic(auto)]
 ghost use Rattle.std.specs.Prelude.{◌≡◌};
 ghost use Rattle.text_grammar.specs.rules.Read.{read_rule};
 ghost use Rattle.yopobrush.specs.Version.{library_version};
@@ -40,7 +41,7 @@ pub extern "C" fn yopobrush_version() -> u64
 
 // How a rule text is read: the refusal's number and its place, or 0 and 0 where there is none.
 #[repr(C)]
-#[derive(Drop)]
+#[derive(Clone, Copy)]
 pub struct Reading {
     pub refusal: u64,
     pub place: u64,
@@ -49,7 +50,7 @@ pub struct Reading {
 // How each text is read; whether the list is refused, by 8, or of a commit by 13, or by none, which is 0; and how many entries and bytes it
 // has, or 0 and 0 with 13.
 #[repr(C)]
-#[derive(Drop)]
+#[derive(Clone, Copy)]
 pub struct Listing {
     pub left: Reading,
     pub right: Reading,
@@ -120,7 +121,7 @@ pub extern "C" fn yopobrush_list_overlaps(left: &[u8], right: &[u8], out: &mut [
 
 // How each text is read, and how many entries and bytes the list has.
 #[repr(C)]
-#[derive(Drop)]
+#[derive(Clone, Copy)]
 pub struct Asking {
     pub left: Reading,
     pub right: Reading,
@@ -199,7 +200,7 @@ pub extern "C" fn yopobrush_commit_overlaps(
 
 // How each text is read, and whether their rules overlap: 1 for yes, 0 for no.
 #[repr(C)]
-#[derive(Drop)]
+#[derive(Clone, Copy)]
 pub struct Overlapping {
     pub left: Reading,
     pub right: Reading,
@@ -234,7 +235,7 @@ pub extern "C" fn yopobrush_texts_overlap(left: &[u8], right: &[u8]) -> Overlapp
 // How each text is read; the answer, which is 0 for no, 1 for yes, 11 for a result with a field of more than 64 terms, or 8 where the text
 // has no room; and how many bytes the text has.
 #[repr(C)]
-#[derive(Drop)]
+#[derive(Clone, Copy)]
 pub struct Carrying {
     pub rule: Reading,
     pub slip: Reading,

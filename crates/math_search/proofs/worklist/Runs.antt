@@ -150,7 +150,7 @@ module _ (E : Setting) (D : Records) (Holds : D.Rec → Problem E → Type 0) (n
           → Both q Q → Tried k q (enqueue E cap Q (made σ u (collect E L M (pick u) rs)))
       tries [] k h q Q both = (q, subst (λ (j : ℕ). Goes (from k q) (on j p q a b o)) (next_end (ok p) k (omega (arith, h))) here, both)
       tries (r ∷ rs) k h q Q both =
-          go (rule E r L M (pick u)) (subst (λ (j : ℕ). ChildIs E D Holds p j σ u (rule E r L M (pick u))) h.0 (g.child-is p L M σ u hp nf r))
+          go (rule E r L M (pick u)) (subst (λ (j : ℕ). ChildIs E D Holds p j σ u (rule E r L M (pick u))) h.0 (g.child_is p L M σ u hp nf r))
           (λ q' Q' both'. tries rs (k + 1) h.1 q' Q' both')
         where
           low : k < rule_count
@@ -224,7 +224,7 @@ module _ (E : Setting) (D : Records) (Holds : D.Rec → Problem E → Type 0) (n
     line_out = cond writing (store (text σ) b o) o
 
     turn_answer : on_turn (on rule_count p₀ (p ∷ q) a b o) ≡ on rule_count p q (plus a 1) (plus b (length (text σ))) line_out
-    turn_answer = rw (g.open_is p solved σ u h, g.line-is p σ u h) refl
+    turn_answer = rw (g.open_is p solved σ u h, g.line_is p σ u h) refl
 
     answered : (xs : List (Bindings E)) → Outcome (on rule_count p q (plus a 1) (plus b (length (text σ))) line_out) (answers xs)
         → Outcome (on rule_count p₀ (p ∷ q) a b o) (answers (σ ∷ xs))
@@ -286,10 +286,10 @@ module _ (E : Setting) (D : Records) (Holds : D.Rec → Problem E → Type 0) (n
   -- a turn that takes an open problem: it fails, or it is held
   module _ (p₀ p : Rec) (q : List Rec) (a b : ℕ) (o : List ℕ) (L M : Field E) (σ : Bindings E) (u : List Name) (h : Holds p (problem (equation L M) σ u)) where
     turn_fail : fails E L M ≡ true → on_turn (on rule_count p₀ (p ∷ q) a b o) ≡ on rule_count p q a b o
-    turn_fail e = rw (g.open_is p (equation L M) σ u h, g.fails-is p L M σ u h ∙ e) refl
+    turn_fail e = rw (g.open_is p (equation L M) σ u h, g.fails_is p L M σ u h ∙ e) refl
 
     turn_hold : fails E L M ≡ false → on_turn (on rule_count p₀ (p ∷ q) a b o) ≡ from p a b o 0 q
-    turn_hold e = rw (g.open_is p (equation L M) σ u h, g.fails-is p L M σ u h ∙ e) refl
+    turn_hold e = rw (g.open_is p (equation L M) σ u h, g.fails_is p L M σ u h ∙ e) refl
 
     outcome_open : (Q : List (Problem E)) → Both q Q → (k : ℕ)
         → ((q' : List Rec) (Q' : List (Problem E)) → Both q' Q' → Outcome (on rule_count p q' a b o) (run E k cap Q'))

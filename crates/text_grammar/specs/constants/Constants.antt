@@ -119,9 +119,9 @@ ConOk (str s) = All Inside s
 abbrev pub con_eq : Discrete Con
 con_eq = con-discrete Bool-discrete ℕ_discrete (list_eq ℕ_discrete)
 
-abbrev pub kind_of_lem : Con → Basic
-kind_of_lem (int m n) = leaf integer
-kind_of_lem (str s) = leaf string
+abbrev pub con_kind : Con → Basic
+con_kind (int m n) = leaf integer
+con_kind (str s) = leaf string
 
 -- a constant of each kind: `0`, `""`, `0`
 abbrev pub some_of : Basic → Con
@@ -129,10 +129,10 @@ some_of (leaf integer) = int false 0
 some_of (leaf string) = str []
 some_of atom = int false 0
 
-pub some_of_le : (k : Basic) → basics.le (kind_of_lem (some_of k)) k ≡ true
+pub some_of_le : (k : Basic) → basics.le (con_kind (some_of k)) k ≡ true
 some_of_le (leaf integer) = refl
 some_of_le (leaf string) = refl
 some_of_le atom = refl
 
 abbrev pub consts : Consts basics
-consts = record { Con = Con; con_eq = con_eq; kind_of_lem = kind_of_lem; some_of = some_of; some_of_le = some_of_le }
+consts = record { Con = Con; con_eq = con_eq; con_kind = con_kind; some_of = some_of; some_of_le = some_of_le }

@@ -14,7 +14,7 @@ use Rattle.base_limits.specs.Limits.{longest_string}
 use Rattle.base_lists.specs.Truths.{both_is, not_is}
 use Rattle.math_types.specs.Order.{basic}
 use Rattle.math_terms.specs.Terms.{con}
-use Rattle.text_grammar.specs.constants.Constants.{Con, int, str, limit, Signs, kind_of_lem}
+use Rattle.text_grammar.specs.constants.Constants.{Con, int, str, limit, Signs, con_kind}
 use Rattle.text_grammar.specs.Limits.{TermIn}
 use Rattle.text_values.specs.declared.constants.Constant.{Constant}
 use Rattle.text_values.specs.declared.constants.Constant.TheVariants.{Int, Str}
@@ -123,6 +123,6 @@ same_only (str s) (str t) h =
 pub same_constant_is : (c d : Con) → (same_value c d ≡ true) ↔ (c ≡ d)
 same_constant_is c d = (same_only c d, λ e. subst (λ (x : Con). same_value c x ≡ true) e (same_self c))
 
-pub constant_kind_lem : (c : Constant) (s : List ℕ) → constant_kind c ≡ basic (kind_of_lem (view_constant c s))
+pub constant_kind_lem : (c : Constant) (s : List ℕ) → constant_kind c ≡ basic (con_kind (view_constant c s))
 constant_kind_lem (Int m n) s = refl
 constant_kind_lem (Str k) s = refl
