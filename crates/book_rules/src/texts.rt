@@ -67,7 +67,7 @@ fn keep_text(kept: Kept, text: &[u8], row: &mut [u8]) -> Kept
 {
     let n = kept.n;
     let at = n * base_limits::LONGEST_RULE;
-    bytes::copy(text, &mut row[at..]);
+    base_bytes::copy(text, &mut row[at..]);
     let mut sizes = kept.sizes;
     sizes[n] = text.len();
     Kept { n: n + 1, sizes }

@@ -8,7 +8,7 @@ use Rattle.std.proofs.Math.Option.{none, some}
 use mathlib.Core.List.{List, [], ◌∷◌, ◌++◌}
 use native.Mathlib.Omega.{arith, by_contra}
 use Rattle.std.proofs.lemmas.Bool.{lt-leb}
-use Rattle.bytes.specs.Bytes.{index_of}
+use Rattle.base_bytes.specs.Bytes.{index_of}
 use Rattle.base_limits.specs.Limits.{most_list_bytes, pair_line}
 use Rattle.text_grammar.specs.Ascii.{ascii, newline}
 use Rattle.text_grammar.specs.Numbers.{digits_of}

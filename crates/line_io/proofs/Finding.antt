@@ -12,7 +12,7 @@ use lib.Seq.{length-take-le, take_all, take-take, take-append-add, drop-append-a
 use lib.IntN.{ℤ, pos, negsuc}
 use lib.Signed.{lt_z}
 use borrow.Author.Tests.{lt-ltb, le-ltb, ltb-true, ltb-false, eq-eqb, ne_eqb}
-use Rattle.bytes.specs.Bytes.{slice, index_of, index_after}
+use Rattle.base_bytes.specs.Bytes.{slice, index_of, index_after}
 use Rattle.io.specs.Counts.{IsPrefixLen, clamp_len}
 use Rattle.line_io.specs.declared.Input.{Input}
 use Rattle.line_io.specs.declared.Line.{Line}

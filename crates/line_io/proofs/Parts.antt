@@ -9,7 +9,7 @@ use lib.Dec.{ltb}
 use lib.ListN.{length, take, drop, length-drop, drop_of_length-le}
 use lib.Seq.{length-take-le, take_all, take-add, take-take, take-length, drop_at, drop-drop}
 use borrow.Author.Tests.{lt-ltb, le-ltb, le-leb, lt-leb}
-use Rattle.bytes.specs.Bytes.{slice, index_of}
+use Rattle.base_bytes.specs.Bytes.{slice, index_of}
 use Rattle.line_io.specs.declared.Input.{Input}
 use Rattle.line_io.specs.declared.Line.{Line}
 use Rattle.line_io.specs.Placing.{placed}

@@ -1,7 +1,7 @@
 -- THE NEXT LINE: what is done with whatever the reads bring.
 -- Which bytes they bring, and whether a read or a write fails, only the system knows.
 use Rattle.std.specs.Prelude.{◌≡◌, Bool, true, false, List, [], ◌++◌, ℕ, ◌+◌, ◌≤◌, ◌<◌, min, eqb, ltb, length, take, drop}
-use Rattle.bytes.specs.Bytes.{index_of}
+use Rattle.base_bytes.specs.Bytes.{index_of}
 use Rattle.io.specs.Counts.{IsPrefixLen}
 use Rattle.line_io.specs.declared.Input.{Input}
 use Rattle.line_io.specs.declared.Line.{Line}

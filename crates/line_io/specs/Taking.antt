@@ -1,7 +1,7 @@
 -- What the taking of a line does with a chunk that was read.
 -- `added_keeps` of proofs/Keeping says that the line buffer then has the first bytes of all the parts, one behind the other.
 use Rattle.std.specs.Prelude.{true, false, cond, List, ℕ, ◌+◌, ◌-◌, min, ltb, length, take}
-use Rattle.bytes.specs.Bytes.{slice, index_of}
+use Rattle.base_bytes.specs.Bytes.{slice, index_of}
 use Rattle.line_io.specs.declared.Input.{Input}
 use Rattle.line_io.specs.declared.Line.{Line}
 use Rattle.line_io.specs.declared.Taken.{Taken}

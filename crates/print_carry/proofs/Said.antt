@@ -7,7 +7,7 @@ use native.Mathlib.Decide.{dec_lt}
 use borrow.Author.Tests.{le-ltb}
 use lib.ListN.{length, take, drop}
 use Rattle.print_parts.proofs.Lines.{behind_tab}
-use Rattle.bytes.specs.Bytes.{index_of}
+use Rattle.base_bytes.specs.Bytes.{index_of}
 use Rattle.base_limits.specs.Limits.{slip_line}
 use Rattle.math_terms.specs.Terms.{con}
 use Rattle.text_grammar.specs.Ascii.{ascii}

@@ -1,7 +1,7 @@
 -- What `carry` prints for one line, which has a rule and a slip with a tab between them: what carrying out the rule on the slip answers.
 use Rattle.std.specs.Prelude.{cond, List, [], ◌++◌, map, ℕ, suc, ◌+◌, ltb, length, take, drop}
 use Rattle.std.proofs.Math.Option.{Option, none, some}
-use Rattle.bytes.specs.Bytes.{index_of}
+use Rattle.base_bytes.specs.Bytes.{index_of}
 use Rattle.base_limits.specs.Limits.{longest_slip, slip_line}
 use Rattle.math_terms.specs.Terms.{con}
 use Rattle.text_grammar.specs.Ascii.{ascii, newline}

@@ -5,7 +5,7 @@ use mathlib.Core.List.{List, [], ◌∷◌, ◌++◌, map}
 use native.Mathlib.Decide.{ℕ_discrete, dec_le, dec_lt}
 use lib.ListN.{replicate}
 use Rattle.base_lists.specs.Seqs.{any?}
-use Rattle.bytes.specs.Bytes.{index_after, index_of}
+use Rattle.base_bytes.specs.Bytes.{index_after, index_of}
 use Rattle.text_grammar.specs.Ascii.{ascii, newline}
 use Rattle.text_grammar.specs.Bytes.{digit?, begins, follows, first, holds}
 use Rattle.text_grammar.specs.Tokens.{fifth?, many?, over?, clash?, clash_of?}

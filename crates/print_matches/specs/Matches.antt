@@ -1,7 +1,7 @@
 -- What `matches` prints for one line, which has a rule and a slip with a tab between them: how the rule matches the slip.
 use Rattle.std.specs.Prelude.{cond, List, ◌++◌, map, ℕ, suc, ◌+◌, ◌*◌, ltb, length, take, drop}
 use Rattle.std.proofs.Math.Option.{Option, none, some}
-use Rattle.bytes.specs.Bytes.{index_of}
+use Rattle.base_bytes.specs.Bytes.{index_of}
 use Rattle.base_limits.specs.Limits.{numbers_of_side, atom_places, longest_term, longest_slip_field, slip_line}
 use Rattle.math_types.specs.Types.{Kind}
 use Rattle.math_terms.specs.Terms.{con, var}

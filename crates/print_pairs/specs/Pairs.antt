@@ -1,6 +1,6 @@
 -- What `pairs` prints for one line, which has two rules with a tab between them: the overlaps of the rules. Document 01, "The program".
 use Rattle.std.specs.Prelude.{cond, List, ◌++◌, ℕ, suc, ◌+◌, ltb, length, take, drop}
-use Rattle.bytes.specs.Bytes.{index_of}
+use Rattle.base_bytes.specs.Bytes.{index_of}
 use Rattle.base_limits.specs.Limits.{most_list_bytes, pair_line}
 use Rattle.text_grammar.specs.Ascii.{ascii, newline}
 use Rattle.text_grammar.specs.Numbers.{digits_of}

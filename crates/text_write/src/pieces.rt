@@ -4,7 +4,7 @@ ghost use Rattle.text_grammar.specs.Numbers.{digits_of};
 ghost use Rattle.text_grammar.specs.Plain.{term_text};
 ghost use Rattle.text_values.specs.Values.{view_term};
 ghost use Rattle.text_write.specs.Answers.{Writes};
-ghost use Rattle.bytes.specs.Bytes.{index_of};
+ghost use Rattle.base_bytes.specs.Bytes.{index_of};
 ghost use Rattle.text_write.specs.pieces.Refusals.{number_at};
 ghost use Rattle.text_write.specs.pieces.Sizes.{size_of};
 ghost use Rattle.text_write.specs.pieces.Placed.{Placed};
@@ -71,7 +71,7 @@ pub fn put_number_at(n: u64, place: u64, out: &mut [u8], at: usize) -> usize
 pub fn tab_place(line: &[u8]) -> usize
     ensures { (result ≡ index_of 9 line.now) × (result ≤ length line.now) }
 {
-    bytes::scan::find(line, 0, line.len(), b'\t')
+    base_bytes::find(line, b'\t')
 }
 
 // The text into the lent bytes, or its size where they are too few.
@@ -81,5 +81,5 @@ pub fn give(text: &[u8], out: &mut [u8]) -> Written
     if out.len() < text.len() {
         return Written::TooSmall(text.len());
     }
-    Written::Bytes(bytes::copy(text, out))
+    Written::Bytes(base_bytes::copy(text, out))
 }
