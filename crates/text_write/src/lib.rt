@@ -2,6 +2,7 @@
 // The bytes are counted first, so that a buffer that is too small keeps its old bytes (refusal 8);
 // then they are written into room that is known.
 #![tactic(auto)]
+
 ghost use Rattle.std.specs.Prelude.{◌≡◌, ◌≤◌, length};
 ghost use Rattle.base_limits.specs.Limits.{longest_term};
 ghost use Rattle.text_write.specs.Sizes.{longest_number};
