@@ -43,6 +43,7 @@ module _ {X : Type 0} (most : ℕ) where
   pub over_not_short : (s : List (List X)) → Over most s → Short most s → ⊥
   over_not_short (f ∷ s) (inl h) k = omega (arith, k.0)
   over_not_short (f ∷ s) (inr h) k = over_not_short s h k.1
+  over_not_short [] x'' k = elim x'' [ ]
 
   pub not_short_over : (s : List (List X)) → (Short most s → ⊥) → Over most s
   not_short_over [] n = absurd (n tt)

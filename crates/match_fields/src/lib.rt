@@ -1,5 +1,6 @@
 // Matching one field of a rule with one field of a slip: first the length, then the terms from the left.
 #![tactic(auto)]
+
 ghost use Rattle.std.specs.Prelude.{◌≡◌, ◌≤◌, get_or};
 ghost use Rattle.base_limits.specs.Limits.{most_terms, most_items};
 ghost use Rattle.text_values.specs.Values.{blank_term};

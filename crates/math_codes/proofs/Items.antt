@@ -212,9 +212,11 @@ module _ {C K A : Type 0} where
   there_field t s k a b (var (basic j) m ∷ f) h (inr o) = there_field t s k a (suc b) f h.1 o
   there_field t s k a b (var list m ∷ f) h (inl e) = let q = e.0 in let o : ◌≡◌ {A = ℕ} 0 1 = cc in absurd (omega arith)
   there_field t s k a b (var list m ∷ f) h (inr o) = there_field t s k a (suc b) f h.1 o
+  there_field t s k a b [] h o = elim o [ ]
 
   pub there : (t : List (Option (Atom C (Variable K A)))) (s : Side) (k : K) (a : A) (w b : ℕ) (r : List (List (Term C (Full K) A))) → StandAll t s w b r
       → Any (Occurs (basic k) a) r
       → (p : ℕ) × Holds t p (free (of s k a))
   there t s k a w b (f ∷ r) h (inl o) = there_field t s k a b f h.0 o
   there t s k a w b (f ∷ r) h (inr o) = there t s k a w (b + w) r h.1 o
+  there t s k a w b [] h x'' = elim x'' [ ]

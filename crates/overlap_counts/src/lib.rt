@@ -1,5 +1,6 @@
 // The counts of a list, which an ask returns, and what a commit answers by them, whatever list it is.
 #![tactic(auto)]
+
 ghost use Rattle.std.specs.Prelude.{◌≡◌};
 ghost use Rattle.overlap_counts.specs.Answers.{told, same_counts, commit_told};
 

@@ -2,6 +2,7 @@
 // with the same atom; by field its shape; by variable where it stands. The constants' bytes have a row of their own.
 // Reading a place that a row lacks gives 0. An item is a code, or from LISTS on a list variable.
 #![tactic(auto)]
+
 ghost use Rattle.std.specs.Prelude.{◌≡◌, ◌+◌, ◌*◌, get_or, set};
 ghost use Rattle.math_codes.specs.Index.{slot_at};
 ghost use Rattle.pair_row.specs.Row.{table_in, shape_in, field_of, index_in, top_in};

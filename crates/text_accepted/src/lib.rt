@@ -1,5 +1,6 @@
 // Which sides of rules and which fields reading can return. Every other value counts as one with no fields.
 #![tactic(auto)]
+
 ghost use Rattle.std.specs.Prelude.{◌≡◌, cond};
 ghost use Rattle.text_values.specs.Values.{view_term, view_field, view_side};
 ghost use Rattle.text_accepted.specs.linearity.Lists.{add_term, add_field, linear};

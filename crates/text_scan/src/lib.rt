@@ -1,6 +1,7 @@
 // Texts from the left, byte by byte: where a text stops being of the grammar, and which term stands at a place.
 // The place goes by one table over all bytes (tables.rt); what its classes mean, and that they are the grammar's, is in specs/Classes.antt.
 #![tactic(auto)]
+
 ghost use Rattle.std.specs.Prelude.{◌≡◌, ◌<◌, ◌≤◌, length, drop};
 ghost use Rattle.text_grammar.specs.Bytes.{begins};
 ghost use Rattle.text_grammar.specs.Machine.{place2};

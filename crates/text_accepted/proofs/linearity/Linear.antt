@@ -40,11 +40,13 @@ module _ {A : Type 0} where
       go : Any P s ⊎ Any Q s → Any P (x ∷ s) ⊎ Any Q (x ∷ s)
       go (inl p) = inl (inr p)
       go (inr q) = inr (inr q)
+  any_either P Q [] x' = elim x' [ ]
 
   any_not : (P Q : A → Type 0) → ((x : A) → P x → Q x → ⊥) → (s : List A) → All P s → Any Q s → ⊥
   any_not P Q f (x ∷ s) h (inl q) = f x h.0 q
   any_not P Q f (x ∷ s) h (inr a) = any_not P Q f s h.1 a
 
+  any_not P Q f [] h x'' = elim x'' [ ]
   -- none of s, and behind s none of t
   pub none_append : (P : List A → A → Type 0) (before s t : List A) → NoneOf P before (s ++ t) ↔ (NoneOf P before s × NoneOf P (before ++ s) t)
   none_append P before [] t = (λ h. (tt, rw append-nil h), λ h. rw append-nil at h.1)
@@ -88,7 +90,7 @@ pub tracks_next : {before : List Occ} {n : ℕ} {l : Lists} → Tracks before n 
 tracks_next {before} {n} {l} t =
     record {
       here_is = (λ e. absurd (false≢true e), λ a. absurd (any_not (λ o. o.0 ≤ n) (InField (suc n)) (λ o h e. omega arith) before t.so_far a));
-      seen_is = t.seen-is;
+      seen_is = t.seen_is;
       places = t.places;
       so_far = all_map (λ o. o.0 ≤ n) (λ o. o.0 ≤ suc n) (λ o h. omega arith) before t.so_far;
     }
@@ -108,14 +110,15 @@ tracks_add {before} {n} {l} v t h =
         (λ g. any_right (Numbered u) before ((n, v) ∷ []) (inl (sym e)), λ a. rw (e, get_or-set_same l.seen v true false (omega (arith, t.places))))
     seen u k (no d) =
         let same : get_or (set l.seen v true) u false ≡ get_or l.seen u false = get_or-set_other l.seen v u true false d in (
-          λ g. any_left (Numbered u) before ((n, v) ∷ []) ((t.seen-is u k).0 (sym same ∙ g)),
-          λ a. same ∙ (t.seen-is u k).1 (old (any_append (Numbered u) before ((n, v) ∷ []) a)),
+          λ g. any_left (Numbered u) before ((n, v) ∷ []) ((t.seen_is u k).0 (sym same ∙ g)),
+          λ a. same ∙ (t.seen_is u k).1 (old (any_append (Numbered u) before ((n, v) ∷ []) a)),
         )
       where
         old : Any (Numbered u) before ⊎ Any (Numbered u) ((n, v) ∷ []) → Any (Numbered u) before
         old (inl a) = a
         old (inr (inl e)) = absurd (d (sym e))
 
+old (inr (inr x3)) = elim x3 [ ]
 -- it stays true exactly where it was, and the list variable of number v clashes with none before
 pub tracks_still : {before : List Occ} {n : ℕ} {l : Lists} (v : ℕ) → Tracks before n l
     → v ≤ largest_number → (still_ok l v ≡ true) ↔ ((l.ok ≡ true) × (Any (Clash (n, v)) before → ⊥))
@@ -128,16 +131,16 @@ tracks_still {before} {n} {l} v t h = (to, from)
         (p.0, λ a. go q (any_either (InField n) (Numbered v) before a))
       where
         go : (not l.here ≡ true) × (not (get_or l.seen v false) ≡ true) → Any (InField n) before ⊎ Any (Numbered v) before → ⊥
-        go q (inl a) = (not_is l.here).0 q.0 (t.here-is.1 a)
-        go q (inr a) = (not_is (get_or l.seen v false)).0 q.1 ((t.seen-is v h).1 a)
+        go q (inl a) = (not_is l.here).0 q.0 (t.here_is.1 a)
+        go q (inr a) = (not_is (get_or l.seen v false)).0 q.1 ((t.seen_is v h).1 a)
 
     from : (l.ok ≡ true) × (Any (Clash (n, v)) before → ⊥) → still_ok l v ≡ true
     from p =
         (both_is l.ok (not l.here && not (get_or l.seen v false))).1 (
           p.0,
           (both_is (not l.here) (not (get_or l.seen v false))).1 (
-            (not_is l.here).1 (λ e. p.1 (any_map (InField n) (Clash (n, v)) (λ o q. inl q) before (t.here-is.0 e))),
-            (not_is (get_or l.seen v false)).1 (λ e. p.1 (any_map (Numbered v) (Clash (n, v)) (λ o q. inr q) before ((t.seen-is v h).0 e))),
+            (not_is l.here).1 (λ e. p.1 (any_map (InField n) (Clash (n, v)) (λ o q. inl q) before (t.here_is.0 e))),
+            (not_is (get_or l.seen v false)).1 (λ e. p.1 (any_map (Numbered v) (Clash (n, v)) (λ o q. inr q) before ((t.seen_is v h).0 e))),
           ),
         )
 
@@ -210,6 +213,7 @@ one_field : (r : OurFields) (ts : List OurTerm) (n : ℕ) (before : List Occ) �
 one_field (f ∷ fs) ts n before h (Memᴰ.head e) =
     rw e (renumbered f n 1 before [] (λ v a. absurd a) ((apart_append before (occ_f n f) (occ_r (suc n) fs)).0 h).0)
 one_field (f ∷ fs) ts n before h (Memᴰ.tail m) = one_field fs ts (suc n) (before ++ occ_f n f) ((apart_append before (occ_f n f) (occ_r (suc n) fs)).0 h).1 m
+one_field [] ts n before h x'' = elim x'' [ ]
 
 pub linear_field : (r : OurFields) (ts : List OurTerm) → Linear r → Memᴰ ts r → Linear (ts ∷ [])
 linear_field r ts h m = rw append-nil (one_field r ts 1 [] h m)

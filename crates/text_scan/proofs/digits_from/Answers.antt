@@ -1,0 +1,28 @@
+use mathlib.Core.Path.{◌≡◌, sym, ◌∙◌}
+use mathlib.Core.Logic.{⊎_elim}
+use mathlib.Core.Bool.{true}
+use Prim.Native.Nat.{◌-◌}
+use native.Mathlib.Omega.{arith}
+use borrow.Author.Rules.{rules}
+use lib.ListN.{length, get_or}
+use Rattle.text_scan.specs.Lexemes.{is_digit}
+use Rattle.text_scan.proofs.Runs.{is_digit_lem, DigitsTo, digits_begin, digits_more, digits_past, digits_other}
+use Rattle.text_scan.proofs.digits_from.Goals as goal
+
+pub overflow_sub-text : goal.overflow_sub-text
+overflow_sub-text c = omega (arith, is_digit_lem _ (digit c))
+
+pub loop-i-preserved : goal.loop-i-preserved
+loop-i-preserved c =
+    
+    rw c.cap-v.ensures (digits_more c.args.text.now c.args.at c.loop-i.i c.loop-i.v c.loop-i.invariant
+    c.loop-i-test.true (digit w))
+
+pub returns : goal.returns
+returns c =
+    let t = c.args.text.now in
+    let L = c.loop-i in
+    ⊎_elim
+    (λ w. digits_other t c.args.at L.i L.v L.invariant w.0.taken (sym w.2.ensures ∙ w.3.left))
+    (λ w. digits_past t c.args.at L.i L.v L.invariant w.left)
+    c.loop-i-test.branch
