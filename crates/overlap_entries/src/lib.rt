@@ -1,5 +1,6 @@
 // Two fields laid over each other: the candidates, the joins of one, and the items that it gives an entry's field.
 #![tactic(auto)]
+
 ghost use Rattle.std.specs.Prelude.{◌≡◌, max};
 ghost use Rattle.math_types.specs.Types.{entry};
 ghost use Rattle.math_codes.specs.Spots.{cell_at, pick_cell, join_cells, join_from};

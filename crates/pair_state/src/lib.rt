@@ -1,5 +1,6 @@
 // The state of the fillings of a pair of rules: by place the code of what its atom stands for, and the join of two atoms.
 #![tactic(auto)]
+
 ghost use Rattle.std.specs.Prelude.{◌≡◌, ◌&&◌, eqb};
 ghost use Rattle.math_types.specs.Types.{entry};
 ghost use Rattle.math_codes.specs.States.{replaced, join_places};

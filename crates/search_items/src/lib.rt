@@ -1,6 +1,7 @@
 // Lists of codes as values: the sides of an equation of the search, and what a list variable stands for; substitution into them, their
 // equality, and the occurs check.
 #![tactic(auto)]
+
 ghost use Rattle.std.specs.Prelude.{◌≡◌, min, get_or, drop};
 ghost use mathlib.Core.List.{[], ◌∷◌, foldl};
 ghost use Rattle.math_terms.specs.Seqs.{concat_map};

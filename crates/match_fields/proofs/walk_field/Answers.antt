@@ -11,6 +11,7 @@ use Rattle.base_lists.specs.Seqs.{long_mapped}
 use Rattle.match_fields.proofs.Walks.{absent, passed_is, failed_is, Reached, reached_none, reached_list, reached_one, reached_fail}
 use Rattle.match_fields.proofs.Walks.{reached_all, reached_same}
 use Rattle.match_fields.proofs.walk_field.Goals as goal
+use Rattle.match_fields.proofs.walk_field.Goals.{then-is_list_term, else-is_list_term+else-not-passes}
 
 pub returns-then-not-passes : goal.returns-then-not-passes
 returns-then-not-passes c =
@@ -40,15 +41,17 @@ loop-i-preserved c =
       v.0,
       v.1,
       omega arith,
-      ⊎_elim
-          (λ w. same (l.p + z.gap) c.if-is_list_term.p l.compared c.if-is_list_term.compared l.now c.if-is_list_term.now w.1 w.2 w.3
+      elim c.if-is_list_term.branch [ then-is_list_term w ↦
+          same (l.p + z.gap) c.if-is_list_term.p l.compared c.if-is_list_term.compared l.now c.if-is_list_term.now w.now-is w.compared-is w.p-is
           (reached_list z.gap (take z.w.n z.w.terms) z.f.n z.f.terms most_terms z.v l.i l.p l.compared l.now absent v.3
           (omega (arith, v.1))
-          I.result I.ensures w.0.taken v.0))
-          (λ w. same (l.p + 1) c.if-is_list_term.p (l.compared + 1) c.if-is_list_term.compared w.4.result c.if-is_list_term.now w.5 w.6 w.7
+          I.result I.ensures w.if-is_list_term.true v.0)
+      | else-is_list_term+else-not-passes w ↦
+          same (l.p + 1) c.if-is_list_term.p (l.compared + 1) c.if-is_list_term.compared w.bound_by-now.result c.if-is_list_term.now
+          w.now-is w.compared-is w.p-is
           (reached_one z.gap (take z.w.n z.w.terms) z.f.n z.f.terms most_terms z.v l.i l.p l.compared l.now absent v.3
           (omega (arith, v.1))
-          I.result I.ensures w.0.left w.1.result w.1.ensures _
-          (passed_is (get_or z.f.terms l.i absent) w.1.result l.now w.2.result w.4.result w.2.ensures w.4.ensures) w.3.left))
-          c.if-is_list_term.branch,
+          I.result I.ensures w.if-is_list_term.false w.item_at-item.result w.item_at-item.ensures _
+          (passed_is (get_or z.f.terms l.i absent) w.item_at-item.result l.now w.passes.result w.bound_by-now.result w.passes.ensures
+          w.bound_by-now.ensures) w.if-not-passes.false-raw) ],
     )

@@ -117,8 +117,8 @@ tracks_add {before} {n} {l} v t h =
         old : Any (Numbered u) before ⊎ Any (Numbered u) ((n, v) ∷ []) → Any (Numbered u) before
         old (inl a) = a
         old (inr (inl e)) = absurd (d (sym e))
+        old (inr (inr x)) = elim x [ ]
 
-old (inr (inr x3)) = elim x3 [ ]
 -- it stays true exactly where it was, and the list variable of number v clashes with none before
 pub tracks_still : {before : List Occ} {n : ℕ} {l : Lists} (v : ℕ) → Tracks before n l
     → v ≤ largest_number → (still_ok l v ≡ true) ↔ ((l.ok ≡ true) × (Any (Clash (n, v)) before → ⊥))

@@ -22,6 +22,6 @@ returns-in-108 c = starts_var c.args.b list c.in-108.is
 
 pub returns-in_default : goal.returns-in_default
 returns-in_default c =
-    let k = c.in_default.rest in
+    let k = c.in_default.in_default-own.rest in
     starts_empty c.args.b (sym c.is_digit.ensures ∙ c.if-is_digit.false)
     k.0.0.0.0.0.1 k.0.0.0.0.1 k.0.0.0.1 k.0.0.1 k.0.1 k.1

@@ -9,6 +9,6 @@ overflow_add-result-in-At-2 c =
     
     let q = c.requires in
     let stops = found_at _ c.grammar_place.result _ c.grammar_place.ensures c.in-At.is in
-    let h = right_in c.args.text.now c.args.p q.0.0 q.0.1 q.1.0 q.1.1 (omega (arith, c.if-text-p.false))
+    let h = right_in c.args.text.now c.args.p q.text_value.0 q.text_value.1 q.p_value.0 q.p_value.1 (omega (arith, c.if-text-p.false))
     c.if-text-p-ne62.false c.in-At.q stops in
     search rules
