@@ -38,7 +38,7 @@ loop-p-preserved c =
         let J = w.join_cells-joined in
         subst S (sym w.now-is)
         (left_one entry T a b z.n z.st.atoms l.now l.p i k c.cell_at-a.ensures c.cell_at-b.ensures l.invariant c.loop-p-test.true
-        J.result J.ensures w.if-not-joined.false)
+        J.result J.ensures (not-false J.result.ok w.if-not-joined.false))
     | else-differ w ↦
         subst S (sym w.now-is)
         (left_same entry T a b z.n z.st.atoms l.now.atoms l.p i k c.cell_at-a.ensures c.cell_at-b.ensures l.invariant c.loop-p-test.true
