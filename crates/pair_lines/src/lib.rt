@@ -1,6 +1,7 @@
 // The line of an entry: its items, the numbers that their variables get, and its bytes. And that of an answer of the search.
 // The writers store a byte where there is room and go on counting where there is none: with no room a line is measured.
 #![tactic(auto)]
+
 ghost use Rattle.std.specs.Prelude.{◌≡◌, true, false, List, [], ◌∷◌, ◌++◌, ◌+◌, ◌-◌, ◌*◌, ◌^◌, ◌≤◌, ◌<◌, length, get_or};
 ghost use Rattle.std.proofs.lemmas.List.Edits.{sets};
 ghost use Rattle.base_limits.specs.Limits.{most_fields, entry_terms};
@@ -50,10 +51,10 @@ struct Run {
 // A variable gets the next number of its type where it is met first.
 fn name_item(row: &[u8], c: u8, counts: &mut [u8], numbers: &mut [u8])
     requires { Few most_count counts.old }
-    ensures counts_value { counts.exit.now ≡
-        (name_code (table_in row.now) (record { counts = counts.entry.now; numbers = numbers.old }) c).counts }
+    ensures counts_value { counts.new ≡
+        (name_code (table_in row.now) (record { counts = counts.old; numbers = numbers.old }) c).counts }
     ensures numbers_after { numbers.new ≡
-        (name_code (table_in row.now) (record { counts = counts.entry.now; numbers = numbers.old }) c).numbers }
+        (name_code (table_in row.now) (record { counts = counts.old; numbers = numbers.old }) c).numbers }
 {
     if !pair_row::is_variable(row, c) {
         return;
@@ -81,11 +82,11 @@ fn lay_field(
         × Few (entry_terms * j) counts.old }
     ensures after { items.new ≡ sets items.old (entry_terms * j)
         (field_in row.now c atoms.now j) }
-    ensures counts_value { counts.exit.now ≡
-        (name_codes (table_in row.now) (record { counts = counts.entry.now; numbers = numbers.old })
+    ensures counts_value { counts.new ≡
+        (name_codes (table_in row.now) (record { counts = counts.old; numbers = numbers.old })
         (field_in row.now c atoms.now j)).counts }
     ensures numbers_after { numbers.new ≡
-        (name_codes (table_in row.now) (record { counts = counts.entry.now; numbers = numbers.old })
+        (name_codes (table_in row.now) (record { counts = counts.old; numbers = numbers.old })
         (field_in row.now c atoms.now j)).numbers }
 {
     let s = pair_row::shape_at(row, false, j);
@@ -522,11 +523,11 @@ fn value_fits(items: &[u8]) -> bool
 fn name_items(row: &[u8], items: &[u8], counts: &mut [u8], numbers: &mut [u8])
     requires { Few most_count
         (name_codes (table_in row.now) (record { counts = counts.now; numbers = numbers.old }) items.now).counts }
-    ensures counts_value { counts.exit.now ≡
-        (name_codes (table_in row.now) (record { counts = counts.entry.now; numbers = numbers.old })
+    ensures counts_value { counts.new ≡
+        (name_codes (table_in row.now) (record { counts = counts.old; numbers = numbers.old })
         items.now).counts }
     ensures numbers_after { numbers.new ≡
-        (name_codes (table_in row.now) (record { counts = counts.entry.now; numbers = numbers.old })
+        (name_codes (table_in row.now) (record { counts = counts.old; numbers = numbers.old })
         items.now).numbers }
 {
     let mut i: usize = 0;
@@ -549,11 +550,11 @@ fn name_value(
 )
     requires { Few most_count (name_codes (table_in row.now) (record { counts = counts.now; numbers = numbers.old })
         (value_with row.now right atoms.now items.now rank n)).counts }
-    ensures counts_value { counts.exit.now ≡
-        (name_codes (table_in row.now) (record { counts = counts.entry.now; numbers = numbers.old })
+    ensures counts_value { counts.new ≡
+        (name_codes (table_in row.now) (record { counts = counts.old; numbers = numbers.old })
         (value_with row.now right atoms.now items.now rank n)).counts }
     ensures numbers_after { numbers.new ≡
-        (name_codes (table_in row.now) (record { counts = counts.entry.now; numbers = numbers.old })
+        (name_codes (table_in row.now) (record { counts = counts.old; numbers = numbers.old })
         (value_with row.now right atoms.now items.now rank n)).numbers }
 {
     if rank < pair_row::LIST_RANK {
@@ -576,11 +577,11 @@ fn name_rank(
 )
     requires { Few most_count (name_fields (table_in row.now) (record { counts = counts.now; numbers = numbers.old })
         (listed_rank row.now right atoms.now items.now rank)).counts }
-    ensures counts_value { counts.exit.now ≡
-        (name_fields (table_in row.now) (record { counts = counts.entry.now; numbers = numbers.old })
+    ensures counts_value { counts.new ≡
+        (name_fields (table_in row.now) (record { counts = counts.old; numbers = numbers.old })
         (listed_rank row.now right atoms.now items.now rank)).counts }
     ensures numbers_after { numbers.new ≡
-        (name_fields (table_in row.now) (record { counts = counts.entry.now; numbers = numbers.old })
+        (name_fields (table_in row.now) (record { counts = counts.old; numbers = numbers.old })
         (listed_rank row.now right atoms.now items.now rank)).numbers }
 {
     let top = pair_row::top_at(row, right, rank);
@@ -605,11 +606,11 @@ fn name_values(
 )
     requires { Few most_count (name_fields (table_in row.now) (record { counts = counts.now; numbers = numbers.old })
         (listed_in row.now right atoms.now items.now)).counts }
-    ensures counts_value { counts.exit.now ≡
-        (name_fields (table_in row.now) (record { counts = counts.entry.now; numbers = numbers.old })
+    ensures counts_value { counts.new ≡
+        (name_fields (table_in row.now) (record { counts = counts.old; numbers = numbers.old })
         (listed_in row.now right atoms.now items.now)).counts }
     ensures numbers_after { numbers.new ≡
-        (name_fields (table_in row.now) (record { counts = counts.entry.now; numbers = numbers.old })
+        (name_fields (table_in row.now) (record { counts = counts.old; numbers = numbers.old })
         (listed_in row.now right atoms.now items.now)).numbers }
 {
     let mut rank: u8 = 0;

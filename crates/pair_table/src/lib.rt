@@ -1,6 +1,7 @@
 // Making the tables of a pair of rules: each term that is read is noted at its place. A constant's bytes are compared here, once, and
 // never again.
 #![tactic(auto)]
+
 ghost use Rattle.std.specs.Prelude.{◌≡◌, ◌+◌, ◌-◌, ◌*◌, ◌≤◌, ◌<◌, length, get_or};
 ghost use Rattle.std.proofs.lemmas.List.Edits.{sets};
 ghost use Rattle.base_limits.specs.Limits.{most_fields, longest_string, kind_count, numbers_of_side, pair_places, pair_fields};

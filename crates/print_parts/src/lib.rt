@@ -1,5 +1,6 @@
 // What the answers to a line have in common: the title, a refusal, and the place behind a line's tab.
 #![tactic(auto)]
+
 ghost use Rattle.std.specs.Prelude.{◌≡◌, ◌++◌, ◌+◌, min};
 ghost use Rattle.text_grammar.specs.Ascii.{newline};
 ghost use Rattle.text_grammar.specs.Numbers.{digits_of};

@@ -1,6 +1,7 @@
 // The search's rules on codes: what they ask of a side of an equation, which equations have no solution, and what each rule makes of one.
 // A lent row has the tables of the pair (`pair_row`).
 #![tactic(auto)]
+
 ghost use Rattle.std.specs.Prelude.{◌≡◌, false, ◌∷◌, get_or, drop};
 ghost use Rattle.math_terms.specs.Seqs.{concat_map};
 ghost use Rattle.pair_row.specs.Row.{table_in};

@@ -2,6 +2,7 @@
 // Document 01: "Writing a rule gives its one plain text: no `empty` unless the field has no terms, integers without leading zeros."
 // The text is put together in room that is known to be enough, piece behind piece, and then given whole or not at all (refusal 8).
 #![tactic(auto)]
+
 ghost use Rattle.std.specs.Prelude.{◌≡◌, length};
 ghost use Rattle.base_limits.specs.Limits.{longest_side};
 ghost use Rattle.text_grammar.specs.Plain.{field_text, plain};

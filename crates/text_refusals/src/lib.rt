@@ -1,5 +1,6 @@
 // Which refusal from 3 on a written term meets, and the first that is tried over the terms of a text so far.
 #![tactic(auto)]
+
 ghost use Rattle.std.specs.Prelude.{◌≡◌};
 ghost use Rattle.text_refusals.specs.verdicts.Verdicts.{sort_of};
 ghost use Rattle.text_refusals.specs.Refusals.{over_literal, over_lexeme, clash_by, variable_by, last_bad, last_reason, met, add_by};

@@ -1,0 +1,12 @@
+use mathlib.Core.Path.{◌≡◌}
+use lib.ListN.{length}
+use Rattle.search_items.specs.Items.{most_codes}
+use Rattle.search_items.proofs.Collected.{items_rest}
+use borrow.Author.Rules.{rules}
+use Rattle.search_rules.proofs.before_rest.Goals as goal
+
+pub returns : goal.returns
+returns c =
+    let z = c.args in
+    let e : length z.w.codes ≡ most_codes = search rules in
+    rw (c.before-2.ensures, c.rest.ensures, items_rest z.w e)

@@ -1,0 +1,25 @@
+use mathlib.Core.Path.{◌≡◌, ◌∙◌}
+use Prim.Native.Nat.{◌-◌}
+use native.Mathlib.Omega.{arith}
+use lib.ListN.{length}
+use borrow.Author.Rules.{rules}
+use Rattle.base_lists.specs.Seqs.{long_mapped}
+use Rattle.text_write.proofs.pieces.Pieces.{placed_as, placed_none}
+use Rattle.text_write.proofs.pieces.Rows.{Putting, row_none, putting_start, putting_next, putting_last, putting_whole}
+use Rattle.text_plain.proofs.slips.Rows.{fields, no_field}
+use Rattle.text_plain.proofs.slips.put_slip.Goals as goal
+
+pub loop-i-preserved : goal.loop-i-preserved
+loop-i-preserved c =
+    let L = c.loop-i in
+    let h = c.loop-i-test.true in
+    putting_next fields no_field c.args.s.fields c.args.s.n 4 _ _ _ L.p L.out L.i L.invariant h
+    c.put_bytes-a.ensures c.put_field-p-in-loop-i.ensures
+
+pub returns : goal.returns
+returns c =
+    let L = c.loop-i in
+    let P = c.put_field-p in
+    let others = putting_last fields no_field c.args.s.fields c.args.s.n 4 _ _ _ L.p L.out L.i L.invariant c.loop-i-test.false in
+    putting_whole fields no_field c.args.s.fields c.args.s.n 4 _ (let it : length c.args.s.fields ≡ 4 = search long_mapped in it) L.invariant.most
+    c.if-n-eq0.false c.args.at c.args.out.now P.ensures others
