@@ -66,7 +66,7 @@ module _ (t : List (Option OurAtom)) where
   -- p is the record of P, a problem of the search tree of A = B
   pub record Holds (A B : Field setting) (p : Problem) (P : search.Problem setting) : Type 0 where
     pub met : Met setting A B P
-    pub is_open_lem : p.«open» ≡ is_open (rest setting P)
+    pub opens : p.«open» ≡ is_open (rest setting P)
     pub left : p.left ≡ items_value t (left_of setting (rest setting P))
     pub right : p.right ≡ items_value t (right_of setting (rest setting P))
     pub atoms : Represents basics consts our_vars t p.atoms.atoms (state_of (bindings setting P))

@@ -136,7 +136,7 @@ module _ (t : List (Option OurAtom)) (long : length t ≡ pair_places) where
       applied_by r (keep solved) e c =
           record {
             met = c;
-            is_open = refl;
+            opens = refl;
             left = refl;
             right = refl;
             atoms = h.atoms;
@@ -148,7 +148,7 @@ module _ (t : List (Option OurAtom)) (long : length t ≡ pair_places) where
       applied_by r (keep (equation L' M')) e c =
           record {
             met = c;
-            is_open = refl;
+            opens = refl;
             left = refl;
             right = refl;
             atoms = h.atoms;
@@ -160,7 +160,7 @@ module _ (t : List (Option OurAtom)) (long : length t ≡ pair_places) where
       applied_by r (bind x s v solved) e c =
           record {
             met = c;
-            is_open = refl;
+            opens = refl;
             left = refl;
             right = refl;
             atoms =
@@ -174,7 +174,7 @@ module _ (t : List (Option OurAtom)) (long : length t ≡ pair_places) where
       applied_by r (bind x s v (equation L' M')) e c =
           record {
             met = c;
-            is_open = refl;
+            opens = refl;
             left = refl;
             right = refl;
             atoms = atoms_bound t long σ fine.inv.kinds p.atoms h.atoms x s (x_in r x s v n e) (all_in r x s v n e).0 (does r x s v n e).fits;

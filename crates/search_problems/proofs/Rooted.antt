@@ -246,7 +246,7 @@ module _ (t : List (Option OurAtom)) (long : length t ≡ pair_places) (row : Li
     root_holds is_f is-g =
         record {
           met = start;
-          is_open = refl;
+          opens = refl;
           left = side_agrees left a 0 f p.0.3.0 one_f stand_f is_f;
           right = side_agrees right b rule_places g q.0.3.0 one_g stand_g is-g;
           atoms = represents_start basics consts our_vars t our_ranks (table_in row) made;

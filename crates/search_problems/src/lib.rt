@@ -3,6 +3,7 @@
 // and the record where the search starts.
 // A lent row has the tables of the pair (`pair_row`).
 #![tactic(auto)]
+
 ghost use Rattle.std.specs.Prelude.{◌≡◌, cond, ◌-◌};
 ghost use mathlib.Core.List.{foldl};
 ghost use Rattle.search_problems.specs.variables.Sets.{with_name, list_variables};

@@ -97,7 +97,7 @@ module _ (f g : List OurTerm) (is_f : IsLeft (f ∷ [])) (is-g : IsLeft (g ∷ [
   pub agreed : Agrees setting all Held number (answer_text f g)
   agreed = record {
     ordered = (refl, (refl, (refl, (refl, (refl, (refl, (refl, (refl, (refl, (refl, (refl, (refl, (refl, (refl, refl))))))))))))));
-    open_is = λ p n σ u h. h.is_open ∙ open_same n;
+    open_is = λ p n σ u h. h.opens ∙ open_same n;
     fails_is = λ p L M σ u h. steps.fails_holds pair_table long tables pair.tables.atoms A B equal p L M σ u h;
     child_is = λ p L M σ u h nf r.
         child_same p σ u r (rule setting r L M (lowest u)) (steps.child_holds pair_table long tables pair.tables.atoms A B equal p L M σ u h nf r);

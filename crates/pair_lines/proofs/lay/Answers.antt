@@ -18,6 +18,6 @@ loop-j-preserved c =
     let h = c.loop-j-test.true in
     let e = c.lay_field.ensures in (
       lays_one c.args.row.now c.args.c c.args.atoms.now l.j l.items l.counts l.numbers l.invariant.0
-          (count_fits c.args.fields c.args.c c.requires l.j h) _ _ _ e.0 e.1.0 e.1.1,
+          (count_fits c.args.fields c.args.c c.requires l.j h) _ _ _ e.after e.counts_value e.numbers_after,
       omega (arith, h),
     )

@@ -13,7 +13,7 @@ pub put_byte-requires-2 : goal.put_byte-requires-2
 put_byte-requires-2 c =
     
     
-    omega (arith, c.requires, ap length (three (c9)), c.put_byte-p-2.ensures.0, c.put_byte-q.ensures.0)
+    omega (arith, c.requires, ap length ((let it : let z_three = c.args in digits_of z_three.n ≡ (48 + z_three.n / 100) ∷ (48 + z_three.n / 10 % 10) ∷ (48 + z_three.n % 10) ∷ [] = digits_three c.args.n c.if-n-lt100.false (omega (arith, c.ranges.n)) in it)), c.put_byte-p-2.ensures.0, c.put_byte-q.ensures.0)
 
 pub returns : goal.returns
 returns c =
@@ -22,6 +22,6 @@ returns c =
     let z = c.args in
     let a = (48 + z.n / 100) ∷ [] in
     let b = (48 + z.n / 10 % 10) ∷ [] in
-    puts_as z.at z.out.now (sym (three (c12)))
+    puts_as z.at z.out.now (sym ((let it : let z_three = c.args in digits_of z_three.n ≡ (48 + z_three.n / 100) ∷ (48 + z_three.n / 10 % 10) ∷ (48 + z_three.n % 10) ∷ [] = digits_three c.args.n c.if-n-lt100.false (omega (arith, c.ranges.n)) in it)))
     (puts_next (a ++ b) ((48 + z.n % 10) ∷ []) z.at z.out.now
     (puts_next a b z.at z.out.now c.put_byte-p-2.ensures c.put_byte-q.ensures) c.put_byte-2.ensures)
