@@ -1,5 +1,6 @@
 // Shows for a book of rules on standard input, one a line, which pairs of them overlap.
 #![tactic(auto)]
+
 use book_rules::texts::{Added, Kept};
 use line_io::{Output, State};
 use text_write::Written;
@@ -13,17 +14,33 @@ struct Reading {
 }
 
 // Puts what is said of line number k behind what waits. It has room in the bytes of the text (`line_answer` ensures it).
-fn say_line(k: u64, added: Added, text: &mut [u8], buffer: &mut [u8], output: Output) -> Output {
+#[tactic(auto, using(text_write::proofs::pieces::Pieces::written_in))]
+fn say_line(
+    rt: HostRuntime,
+    k: u64,
+    added: Added,
+    text: &mut [u8],
+    buffer: &mut [u8],
+    output: Output,
+) -> Output {
     match print_book::line_answer(k, added, text) {
-        Written::Bytes(n) => line_io::put(&text[..n], buffer, output),
+        Written::Bytes(n) => line_io::put(&mut rt.stdout(), &text[..n], buffer, output),
         Written::TooSmall(_) => output,
     }
 }
 
 // The same of the book's pairs.
-fn say_pairs(kept: Kept, row: &[u8], text: &mut [u8], buffer: &mut [u8], output: Output) -> Output {
+#[tactic(auto, using(text_write::proofs::pieces::Pieces::written_in))]
+fn say_pairs(
+    rt: HostRuntime,
+    kept: Kept,
+    row: &[u8],
+    text: &mut [u8],
+    buffer: &mut [u8],
+    output: Output,
+) -> Output {
     match book_rules::texts::write_pairs(kept, row, text) {
-        Written::Bytes(n) => line_io::put(&text[..n], buffer, output),
+        Written::Bytes(n) => line_io::put(&mut rt.stdout(), &text[..n], buffer, output),
         Written::TooSmall(_) => output,
     }
 }
@@ -38,6 +55,7 @@ fn is_taken(added: Added) -> bool {
 
 // Takes line number k, and says why where it is refused.
 fn step(
+    rt: HostRuntime,
     k: u64,
     r: Reading,
     chunk: &mut [u8],
@@ -47,7 +65,14 @@ fn step(
     buffer: &mut [u8],
 ) -> Reading {
     let kept = r.kept;
-    let t = line_io::next_line(r.state, chunk, line, buffer);
+    let t = line_io::next_line(
+        &mut rt.stdin(),
+        &mut rt.stdout(),
+        r.state,
+        chunk,
+        line,
+        buffer,
+    );
     let l = t.line;
     if !l.found {
         return Reading {
@@ -61,7 +86,7 @@ fn step(
     let adding = book_rules::texts::add_line(kept, &line[..size], row);
     let added = adding.added;
     let more = adding.kept;
-    let output = say_line(k, added, text, buffer, t.output);
+    let output = say_line(rt, k, added, text, buffer, t.output);
     Reading {
         state: State {
             input: input,
@@ -83,48 +108,51 @@ fn goes_on(r: Reading) -> bool {
 
 // The lines up to the first that is refused; a seventeenth is, whatever it holds.
 fn read_book(
+    rt: HostRuntime,
     chunk: &mut [u8],
     line: &mut [u8],
     row: &mut [u8],
     text: &mut [u8],
     buffer: &mut [u8],
 ) -> Reading {
-    let mut k: u64 = 0;
     let mut r = Reading {
         state: line_io::start(),
         kept: book_rules::texts::no_texts(),
         refused: false,
     };
-    while k <= base_limits::MOST_RULES as u64 && goes_on(r) {
-        k += 1;
-        r = step(k, r, chunk, line, row, text, buffer);
+    for k in 1..=base_limits::MOST_RULES as u64 + 1 {
+        if !goes_on(r) {
+            break;
+        }
+        r = step(rt, k, r, chunk, line, row, text, buffer);
     }
     r
 }
 
 // The pairs are shown of a whole book alone: not where a line was refused, nor where the input cannot be read to its end.
 fn answer_book(
+    rt: HostRuntime,
     chunk: &mut [u8],
     line: &mut [u8],
     row: &mut [u8],
     text: &mut [u8],
     buffer: &mut [u8],
 ) {
-    let r = read_book(chunk, line, row, text, buffer);
+    let r = read_book(rt, chunk, line, row, text, buffer);
     let s = r.state;
     if r.refused || s.input.failed {
-        line_io::finish(s, buffer);
+        line_io::finish(&mut rt.stdout(), &mut rt.stderr(), s, buffer);
         return;
     }
     let input = s.input;
     let last = s.line;
-    let output = say_pairs(r.kept, row, text, buffer, s.output);
+    let output = say_pairs(rt, r.kept, row, text, buffer, s.output);
     let end = State {
         input: input,
         output: output,
         line: last,
     };
-    line_io::finish(end, buffer);
+    line_io::finish(&mut rt.stdout(), &mut rt.stderr(), end, buffer);
 }
 
 // Of a line one byte more is kept than a rule's text may have: with more it is too long whatever they are (`cut_same` of print_book's
@@ -132,11 +160,11 @@ fn answer_book(
 const LINE: usize = base_limits::MOST_RULE_BYTES + 1;
 
 // The buffers are made once, and lent for every line.
-fn main() {
-    let mut chunk = io::large_buffer();
+fn main(rt: HostRuntime) {
+    let mut chunk = [0u8; line_io::BUFFER];
     let mut line = [0u8; LINE];
     let mut row = [0u8; book_rules::texts::BOOK_BYTES];
     let mut text = [0u8; book_rules::texts::LONGEST_TEXT];
-    let mut buffer = io::large_buffer();
-    answer_book(&mut chunk, &mut line, &mut row, &mut text, &mut buffer);
+    let mut buffer = [0u8; line_io::BUFFER];
+    answer_book(rt, &mut chunk, &mut line, &mut row, &mut text, &mut buffer);
 }

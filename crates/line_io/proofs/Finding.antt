@@ -8,12 +8,9 @@ use native.Mathlib.Nat.{zero-add, add-zero}
 use native.Mathlib.Omega.{arith}
 use lib.Dec.{eqb, ltb}
 use lib.ListN.{length, take, drop, length-append, length-take, length-drop, take-append-drop, drop_of_length-le}
-use lib.Seq.{length-take-le, take_all, take-take, take-append-add, drop-append-add, drop-drop, take-nil}
-use lib.IntN.{ℤ, pos, negsuc}
-use lib.Signed.{lt_z}
+use lib.Seq.{length-take-le, take_all, take-append-add, drop-append-add, drop-drop, take-nil}
 use borrow.Author.Tests.{lt-ltb, le-ltb, ltb-true, ltb-false, eq-eqb, ne_eqb}
 use Rattle.base_bytes.specs.Bytes.{slice, index_of, index_after}
-use Rattle.io.specs.Counts.{IsPrefixLen, clamp_len}
 use Rattle.line_io.specs.declared.Input.{Input}
 use Rattle.line_io.specs.declared.Line.{Line}
 use Rattle.line_io.specs.declared.Output.{Output}
@@ -22,7 +19,7 @@ use Rattle.line_io.specs.declared.Taken.{Taken}
 use Rattle.line_io.specs.Placing.{placed}
 use Rattle.line_io.specs.Putting.{Written}
 use Rattle.line_io.specs.Taking.{no_line, added_line, added_bytes, untaken, in_chunk, at_place, whole_line, taken, stepped}
-use Rattle.line_io.specs.Lines.{newline_in, first_line, behind_line, line_of, Fills, waits, dry, reads, Refills, Holds, Steps}
+use Rattle.line_io.specs.Lines.{IsPrefixLen, newline_in, first_line, behind_line, Fills, waits, dry, reads, Refills, Holds, Steps}
 use Rattle.line_io.specs.Lines.{Stays, Reads, Asks, quiet, over, more, there, most_turns, Finds}
 use Rattle.line_io.proofs.Keeping.{Keeps, keeps_size, none_kept, added_keeps}
 
@@ -185,11 +182,6 @@ module _ (i : Input) (l : Line) (u : List ℕ) (size : ℕ) {t : Taken} (E : t �
         (λ e. sym same ∙ empty_is u (omega (arith, ltb-false 0 (length u) e)) ∙ sym (drop_of_length-le u {i = n + 1} (omega (arith, ltb-false 0 (length u) e))))
 
 -- ---- a step by its parts
-
--- a read that failed moved nothing
-pub failed_none : (z : ℤ) (most : ℕ) {n : ℕ} → lt_z z (pos 0) ≡ true → n ≡ clamp_len z most → n ≡ 0
-failed_none (pos k) most h e = absurd (omega (arith, ltb-true k 0 h))
-failed_none (negsuc k) most h e = e
 
 added_nothing : (l : Line) (line : List ℕ) → line ≡ added_bytes l [] line
 added_nothing l line =

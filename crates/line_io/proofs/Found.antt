@@ -2,7 +2,7 @@
 use mathlib.Core.Path.{◌≡◌, refl, sym, ap, ◌∙◌}
 use mathlib.Core.Bool.{Bool, true, false}
 use mathlib.Core.List.{List, [], ◌∷◌, ◌++◌}
-use Prim.Native.Nat.{ℕ, zero, suc, ◌+◌, ◌≤◌, ◌<◌}
+use Prim.Native.Nat.{ℕ, zero, suc, ◌+◌, ◌<◌}
 use native.Mathlib.Numerals.{add-one}
 use native.Mathlib.Omega.{arith}
 use lib.Dec.{eqb}
@@ -14,7 +14,7 @@ use Rattle.line_io.specs.declared.Input.{Input}
 use Rattle.line_io.specs.declared.Output.{Output}
 use Rattle.line_io.specs.declared.State.{State}
 use Rattle.line_io.specs.Taking.{untaken}
-use Rattle.line_io.specs.Lines.{newline_in, first_line, behind_line, there, Finds}
+use Rattle.line_io.specs.Lines.{newline_in, first_line, there, Finds}
 use Rattle.line_io.proofs.Finding.{index_le}
 
 -- the first newline is one, and none is before it

@@ -5,7 +5,6 @@ use mathlib.Core.List.{List, ◌++◌, append-nil, append_assoc}
 use Prim.Native.Nat.{ℕ, ◌+◌, ◌-◌, ◌≤◌, ◌<◌, min}
 use native.Mathlib.Nat.{zero-add}
 use native.Mathlib.Omega.{arith}
-use lib.Dec.{ltb}
 use lib.ListN.{length, take, drop, length-drop, drop_of_length-le}
 use lib.Seq.{length-take-le, take_all, take-add, take-take, take-length, drop_at, drop-drop}
 use borrow.Author.Tests.{lt-ltb, le-ltb, le-leb, lt-leb}
@@ -13,7 +12,7 @@ use Rattle.base_bytes.specs.Bytes.{slice, index_of}
 use Rattle.line_io.specs.declared.Input.{Input}
 use Rattle.line_io.specs.declared.Line.{Line}
 use Rattle.line_io.specs.Placing.{placed}
-use Rattle.line_io.specs.Taking.{added_line, untaken, at_place, whole_line, taken}
+use Rattle.line_io.specs.Taking.{added_line, untaken, at_place, taken}
 use Rattle.line_io.specs.Putting.{used_with, buffer_with}
 
 -- ---- copying
@@ -55,6 +54,12 @@ drop_take n m l h k =
     ap (λ (i : ℕ). drop n (take i l)) e
     ∙ ap (drop n) (take-add n (m - n) l)
     ∙ drop_at (take n l) (take (m - n) (drop n l)) n (length-take-le n l (omega arith))
+
+-- where a newline is sought, in the part of the chunk that is not taken yet
+pub found_is : (i : Input) (chunk : List ℕ) → i.at ≤ i.end → i.end ≤ length chunk
+    → {k : ℕ} → k ≡ index_of 10 (take (i.end - i.at) (drop i.at chunk)) → i.at + k ≡ i.at + index_of 10 (untaken i chunk)
+unfolding slice
+found_is i chunk h w e = ap (λ (k : ℕ). i.at + k) (e ∙ ap (index_of 10) (sym (drop_take i.at i.end chunk h w)))
 
 -- e is where the line's bytes end in the chunk
 module _ (i : Input) (chunk : List ℕ) (order : i.at ≤ i.end) (within : i.end ≤ length chunk)

@@ -2,7 +2,6 @@
 -- Which bytes they bring, and whether a read or a write fails, only the system knows.
 use Rattle.std.specs.Prelude.{◌≡◌, Bool, true, false, List, [], ◌++◌, ℕ, ◌+◌, ◌≤◌, ◌<◌, min, eqb, ltb, length, take, drop}
 use Rattle.base_bytes.specs.Bytes.{index_of}
-use Rattle.io.specs.Counts.{IsPrefixLen}
 use Rattle.line_io.specs.declared.Input.{Input}
 use Rattle.line_io.specs.declared.Line.{Line}
 use Rattle.line_io.specs.declared.Output.{Output}
@@ -12,6 +11,10 @@ use Rattle.line_io.specs.Taking.{untaken, in_chunk, added_bytes, stepped}
 use Rattle.line_io.specs.Putting.{Written}
 
 -- ---- a line of bytes
+
+-- n is how many bytes some front of v has
+abbrev pub IsPrefixLen : ℕ → List ℕ → Type 0
+IsPrefixLen n v = (n ≤ length v) × (n ≡ length (take n v))
 
 -- whether v has a newline (byte 10)
 abbrev pub newline_in : List ℕ → Bool

@@ -1,6 +1,7 @@
-// Lines: from standard input, and to standard output, in constant memory. No contract can say what is read or written;
+// Lines: from a reader, and to a writer, in constant memory. No contract says what the system gives or takes;
 // what is done with the bytes once they are read, and before they are written, is an equation.
 #![tactic(auto)]
+
 ghost use Rattle.std.specs.Prelude.{◌≡◌, ◌≤◌, ltb, length};
 ghost use Rattle.line_io.specs.Taking.{no_line, added_line, added_bytes, untaken, in_chunk, taken};
 ghost use Rattle.line_io.specs.Going.{nothing_yet, is_open};
@@ -8,7 +9,10 @@ ghost use Rattle.line_io.specs.Putting.{Written, Puts};
 ghost use Rattle.line_io.specs.Lines.{first_line, Refills, Holds, Steps, Finds};
 
 use base_numbers::at_most;
-use libc::{STDERR_FILENO, STDIN_FILENO, STDOUT_FILENO};
+use std::io::{Read, Write};
+
+// How many bytes a program reads at once, and how many may wait before they are written.
+pub const BUFFER: usize = 65_536;
 
 // Where the reading stands: the chunk's bytes from `at` to `end` were read and are not taken yet.
 #[derive(Clone, Copy)]
@@ -57,8 +61,13 @@ struct Taken {
 
 // ---- writing
 
+// Writes all the bytes, and says whether that went well.
+fn write_whole<W: Write>(writer: &mut W, bytes: &[u8]) -> bool {
+    writer.write_all(bytes).is_ok()
+}
+
 // Writes what waits in the buffer. Behind a failed write nothing more is written.
-fn flush(buffer: &[u8], o: Output) -> Output
+fn flush<W: Write>(writer: &mut W, buffer: &[u8], o: Output) -> Output
     ensures { Written o result }
 {
     if o.failed {
@@ -68,7 +77,7 @@ fn flush(buffer: &[u8], o: Output) -> Output
         };
     }
     let used = at_most(o.used, buffer.len());
-    let is_written = io::write_all(STDOUT_FILENO, &buffer[..used]);
+    let is_written = write_whole(writer, &buffer[..used]);
     Output {
         used: 0,
         failed: !is_written,
@@ -76,22 +85,22 @@ fn flush(buffer: &[u8], o: Output) -> Output
 }
 
 // Puts bytes behind those that wait; these are written first where the buffer has no room for both.
-pub fn put(text: &[u8], buffer: &mut [u8], o: Output) -> Output
+pub fn put<W: Write>(writer: &mut W, text: &[u8], buffer: &mut [u8], o: Output) -> Output
     ensures { Puts o result text.now buffer.old buffer.new }
 {
     let used = at_most(o.used, buffer.len());
     let n = text.len();
     if n <= buffer.len() - used {
         let both = used + n;
-        bytes::copy(text, &mut buffer[used..]);
+        base_bytes::copy(text, &mut buffer[used..]);
         return Output {
             used: both,
             failed: o.failed,
         };
     }
-    let flushed = flush(buffer, o);
+    let flushed = flush(writer, buffer, o);
     if n <= buffer.len() {
-        bytes::copy(text, buffer);
+        base_bytes::copy(text, buffer);
         return Output {
             used: n,
             failed: flushed.failed,
@@ -101,7 +110,7 @@ pub fn put(text: &[u8], buffer: &mut [u8], o: Output) -> Output
     if flushed.failed {
         return flushed;
     }
-    let is_written = io::write_all(STDOUT_FILENO, text);
+    let is_written = write_whole(writer, text);
     Output {
         used: 0,
         failed: !is_written,
@@ -135,7 +144,7 @@ fn in_chunk(input: Input, chunk: &[u8]) -> Input
 }
 
 // Reads a new chunk where all of the old one is taken. A read that moves no bytes met the end or failed.
-fn refill(old: Input, chunk: &mut [u8]) -> Input
+fn refill<R: Read>(reader: &mut R, old: Input, chunk: &mut [u8]) -> Input
     requires { old.end ≤ length chunk.old }
     ensures { Refills old result chunk.old chunk.new }
 {
@@ -150,13 +159,19 @@ fn refill(old: Input, chunk: &mut [u8]) -> Input
             failed: old.failed,
         };
     }
-    let got = libc::read(STDIN_FILENO, chunk);
-    let n = io::count(got, chunk);
-    Input {
-        at: 0,
-        end: n,
-        ended: n == 0,
-        failed: got < 0,
+    match reader.read(chunk) {
+        Ok(n) => Input {
+            at: 0,
+            end: n,
+            ended: n == 0,
+            failed: false,
+        },
+        Err(_) => Input {
+            at: 0,
+            end: 0,
+            ended: true,
+            failed: true,
+        },
     }
 }
 
@@ -170,7 +185,7 @@ fn add_part(part: &[u8], line: &mut [u8], l: Line) -> Line
     let room = line.len() - kept;
     let n = part.len();
     if room < n {
-        bytes::copy(&part[..room], &mut line[kept..]);
+        base_bytes::copy(&part[..room], &mut line[kept..]);
         return Line {
             found: true,
             whole: l.whole,
@@ -178,7 +193,7 @@ fn add_part(part: &[u8], line: &mut [u8], l: Line) -> Line
             cut: true,
         };
     }
-    bytes::copy(part, &mut line[kept..]);
+    base_bytes::copy(part, &mut line[kept..]);
     Line {
         found: true,
         whole: l.whole,
@@ -195,7 +210,7 @@ fn take_part(input: Input, chunk: &[u8], line: &mut [u8], l: Line) -> Taken
 {
     let at = input.at;
     let end = input.end;
-    let e = bytes::scan::find(chunk, at, end, b'\n');
+    let e = at + base_bytes::find(&chunk[at..end], b'\n');
     let more = add_part(&chunk[at..e], line, l);
     if e < end {
         return Taken {
@@ -225,14 +240,21 @@ fn take_part(input: Input, chunk: &[u8], line: &mut [u8], l: Line) -> Taken
 }
 
 // One read at most, and what it brought of the line. What waits is written before a read, which may itself have to wait for more input.
-fn step(s: State, chunk: &mut [u8], line: &mut [u8], buffer: &[u8]) -> State
+fn step<R: Read, W: Write>(
+    reader: &mut R,
+    writer: &mut W,
+    s: State,
+    chunk: &mut [u8],
+    line: &mut [u8],
+    buffer: &[u8],
+) -> State
     requires { s.line.kept ≤ length line.old }
     ensures { Steps s result chunk.old chunk.new line.old line.new }
 {
     let l = s.line;
     let before = in_chunk(s.input, chunk);
-    let output = flush_before_read(before, buffer, s.output);
-    let input = refill(before, chunk);
+    let output = flush_before_read(writer, before, buffer, s.output);
+    let input = refill(reader, before, chunk);
     if input.at < input.end {
         let t = take_part(input, chunk, line, l);
         let rest = t.input;
@@ -255,13 +277,13 @@ fn step(s: State, chunk: &mut [u8], line: &mut [u8], buffer: &[u8]) -> State
     }
 }
 
-fn flush_before_read(i: Input, buffer: &[u8], o: Output) -> Output
+fn flush_before_read<W: Write>(writer: &mut W, i: Input, buffer: &[u8], o: Output) -> Output
     ensures { Holds (ltb i.at i.end) o result }
 {
     if i.at < i.end {
         return o;
     }
-    flush(buffer, o)
+    flush(writer, buffer, o)
 }
 
 // ---- going through the lines
@@ -287,7 +309,14 @@ pub fn start() -> State
 
 // The next line: its first bytes, as many as the line buffer holds; the rest of it is passed over.
 // A proved loop has to end, and nothing says that a line does; so the turns are counted down, from a number that no run uses up.
-pub fn next_line(s: State, chunk: &mut [u8], line: &mut [u8], buffer: &[u8]) -> State
+pub fn next_line<R: Read, W: Write>(
+    reader: &mut R,
+    writer: &mut W,
+    s: State,
+    chunk: &mut [u8],
+    line: &mut [u8],
+    buffer: &[u8],
+) -> State
     ensures { Finds s.input s.output result chunk.old chunk.new line.old line.new }
 {
     let input = s.input;
@@ -299,7 +328,7 @@ pub fn next_line(s: State, chunk: &mut [u8], line: &mut [u8], buffer: &[u8]) -> 
         line: no_line(),
     };
     while turns > 0 && !t.line.whole {
-        t = step(t, chunk, line, buffer);
+        t = step(reader, writer, t, chunk, line, buffer);
         turns -= 1;
     }
     t
@@ -318,13 +347,13 @@ pub fn is_open(s: State) -> bool
     !s.line.whole
 }
 
-// Writes what still waits, and says on standard error what failed.
-pub fn finish(s: State, buffer: &[u8]) {
-    let output = flush(buffer, s.output);
+// Writes what still waits, and says to `errors` what failed.
+pub fn finish<W: Write, E: Write>(writer: &mut W, errors: &mut E, s: State, buffer: &[u8]) {
+    let output = flush(writer, buffer, s.output);
     if s.input.failed {
-        io::write_all(STDERR_FILENO, b"standard input cannot be read\n");
+        write_whole(errors, b"standard input cannot be read\n");
     }
     if output.failed {
-        io::write_all(STDERR_FILENO, b"standard output cannot be written\n");
+        write_whole(errors, b"standard output cannot be written\n");
     }
 }

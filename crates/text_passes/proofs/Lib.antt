@@ -3,9 +3,6 @@ pub mod Build
 pub mod Unknown
 pub mod Loops
 pub mod Terms
-pub mod Held
-pub mod Calls
-pub mod Building
 pub mod Passes
 pub mod Picking
 pub mod Fields

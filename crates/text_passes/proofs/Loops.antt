@@ -4,7 +4,9 @@ use mathlib.Core.Bool.{Bool, true, false, cond}
 use mathlib.Core.List.{List, foldl}
 use Prim.Native.Nat.{ℕ, ◌+◌, ◌-◌, ◌<◌, ◌≤◌, ◌^◌}
 use native.Mathlib.Omega.{arith}
+use lib.Dec.{ltb}
 use lib.ListN.{length, drop, length-drop}
+use borrow.Author.Tests.{ltb-true}
 use Rattle.base_limits.specs.Limits.{most_slip_bytes}
 use Rattle.text_grammar.specs.Tokens.{Token}
 use Rattle.text_grammar.specs.Walk.{front, walk, walked}
@@ -59,6 +61,17 @@ module _ (t : List ℕ) (a : At) (p : Lexeme) (is_p : p ≡ lexeme_of (term_at t
 
   pub nearer : (a' : At) → a' ≡ behind t a (a.place + spelled p) → length t - a'.place < length t - a.place
   nearer a' is-a = subst (λ (b : At). length t - b.place < length t - a.place) (sym is-a) (fewer_left t a p less)
+
+-- a reader of the text u, which is t
+module _ (t u : List ℕ) (a : At) (p : Lexeme) (e : u ≡ t) where
+  pub term_of : p ≡ lexeme_of (term_at u a) → p ≡ lexeme_of (term_at t a)
+  term_of is_p = is_p ∙ ap (λ (x : List ℕ). lexeme_of (term_at x a)) e
+
+  pub less_of : (b : Bool) → b ≡ ltb a.place (length u) → b ≡ true → a.place < length t
+  less_of b is h = ltb-true a.place (length t) (ap (λ (x : List ℕ). ltb a.place (length x)) (sym e) ∙ sym is ∙ h)
+
+  pub behind_of : (a' : At) → a' ≡ behind u a (a.place + spelled p) → a' ≡ behind t a (a.place + spelled p)
+  behind_of a' is_a = is_a ∙ ap (λ (x : List ℕ). behind x a (a.place + spelled p)) e
 
 module _ {S : Type 0} (f : S → Token → S) (t : List ℕ) (x₀ : S) where
   -- what is left to fold from the state x at the place a is what was to fold from x₀

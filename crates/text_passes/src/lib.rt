@@ -2,6 +2,7 @@
 // and the value that a text without refusals says.
 // The passes move a reader from term to term. They are proved by hand; the public functions over them have plain parameters.
 #![tactic(auto)]
+
 ghost use Rattle.std.specs.Prelude.{◌≡◌, ◌+◌, ◌≤◌, ◌<◌, ltb, length, drop};
 ghost use mathlib.Core.List.{foldl};
 ghost use Rattle.base_limits.specs.Limits.{most_slip_bytes};
