@@ -1,4 +1,4 @@
-//! Links `libyopobrush.a`, which `rt staticlib yopobrush` writes in the
+//! Links `libyopobrush.a`, which `.ci/build library` writes in the
 //! repository, or one in the folder that `YOPOBRUSH_LIB_DIR` names.
 
 use std::env;
@@ -14,7 +14,7 @@ fn main() {
     println!("cargo::rerun-if-changed={}", library.display());
     if !library.is_file() {
         let library = library.display();
-        println!("cargo::error=there is no {library}: run `rt staticlib yopobrush` in the repository, or name the folder that has it by YOPOBRUSH_LIB_DIR");
+        println!("cargo::error=there is no {library}: run `.ci/build library` in the repository, or name the folder that has it by YOPOBRUSH_LIB_DIR");
     }
     println!("cargo::rustc-link-search=native={}", folder.display());
     println!("cargo::rustc-link-lib=static=yopobrush");

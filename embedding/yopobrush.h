@@ -1,4 +1,4 @@
-/* The functions of libyopobrush.a, which `rt staticlib yopobrush` writes: which
+/* The functions of libyopobrush.a, which `.ci/build library` writes: which
  * version it is, reading tinting rules, listing the overlaps of two, asking for
  * the size of the list first or only whether there are any, and carrying a rule
  * out on a slip. They are proved to answer and to write exactly what their
@@ -18,10 +18,10 @@
  *
  * Stack: a call takes up to YOPOBRUSH_STACK bytes, and yopobrush_carry_out up
  * to YOPOBRUSH_CARRY_STACK; a signal handler on the same stack takes its own
- * beside. Measured on the longest texts and lists, with what the dynamic linker
- * takes at the first memcpy: yopobrush_read_rule 27,296 bytes, the list, the
- * ask, the commit and yopobrush_texts_overlap 17,568, yopobrush_carry_out
- * 86,240, and yopobrush_version next to none. */
+ * beside. Measured, with the older kit, on the longest texts and lists, with
+ * what the dynamic linker takes at the first memcpy: yopobrush_read_rule 27,296
+ * bytes, the list, the ask, the commit and yopobrush_texts_overlap 17,568,
+ * yopobrush_carry_out 86,240, and yopobrush_version next to none. */
 #ifndef YOPOBRUSH_H
 #define YOPOBRUSH_H
 

@@ -30,8 +30,7 @@ const PATCH: u64 = 0;
 const BYTE_VALUES: u64 = 256;
 
 // Says the version of the library as one number: major, minor and patch, a byte each.
-#[unsafe(no_mangle)]
-pub extern "C" fn yopobrush_version() -> u64
+pub fn yopobrush_version() -> u64
     ensures { result ≡ library_version }
 {
     (MAJOR * BYTE_VALUES + MINOR) * BYTE_VALUES + PATCH
@@ -96,8 +95,7 @@ fn listing_of(left: Reading, right: Reading, listed: Listed) -> Listing
 }
 
 // Reads a rule text and says how it is read.
-#[unsafe(no_mangle)]
-pub extern "C" fn yopobrush_read_rule(text: &[u8]) -> Reading
+pub fn yopobrush_read_rule(text: &[u8]) -> Reading
     ensures { result ≡ reading_of (read_rule text.now) }
 {
     let read = text_read::read_rule(text);
@@ -106,8 +104,7 @@ pub extern "C" fn yopobrush_read_rule(text: &[u8]) -> Reading
 }
 
 // Lists the overlaps of two rule texts into the lent bytes. A text that is refused says the rule with no fields, which has no overlaps.
-#[unsafe(no_mangle)]
-pub extern "C" fn yopobrush_list_overlaps(left: &[u8], right: &[u8], out: &mut [u8]) -> Listing
+pub fn yopobrush_list_overlaps(left: &[u8], right: &[u8], out: &mut [u8]) -> Listing
     ensures { LibraryLists left.now right.now out.old result out.new }
 {
     let said = overlap_list::list_texts(left, right, out);
@@ -158,8 +155,7 @@ fn committing_of(left: Reading, right: Reading, committed: Committed) -> Listing
 
 // Says how many entries and bytes the list of two rule texts has, and has no buffer. A text that is refused says the rule with no fields,
 // which has none.
-#[unsafe(no_mangle)]
-pub extern "C" fn yopobrush_ask_overlaps(left: &[u8], right: &[u8]) -> Asking
+pub fn yopobrush_ask_overlaps(left: &[u8], right: &[u8]) -> Asking
     ensures { LibraryAsks left.now right.now result }
 {
     let asked = overlap_list::asking::ask_texts(left, right);
@@ -170,8 +166,7 @@ pub extern "C" fn yopobrush_ask_overlaps(left: &[u8], right: &[u8]) -> Asking
 }
 
 // Lists the overlaps of two rule texts into the lent bytes where the counts are those of their list.
-#[unsafe(no_mangle)]
-pub extern "C" fn yopobrush_commit_overlaps(
+pub fn yopobrush_commit_overlaps(
     entries: u64,
     bytes: u64,
     left: &[u8],
@@ -219,8 +214,7 @@ fn overlapping_of(left: Reading, right: Reading, overlap: bool) -> Overlapping
 
 // Says whether the rules of two texts overlap, which is whether their list has an entry, without making it. A text that is refused says
 // the rule with no fields, which overlaps none.
-#[unsafe(no_mangle)]
-pub extern "C" fn yopobrush_texts_overlap(left: &[u8], right: &[u8]) -> Overlapping
+pub fn yopobrush_texts_overlap(left: &[u8], right: &[u8]) -> Overlapping
     ensures { LibraryOverlaps left.now right.now result }
 {
     let met = overlap_list::shared::texts_overlap(left, right);
@@ -274,8 +268,7 @@ fn carrying_of(rule: Reading, slip: Reading, answer: u64, written: Written) -> C
 
 // Carries out the rule text's rule on the slip text's slip, and writes the plain text of the result, or of the slip where there is none,
 // into the lent bytes. A text that is refused says the rule, or the slip, with no fields.
-#[unsafe(no_mangle)]
-pub extern "C" fn yopobrush_carry_out(rule: &[u8], slip: &[u8], out: &mut [u8]) -> Carrying
+pub fn yopobrush_carry_out(rule: &[u8], slip: &[u8], out: &mut [u8]) -> Carrying
     ensures { LibraryCarries rule.now slip.now out.old result out.new }
 {
     let r = text_read::read_rule(rule);
