@@ -1,5 +1,6 @@
 // Matching a rule against a slip: yes with the one filling of the rule's variables, or no.
 #![tactic(auto)]
+
 ghost use Rattle.std.specs.Prelude.{◌≡◌, ◌-◌, ◌≤◌, take};
 ghost use Rattle.base_limits.specs.Limits.{most_fields};
 ghost use Rattle.match_rules.specs.Tests.{fields_progress, no_values, with_run, runs_in, runs_all};

@@ -1,5 +1,6 @@
 // One turn of the search, with the line of an answer. The row itself is in crate `search_row`.
 #![tactic(auto)]
+
 ghost use Rattle.std.specs.Prelude.{◌≡◌, length, if◌then◌else◌};
 ghost use Rattle.text_write.specs.pieces.Stored.{store_line};
 ghost use Rattle.pair_lines.specs.Lines.{Puts};

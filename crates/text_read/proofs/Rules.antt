@@ -3,7 +3,7 @@ use mathlib.Core.Path.{◌≡◌, refl, sym, ◌∙◌, ap, ap₂, subst}
 use mathlib.Core.Logic.{inl, inr, if_neg}
 use mathlib.Core.Bool.{Bool, true, false, cond}
 use mathlib.Core.Option.{Option, none, some, map}
-use mathlib.Core.List.{List, ◌∷◌}
+use mathlib.Core.List.{[], List, ◌∷◌}
 use Prim.Native.Nat.{ℕ, ◌+◌, ◌-◌, ◌<◌, ◌≤◌}
 use native.Mathlib.Omega.{arith, by_contra}
 use native.Mathlib.Decide.{dec_lt}
@@ -200,7 +200,9 @@ numbers_in (f ∷ x) h k n (inl o) = in_field f h.0 o
     in_field (con c ∷ f) h o = in_field f h.1 o
     in_field (var j m ∷ f) h (inl e) = omega (arith, h.0, e.1)
     in_field (var j m ∷ f) h (inr o) = in_field f h.1 o
+    in_field [] h o = elim o [ ]
 numbers_in (f ∷ x) h k n (inr o) = numbers_in x h.1 k n o
+numbers_in [] h k n x3 = elim x3 [ ]
 
 -- ---- two sides
 

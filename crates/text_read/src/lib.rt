@@ -1,6 +1,7 @@
 // Reading a rule and a slip: the grammar first, then one pass over each side that meets every other refusal of one side, then refusal 10,
 // then the value.
 #![tactic(auto)]
+
 ghost use Rattle.std.specs.Prelude.{◌≡◌, ◌≤◌, length};
 ghost use Rattle.base_limits.specs.Limits.{most_rule_bytes, most_slip_bytes};
 ghost use Rattle.text_grammar.specs.Read.{read_slip};
