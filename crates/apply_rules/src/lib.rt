@@ -1,5 +1,6 @@
 // Carrying out a rule on a slip: the right side with the filling put in.
 #![tactic(auto)]
+
 ghost use Rattle.std.specs.Prelude.{◌≡◌};
 ghost use Rattle.apply_rules.specs.Answers.{carried_of};
 
