@@ -3,6 +3,7 @@
 // The two sides are read into the tables of a pair; the list is made on these alone,
 // measured first where it might not fit, and then written.
 #![tactic(auto)]
+
 ghost use Rattle.std.specs.Prelude.{◌≡◌, [], ◌∷◌, ◌+◌, ◌≤◌, ◌<◌, length};
 ghost use Rattle.base_limits.specs.Limits.{most_fields};
 ghost use Rattle.text_accepted.specs.rules.Rules.{counted_rule};

@@ -1,6 +1,7 @@
 // Answers: the text that a program prints for one line of its input, into lent bytes.
 // The text is put together in room that is known to be enough, piece behind piece, and then given whole or not at all.
 #![tactic(auto)]
+
 ghost use Rattle.std.specs.Prelude.{◌≡◌, length};
 ghost use Rattle.text_write.specs.Answers.{Writes};
 ghost use Rattle.text_grammar.specs.Ascii.{ascii, newline};

@@ -61,8 +61,8 @@ Leaves L out r out' = (told r ≡ searched_of L (length out)) × (out' ≡ after
 leaves : (F G : Field) (row : List Problem) (out : List ℕ) (r : Searched) (row' : List Problem) (out' : List ℕ) (L : Found) (d : Done F G row out r row' out')
     → Answered F G row out (is_nine L) (shown_lines L) d.counted d.written → Leaves L out r out'
 leaves F G row out r row' out' L d a = (
-  ap told d.answer ∙ said L (length out) d.counted.state a.refused-is a.lines-is a.bytes-is,
-  d.leaves ∙ a.out-is ∙ ap (λ (b : List ℕ). after b out) (bytes_same L),
+  ap told d.answer ∙ said L (length out) d.counted.state a.refused_is a.lines_is a.bytes_is,
+  d.leaves ∙ a.out_is ∙ ap (λ (b : List ℕ). after b out) (bytes_same L),
 )
 
 -- ---- two accepted fields

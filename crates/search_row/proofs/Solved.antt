@@ -47,6 +47,7 @@ no_more d (con c ∷ f) n o l = no_more d f n o l
 no_more d (var (basic k) m ∷ f) n (inl e) l = let z : ◌≡◌ {A = ℕ} 0 1 = cc in absurd (omega arith)
 no_more d (var (basic k) m ∷ f) n (inr o) l = no_more d f n o l
 no_more d (var list m ∷ f) n o l = omega arith
+no_more d [] n o l = elim o [ ]
 
 only_name : (d : Side) (f : List OurTerm) (n : ℕ) → Occurs list n f → length (names_in setting (field_on d f)) ≤ 1
     → names_in setting (field_on d f) ≡ sixteen_above d n ∷ []
@@ -58,6 +59,7 @@ only_name d (var list m ∷ f) n (inl e) l =
     ∙ ap (λ (u : List ℕ). sixteen_above d n ∷ u) (empty (names_in setting (field_on d f)) (omega arith))
 only_name d (var list m ∷ f) n (inr o) l = absurd (no_more d f n o (omega arith))
 
+only_name d [] n o l = elim o [ ]
 -- so a record's value is that variable's
 value_known : (t : List _) (σ : Bindings setting) (d : Side) (f : List OurTerm) (w : Items) → length (names_in setting (field_on d f)) ≤ 1
     → Listed t σ (names_in setting (field_on d f)) w

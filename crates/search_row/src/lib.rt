@@ -1,5 +1,6 @@
 // The search for one field pair, over a row of problem records that the caller lends.
 #![tactic(auto)]
+
 ghost use Rattle.std.specs.Prelude.{◌≡◌, length, set, get_or};
 ghost use Rattle.search_problems.specs.Values.{blank_problem};
 ghost use Rattle.search_steps.specs.Row.{blanks};

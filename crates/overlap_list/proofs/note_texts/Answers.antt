@@ -1,0 +1,22 @@
+use borrow.Author.Rules.{rules}
+use mathlib.Core.Path.{sym, subst}
+use Prim.Native.Nat.{◌≤◌}
+use native.Mathlib.Omega.{arith}
+use lib.ListN.{take}
+use lib.Seq.{length-take-le}
+use Rattle.base_limits.specs.Limits.{most_fields}
+use Rattle.overlap_list.proofs.Rules.{fields_few}
+use Rattle.overlap_list.proofs.Texts.{texts_noted}
+use Rattle.overlap_list.proofs.note_texts.Goals as goal
+
+pub returns : goal.returns
+returns c =
+    
+    
+    let l = c.judge_left-l in
+    let r = c.judge_left-r in
+    let N = c.note_side-n in
+    let M = c.note_side-m in
+    texts_noted c.args.left.now c.args.right.now l.result r.result l.ensures r.ensures N.result M.result
+    N.ensures.value M.ensures.value c.requires.0 c.requires.1 N.ensures.row_after N.ensures.texts_after M.ensures.row_after M.ensures.texts_after
+    c.pair_of.result c.pair_of.ensures
