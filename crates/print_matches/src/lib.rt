@@ -2,6 +2,7 @@
 // It is put together piece behind piece where there is known to be enough room: in the lent bytes, or in room from which it is then given
 // whole or not at all.
 #![tactic(auto)]
+
 ghost use Rattle.std.specs.Prelude.{◌≡◌, ◌≤◌, length};
 ghost use Rattle.text_write.specs.Answers.{Writes};
 ghost use Rattle.text_write.specs.pieces.Placed.{Placed};
