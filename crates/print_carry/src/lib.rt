@@ -1,6 +1,7 @@
 // The text that `carry` prints for one line, into lent bytes: what carrying out the line's rule on its slip answers.
 // It is put together piece behind piece in room that is known to be enough, and then given whole or not at all.
 #![tactic(auto)]
+
 ghost use Rattle.std.specs.Prelude.{◌≡◌, ◌≤◌, length};
 ghost use Rattle.apply_rules.specs.Answers.{carried_of};
 ghost use Rattle.text_write.specs.Answers.{Writes};

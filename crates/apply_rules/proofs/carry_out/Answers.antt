@@ -15,7 +15,6 @@ returns-then-not-m c =
 
 pub returns-then-not-f : goal.returns-then-not-f
 returns-then-not-f c =
-    
     let z = c.args in
     let a : accepted_rule z.rule ≡ true = sym c.is_rule.ensures ∙ not-false _ c.if-not-is_rule.false-raw in
     let m = c.match_side-m in
@@ -25,7 +24,6 @@ returns-then-not-f c =
 
 pub returns : goal.returns
 returns c =
-    
     let z = c.args in
     let a : accepted_rule z.rule ≡ true = sym c.is_rule.ensures ∙ not-false _ c.if-not-is_rule.false-raw in
     let m = c.match_side-m in
