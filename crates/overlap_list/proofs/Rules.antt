@@ -114,7 +114,7 @@ module _ (r₁ r₂ : OurFields) (ok₁ : IsLeft r₁) (ok₂ : IsLeft r₂) (ro
 
   pub pair_lines_lem : all_lines row texts n ≡ map line_text (lines_of r₁ r₂)
   pair_lines_lem =
-      all_lines_lem row texts n r₁ r₂ ok₁ ok₂ left_spots right_spots pair.tables pair.left-index pair.right-index pair.left_tops pair.right_tops
+      all_lines_lem row texts n r₁ r₂ ok₁ ok₂ left_spots right_spots pair.tables pair.left_index pair.right_index pair.left_tops pair.right_tops
       lines_are
 
 -- ---- whether two rules can have an entry

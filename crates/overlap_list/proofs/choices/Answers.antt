@@ -1,19 +1,10 @@
 use mathlib.Core.Path.{ap}
-use Prim.Native.Nat.{◌-◌, ◌<◌}
-use native.Mathlib.Omega.{arith}
+use Prim.Native.Nat.{◌-◌}
 use borrow.Author.Rules.{rules}
 use Rattle.overlap_entries.specs.declared.Span.{Span}
 use Rattle.overlap_list.proofs.Spans.{span_is}
-use Rattle.overlap_list.proofs.Short.{Product, product_start, product_fits, product_next, product_end}
+use Rattle.overlap_list.proofs.Short.{product_start, product_fits, product_next}
 use Rattle.overlap_list.proofs.choices.Goals as goal
-
-count_small : (c : lts.After-span-of (
-  shape-at-reads.Asked,
-  shape-at-reads.Learnt,
-  span-of-reads.Asked,
-  span-of-reads.Learnt,
-) reads.Pre reads.Post invariant-loop decreases-loop) → c.Span-of.result.count < 65536
-count_small c = search rules
 
 pub loop-j-init : goal.loop-j-init
 loop-j-init c = product_start c.args.row.now c.args.fields
@@ -24,7 +15,7 @@ overflow_mul-n c =
     record {
       fits =
           product_fits c.args.row.now c.args.fields L.j L.n c.loop-j-test.true L.invariant
-          c.span_of.result.count (count_small c) c.requires;
+          c.span_of.result.count (search rules) c.requires;
     }
 
 pub loop-j-preserved : goal.loop-j-preserved
@@ -35,5 +26,5 @@ loop-j-preserved c =
     let g = c.shape_at-g in
     let s = c.span_of in
     product_next z.row.now z.fields L.j L.n c.loop-j-test.true L.invariant s.result.count
-    (count_small c)
+    (search rules)
     (ap (λ (x : Span). x.count) (span_is z.row.now (L.j - 1) f.result g.result f.ensures g.ensures s.result s.ensures))

@@ -1,18 +1,8 @@
-use borrow.Author.Rules.{rules}
-use mathlib.Core.Path.{sym, subst}
-use Prim.Native.Nat.{◌≤◌}
-use native.Mathlib.Omega.{arith}
-use lib.ListN.{take}
-use lib.Seq.{length-take-le}
-use Rattle.base_limits.specs.Limits.{most_fields}
-use Rattle.overlap_list.proofs.Rules.{fields_few}
 use Rattle.overlap_list.proofs.Texts.{texts_noted}
 use Rattle.overlap_list.proofs.note_texts.Goals as goal
 
 pub returns : goal.returns
 returns c =
-    
-    
     let l = c.judge_left-l in
     let r = c.judge_left-r in
     let N = c.note_side-n in

@@ -1,4 +1,3 @@
-use borrow.Author.Rules.{rules}
 use Rattle.pair_lines.specs.Lines.{line_in}
 use Rattle.overlap_list.proofs.Laws.{tally_one, still_moderate, line_part}
 use Rattle.overlap_list.proofs.put_entry.Goals as goal

@@ -5,7 +5,6 @@ use mathlib.Core.Bool.{Bool, true, false, cond, not, ◌||◌, or-false, true≢
 use mathlib.Core.List.{List, []}
 use Prim.Native.Nat.{ℕ, zero, suc, ◌+◌, ◌-◌, ◌≤◌, ◌<◌}
 use native.Mathlib.Omega.{arith}
-use borrow.Author.Tests.{not-true}
 use Rattle.base_lists.specs.Seqs.{is_cons, cons_append}
 use Rattle.pair_row.specs.Row.{table_in}
 use Rattle.pair_state.specs.declared.State.{State}
@@ -115,8 +114,8 @@ module _ (row : List ℕ) (n j : ℕ) (st : State) where
         }
 
   -- nothing is found yet
-  pub seeking_on : (s : Span) (k : ℕ) (found : Bool) → Seeking s k found → not found ≡ true → Seeking s k false
-  seeking_on s k found S e = subst (Seeking s k) (not-true found e) S
+  pub seeking_on : (s : Span) (k : ℕ) (found : Bool) → Seeking s k found → found ≡ false → Seeking s k false
+  seeking_on s k found S e = subst (Seeking s k) e S
 
   -- a choice is found
   pub seeking_found : (s : Span) (k : ℕ) (found : Bool) → Seeking s k found → not found ≡ false → found ≡ any_in row n j st
