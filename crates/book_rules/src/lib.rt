@@ -1,5 +1,6 @@
 // A maker's book as a value: which rule a slip gets, and which pairs of its rules overlap.
 #![tactic(auto)]
+
 ghost use Rattle.text_accepted.specs.slips.Slips.{counted_slip};
 ghost use Rattle.text_write.specs.Answers.{Writes};
 ghost use Rattle.book_spec.specs.Books.{book_text};

@@ -2,6 +2,7 @@
 // It is put together piece behind piece where the room is known to be enough: in the lent bytes, or else in bytes of its own that are then
 // given whole or not at all.
 #![tactic(auto)]
+
 ghost use Rattle.std.specs.Prelude.{◌≡◌, ◌+◌, ◌≤◌, length};
 ghost use Rattle.base_limits.specs.Limits.{most_list_bytes};
 ghost use Rattle.text_write.specs.Answers.{Writes};

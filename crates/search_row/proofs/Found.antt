@@ -1,7 +1,7 @@
 -- WHAT THE MACHINE FINDS: from the root alone it stops, refused exactly where the search is refused, else with the number of the answers
 -- and of their lines' bytes, and, where it writes, with the lines in the lent bytes.
---     machine-finds      one run
---     reaches-once       a machine stops at one place only
+--     machine_finds      one run
+--     reaches_once       a machine stops at one place only
 use mathlib.Core.Path.{◌≡◌, refl, sym, ◌∙◌, ap}
 use mathlib.Core.Bool.{Bool, true, false}
 use mathlib.Core.List.{List, [], ◌∷◌, map}

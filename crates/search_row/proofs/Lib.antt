@@ -1,7 +1,4 @@
-pub mod Record
-pub mod Lending
-pub mod Drives
-pub mod Calls
+pub mod Left
 pub mod Solved
 pub mod Turns
 pub mod Found

@@ -1,6 +1,6 @@
 -- The two runs in the words of the definition: their counts and bytes are those of the search's lines.
 --     is_nine, shown_lines     a refusal by 9, or the lines
---     twice-lines            for two fields that stand on the left sides of accepted rules
+--     twice_lines            for two fields that stand on the left sides of accepted rules
 use mathlib.Core.Path.{◌≡◌, refl, subst₂}
 use mathlib.Core.Bool.{Bool, true, false, ◌&&◌}
 use mathlib.Core.List.{List, [], ◌∷◌, map}

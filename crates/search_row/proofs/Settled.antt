@@ -1,9 +1,12 @@
 -- WHAT SEARCHING COMES TO: both runs end, and what they leave is the answer and the lines of the definition, for any two field values.
+--     halts              both runs end
+--     turns, enough      a number of turns that is enough for each
+--     settled            what is promised of the answer, the output and the row
 use mathlib.Core.Path.{◌≡◌, refl, sym, ◌∙◌, ap, ap₂, subst, subst₂}
 use mathlib.Core.Bool.{Bool, true, false, ◌&&◌, cond}
 use mathlib.Core.Option.{none, some}
 use mathlib.Core.List.{List, [], ◌∷◌}
-use Prim.Native.Nat.{ℕ}
+use Prim.Native.Nat.{ℕ, ◌+◌}
 use native.Mathlib.Omega.{arith}
 use lib.Dec.{leb}
 use lib.ListN.{length}
@@ -14,16 +17,19 @@ use Rattle.text_values.specs.Values.{view_field, encode_field}
 use Rattle.text_accepted.specs.Accepted.{accepted_field, counted_field}
 use Rattle.text_accepted.proofs.Accepted.{encode_accepted_field, accepted_field_lem}
 use Rattle.text_write.specs.Answers.{after}
-use Rattle.math_overlaps.specs.Shapes.{left, right}
 use Rattle.search_problems.specs.declared.Problem.{Problem}
 use Rattle.pair_lines.specs.Lines.{line_bound}
 use Rattle.search_rules.specs.Values.{number}
 use Rattle.text_write.specs.pieces.Stored as stored
-use Rattle.search_spec.specs.Answers.{field_on, Lines as Found, lines, nine, lines_of, lines_for, bytes_of}
+use Rattle.search_spec.specs.Answers.{Lines as Found, lines, nine, lines_of, lines_for, bytes_of}
 use Rattle.search_steps.specs.declared.turns.State.{State}
 use Rattle.search_row.specs.declared.Searched.{Searched}
 use Rattle.search_row.specs.declared.Searched.TheVariants.{Lines, TooSmall, Full}
-use Rattle.search_row.specs.Answers.{told, searched_of, Searches, reported, Halts, Done}
+use Rattle.search_steps.specs.Machine as machine
+use Rattle.search_steps.specs.Machine.{Config, Reaches}
+use Rattle.search_row.specs.Answers.{told, searched_of, Searches, reported, counting, writing, Halts, Enough, Done}
+use Rattle.search_row.proofs.Left.{longer}
+use Rattle.search_row.proofs.Found.{reaches_once}
 use Rattle.search_row.proofs.Twice.{Answered, counting_ends_none, writing_ends_none, twice_none}
 use Rattle.search_row.proofs.Lines.{is_nine, shown_lines, counting_ends, writing_ends, twice_lines}
 use Rattle.search_row.proofs.Agreed.{Held, agreed, line_short, root_held}
@@ -106,6 +112,27 @@ module _ (F G : Field) (row : List Problem) (out : List ℕ) where
   -- BOTH RUNS END
   pub halts : Halts F G row out
   halts = halts_by (accepted_field F) (accepted_field G) refl refl
+
+  -- where the run that counts ends
+  abbrev counted_at : Config
+  counted_at = machine.after halts.count.0 (counting F G row out)
+
+  counted_there : Reaches (counting F G row out) counted_at
+  counted_there = (halts.count.0, refl, halts.count.1)
+
+  -- so many turns are enough for each
+  pub turns : ℕ
+  turns = halts.count.0 + (halts.write counted_at counted_there).0
+
+  pub enough : Enough F G row out turns
+  unfolding turns
+  enough = record {
+    count = longer halts.count.0 turns (counting F G row out) (omega arith) halts.count.1;
+    write = λ c r.
+        subst (λ (d : Config). (machine.after turns (writing F G row out d)).state.busy ≡ false)
+        (reaches_once (counting F G row out) counted_at c counted_there r)
+        (longer (halts.write counted_at counted_there).0 turns (writing F G row out counted_at) (omega arith) (halts.write counted_at counted_there).1);
+  }
 
   module _ (r : Searched) (row' : List Problem) (out' : List ℕ) (d : Done F G row out r row' out') where
     left_none : (accepted_field F && accepted_field G) ≡ false → Leaves (lines []) out r out'

@@ -7,7 +7,7 @@ use Prim.Native.Nat.{ℕ, ◌≤◌}
 use native.Mathlib.Omega.{arith}
 use lib.ListN.{length, get_or, length-map}
 use borrow.Author.Tests.{le-leb, lt-ltb}
-use Rattle.base_limits.specs.Limits.{largest_number, kind_count, entry_terms, numbers_of_side, pair_places, pair_items}
+use Rattle.base_limits.specs.Limits.{entry_terms, pair_places, pair_items}
 use Rattle.base_lists.specs.Seqs.{All}
 use Rattle.base_lists.specs.Arrays.{empty}
 use Rattle.math_types.specs.Order.{basic, list}
@@ -58,8 +58,8 @@ only_name d (var list m ∷ f) n (inl e) l =
     ap (λ (k : ℕ). sixteen_above d k ∷ names_in setting (field_on d f)) (sym e.1)
     ∙ ap (λ (u : List ℕ). sixteen_above d n ∷ u) (empty (names_in setting (field_on d f)) (omega arith))
 only_name d (var list m ∷ f) n (inr o) l = absurd (no_more d f n o (omega arith))
-
 only_name d [] n o l = elim o [ ]
+
 -- so a record's value is that variable's
 value_known : (t : List _) (σ : Bindings setting) (d : Side) (f : List OurTerm) (w : Items) → length (names_in setting (field_on d f)) ≤ 1
     → Listed t σ (names_in setting (field_on d f)) w
@@ -85,14 +85,14 @@ module _ (f g : List OurTerm) (is_f : IsLeft (f ∷ [])) (is-g : IsLeft (g ∷ [
   abbrev items : ℕ → List ℕ
   items i = items_of (get_or p.lists i blank_items)
 
-  pub indexed_line_lem : indexed_answer (table_in row) (text_in row texts) (index_in row false) (top_in row false) (λ n. items 0) (index_in row true) (top_in row true)
-      (λ n. items 1) p.atoms.atoms
+  pub indexed_line_lem : indexed_answer (table_in row) (text_in row texts) (index_in row false) (top_in row false) (λ n. items 0)
+      (index_in row true) (top_in row true) (λ n. items 1) p.atoms.atoms
       ≡ answer_text f g σ
   indexed_line_lem =
       let t = our_row (f ∷ []) (g ∷ []) in
       let P = problem solved σ u in
       answer_agrees f g (table_in row) (text_in row texts) pair.tables is_f is-g σ (state_of σ) (atoms_known t A B q p P h) p.atoms.atoms h.atoms
-      (index_in row false) (top_in row false) (index_in row true) (top_in row true) pair.left-index pair.right-index pair.left_tops pair.right_tops
+      (index_in row false) (top_in row false) (index_in row true) (top_in row true) pair.left_index pair.right_index pair.left_tops pair.right_tops
       (λ n. items 0) (λ n. items 1)
       (value_known t σ left f (get_or p.lists 0 blank_items) (omega (arith, names_listvars setting A, q.linear.left)) (left_known t A B q p P h))
       (value_known t σ right g (get_or p.lists 1 blank_items) (omega (arith, names_listvars setting B, q.linear.right)) (right_known t A B q p P h))

@@ -1,6 +1,6 @@
 -- A turn of the machine in its row is a turn of the machine whose queue is a list; the ring in the row is that list.
 --     turn_is       a turn
---     leads-is      turns until the machine is not busy
+--     leads_is      turns until the machine is not busy
 use mathlib.Core.Path.{◌≡◌, refl, sym, ◌∙◌, ap, ap₂, subst}
 use mathlib.Core.Bool.{Bool, true, false, not, cond}
 use mathlib.Core.List.{List, [], ◌∷◌, ◌++◌}

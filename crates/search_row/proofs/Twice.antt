@@ -1,8 +1,8 @@
 -- THE TWO RUNS OF THE SEARCH: the first counts, the second writes the lines where they have room.
 --     counting, writing     the configurations that the two start in
---     counting-ends, writing-ends     each run ends
+--     counting_ends, writing_ends     each run ends
 --     twice                 what the two come to, for two accepted fields
---     twice-none            the same for fields of which one is not accepted
+--     twice_none            the same for fields of which one is not accepted
 use mathlib.Core.Path.{◌≡◌, refl, sym, ◌∙◌, ap, ap₂, subst}
 use mathlib.Core.Bool.{Bool, true, false, ◌&&◌, cond}
 use mathlib.Core.Logic.{◌⊎◌, inl, inr}
@@ -262,6 +262,7 @@ module _ (f g : Field) (row : List Problem) (out : List ℕ) where
         → Answered (is_refused E (searching E (length row) A B)) (map text (given E (searching E (length row) A B))) t v
     twice t v r s = go (one_or_none (length row))
       where
-        go : (length row ≡ 0) ⊎ (1 ≤ length row) → Answered (is_refused E (searching E (length row) A B)) (map text (given E (searching E (length row) A B))) t v
+        go : (length row ≡ 0) ⊎ (1 ≤ length row)
+            → Answered (is_refused E (searching E (length row) A B)) (map text (given E (searching E (length row) A B))) t v
         go (inl z) = twice_none_there z t r v s
         go (inr h) = twice_some h t r v s

@@ -1,5 +1,5 @@
 -- What searching answers, of the lines of the search; and what it comes to by the machine of crate `search_steps`.
-use Rattle.std.specs.Prelude.{◌≡◌, cond, List, [], ◌∷◌, ℕ, leb, length}
+use Rattle.std.specs.Prelude.{◌≡◌, false, cond, List, [], ◌∷◌, ℕ, leb, length}
 use Rattle.std.proofs.Math.Option.{none, some}
 use Rattle.text_grammar.specs.Told.{Told, by_room}
 use Rattle.text_values.specs.declared.Field.{Field}
@@ -10,6 +10,7 @@ use Rattle.search_problems.specs.declared.Problem.{Problem}
 use Rattle.search_steps.specs.declared.turns.State.{State}
 use Rattle.search_steps.specs.Row.{blanks}
 use Rattle.search_steps.specs.starts.Starts.{begun, again}
+use Rattle.search_steps.specs.Machine as machine
 use Rattle.search_steps.specs.Machine.{Config, conf, Ends, Reaches, from_root}
 use Rattle.search_row.specs.declared.Searched.{Searched}
 use Rattle.search_row.specs.declared.Searched.TheVariants.{Lines, TooSmall, Full}
@@ -57,6 +58,11 @@ module _ (f g : Field) (row : List Problem) (out : List ℕ) where
   pub record Halts : Type 0 where
     pub count : Ends counting
     pub write : (c : Config) → Reaches counting c → Ends (writing c)
+
+  -- n turns are enough for each
+  pub record Enough (n : ℕ) : Type 0 where
+    pub count : (machine.after n counting).state.busy ≡ false
+    pub write : (c : Config) → Reaches counting c → (machine.after n (writing c)).state.busy ≡ false
 
   -- what is answered, and what is left in the row and in the output
   pub record Done (r : Searched) (row' : List Problem) (out' : List ℕ) : Type 0 where

@@ -1,11 +1,11 @@
 // The search for one field pair, over a row of problem records that the caller lends.
 #![tactic(auto)]
 
-ghost use Rattle.std.specs.Prelude.{◌≡◌, length, set, get_or};
+ghost use Rattle.std.specs.Prelude.{◌≡◌, ℕ, false, length, set, get_or};
 ghost use Rattle.search_problems.specs.Values.{blank_problem};
 ghost use Rattle.search_steps.specs.Row.{blanks};
-ghost use Rattle.search_steps.specs.Machine.{conf, next, Ends, Reaches, from_root};
-ghost use Rattle.search_row.specs.Answers.{Searches, reported};
+ghost use Rattle.search_steps.specs.Machine.{conf, next, after, Reaches, from_root};
+ghost use Rattle.search_row.specs.Answers.{Searches, reported, Enough, Done};
 
 pub mod own; // the search over a row of its own
 
@@ -70,9 +70,10 @@ fn step(row: &mut [Problem], out: &mut [u8], s: State) -> State
     m.state
 }
 
-// Turns until the machine is not busy.
+// Turns until the machine is not busy, for which `turns` turns are enough.
 fn run(row: &mut [Problem], out: &mut [u8], s: State) -> State
-    requires { Ends (conf s row.old out.old) }
+    ghost turns: { ℕ }
+    requires { (after turns (conf s row.old out.old)).state.busy ≡ false }
     ensures { Reaches (conf s row.old out.old) (conf result row.new out.new) }
 {
     let mut t = s;
@@ -83,9 +84,10 @@ fn run(row: &mut [Problem], out: &mut [u8], s: State) -> State
     t
 }
 
-// The search from the problem that the state holds, which is put into the first place.
+// The search from the problem that the state holds, which is put into the first place: `turns` turns are enough for it.
 fn from_root(row: &mut [Problem], out: &mut [u8], s: State) -> State
-    requires { Ends (from_root (conf s row.old out.old)) }
+    ghost turns: { ℕ }
+    requires { (after turns (from_root (conf s row.old out.old))).state.busy ≡ false }
     ensures { Reaches (from_root (conf s row.old out.old)) (conf result row.new out.new) }
 {
     let p = s.held;
@@ -109,10 +111,11 @@ fn report(t: State, room: usize) -> Searched
     Searched::TooSmall(t.lines, t.bytes)
 }
 
-// THE SEARCH for one field pair: once to count its lines, and once more to write them where the output has room.
-// The row is blank afterwards.
-pub fn search(left: Field, right: Field, row: &mut [Problem], out: &mut [u8]) -> Searched
-    ensures { Searches left right row.old out.old result row.new out.new }
+// The two runs of the search, for each of which `turns` turns are enough, and the row made blank.
+fn run_twice(left: Field, right: Field, row: &mut [Problem], out: &mut [u8]) -> Searched
+    ghost turns: { ℕ }
+    requires { Enough left right row.old out.old turns }
+    ensures { Done left right row.old out.old result row.new out.new }
 {
     let cap = row.len();
     let room = out.len();
@@ -122,4 +125,12 @@ pub fn search(left: Field, right: Field, row: &mut [Problem], out: &mut [u8]) ->
     let v = from_root(row, out, u);
     blank(row);
     report(t, room)
+}
+
+// THE SEARCH for one field pair: once to count its lines, and once more to write them where the output has room.
+// The row is blank afterwards.
+pub fn search(left: Field, right: Field, row: &mut [Problem], out: &mut [u8]) -> Searched
+    ensures { Searches left right row.old out.old result row.new out.new }
+{
+    run_twice(left, right, row, out)
 }

@@ -1,0 +1,22 @@
+use mathlib.Core.Path.{refl}
+use Prim.Native.Nat.{◌*◌, ◌-◌}
+use native.Mathlib.Omega.{arith}
+use lib.ListN.{length, take, drop, length-take, length-drop}
+use Rattle.base_limits.specs.Limits.{longest_rule}
+use Rattle.text_write.proofs.pieces.Pieces.{copied}
+use Rattle.text_write.proofs.pieces.Stored.{store_part}
+use Rattle.book_rules.proofs.texts.Keeping.{room_in}
+use borrow.Author.Rules.{rules}
+use Rattle.book_rules.proofs.texts.keep_text.Goals as goal
+
+pub returns : goal.returns
+returns c =
+    let at = c.args.kept.n * longest_rule in
+    let row = c.args.row.now in
+    let room = (room_in (length row) c.args.kept.n c.requires.0).1 in
+    let long = length-take (length row - at) (drop at row) in
+    let back = length-drop at row in (
+      refl,
+      store_part c.args.text.now row at at (omega arith)
+          (copied c.args.text.now (take (length row - at) (drop at row)) (omega (arith, c.requires.1)) c.copy.ensures.bytes),
+    )
