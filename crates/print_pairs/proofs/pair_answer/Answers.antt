@@ -28,8 +28,8 @@ returns c =
     let P = c.put_answer-n.ensures in
     let G = c.give in
     let t = pair_answer z.k z.line.now in
-    let front = front_is t l.result (omega (arith, P.1, l.ensures)) P.0 in
+    let front = front_is t l.result (omega (arith, P.line_len_bound, l.ensures)) P.placed in
     record {
       writes = subst (λ (u : List ℕ). Writes u z.out.now G.result G.new.out) front G.ensures;
-      line_len_bound = P.1;
+      line_len_bound = P.line_len_bound;
     }

@@ -16,6 +16,6 @@ returns c =
     let z = c.args in
     let L = c.put_line.ensures in
     let T = c.put_title-a.ensures in record {
-      placed = placed_next (title_text z.k) (line_text z.line.now) 0 z.out.now T L.0;
-      line_len_bound = answer_short z.k z.line.now (search rules) L.1;
+      placed = placed_next (title_text z.k) (line_text z.line.now) 0 z.out.now T L.placed;
+      line_len_bound = answer_short z.k z.line.now (search rules) L.line_len_bound;
     }

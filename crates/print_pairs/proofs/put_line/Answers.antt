@@ -12,16 +12,20 @@ use Rattle.print_pairs.proofs.put_line.Goals as goal
 
 pub returns-then-n-gt-PAIR_LINE : goal.returns-then-n-gt-PAIR_LINE
 returns-then-n-gt-PAIR_LINE c =
-    let z = c.args in
+    let it =
+        (let z = c.args in
     let said = line_long z.line.now c.if-n-gt-PAIR_LINE.true in
-    piece_as most_list_bytes z.at z.out.now said (c.put_bytes.ensures, omega arith)
+    piece_as most_list_bytes z.at z.out.now said (c.put_bytes.ensures, omega arith)) in
+    record { placed = it.0; line_len_bound = it.1 }
 
 pub returns : goal.returns
 returns c =
-    let z = c.args in
+    let it =
+        (let z = c.args in
     let T = c.tab_place-tab in
     let D = c.behind-rest in
     let k = length z.out.now - z.at in
     let short = c.if-n-gt-PAIR_LINE.false in
     let said = line_said z.line.now T.result D.result T.ensures.0 D.ensures k short (omega (arith, c.requires)) in
-    piece_as most_list_bytes z.at z.out.now said c.put_texts.ensures
+    piece_as most_list_bytes z.at z.out.now said (c.put_texts.ensures.placed, c.put_texts.ensures.right_len_bound)) in
+    record { placed = it.0; line_len_bound = it.1 }

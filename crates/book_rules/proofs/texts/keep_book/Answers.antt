@@ -15,4 +15,4 @@ loop-i-preserved c =
     let z = c.args in
     let l = c.loop-i in
     let k = c.keep_rule-kept in
-    holds_more z.book l.auto l.row l.i l.invariant c.loop-i-test.true _ k.result _ k.ensures
+    holds_more z.book l.kept l.row l.i l.invariant c.loop-i-test.true _ k.result _ k.ensures

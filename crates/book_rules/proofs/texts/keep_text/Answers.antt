@@ -1,5 +1,7 @@
-use mathlib.Core.Path.{refl}
-use Prim.Native.Nat.{◌*◌, ◌-◌}
+use mathlib.Core.Path.{◌≡◌, refl, sym, ◌∙◌, ap}
+use mathlib.Core.List.{List, ◌++◌}
+use lib.Seq.{take_all, take-length}
+use Prim.Native.Nat.{ℕ, ◌*◌, ◌-◌, ◌≤◌}
 use native.Mathlib.Omega.{arith}
 use lib.ListN.{length, take, drop, length-take, length-drop}
 use Rattle.base_limits.specs.Limits.{longest_rule}
@@ -15,8 +17,11 @@ returns c =
     let row = c.args.row.now in
     let room = (room_in (length row) c.args.kept.n c.requires.0).1 in
     let long = length-take (length row - at) (drop at row) in
-    let back = length-drop at row in (
+    let back = length-drop at row in
+    let t = c.args.text.now in
+    let l = take (length row - at) (drop at row) in
+    let fits : length t ≤ length l = omega (arith, c.requires.1) in (
       refl,
-      store_part c.args.text.now row at at (omega arith)
-          (copied c.args.text.now (take (length row - at) (drop at row)) (omega (arith, c.requires.1)) c.copy.ensures.bytes),
+      store_part t row at at (omega arith)
+          (copied t l fits (c.copy.ensures.bytes ∙ ap (λ (r : List ℕ). r ++ drop (length t) l) (take_all (length l) t fits ∙ sym (take-length t)))),
     )
