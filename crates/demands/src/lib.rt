@@ -2,6 +2,7 @@
 // the lent bytes, as the theorems of specs/ have it from that function's contract. Nothing calls them: a contract of the product that
 // says less does not pass here.
 #![tactic(auto)]
+
 ghost use Rattle.std.specs.Prelude.{◌≡◌};
 ghost use Rattle.demands.specs.Texts.{RuleReading, SlipReading, RuleWriting, SlipWriting};
 ghost use Rattle.demands.specs.Matching.{Matching};

@@ -1,6 +1,7 @@
 // The text that `book` prints where a line is refused, into lent bytes. Where none is, it prints the lines of the book's pairs,
 // which `book_rules::texts::write_pairs` writes.
 #![tactic(auto)]
+
 ghost use Rattle.std.specs.Prelude.{◌≤◌, length};
 ghost use Rattle.text_write.specs.Answers.{Writes};
 ghost use Rattle.text_write.specs.pieces.Placed.{Placed};
