@@ -8,7 +8,7 @@
 -- What `book` prints for its lines is said by `run_all`, `run_stops` and `cut_same` of print_book's proofs/Runs.
 use Rattle.std.specs.Prelude.{◌≡◌, refl, ◌↔◌, Bool, true, false, cond, ℕ, suc, ◌<◌, leb, length, take}
 use Rattle.std.proofs.Common.{sym, ◌∙◌, ap, subst, inl, inr, arith, le-leb}
-use Rattle.std.proofs.Math.Logic.{Iff·trans}
+use Rattle.std.proofs.Math.Logic.Iff
 use Rattle.std.proofs.Math.Option
 use Rattle.std.proofs.Math.Option.{Option, none, some}
 use mathlib.Core.List.{List, [], ◌∷◌, map, Memᴰ}
@@ -138,7 +138,7 @@ module _ (B : Book) (book : IsBook B) where
             ∙ ap (λ (b : Bool). record { number = cond b none (some 8); values = 0 ∷ [] }) (le-leb 0 (length old) (omega arith))
 
     apart_iff : Nothing r ↔ Apart B
-    apart_iff = Iff·trans nothing_iff (Iff·trans (text_none B) (apart_pairs B book))
+    apart_iff = Iff.trans nothing_iff (Iff.trans (text_none B) (apart_pairs B book))
 
     pub ordering : Ordering B old r new
     ordering =

@@ -4,7 +4,7 @@
 --     match_rules::compare_rule   answers `comparison (counted_rule v).0 (counted_slip w)`
 use Rattle.std.specs.Prelude.{◌≡◌, refl, ◌↔◌, ◌≢◌, Bool, true, false, cond, [], map, ℕ, ◌≤◌, length}
 use Rattle.std.proofs.Common.{sym, ◌∙◌, ap, subst, arith}
-use Rattle.std.proofs.Math.Logic.{Iff·trans}
+use Rattle.std.proofs.Math.Logic.Iff
 use Rattle.std.proofs.Math.Option.{IsSome}
 use Rattle.std.proofs.Math.Decide.{ℕ_discrete}
 use Rattle.std.proofs.lemmas.List.{length-map}
@@ -72,7 +72,7 @@ module _ (v : Rule) (w : Slip) where
     linear = (accepted_rule_lem v.left ((accepted_is v).0 accepted-v).0).0.1
 
     yes_iff : (answer.found.yes ≡ true) ↔ IsSome (matcher rule slip)
-    yes_iff = Iff·trans (old.on_terms accepted-v accepted-w) (match_iff rule linear slip)
+    yes_iff = Iff.trans (old.on_terms accepted-v accepted-w) (match_iff rule linear slip)
 
     exactly : (k : ℕ) → (answer.compared ≡ k) ↔ CountIs (tests rule slip) k
     exactly k =
@@ -80,7 +80,7 @@ module _ (v : Rule) (w : Slip) where
         (λ e. h.0 (sym count_is ∙ e), λ q. count_is ∙ h.1 q)
 
     passes : (answer.found.yes ≡ true) ↔ All Passes (tests rule slip)
-    passes = Iff·trans yes_iff (yes_passes basics consts ℕ_discrete rule slip)
+    passes = Iff.trans yes_iff (yes_passes basics consts ℕ_discrete rule slip)
 
     all_of : answer.found.yes ≡ true → answer.compared ≡ all_atoms (terms_of rule)
     all_of e = count_is ∙ compared_yes basics consts ℕ_discrete rule slip (yes_iff.0 e)

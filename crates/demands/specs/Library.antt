@@ -6,7 +6,7 @@
 --     yopobrush::yopobrush_texts_overlap   `LibraryOverlaps t u r`
 use Rattle.std.specs.Prelude.{◌≡◌, refl, ◌≢◌, ◌↔◌, Bool, true, false, cond, List, [], ◌∷◌, ℕ, ◌≤◌, ◌<◌, length, take, drop}
 use Rattle.std.proofs.Common.{sym, ◌∙◌, ap, subst, subst₂, inr, arith, le-leb}
-use Rattle.std.proofs.Math.Logic.{Iff·trans}
+use Rattle.std.proofs.Math.Logic.Iff
 use Rattle.std.proofs.lemmas.Bool.{false≢true}
 use Rattle.std.proofs.Math.Option.{Option, none, some}
 use Rattle.base_lists.specs.Seqs.{cons_true}
@@ -72,7 +72,7 @@ reading_refused (accepted x) r p = (
 -- and none that is tried before it applies anywhere
 pub reading_refusals : (t : List ℕ) (r : Reason) (p : ℕ) → r ≢ variable
     → (reading_of (read_rule t) ≡ record { refusal = number r; place = p }) ↔ (NoReason (RefusesRule t) (earlier r) × RefusesRule t r p)
-reading_refusals t r p n = Iff·trans (reading_refused (read_rule t) r p) (rule_refused r n t p)
+reading_refusals t r p n = Iff.trans (reading_refused (read_rule t) r p) (rule_refused r n t p)
 
 -- the number is 0 exactly where a rule is read
 pub reading_accepted : (t : List ℕ) → ((reading_of (read_rule t)).refusal ≡ 0) ↔ ((x : OurRule) × (read_rule t ≡ accepted x))

@@ -6,7 +6,7 @@
 -- A rule matches as its left side does; so the theorem is first had of one side, and then of the rule's left side.
 use Rattle.std.specs.Prelude.{◌≡◌, refl, ◌↔◌, Bool, true, false, cond, List, [], ◌∷◌, map, ℕ, ◌≤◌, get_or}
 use Rattle.std.proofs.Common.{sym, ◌∙◌, ap, ap₂, subst, arith}
-use Rattle.std.proofs.Math.Logic.{Iff·trans}
+use Rattle.std.proofs.Math.Logic.Iff
 use Rattle.std.proofs.lemmas.Bool.{false≢true}
 use Rattle.std.proofs.Math.Option.{Option, none, some, IsSome}
 use Rattle.base_limits.specs.Limits.{largest_number}
@@ -180,7 +180,7 @@ module _ (v : RuleSide) (w : Slip) (accepted-v : accepted_left v ≡ true) (acce
       (λ e. m.1 (f.0 (sym (ap (λ a. a.yes) answer_is) ∙ e)), λ h. ap (λ a. a.yes) answer_is ∙ f.1 (m.0 h))
 
   yes_laws : (answer.yes ≡ true) ↔ MatchesByLaws basics consts (map expr (terms_of rule)) (map expr (terms_of (view_slip w)))
-  yes_laws = let l = terms_matches rule (view_slip w) is_slip.1 in Iff·trans yes_iff (l.1, l.0)
+  yes_laws = let l = terms_matches rule (view_slip w) is_slip.1 in Iff.trans yes_iff (l.1, l.0)
 
   abbrev ByLaws : List (List Raw) → List (List Raw) → Type 0
   ByLaws x y = MatchesByLaws basics consts (map written_field x) (map written_field y)
@@ -190,7 +190,7 @@ module _ (v : RuleSide) (w : Slip) (accepted-v : accepted_left v ≡ true) (acce
       let h = written_matches x y (subst (All (All IsCon)) (sym ey) is_slip.1) in
       let k = subst (λ (r : OurFields). ByLaws x y ↔ Matches r (map constants (fields_of y))) ex h in
       let l = subst (λ (s : OurFields). ByLaws x y ↔ Matches rule (map constants s)) ey k in
-      Iff·trans yes_iff (l.1, l.0)
+      Iff.trans yes_iff (l.1, l.0)
 
   the_filling : answer.yes ≡ true → (φ : Filling Con Kind ℕ) × Shows rule slip answer.filling φ
   the_filling e = go (matcher rule slip) refl (sym (ap (λ a. a.yes) answer_is) ∙ e)

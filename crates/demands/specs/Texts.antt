@@ -5,7 +5,7 @@
 --     text_plain::slips::write_slip   answers r and leaves `new` with `Writes (plain (counted_slip v)) old r new`
 use Rattle.std.specs.Prelude.{◌≡◌, refl, ◌≢◌, ◌↔◌, ◌⊎◌, Bool, true, false, cond, List, [], ◌∷◌, ◌++◌, ℕ, suc, ◌≤◌, ◌<◌, length, take, drop}
 use Rattle.std.proofs.Common.{sym, ◌∙◌, ap, subst, inl, inr, arith, take_at, drop_at, le-leb}
-use Rattle.std.proofs.Math.Logic.{Iff·trans}
+use Rattle.std.proofs.Math.Logic.Iff
 use Rattle.std.proofs.Math.Option.{none, some, some-ne-none}
 use Rattle.base_limits.specs.Limits.{most_fields, most_terms, most_items}
 use Rattle.base_lists.specs.Seqs.{All, all_map}
@@ -134,7 +134,7 @@ module _ {S X Value : Type 0} (Applies : Reason → ℕ → Type 0) (tried other
 
       reading_of_lem : Reading Applies tried others Stands blank Holding (verdict_of out) (value_of out)
       reading_of_lem = record {
-        refusals = λ o n p. Iff·trans (told_refused o p out) (law o n p);
+        refusals = λ o n p. Iff.trans (told_refused o p out) (law o n p);
         never = all_map (λ s. (p : ℕ) → out ≢ refused s p) (λ s. (told (verdict_of out)).number ≢ some (number s))
             (λ s n. never_told s n out refl) others not-others;
         beside = is_blank out;

@@ -1,6 +1,7 @@
 // The text that `solve` prints for one line, into lent bytes: the lines of the search for the line's two fields.
 // It is put together piece behind piece in room that is known to be enough, and then given whole or not at all.
 #![tactic(auto)]
+
 ghost use Rattle.std.specs.Prelude.{◌≡◌, [], ◌≤◌, length};
 ghost use Rattle.search_row.specs.own.Sizes.{most_records};
 ghost use Rattle.text_grammar.specs.rules.Read.{read_rule};

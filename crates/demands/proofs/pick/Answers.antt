@@ -1,0 +1,6 @@
+use Rattle.demands.specs.Books.{picking}
+use borrow.Author.Rules.{rules}
+use Rattle.demands.proofs.pick.Goals as goal
+
+pub returns : goal.returns
+returns c = picking c.args.book c.args.slip c.pick.ensures
