@@ -19,8 +19,8 @@ module _ {C K A : Type 0} (P : C → Type 0) (θ : Filling C K A) where
   value_in k a (con c ∷ f) h o = value_in k a f h.1 o
   value_in k a (var j b ∷ f) h (inl e) = rw (e.0, e.1) (all_left P (θ j b) (fill θ f) h)
   value_in k a (var j b ∷ f) h (inr o) = value_in k a f (all_right P (θ j b) (fill θ f) h) o
-
   value_in k a [] h o = elim o [ ]
+
   -- a variable's value has constants of what the rule becomes
   pub values_in_lem : (k : K) (a : A) (r : List (List (Term C K A))) → All (All P) (map (fill θ) r) → Any (Occurs k a) r → All P (θ k a)
   values_in_lem k a (f ∷ r) h (inl o) = value_in k a f h.0 o

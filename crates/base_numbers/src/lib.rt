@@ -1,5 +1,6 @@
 // Small functions on counts.
 #![tactic(auto)]
+
 ghost use Rattle.std.specs.Prelude.{◌≡◌, ◌-◌, min};
 
 // n, as far as there are so many: the views end a count where its array ends, and so does the code.

@@ -1,6 +1,7 @@
 // Rules and slips as text: the grammar, the refusals and their places, plain text.
 // Specs and their proofs; code only for the letters of types, and for signs.
 #![tactic(auto)]
+
 ghost use Rattle.std.specs.Prelude.{◌≡◌, ◌≤◌};
 ghost use Rattle.text_grammar.specs.Letters.{letter_at};
 ghost use Rattle.text_grammar.specs.constants.Constants.{sign_size, limit, sign_of};

@@ -1,5 +1,6 @@
 // Terms, fields, rules and slips as values. A value's unused places are blank (every number zero), so that there is one value for one rule.
 #![tactic(auto)]
+
 ghost use Rattle.std.specs.Prelude.{◌≡◌};
 ghost use Rattle.text_values.specs.Values.{blank_term, blank_field, blank_side, blank_rule, blank_slip_field, blank_slip, one_field};
 

@@ -17,7 +17,6 @@ pub returns-then-not-passes : goal.returns-then-not-passes
 returns-then-not-passes c =
     let P = c.passes in
     let I = c.item_at-item in
-    
     let z = c.args in
     let l = c.loop-i in
     let h = c.loop-i-test.true in
@@ -41,17 +40,19 @@ loop-i-preserved c =
       v.0,
       v.1,
       omega arith,
-      elim c.if-is_list_term.branch [ then-is_list_term w ↦
-          same (l.p + z.gap) c.if-is_list_term.p l.compared c.if-is_list_term.compared l.now c.if-is_list_term.now w.now-is w.compared-is w.p-is
-          (reached_list z.gap (take z.w.n z.w.terms) z.f.n z.f.terms most_terms z.v l.i l.p l.compared l.now absent v.3
-          (omega (arith, v.1))
-          I.result I.ensures w.if-is_list_term.true v.0)
-      | else-is_list_term+else-not-passes w ↦
-          same (l.p + 1) c.if-is_list_term.p (l.compared + 1) c.if-is_list_term.compared w.bound_by-now.result c.if-is_list_term.now
-          w.now-is w.compared-is w.p-is
-          (reached_one z.gap (take z.w.n z.w.terms) z.f.n z.f.terms most_terms z.v l.i l.p l.compared l.now absent v.3
-          (omega (arith, v.1))
-          I.result I.ensures w.if-is_list_term.false w.item_at-item.result w.item_at-item.ensures _
-          (passed_is (get_or z.f.terms l.i absent) w.item_at-item.result l.now w.passes.result w.bound_by-now.result w.passes.ensures
-          w.bound_by-now.ensures) w.if-not-passes.false-raw) ],
+      elim c.if-is_list_term.branch [
+        | then-is_list_term w ↦
+            same (l.p + z.gap) c.if-is_list_term.p l.compared c.if-is_list_term.compared l.now c.if-is_list_term.now w.now-is w.compared-is w.p-is
+            (reached_list z.gap (take z.w.n z.w.terms) z.f.n z.f.terms most_terms z.v l.i l.p l.compared l.now absent v.3
+            (omega (arith, v.1))
+            I.result I.ensures w.if-is_list_term.true v.0)
+        | else-is_list_term+else-not-passes w ↦
+            same (l.p + 1) c.if-is_list_term.p (l.compared + 1) c.if-is_list_term.compared w.bound_by-now.result c.if-is_list_term.now
+            w.now-is w.compared-is w.p-is
+            (reached_one z.gap (take z.w.n z.w.terms) z.f.n z.f.terms most_terms z.v l.i l.p l.compared l.now absent v.3
+            (omega (arith, v.1))
+            I.result I.ensures w.if-is_list_term.false w.item_at-item.result w.item_at-item.ensures _
+            (passed_is (get_or z.f.terms l.i absent) w.item_at-item.result l.now w.passes.result w.bound_by-now.result w.passes.ensures
+            w.bound_by-now.ensures) w.if-not-passes.false-raw)
+      ],
     )

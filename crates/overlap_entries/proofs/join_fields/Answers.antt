@@ -14,7 +14,6 @@ use Rattle.overlap_entries.proofs.join_fields.Goals.{then-differ+else-not-joined
 
 pub returns-then-not-joined : goal.returns-then-not-joined
 returns-then-not-joined c =
-    
     let z = c.args in
     let l = c.loop-p in
     let e =
@@ -25,7 +24,6 @@ returns-then-not-joined c =
 
 pub loop-p-preserved : goal.loop-p-preserved
 loop-p-preserved c =
-    
     let z = c.args in
     let l = c.loop-p in
     let T = table_in z.row.now in
@@ -34,12 +32,14 @@ loop-p-preserved c =
     let i = place_in c.cell_at-a.result in
     let k = place_in c.cell_at-b.result in
     let S : State → Type 0 = λ st. Left entry T a b z.n z.st.atoms st.atoms (l.p + 1) in
-    elim c.if-differ.branch [ then-differ+else-not-joined w ↦
-        let J = w.join_cells-joined in
-        subst S (sym w.now-is)
-        (left_one entry T a b z.n z.st.atoms l.now l.p i k c.cell_at-a.ensures c.cell_at-b.ensures l.invariant c.loop-p-test.true
-        J.result J.ensures (not-false J.result.ok w.if-not-joined.false))
-    | else-differ w ↦
-        subst S (sym w.now-is)
-        (left_same entry T a b z.n z.st.atoms l.now.atoms l.p i k c.cell_at-a.ensures c.cell_at-b.ensures l.invariant c.loop-p-test.true
-        (sym c.differ.ensures ∙ w.if-differ.false)) ]
+    elim c.if-differ.branch [
+      | then-differ+else-not-joined w ↦
+          let J = w.join_cells-joined in
+          subst S (sym w.now-is)
+          (left_one entry T a b z.n z.st.atoms l.now l.p i k c.cell_at-a.ensures c.cell_at-b.ensures l.invariant c.loop-p-test.true
+          J.result J.ensures (not-false J.result.ok w.if-not-joined.false))
+      | else-differ w ↦
+          subst S (sym w.now-is)
+          (left_same entry T a b z.n z.st.atoms l.now.atoms l.p i k c.cell_at-a.ensures c.cell_at-b.ensures l.invariant c.loop-p-test.true
+          (sym c.differ.ensures ∙ w.if-differ.false))
+    ]

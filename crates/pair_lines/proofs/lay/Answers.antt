@@ -13,7 +13,6 @@ lay_field-requires c =
 
 pub loop-j-preserved : goal.loop-j-preserved
 loop-j-preserved c =
-    
     let l = c.loop-j in
     let h = c.loop-j-test.true in
     let e = c.lay_field.ensures in (

@@ -13,7 +13,6 @@ use Rattle.pair_lines.proofs.lay_field.Goals as goal
 
 pub loop-i-preserved : goal.loop-i-preserved
 loop-i-preserved c =
-    
     let l = c.loop-i in
     let z = c.args in (
       named_one (table_in z.row.now) z.items.now (record { counts = z.counts.now; numbers = z.numbers.now }) (entry_terms * z.j) (entry_terms * z.j)

@@ -16,7 +16,6 @@ use Rattle.pair_lines.proofs.name_rank.Goals.{else-x-ne0, then-x-ne0}
 
 pub name_value-requires : goal.name_value-requires
 name_value-requires c =
-    
     let z = c.args in
     let L = c.loop-n in
     let T = table_in z.row.now in
@@ -36,18 +35,20 @@ loop-n-preserved c =
     let h = c.loop-n-test.true in (
       omega arith,
       values_one (table_in z.row.now) (in_hand z.counts.now z.numbers.now) f L.n L.counts L.numbers L.invariant.1 c.if-x-ne0.counts
-          c.if-x-ne0.numbers ((let it : let z_turn = c.args in Gives (name_fields (table_in z_turn.row.now) (in_hand c.loop-n.counts c.loop-n.numbers) (listed_at z_turn.row.now z_turn.right z_turn.atoms.now z_turn.items.now z_turn.rank c.loop-n.n)) c.if-x-ne0.counts c.if-x-ne0.numbers = 
-    let z_turn = c.args in
-    let L_turn = c.loop-n in
-    let T_turn = table_in z_turn.row.now in
-    let x_turn = in_hand L_turn.counts L_turn.numbers in
-    let v_turn = value_with z_turn.row.now z_turn.right z_turn.atoms.now z_turn.items.now z_turn.rank L_turn.n in
-    let f_turn = listed_at z_turn.row.now z_turn.right z_turn.atoms.now z_turn.items.now z_turn.rank in
-    (elim c.if-x-ne0.branch [ then-x-ne0 w ↦ gives_as (name_fields T_turn x_turn (v_turn ∷ [])) (name_fields T_turn x_turn (f_turn L_turn.n)) c.if-x-ne0.counts c.if-x-ne0.numbers
-    (ap (name_fields T_turn x_turn) ((let it : let z_there = c.args in (c.index_at-x.result ≡ 0 → ⊥) → value_with z_there.row.now z_there.right z_there.atoms.now z_there.items.now z_there.rank c.loop-n.n ∷ [] ≡ listed_at z_there.row.now z_there.right z_there.atoms.now z_there.items.now z_there.rank c.loop-n.n = λ h. let z_there = c.args in
-    listed_there z_there.row.now z_there.right z_there.atoms.now z_there.items.now z_there.rank c.loop-n.n (λ e. h (c.index_at-x.ensures ∙ e)) in it) w.if-x-ne0.true)) (w.counts-is ∙ w.name_value.ensures.counts_value, w.numbers-is ∙ w.name_value.ensures.numbers_after)
-    | else-x-ne0 w ↦ gives_as x_turn (name_fields T_turn x_turn (f_turn L_turn.n)) c.if-x-ne0.counts c.if-x-ne0.numbers
-    (ap (name_fields T_turn x_turn) (listed_not z_turn.row.now z_turn.right z_turn.atoms.now z_turn.items.now z_turn.rank L_turn.n
-    (sym c.index_at-x.ensures ∙ w.if-x-ne0.false)))
-    (w.counts-is, w.numbers-is) ]) in it)),
+          c.if-x-ne0.numbers ((let it : let z_turn = c.args in Gives (name_fields (table_in z_turn.row.now) (in_hand c.loop-n.counts c.loop-n.numbers) (listed_at z_turn.row.now z_turn.right z_turn.atoms.now z_turn.items.now z_turn.rank c.loop-n.n)) c.if-x-ne0.counts c.if-x-ne0.numbers =
+          let z_turn = c.args in
+          let L_turn = c.loop-n in
+          let T_turn = table_in z_turn.row.now in
+          let x_turn = in_hand L_turn.counts L_turn.numbers in
+          let v_turn = value_with z_turn.row.now z_turn.right z_turn.atoms.now z_turn.items.now z_turn.rank L_turn.n in
+          let f_turn = listed_at z_turn.row.now z_turn.right z_turn.atoms.now z_turn.items.now z_turn.rank in
+          (elim c.if-x-ne0.branch [
+            | then-x-ne0 w ↦ gives_as (name_fields T_turn x_turn (v_turn ∷ [])) (name_fields T_turn x_turn (f_turn L_turn.n)) c.if-x-ne0.counts c.if-x-ne0.numbers
+                (ap (name_fields T_turn x_turn) ((let it : let z_there = c.args in (c.index_at-x.result ≡ 0 → ⊥) → value_with z_there.row.now z_there.right z_there.atoms.now z_there.items.now z_there.rank c.loop-n.n ∷ [] ≡ listed_at z_there.row.now z_there.right z_there.atoms.now z_there.items.now z_there.rank c.loop-n.n = λ h. let z_there = c.args in
+                listed_there z_there.row.now z_there.right z_there.atoms.now z_there.items.now z_there.rank c.loop-n.n (λ e. h (c.index_at-x.ensures ∙ e)) in it) w.if-x-ne0.true)) (w.counts-is ∙ w.name_value.ensures.counts_value, w.numbers-is ∙ w.name_value.ensures.numbers_after)
+            | else-x-ne0 w ↦ gives_as x_turn (name_fields T_turn x_turn (f_turn L_turn.n)) c.if-x-ne0.counts c.if-x-ne0.numbers
+                (ap (name_fields T_turn x_turn) (listed_not z_turn.row.now z_turn.right z_turn.atoms.now z_turn.items.now z_turn.rank L_turn.n
+                (sym c.index_at-x.ensures ∙ w.if-x-ne0.false)))
+                (w.counts-is, w.numbers-is)
+          ]) in it)),
     )

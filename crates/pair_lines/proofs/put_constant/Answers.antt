@@ -10,8 +10,6 @@ use Rattle.pair_lines.proofs.put_constant.Goals as goal
 
 pub loop-i-preserved : goal.loop-i-preserved
 loop-i-preserved c =
-    
-    
     let z = c.args in
     let L = c.loop-i in
     let h = c.loop-i-test.true in (

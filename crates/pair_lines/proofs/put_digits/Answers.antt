@@ -11,14 +11,10 @@ use Rattle.pair_lines.proofs.put_digits.Goals as goal
 
 pub put_byte-requires-2 : goal.put_byte-requires-2
 put_byte-requires-2 c =
-    
-    
     omega (arith, c.requires, ap length ((let it : let z_three = c.args in digits_of z_three.n ≡ (48 + z_three.n / 100) ∷ (48 + z_three.n / 10 % 10) ∷ (48 + z_three.n % 10) ∷ [] = digits_three c.args.n c.if-n-lt100.false (omega (arith, c.ranges.n)) in it)), c.put_byte-p-2.ensures.0, c.put_byte-q.ensures.0)
 
 pub returns : goal.returns
 returns c =
-    
-    
     let z = c.args in
     let a = (48 + z.n / 100) ∷ [] in
     let b = (48 + z.n / 10 % 10) ∷ [] in

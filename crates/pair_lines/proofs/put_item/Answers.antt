@@ -15,11 +15,9 @@ use Rattle.pair_lines.proofs.put_item.Goals as goal
 
 pub returns : goal.returns
 returns c =
-    
-    
     let z = c.args in
     let t = bytes_in z.texts.now z.c in
-    puts_as z.at z.out.now ((let it : let z_quoted = c.args in 34 ∷ (bytes_in z_quoted.texts.now z_quoted.c ++ 34 ∷ []) ≡ item_text (table_in z_quoted.row.now) (text_in z_quoted.row.now z_quoted.texts.now) z_quoted.numbers.now z_quoted.c = 
+    puts_as z.at z.out.now ((let it : let z_quoted = c.args in 34 ∷ (bytes_in z_quoted.texts.now z_quoted.c ++ 34 ∷ []) ≡ item_text (table_in z_quoted.row.now) (text_in z_quoted.row.now z_quoted.texts.now) z_quoted.numbers.now z_quoted.c =
     let z_quoted = c.args in
     item_string z_quoted.row.now z_quoted.texts.now z_quoted.numbers.now z_quoted.c (sym c.is_variable.ensures ∙ c.if-is_variable.false)
     (sym c.kind_at-kind.ensures ∙ c.if-kind-ne1.false) in it))

@@ -37,51 +37,65 @@ pub put_fields-p-requires : goal.put_fields-p-requires
 put_fields-p-requires c =
     record {
       c_value = ((let it : let z_ok = c.args in fits z_ok.fields z_ok.c ≡ true = sym c.fits.ensures ∙ not-false c.fits.result c.if-not-fits.false-raw in it), c.lay-x.ensures.result_value);
-      atoms_len_bound = omega (arith, (let it : let z_small = c.args in let y_small = c.lay-x.result in let left_small = c.put_runs.new.runs in let right_small = c.put_runs-2.new.runs in length (fields_text (table_in z_small.row.now) (text_in z_small.row.now z_small.texts.now) y_small.numbers (items_in z_small.row.now z_small.fields z_small.c z_small.atoms.now)) + (length (values_in z_small.row.now z_small.texts.now y_small.numbers false z_small.atoms.now (run_by left_small y_small.items)) + (length (values_in z_small.row.now z_small.texts.now y_small.numbers true z_small.atoms.now (run_by right_small y_small.items)) + 1)) ≤ 134217728 = 
-    let z_small = c.args in
-    let Y_small = c.lay-x in
-    let low_small : (i : ℕ) → get_or z_small.row.now i 0 < 256 = λ i. omega (arith, c.shared_slice_known-1.given i) in
-    let byte_small : (i : ℕ) → get_or z_small.texts.now i 0 < 256 = λ i. omega (arith, c.shared_slice_known-2-1.given i) in
-    parts_short z_small.row.now z_small.texts.now z_small.fields z_small.c z_small.atoms.now low_small byte_small Y_small.result.numbers Y_small.result.items _ _
-    Y_small.ensures.numbers_value Y_small.ensures.result_value c.put_runs.ensures c.put_runs-2.ensures ((let it : let z_ok = c.args in fits z_ok.fields z_ok.c ≡ true = sym c.fits.ensures ∙ not-false c.fits.result c.if-not-fits.false-raw in it)) ((let it : numbers_few c.args.row.now ≡ true = let a_few = c.numbers_few in sym a_few.ensures ∙ not-false a_few.result c.if-not-numbers_few.false-raw in it)) in it));
+      atoms_len_bound = omega (
+        arith,
+        (let it : let z_small = c.args in let y_small = c.lay-x.result in let left_small = c.put_runs.new.runs in let right_small = c.put_runs-2.new.runs in length (fields_text (table_in z_small.row.now) (text_in z_small.row.now z_small.texts.now) y_small.numbers (items_in z_small.row.now z_small.fields z_small.c z_small.atoms.now)) + (length (values_in z_small.row.now z_small.texts.now y_small.numbers false z_small.atoms.now (run_by left_small y_small.items)) + (length (values_in z_small.row.now z_small.texts.now y_small.numbers true z_small.atoms.now (run_by right_small y_small.items)) + 1)) ≤ 134217728 =
+            let z_small = c.args in
+            let Y_small = c.lay-x in
+            let low_small : (i : ℕ) → get_or z_small.row.now i 0 < 256 = λ i. omega (arith, c.shared_slice_known-1.given i) in
+            let byte_small : (i : ℕ) → get_or z_small.texts.now i 0 < 256 = λ i. omega (arith, c.shared_slice_known-2-1.given i) in
+            parts_short z_small.row.now z_small.texts.now z_small.fields z_small.c z_small.atoms.now low_small byte_small Y_small.result.numbers Y_small.result.items _ _
+            Y_small.ensures.numbers_value Y_small.ensures.result_value c.put_runs.ensures c.put_runs-2.ensures ((let it : let z_ok = c.args in fits z_ok.fields z_ok.c ≡ true = sym c.fits.ensures ∙ not-false c.fits.result c.if-not-fits.false-raw in it)) ((let it : numbers_few c.args.row.now ≡ true = let a_few = c.numbers_few in sym a_few.ensures ∙ not-false a_few.result c.if-not-numbers_few.false-raw in it)) in it),
+      );
     }
 
 pub put_values-q-requires : goal.put_values-q-requires
 put_values-q-requires c =
-    omega (arith, (let it : let z_small = c.args in let y_small = c.lay-x.result in let left_small = c.put_runs.new.runs in let right_small = c.put_runs-2.new.runs in length (fields_text (table_in z_small.row.now) (text_in z_small.row.now z_small.texts.now) y_small.numbers (items_in z_small.row.now z_small.fields z_small.c z_small.atoms.now)) + (length (values_in z_small.row.now z_small.texts.now y_small.numbers false z_small.atoms.now (run_by left_small y_small.items)) + (length (values_in z_small.row.now z_small.texts.now y_small.numbers true z_small.atoms.now (run_by right_small y_small.items)) + 1)) ≤ 134217728 = 
-    let z_small = c.args in
-    let Y_small = c.lay-x in
-    let low_small : (i : ℕ) → get_or z_small.row.now i 0 < 256 = λ i. omega (arith, c.shared_slice_known-1.given i) in
-    let byte_small : (i : ℕ) → get_or z_small.texts.now i 0 < 256 = λ i. omega (arith, c.shared_slice_known-2-1.given i) in
-    parts_short z_small.row.now z_small.texts.now z_small.fields z_small.c z_small.atoms.now low_small byte_small Y_small.result.numbers Y_small.result.items _ _
-    Y_small.ensures.numbers_value Y_small.ensures.result_value c.put_runs.ensures c.put_runs-2.ensures ((let it : let z_ok = c.args in fits z_ok.fields z_ok.c ≡ true = sym c.fits.ensures ∙ not-false c.fits.result c.if-not-fits.false-raw in it)) ((let it : numbers_few c.args.row.now ≡ true = let a_few = c.numbers_few in sym a_few.ensures ∙ not-false a_few.result c.if-not-numbers_few.false-raw in it)) in it), c.put_fields-p.ensures.0)
+    omega (
+      arith,
+      (let it : let z_small = c.args in let y_small = c.lay-x.result in let left_small = c.put_runs.new.runs in let right_small = c.put_runs-2.new.runs in length (fields_text (table_in z_small.row.now) (text_in z_small.row.now z_small.texts.now) y_small.numbers (items_in z_small.row.now z_small.fields z_small.c z_small.atoms.now)) + (length (values_in z_small.row.now z_small.texts.now y_small.numbers false z_small.atoms.now (run_by left_small y_small.items)) + (length (values_in z_small.row.now z_small.texts.now y_small.numbers true z_small.atoms.now (run_by right_small y_small.items)) + 1)) ≤ 134217728 =
+          let z_small = c.args in
+          let Y_small = c.lay-x in
+          let low_small : (i : ℕ) → get_or z_small.row.now i 0 < 256 = λ i. omega (arith, c.shared_slice_known-1.given i) in
+          let byte_small : (i : ℕ) → get_or z_small.texts.now i 0 < 256 = λ i. omega (arith, c.shared_slice_known-2-1.given i) in
+          parts_short z_small.row.now z_small.texts.now z_small.fields z_small.c z_small.atoms.now low_small byte_small Y_small.result.numbers Y_small.result.items _ _
+          Y_small.ensures.numbers_value Y_small.ensures.result_value c.put_runs.ensures c.put_runs-2.ensures ((let it : let z_ok = c.args in fits z_ok.fields z_ok.c ≡ true = sym c.fits.ensures ∙ not-false c.fits.result c.if-not-fits.false-raw in it)) ((let it : numbers_few c.args.row.now ≡ true = let a_few = c.numbers_few in sym a_few.ensures ∙ not-false a_few.result c.if-not-numbers_few.false-raw in it)) in it),
+      c.put_fields-p.ensures.0,
+    )
 
 pub put_values-r-requires : goal.put_values-r-requires
 put_values-r-requires c =
-    
-    omega (arith, (let it : let z_small = c.args in let y_small = c.lay-x.result in let left_small = c.put_runs.new.runs in let right_small = c.put_runs-2.new.runs in length (fields_text (table_in z_small.row.now) (text_in z_small.row.now z_small.texts.now) y_small.numbers (items_in z_small.row.now z_small.fields z_small.c z_small.atoms.now)) + (length (values_in z_small.row.now z_small.texts.now y_small.numbers false z_small.atoms.now (run_by left_small y_small.items)) + (length (values_in z_small.row.now z_small.texts.now y_small.numbers true z_small.atoms.now (run_by right_small y_small.items)) + 1)) ≤ 134217728 = 
-    let z_small = c.args in
-    let Y_small = c.lay-x in
-    let low_small : (i : ℕ) → get_or z_small.row.now i 0 < 256 = λ i. omega (arith, c.shared_slice_known-1.given i) in
-    let byte_small : (i : ℕ) → get_or z_small.texts.now i 0 < 256 = λ i. omega (arith, c.shared_slice_known-2-1.given i) in
-    parts_short z_small.row.now z_small.texts.now z_small.fields z_small.c z_small.atoms.now low_small byte_small Y_small.result.numbers Y_small.result.items _ _
-    Y_small.ensures.numbers_value Y_small.ensures.result_value c.put_runs.ensures c.put_runs-2.ensures ((let it : let z_ok = c.args in fits z_ok.fields z_ok.c ≡ true = sym c.fits.ensures ∙ not-false c.fits.result c.if-not-fits.false-raw in it)) ((let it : numbers_few c.args.row.now ≡ true = let a_few = c.numbers_few in sym a_few.ensures ∙ not-false a_few.result c.if-not-numbers_few.false-raw in it)) in it), c.put_fields-p.ensures.0, c.put_values-q.ensures.0)
+    omega (
+      arith,
+      (let it : let z_small = c.args in let y_small = c.lay-x.result in let left_small = c.put_runs.new.runs in let right_small = c.put_runs-2.new.runs in length (fields_text (table_in z_small.row.now) (text_in z_small.row.now z_small.texts.now) y_small.numbers (items_in z_small.row.now z_small.fields z_small.c z_small.atoms.now)) + (length (values_in z_small.row.now z_small.texts.now y_small.numbers false z_small.atoms.now (run_by left_small y_small.items)) + (length (values_in z_small.row.now z_small.texts.now y_small.numbers true z_small.atoms.now (run_by right_small y_small.items)) + 1)) ≤ 134217728 =
+          let z_small = c.args in
+          let Y_small = c.lay-x in
+          let low_small : (i : ℕ) → get_or z_small.row.now i 0 < 256 = λ i. omega (arith, c.shared_slice_known-1.given i) in
+          let byte_small : (i : ℕ) → get_or z_small.texts.now i 0 < 256 = λ i. omega (arith, c.shared_slice_known-2-1.given i) in
+          parts_short z_small.row.now z_small.texts.now z_small.fields z_small.c z_small.atoms.now low_small byte_small Y_small.result.numbers Y_small.result.items _ _
+          Y_small.ensures.numbers_value Y_small.ensures.result_value c.put_runs.ensures c.put_runs-2.ensures ((let it : let z_ok = c.args in fits z_ok.fields z_ok.c ≡ true = sym c.fits.ensures ∙ not-false c.fits.result c.if-not-fits.false-raw in it)) ((let it : numbers_few c.args.row.now ≡ true = let a_few = c.numbers_few in sym a_few.ensures ∙ not-false a_few.result c.if-not-numbers_few.false-raw in it)) in it),
+      c.put_fields-p.ensures.0,
+      c.put_values-q.ensures.0,
+    )
 
 pub put_byte-requires : goal.put_byte-requires
 put_byte-requires c =
-    
-    omega (arith, (let it : let z_small = c.args in let y_small = c.lay-x.result in let left_small = c.put_runs.new.runs in let right_small = c.put_runs-2.new.runs in length (fields_text (table_in z_small.row.now) (text_in z_small.row.now z_small.texts.now) y_small.numbers (items_in z_small.row.now z_small.fields z_small.c z_small.atoms.now)) + (length (values_in z_small.row.now z_small.texts.now y_small.numbers false z_small.atoms.now (run_by left_small y_small.items)) + (length (values_in z_small.row.now z_small.texts.now y_small.numbers true z_small.atoms.now (run_by right_small y_small.items)) + 1)) ≤ 134217728 = 
-    let z_small = c.args in
-    let Y_small = c.lay-x in
-    let low_small : (i : ℕ) → get_or z_small.row.now i 0 < 256 = λ i. omega (arith, c.shared_slice_known-1.given i) in
-    let byte_small : (i : ℕ) → get_or z_small.texts.now i 0 < 256 = λ i. omega (arith, c.shared_slice_known-2-1.given i) in
-    parts_short z_small.row.now z_small.texts.now z_small.fields z_small.c z_small.atoms.now low_small byte_small Y_small.result.numbers Y_small.result.items _ _
-    Y_small.ensures.numbers_value Y_small.ensures.result_value c.put_runs.ensures c.put_runs-2.ensures ((let it : let z_ok = c.args in fits z_ok.fields z_ok.c ≡ true = sym c.fits.ensures ∙ not-false c.fits.result c.if-not-fits.false-raw in it)) ((let it : numbers_few c.args.row.now ≡ true = let a_few = c.numbers_few in sym a_few.ensures ∙ not-false a_few.result c.if-not-numbers_few.false-raw in it)) in it), c.put_fields-p.ensures.0, c.put_values-q.ensures.0, c.put_values-r.ensures.0)
+    omega (
+      arith,
+      (let it : let z_small = c.args in let y_small = c.lay-x.result in let left_small = c.put_runs.new.runs in let right_small = c.put_runs-2.new.runs in length (fields_text (table_in z_small.row.now) (text_in z_small.row.now z_small.texts.now) y_small.numbers (items_in z_small.row.now z_small.fields z_small.c z_small.atoms.now)) + (length (values_in z_small.row.now z_small.texts.now y_small.numbers false z_small.atoms.now (run_by left_small y_small.items)) + (length (values_in z_small.row.now z_small.texts.now y_small.numbers true z_small.atoms.now (run_by right_small y_small.items)) + 1)) ≤ 134217728 =
+          let z_small = c.args in
+          let Y_small = c.lay-x in
+          let low_small : (i : ℕ) → get_or z_small.row.now i 0 < 256 = λ i. omega (arith, c.shared_slice_known-1.given i) in
+          let byte_small : (i : ℕ) → get_or z_small.texts.now i 0 < 256 = λ i. omega (arith, c.shared_slice_known-2-1.given i) in
+          parts_short z_small.row.now z_small.texts.now z_small.fields z_small.c z_small.atoms.now low_small byte_small Y_small.result.numbers Y_small.result.items _ _
+          Y_small.ensures.numbers_value Y_small.ensures.result_value c.put_runs.ensures c.put_runs-2.ensures ((let it : let z_ok = c.args in fits z_ok.fields z_ok.c ≡ true = sym c.fits.ensures ∙ not-false c.fits.result c.if-not-fits.false-raw in it)) ((let it : numbers_few c.args.row.now ≡ true = let a_few = c.numbers_few in sym a_few.ensures ∙ not-false a_few.result c.if-not-numbers_few.false-raw in it)) in it),
+      c.put_fields-p.ensures.0,
+      c.put_values-q.ensures.0,
+      c.put_values-r.ensures.0,
+    )
 
 pub returns : goal.returns
 returns c =
-    
-    
     let z = c.args in
     let Y = c.lay-x in
     let y = Y.result.numbers in
@@ -101,11 +115,18 @@ returns c =
     L.ensures R.ensures ((let it : let z_ok = c.args in fits z_ok.fields z_ok.c ≡ true = sym c.fits.ensures ∙ not-false c.fits.result c.if-not-fits.false-raw in it)) ((let it : numbers_few c.args.row.now ≡ true = let a_few = c.numbers_few in sym a_few.ensures ∙ not-false a_few.result c.if-not-numbers_few.false-raw in it)) in
     record {
       puts = puts_as 0 z.out.now text all;
-      upper_bound = omega (arith, (let it : let z_small = c.args in let y_small = c.lay-x.result in let left_small = c.put_runs.new.runs in let right_small = c.put_runs-2.new.runs in length (fields_text (table_in z_small.row.now) (text_in z_small.row.now z_small.texts.now) y_small.numbers (items_in z_small.row.now z_small.fields z_small.c z_small.atoms.now)) + (length (values_in z_small.row.now z_small.texts.now y_small.numbers false z_small.atoms.now (run_by left_small y_small.items)) + (length (values_in z_small.row.now z_small.texts.now y_small.numbers true z_small.atoms.now (run_by right_small y_small.items)) + 1)) ≤ 134217728 = 
-    let z_small = c.args in
-    let Y_small = c.lay-x in
-    let low_small : (i : ℕ) → get_or z_small.row.now i 0 < 256 = λ i. omega (arith, c.shared_slice_known-1.given i) in
-    let byte_small : (i : ℕ) → get_or z_small.texts.now i 0 < 256 = λ i. omega (arith, c.shared_slice_known-2-1.given i) in
-    parts_short z_small.row.now z_small.texts.now z_small.fields z_small.c z_small.atoms.now low_small byte_small Y_small.result.numbers Y_small.result.items _ _
-    Y_small.ensures.numbers_value Y_small.ensures.result_value c.put_runs.ensures c.put_runs-2.ensures ((let it : let z_ok = c.args in fits z_ok.fields z_ok.c ≡ true = sym c.fits.ensures ∙ not-false c.fits.result c.if-not-fits.false-raw in it)) ((let it : numbers_few c.args.row.now ≡ true = let a_few = c.numbers_few in sym a_few.ensures ∙ not-false a_few.result c.if-not-numbers_few.false-raw in it)) in it), F.ensures.0, A.ensures.0, B.ensures.0, E.ensures.0);
+      upper_bound = omega (
+        arith,
+        (let it : let z_small = c.args in let y_small = c.lay-x.result in let left_small = c.put_runs.new.runs in let right_small = c.put_runs-2.new.runs in length (fields_text (table_in z_small.row.now) (text_in z_small.row.now z_small.texts.now) y_small.numbers (items_in z_small.row.now z_small.fields z_small.c z_small.atoms.now)) + (length (values_in z_small.row.now z_small.texts.now y_small.numbers false z_small.atoms.now (run_by left_small y_small.items)) + (length (values_in z_small.row.now z_small.texts.now y_small.numbers true z_small.atoms.now (run_by right_small y_small.items)) + 1)) ≤ 134217728 =
+            let z_small = c.args in
+            let Y_small = c.lay-x in
+            let low_small : (i : ℕ) → get_or z_small.row.now i 0 < 256 = λ i. omega (arith, c.shared_slice_known-1.given i) in
+            let byte_small : (i : ℕ) → get_or z_small.texts.now i 0 < 256 = λ i. omega (arith, c.shared_slice_known-2-1.given i) in
+            parts_short z_small.row.now z_small.texts.now z_small.fields z_small.c z_small.atoms.now low_small byte_small Y_small.result.numbers Y_small.result.items _ _
+            Y_small.ensures.numbers_value Y_small.ensures.result_value c.put_runs.ensures c.put_runs-2.ensures ((let it : let z_ok = c.args in fits z_ok.fields z_ok.c ≡ true = sym c.fits.ensures ∙ not-false c.fits.result c.if-not-fits.false-raw in it)) ((let it : numbers_few c.args.row.now ≡ true = let a_few = c.numbers_few in sym a_few.ensures ∙ not-false a_few.result c.if-not-numbers_few.false-raw in it)) in it),
+        F.ensures.0,
+        A.ensures.0,
+        B.ensures.0,
+        E.ensures.0,
+      );
     }

@@ -13,9 +13,6 @@ use Rattle.pair_lines.proofs.put_name.Goals.{else-right, then-right}
 
 pub returns : goal.returns
 returns c =
-    
-    
-    
     let z = c.args in
     let at = z.at in
     let l = z.out.now in
@@ -24,8 +21,10 @@ returns c =
     let A = c.put_blank-a in
     let B = c.put_byte-b in
     let C = c.put_byte-c in
-    let second = puts_as A.result A.new.out (ap (λ (b : ℕ). b ∷ []) ((let it : c.if-right.put_byte ≡ tag_of c.args.right = (elim c.if-right.branch [ then-right w ↦ w.put_byte-is ∙ ap tag_of (sym w.if-right.true)
-    | else-right w ↦ w.put_byte-is ∙ ap tag_of (sym w.if-right.false) ]) in it))) B.ensures in
+    let second = puts_as A.result A.new.out (ap (λ (b : ℕ). b ∷ []) ((let it : c.if-right.put_byte ≡ tag_of c.args.right = (elim c.if-right.branch [
+      | then-right w ↦ w.put_byte-is ∙ ap tag_of (sym w.if-right.true)
+      | else-right w ↦ w.put_byte-is ∙ ap tag_of (sym w.if-right.false)
+    ]) in it))) B.ensures in
     let third = puts_as B.result B.new.out (ap (λ (b : ℕ). b ∷ []) c.letter_at.ensures) C.ensures in
     let end = puts_next (digits_of z.n) (61 ∷ []) C.result C.new.out c.put_digits-d.ensures c.put_byte.ensures in
     let named = puts_next (k ∷ []) (digits_of z.n ++ 61 ∷ []) B.result B.new.out third end in

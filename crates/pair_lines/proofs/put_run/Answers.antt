@@ -17,42 +17,51 @@ positive (suc n) h = omega arith
 
 pub put_byte-p-requires : goal.put_byte-p-requires
 put_byte-p-requires c =
-    
     let z = c.args in
     let T = table_in z.row.now in
     let t = text_in z.row.now z.texts.now in
     let L = c.loop-i in
     let room = colons_room T t z.numbers.now z.run.now L.i L.invariant.0 c.loop-i-test.true in
-    omega (arith, c.requires, (let it : let z_whole = c.args in length (item_text (table_in z_whole.row.now) (text_in z_whole.row.now z_whole.texts.now) z_whole.numbers.now (get_or z_whole.run.now 0 0)) + length (colon_texts (table_in z_whole.row.now) (text_in z_whole.row.now z_whole.texts.now) z_whole.numbers.now (drop 1 z_whole.run.now)) ≡ length (items_text (table_in z_whole.row.now) (text_in z_whole.row.now z_whole.texts.now) z_whole.numbers.now z_whole.run.now) = 
-    let z_whole = c.args in
-    let T_whole = table_in z_whole.row.now in
-    let t_whole = text_in z_whole.row.now z_whole.texts.now in
-    let ns_whole = z_whole.numbers.now in
-    let run_whole = z_whole.run.now in
-    omega (arith, ap length (items_cut T_whole t_whole ns_whole run_whole ((let it : 0 < length c.args.run.now = let h_some = c.if-run-eq0.false in positive (length c.args.run.now) h_some in it))), length-append (item_text T_whole t_whole ns_whole (get_or run_whole 0 0)) (colon_texts T_whole t_whole ns_whole (drop 1 run_whole))) in it), c.put_item-q.ensures.0, L.invariant.2.0, room)
+    omega (
+      arith,
+      c.requires,
+      (let it : let z_whole = c.args in length (item_text (table_in z_whole.row.now) (text_in z_whole.row.now z_whole.texts.now) z_whole.numbers.now (get_or z_whole.run.now 0 0)) + length (colon_texts (table_in z_whole.row.now) (text_in z_whole.row.now z_whole.texts.now) z_whole.numbers.now (drop 1 z_whole.run.now)) ≡ length (items_text (table_in z_whole.row.now) (text_in z_whole.row.now z_whole.texts.now) z_whole.numbers.now z_whole.run.now) =
+          let z_whole = c.args in
+          let T_whole = table_in z_whole.row.now in
+          let t_whole = text_in z_whole.row.now z_whole.texts.now in
+          let ns_whole = z_whole.numbers.now in
+          let run_whole = z_whole.run.now in
+          omega (arith, ap length (items_cut T_whole t_whole ns_whole run_whole ((let it : 0 < length c.args.run.now = let h_some = c.if-run-eq0.false in positive (length c.args.run.now) h_some in it))), length-append (item_text T_whole t_whole ns_whole (get_or run_whole 0 0)) (colon_texts T_whole t_whole ns_whole (drop 1 run_whole))) in it),
+      c.put_item-q.ensures.0,
+      L.invariant.2.0,
+      room,
+    )
 
 pub put_item-q-requires-in-loop-i : goal.put_item-q-requires-in-loop-i
 put_item-q-requires-in-loop-i c =
-    
-    
-    
     let z = c.args in
     let T = table_in z.row.now in
     let t = text_in z.row.now z.texts.now in
     let L = c.loop-i in
     let room = colons_room T t z.numbers.now z.run.now L.i L.invariant.0 c.loop-i-test.true in
-    omega (arith, c.requires, (let it : let z_whole = c.args in length (item_text (table_in z_whole.row.now) (text_in z_whole.row.now z_whole.texts.now) z_whole.numbers.now (get_or z_whole.run.now 0 0)) + length (colon_texts (table_in z_whole.row.now) (text_in z_whole.row.now z_whole.texts.now) z_whole.numbers.now (drop 1 z_whole.run.now)) ≡ length (items_text (table_in z_whole.row.now) (text_in z_whole.row.now z_whole.texts.now) z_whole.numbers.now z_whole.run.now) = 
-    let z_whole = c.args in
-    let T_whole = table_in z_whole.row.now in
-    let t_whole = text_in z_whole.row.now z_whole.texts.now in
-    let ns_whole = z_whole.numbers.now in
-    let run_whole = z_whole.run.now in
-    omega (arith, ap length (items_cut T_whole t_whole ns_whole run_whole ((let it : 0 < length c.args.run.now = let h_some = c.if-run-eq0.false in positive (length c.args.run.now) h_some in it))), length-append (item_text T_whole t_whole ns_whole (get_or run_whole 0 0)) (colon_texts T_whole t_whole ns_whole (drop 1 run_whole))) in it), c.put_item-q.ensures.0, L.invariant.2.0, c.put_byte-p.ensures.0, room)
+    omega (
+      arith,
+      c.requires,
+      (let it : let z_whole = c.args in length (item_text (table_in z_whole.row.now) (text_in z_whole.row.now z_whole.texts.now) z_whole.numbers.now (get_or z_whole.run.now 0 0)) + length (colon_texts (table_in z_whole.row.now) (text_in z_whole.row.now z_whole.texts.now) z_whole.numbers.now (drop 1 z_whole.run.now)) ≡ length (items_text (table_in z_whole.row.now) (text_in z_whole.row.now z_whole.texts.now) z_whole.numbers.now z_whole.run.now) =
+          let z_whole = c.args in
+          let T_whole = table_in z_whole.row.now in
+          let t_whole = text_in z_whole.row.now z_whole.texts.now in
+          let ns_whole = z_whole.numbers.now in
+          let run_whole = z_whole.run.now in
+          omega (arith, ap length (items_cut T_whole t_whole ns_whole run_whole ((let it : 0 < length c.args.run.now = let h_some = c.if-run-eq0.false in positive (length c.args.run.now) h_some in it))), length-append (item_text T_whole t_whole ns_whole (get_or run_whole 0 0)) (colon_texts T_whole t_whole ns_whole (drop 1 run_whole))) in it),
+      c.put_item-q.ensures.0,
+      L.invariant.2.0,
+      c.put_byte-p.ensures.0,
+      room,
+    )
 
 pub loop-i-preserved : goal.loop-i-preserved
 loop-i-preserved c =
-    
-    
     let z = c.args in
     let T = table_in z.row.now in
     let t = text_in z.row.now z.texts.now in
@@ -69,8 +78,7 @@ loop-i-preserved c =
     )
 
 pub returns : goal.returns
-returns c = (let it : let z_done = c.args in Puts (items_text (table_in z_done.row.now) (text_in z_done.row.now z_done.texts.now) z_done.numbers.now z_done.run.now) z_done.at z_done.out.now c.loop-i.q c.loop-i.out = 
-    
+returns c = (let it : let z_done = c.args in Puts (items_text (table_in z_done.row.now) (text_in z_done.row.now z_done.texts.now) z_done.numbers.now z_done.run.now) z_done.at z_done.out.now c.loop-i.q c.loop-i.out =
     let z_done = c.args in
     let T_done = table_in z_done.row.now in
     let t_done = text_in z_done.row.now z_done.texts.now in

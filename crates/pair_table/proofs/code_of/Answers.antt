@@ -8,8 +8,6 @@ use Rattle.pair_table.proofs.code_of.Goals as goal
 
 pub loop-k-preserved : goal.loop-k-preserved
 loop-k-preserved c =
-    
-    
     let a = c.args in
     let L = c.loop-k in
     let n = c.byte_at-n.result in

@@ -10,7 +10,6 @@ use Rattle.pair_table.proofs.leading_zeros.Goals as goal
 
 pub returns-then-byte_at-ne48 : goal.returns-then-byte_at-ne48
 returns-then-byte_at-ne48 c =
-    
     let a = c.args in
     let L = c.loop-i in
     let z = zeros_end a.text.now a.at a.n L.i c.loop-i-test.true (λ e. c.if-byte_at-ne48.true (c.byte_at.ensures ∙ e)) in
@@ -18,7 +17,6 @@ returns-then-byte_at-ne48 c =
 
 pub loop-i-preserved : goal.loop-i-preserved
 loop-i-preserved c =
-    
     let a = c.args in
     let L = c.loop-i in
     let h = c.loop-i-test.true in

@@ -12,10 +12,6 @@ use Rattle.pair_table.proofs.same_constant.Goals as goal
 
 pub returns-then-byte_at-2 : goal.returns-then-byte_at-2
 returns-then-byte_at-2 c =
-    
-    
-    
-    
     let a = c.args in
     let L = c.loop-i in
     let t = a.texts.now in
@@ -29,8 +25,6 @@ returns-then-byte_at-2 c =
 
 pub loop-i-preserved : goal.loop-i-preserved
 loop-i-preserved c =
-    
-    
     let a = c.args in
     let L = c.loop-i in
     let t = a.texts.now in

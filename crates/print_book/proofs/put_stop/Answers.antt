@@ -4,8 +4,6 @@ use Rattle.print_book.proofs.put_stop.Goals as goal
 
 pub returns : goal.returns
 returns c =
-    
-    
     record {
       placed = stop_placed c.args.k c.args.n c.args.place c.args.out.now c.put_bytes-a.ensures c.put_number-b.ensures
           c.put_bytes-c.ensures c.put_number_at-d.ensures c.put_bytes.ensures;

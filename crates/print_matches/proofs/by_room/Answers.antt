@@ -12,7 +12,6 @@ use Rattle.print_matches.proofs.by_room.Goals as goal
 pub returns : goal.returns
 returns c =
     let g = c.give in
-    
     let z = c.args in
     let short = answer_short z.k z.line.now (search rules) in
     subst (λ (t : List ℕ). Writes t z.out.now g.result g.new.out)

@@ -7,7 +7,6 @@ use Rattle.print_matches.proofs.put_answer.Goals as goal
 pub returns : goal.returns
 unfolding match_answer
 returns c =
-    
     let z = c.args in
     placed_three (title_text z.k) (line_text z.line.now) newline 0 z.out.now
     c.put_title-a.ensures c.put_line-b.ensures c.put_bytes.ensures

@@ -13,7 +13,7 @@ use Rattle.print_pairs.proofs.put_line.Goals as goal
 pub returns-then-n-gt-PAIR_LINE : goal.returns-then-n-gt-PAIR_LINE
 returns-then-n-gt-PAIR_LINE c =
     let it =
-        (let z = c.args in
+    (let z = c.args in
     let said = line_long z.line.now c.if-n-gt-PAIR_LINE.true in
     piece_as most_list_bytes z.at z.out.now said (c.put_bytes.ensures, omega arith)) in
     record { placed = it.0; line_len_bound = it.1 }
@@ -21,7 +21,7 @@ returns-then-n-gt-PAIR_LINE c =
 pub returns : goal.returns
 returns c =
     let it =
-        (let z = c.args in
+    (let z = c.args in
     let T = c.tab_place-tab in
     let D = c.behind-rest in
     let k = length z.out.now - z.at in

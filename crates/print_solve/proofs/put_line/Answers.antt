@@ -11,7 +11,7 @@ use Rattle.print_solve.proofs.put_line.Goals as goal
 pub returns-then-n-gt-LONGEST_LINE : goal.returns-then-n-gt-LONGEST_LINE
 returns-then-n-gt-LONGEST_LINE c =
     let it =
-        (let z = c.args in
+    (let z = c.args in
     piece_as longest_body z.at z.out.now
     (line_long z.line.now c.if-n-gt-LONGEST_LINE.true) (c.put_bytes.ensures, omega arith)) in
     record { placed = it.0; line_len_bound = it.1 }
@@ -19,7 +19,7 @@ returns-then-n-gt-LONGEST_LINE c =
 pub returns : goal.returns
 returns c =
     let it =
-        (let z = c.args in
+    (let z = c.args in
     let T = c.tab_place-tab in
     let D = c.behind-rest in
     piece_as longest_body z.at z.out.now

@@ -10,7 +10,7 @@ use Rattle.print_solve.proofs.put_right.Goals as goal
 pub returns : goal.returns
 returns c =
     let it =
-        (let z = c.args in
+    (let z = c.args in
     let T = c.tab_place-tab in
     let D = c.behind-rest in
     piece_as longest_body z.at z.out.now (right_said z.line.now T.result D.result T.ensures.0 D.ensures (counted_field z.left)

@@ -11,7 +11,7 @@ use Rattle.print_solve.proofs.put_sizes.Goals as goal
 pub returns-then-tab_place-n : goal.returns-then-tab_place-n
 returns-then-tab_place-n c =
     let it =
-        (let z = c.args in
+    (let z = c.args in
     let T = c.tab_place-tab in
     let D = c.behind-rest in
     let U = c.tab_place in
@@ -23,7 +23,7 @@ returns-then-tab_place-n c =
 pub returns : goal.returns
 returns c =
     let it =
-        (let z = c.args in
+    (let z = c.args in
     let T = c.tab_place-tab in
     let D = c.behind-rest in
     let U = c.tab_place in

@@ -9,14 +9,12 @@ returns-then-not-applies c =
 
 pub returns-then-brings : goal.returns-then-brings
 returns-then-brings c =
-    
     let z = c.args in
     given_fresh z.p z.a z.b z.rule c.applies.result c.brings.result c.applies.ensures c.if-not-applies.false-raw c.brings.ensures
     c.if-brings.true c.list_variables.ensures
 
 pub returns : goal.returns
 returns c =
-    
     let z = c.args in
     given_plain z.p z.a z.b z.rule c.applies.result c.brings.result c.applies.ensures c.if-not-applies.false-raw c.brings.ensures
     c.if-brings.false

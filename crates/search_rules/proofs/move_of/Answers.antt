@@ -11,7 +11,6 @@ use Rattle.search_rules.proofs.move_of.Goals as goal
 
 pub returns-in-2 : goal.returns-in-2
 returns-in-2 c =
-    
     let z = c.args in
     applied (table_in z.row.now) z.rule z.left z.right z.fresh c.head_of-a.result c.head_of-b.result
     c.head_of-a.ensures c.head_of-b.ensures c.applies.result c.applies.ensures
@@ -19,7 +18,6 @@ returns-in-2 c =
 
 pub returns-in_default : goal.returns-in_default
 returns-in_default c =
-    
     let z = c.args in
     let a = c.head_of-a in
     let b = c.head_of-b in

@@ -45,8 +45,8 @@ module _ {A : Type 0} where
   any_not : (P Q : A → Type 0) → ((x : A) → P x → Q x → ⊥) → (s : List A) → All P s → Any Q s → ⊥
   any_not P Q f (x ∷ s) h (inl q) = f x h.0 q
   any_not P Q f (x ∷ s) h (inr a) = any_not P Q f s h.1 a
-
   any_not P Q f [] h x'' = elim x'' [ ]
+
   -- none of s, and behind s none of t
   pub none_append : (P : List A → A → Type 0) (before s t : List A) → NoneOf P before (s ++ t) ↔ (NoneOf P before s × NoneOf P (before ++ s) t)
   none_append P before [] t = (λ h. (tt, rw append-nil h), λ h. rw append-nil at h.1)

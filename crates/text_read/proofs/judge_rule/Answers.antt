@@ -9,7 +9,6 @@ use Rattle.text_read.proofs.judge_rule.Goals as goal
 
 pub returns-in-One : goal.returns-in-One
 returns-in-One c =
-    
     let t = c.args.text.now in
     let e = sym c.requires ∙ c.in-One.is in
     ap (λ (x : Survey). x.verdict) c.survey.ensures ∙ surveyed_is false t c.if-text-gt-MOST_RULE_BYTES.false (one_side t e) ∙ judged_one t c.if-text-gt-MOST_RULE_BYTES.false e

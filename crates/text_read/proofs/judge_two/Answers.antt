@@ -35,9 +35,6 @@ slice_bounds-unknown_in-start c =
 
 pub unknown_verdict-requires : goal.unknown_verdict-requires
 unknown_verdict-requires c =
-    
-    
-    
     let t = c.args.text.now in
     let p = c.args.p in
     let s = (two_sides t p c.requires.1).inside in
@@ -51,10 +48,6 @@ unknown_verdict-requires c =
 
 pub returns-in-Accepted : goal.returns-in-Accepted
 returns-in-Accepted c =
-    
-    
-    
-    
     let t = c.args.text.now in
     let p = c.args.p in
     let first = first_found t c.requires.0 p c.requires.1 c.survey-l.result c.survey-r.result c.right_verdict.result c.first-both.result
@@ -65,8 +58,6 @@ returns-in-Accepted c =
 
 pub returns-in-Refused : goal.returns-in-Refused
 returns-in-Refused c =
-    
-    
     let t = c.args.text.now in
     let p = c.args.p in
     let first = first_found t c.requires.0 p c.requires.1 c.survey-l.result c.survey-r.result c.right_verdict.result c.first-both.result

@@ -14,5 +14,4 @@ slice_bounds-side_in-start c = let s = (two_sides c.args.text.now c.args.p c.req
 
 pub returns : goal.returns
 returns c =
-    
     two_rule c.args.text.now c.requires.1 c.args.p c.requires.0 c.side_in-left.result c.side_in-right.result c.side_in-left.ensures c.side_in-right.ensures

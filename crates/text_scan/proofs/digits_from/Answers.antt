@@ -22,6 +22,8 @@ pub returns : goal.returns
 returns c =
     let t = c.args.text.now in
     let L = c.loop-i in
-    elim c.loop-i-test.branch [ then-loop-i-test+else-is_digit w ↦
-        digits_other t c.args.at L.i L.v L.invariant w.loop-i-test.true (sym w.is_digit.ensures ∙ w.if-is_digit.false)
-    | else-loop-i-test w ↦ digits_past t c.args.at L.i L.v L.invariant w.loop-i-test.false ]
+    elim c.loop-i-test.branch [
+      | then-loop-i-test+else-is_digit w ↦
+          digits_other t c.args.at L.i L.v L.invariant w.loop-i-test.true (sym w.is_digit.ensures ∙ w.if-is_digit.false)
+      | else-loop-i-test w ↦ digits_past t c.args.at L.i L.v L.invariant w.loop-i-test.false
+    ]

@@ -24,7 +24,6 @@ slice_bounds-keep_text-end c =
 
 pub returns : goal.returns
 returns c =
-    
     let z = c.args in
     let L = c.left_of-side in
     keeps_as z.kept z.row.now

@@ -9,7 +9,6 @@ use Rattle.book_rules.proofs.texts.overlap.Goals as goal
 
 pub returns : goal.returns
 returns c =
-    
     let kept = c.args.kept in
     let row = c.args.row.now in
     c.texts_overlap-said.ensures.overlap

@@ -21,7 +21,9 @@ loop-j-preserved c =
     let h = c.loop-j-test.true in
     let o = c.overlap in
     let book = book_in z.kept z.row.now in
-    (elim c.if-overlap.branch [ then-overlap w ↦ row_as book z.kept.n z.i z.at z.out.now (l.j + 1) _ _ _ _ w.p-is w.out-is
-    (row_pair book z.kept.n z.i z.at z.out.now l.j l.p l.out h (sym o.ensures ∙ w.if-overlap.true) l.invariant w.put_pair-p.ensures)
-    | else-overlap w ↦ row_as book z.kept.n z.i z.at z.out.now (l.j + 1) _ _ _ _ w.p-is w.out-is
-    (row_none book z.kept.n z.i z.at z.out.now l.j l.p l.out h (sym o.ensures ∙ w.if-overlap.false) l.invariant) ])
+    (elim c.if-overlap.branch [
+      | then-overlap w ↦ row_as book z.kept.n z.i z.at z.out.now (l.j + 1) _ _ _ _ w.p-is w.out-is
+          (row_pair book z.kept.n z.i z.at z.out.now l.j l.p l.out h (sym o.ensures ∙ w.if-overlap.true) l.invariant w.put_pair-p.ensures)
+      | else-overlap w ↦ row_as book z.kept.n z.i z.at z.out.now (l.j + 1) _ _ _ _ w.p-is w.out-is
+          (row_none book z.kept.n z.i z.at z.out.now l.j l.p l.out h (sym o.ensures ∙ w.if-overlap.false) l.invariant)
+    ])

@@ -14,7 +14,6 @@ use Rattle.book_rules.proofs.texts.write_pairs.Goals as goal
 
 pub returns : goal.returns
 returns c =
-    
     let z = c.args in
     let G = c.give in
     let room : z.kept.n ≤ room_for (length z.row.now) = omega (arith, c.if-room_for-kept.false, c.room_for.ensures) in

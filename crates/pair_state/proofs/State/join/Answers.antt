@@ -10,8 +10,6 @@ use Rattle.pair_state.proofs.State.join.Goals as goal
 
 pub returns-then-not-goes_over-2 : goal.returns-then-not-goes_over-2
 returns-then-not-goes_over-2 c =
-    
-    
     let z = c.args in
     let T = table_in z.row.now in
     let x = c.byte_at-x.result in

@@ -25,13 +25,15 @@ loop-n-preserved c =
     let is_i : i ≡ slot (kind_of z.k) L.n = omega (arith, c.slot-first.ensures) in
     let inside : i < length z.v.terms = omega (arith, L.invariant.0, is_i, c.requires, h) in (
       L.invariant.0,
-      (elim c.if-rule-i.branch [ then-rule-i w ↦ from_as z.rule.has (kind_of z.k) (atom_text z.v (kind_of z.k)) z.at z.out.now (L.n + 1) w.p-is w.out-is
-          (from_one z.rule.has (kind_of z.k) (atom_text z.v (kind_of z.k)) z.at z.out.now
-          L.n L.p L.out L.invariant.1 h i is_i _ w.if-rule-i.true w.put_name-a.ensures
-          (placed_as _ _ (atom_shown z.v (kind_of z.k) L.n i absent is_i inside) w.put_term-p.ensures))
-    | else-rule-i w ↦ from_as z.rule.has (kind_of z.k) (atom_text z.v (kind_of z.k)) z.at z.out.now (L.n + 1) w.p-is w.out-is
-          (from_other z.rule.has (kind_of z.k) (atom_text z.v (kind_of z.k)) z.at z.out.now
-          L.n L.p L.out L.invariant.1 h i is_i _ w.if-rule-i.false) ]),
+      (elim c.if-rule-i.branch [
+        | then-rule-i w ↦ from_as z.rule.has (kind_of z.k) (atom_text z.v (kind_of z.k)) z.at z.out.now (L.n + 1) w.p-is w.out-is
+            (from_one z.rule.has (kind_of z.k) (atom_text z.v (kind_of z.k)) z.at z.out.now
+            L.n L.p L.out L.invariant.1 h i is_i _ w.if-rule-i.true w.put_name-a.ensures
+            (placed_as _ _ (atom_shown z.v (kind_of z.k) L.n i absent is_i inside) w.put_term-p.ensures))
+        | else-rule-i w ↦ from_as z.rule.has (kind_of z.k) (atom_text z.v (kind_of z.k)) z.at z.out.now (L.n + 1) w.p-is w.out-is
+            (from_other z.rule.has (kind_of z.k) (atom_text z.v (kind_of z.k)) z.at z.out.now
+            L.n L.p L.out L.invariant.1 h i is_i _ w.if-rule-i.false)
+      ]),
     )
 
 pub returns : goal.returns

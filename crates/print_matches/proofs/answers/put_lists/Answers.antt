@@ -23,11 +23,13 @@ loop-n-preserved c =
     let i = 48 + L.n in
     let is_i : i ≡ slot list L.n = omega arith in (
       L.invariant.0,
-      (elim c.if-rule-i.branch [ then-rule-i w ↦ from_as z.rule.has list (list_text (slip_fields z.slip.now) z.x) z.at z.out.now (L.n + 1) w.p-is w.out-is
-          (from_one z.rule.has list (list_text (slip_fields z.slip.now) z.x) z.at z.out.now
-          L.n L.p L.out L.invariant.1 h i is_i _ w.if-rule-i.true w.put_name-a.ensures
-          (placed_as _ _ (list_shown (slip_fields z.slip.now) z.x L.n _ (omega (arith, L.invariant.0, h))) w.put_run-p.ensures))
-    | else-rule-i w ↦ from_as z.rule.has list (list_text (slip_fields z.slip.now) z.x) z.at z.out.now (L.n + 1) w.p-is w.out-is
-          (from_other z.rule.has list (list_text (slip_fields z.slip.now) z.x) z.at z.out.now
-          L.n L.p L.out L.invariant.1 h i is_i _ w.if-rule-i.false) ]),
+      (elim c.if-rule-i.branch [
+        | then-rule-i w ↦ from_as z.rule.has list (list_text (slip_fields z.slip.now) z.x) z.at z.out.now (L.n + 1) w.p-is w.out-is
+            (from_one z.rule.has list (list_text (slip_fields z.slip.now) z.x) z.at z.out.now
+            L.n L.p L.out L.invariant.1 h i is_i _ w.if-rule-i.true w.put_name-a.ensures
+            (placed_as _ _ (list_shown (slip_fields z.slip.now) z.x L.n _ (omega (arith, L.invariant.0, h))) w.put_run-p.ensures))
+        | else-rule-i w ↦ from_as z.rule.has list (list_text (slip_fields z.slip.now) z.x) z.at z.out.now (L.n + 1) w.p-is w.out-is
+            (from_other z.rule.has list (list_text (slip_fields z.slip.now) z.x) z.at z.out.now
+            L.n L.p L.out L.invariant.1 h i is_i _ w.if-rule-i.false)
+      ]),
     )

@@ -8,7 +8,7 @@ use Rattle.print_pairs.proofs.overlaps.put_read.Goals as goal
 pub returns-in-Refused : goal.returns-in-Refused
 returns-in-Refused c =
     let it =
-        (let a = c.args in
+    (let a = c.args in
     let n = a.at + most_list_bytes - a.at in
     let L = c.list_texts-said in
     left_refused a.left.now a.right.now a.out.now a.at n (omega arith) c.requires
@@ -18,7 +18,7 @@ returns-in-Refused c =
 pub returns-in-Refused-r : goal.returns-in-Refused-r
 returns-in-Refused-r c =
     let it =
-        (let a = c.args in
+    (let a = c.args in
     let n = a.at + most_list_bytes - a.at in
     let L = c.list_texts-said in
     let e = c.in_default.is in
@@ -29,7 +29,7 @@ returns-in-Refused-r c =
 pub returns-in-Lines : goal.returns-in-Lines
 returns-in-Lines c =
     let it =
-        (let a = c.args in
+    (let a = c.args in
     let n = a.at + most_list_bytes - a.at in
     let L = c.list_texts-said in
     let e = c.in_default.is in
@@ -40,8 +40,7 @@ returns-in-Lines c =
 pub returns-in-TooSmall : goal.returns-in-TooSmall
 returns-in-TooSmall c =
     let it =
-        (let small : c.in-TooSmall.bytes < 18446744073709551616 = search rules in
-    
+    (let small : c.in-TooSmall.bytes < 18446744073709551616 = search rules in
     let a = c.args in
     let n = a.at + most_list_bytes - a.at in
     let L = c.list_texts-said in

@@ -10,7 +10,7 @@ use Rattle.print_solve.proofs.search.put_search.Goals as goal
 pub returns-in-Lines : goal.returns-in-Lines
 returns-in-Lines c =
     let it =
-        (let z =
+    (let z =
     c.args in
     let T = c.lines_room-text in
     let n = c.at_most-lent in
@@ -23,7 +23,7 @@ returns-in-Lines c =
 pub returns-in-TooSmall : goal.returns-in-TooSmall
 returns-in-TooSmall c =
     let it =
-        (let z = c.args in
+    (let z = c.args in
     let T = c.lines_room-text in
     let n = c.at_most-lent in
     let S = c.search_in in
@@ -34,7 +34,7 @@ returns-in-TooSmall c =
 pub returns-in-Full : goal.returns-in-Full
 returns-in-Full c =
     let it =
-        (let z = c.args in
+    (let z = c.args in
     let T = c.lines_room-text in
     let n = c.at_most-lent in
     let S = c.search_in in

@@ -21,7 +21,6 @@ slice_bounds-note_side-end c =
 
 pub returns : goal.returns
 returns c =
-    
     let z = c.args in
     let v = c.one_field in
     let text : _ ≡ _ =

@@ -5,8 +5,6 @@ use Rattle.text_scan.proofs.split.behind_equal.Goals as goal
 
 pub overflow_add-result-in-At-2 : goal.overflow_add-result-in-At-2
 overflow_add-result-in-At-2 c =
-    
-    
     let q = c.requires in
     let stops = found_at _ c.grammar_place.result _ c.grammar_place.ensures c.in-At.is in
     let h = right_in c.args.text.now c.args.p q.text_value.0 q.text_value.1 q.p_value.0 q.p_value.1 (omega (arith, c.if-text-p.false))
