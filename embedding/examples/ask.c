@@ -8,10 +8,19 @@
 #include "yopobrush.h"
 
 static int refused(const char *side, struct yopobrush_reading r) {
-    if (r.refusal != YOPOBRUSH_ACCEPTED)
-        fprintf(stderr, "%s rule: refusal %" PRIu64 " at byte %" PRIu64 ": %s\n",
-                side, r.refusal, r.place, yopobrush_refusal_words(r.refusal));
-    return r.refusal != YOPOBRUSH_ACCEPTED;
+    if (r.refusal != 0)
+        fprintf(stderr, "%s rule refused %" PRIu64 " at %" PRIu64 "\n", side, r.refusal, r.place);
+    return r.refusal != 0;
+}
+
+/* Never null, also for no bytes. */
+static uint8_t *memory(uint64_t bytes) {
+    uint8_t *room = malloc(bytes == 0 ? 1 : bytes);
+    if (room == NULL) {
+        fprintf(stderr, "%" PRIu64 " bytes are needed\n", bytes);
+        exit(1);
+    }
+    return room;
 }
 
 int main(int count, char **arguments) {
@@ -29,22 +38,16 @@ int main(int count, char **arguments) {
     if (refused("left", asked.left) || refused("right", asked.right))
         return 1;
     printf("%" PRIu64 " entries, %" PRIu64 " bytes\n", asked.entries, asked.bytes);
-    /* For no bytes null will do. */
-    room = malloc(asked.bytes);
-    if (room == NULL && asked.bytes != 0) {
-        fprintf(stderr, "there is no memory for the list\n");
-        return 1;
-    }
+    room = memory(asked.bytes);
     list = yopobrush_commit_overlaps(
         asked.entries, asked.bytes,
         left, strlen(arguments[1]),
         right, strlen(arguments[2]),
         room, asked.bytes);
-    if (list.refusal == YOPOBRUSH_ACCEPTED)
+    if (list.refusal == YOPOBRUSH_STALE)
+        fprintf(stderr, "the counts are not those of the rules\n");
+    if (list.refusal == 0)
         fwrite(room, 1, list.bytes, stdout);
-    else
-        fprintf(stderr, "refusal %" PRIu64 ": %s\n",
-                list.refusal, yopobrush_refusal_words(list.refusal));
     free(room);
-    return list.refusal != YOPOBRUSH_ACCEPTED;
+    return list.refusal != 0;
 }

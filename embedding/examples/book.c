@@ -8,10 +8,9 @@
 
 static int refused(int number, const char *text) {
     struct yopobrush_reading r = yopobrush_read_rule((const uint8_t *)text, strlen(text));
-    if (r.refusal != YOPOBRUSH_ACCEPTED)
-        fprintf(stderr, "rule %d: refusal %" PRIu64 " at byte %" PRIu64 ": %s\n",
-                number, r.refusal, r.place, yopobrush_refusal_words(r.refusal));
-    return r.refusal != YOPOBRUSH_ACCEPTED;
+    if (r.refusal != 0)
+        fprintf(stderr, "rule %d refused %" PRIu64 " at %" PRIu64 "\n", number, r.refusal, r.place);
+    return r.refusal != 0;
 }
 
 static int overlap(const char *left, const char *right) {

@@ -2,34 +2,18 @@
 //! their numbers from 1.
 
 use std::env;
-use std::error::Error;
-use std::ffi::OsString;
-use std::io::{self, Write};
-use std::os::unix::ffi::OsStringExt;
-use std::process::ExitCode;
 
-use yopobrush::{read_rule, texts_overlap};
-
-fn write_pairs(rules: &[Vec<u8>]) -> Result<(), Box<dyn Error>> {
+fn main() -> Result<(), Box<dyn std::error::Error>> {
+    let rules: Vec<String> = env::args().skip(1).collect();
     for (rule, number) in rules.iter().zip(1..) {
-        read_rule(rule).map_err(|refusal| format!("rule {number}: {refusal}"))?;
+        yopobrush::read_rule(rule.as_bytes()).map_err(|r| format!("rule {number} {r}"))?;
     }
-    let mut out = io::stdout();
     for (left, number) in rules.iter().zip(1..) {
         for (right, other) in rules.iter().zip(1..).skip(number) {
-            if texts_overlap(left, right)? {
-                writeln!(out, "{number} {other}")?;
+            if yopobrush::texts_overlap(left.as_bytes(), right.as_bytes())? {
+                println!("{number} {other}");
             }
         }
     }
     Ok(())
-}
-
-fn main() -> ExitCode {
-    let rules: Vec<_> = env::args_os().skip(1).map(OsString::into_vec).collect();
-    if let Err(error) = write_pairs(&rules) {
-        eprintln!("{error}");
-        return ExitCode::FAILURE;
-    }
-    ExitCode::SUCCESS
 }

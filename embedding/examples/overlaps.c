@@ -6,10 +6,9 @@
 #include "yopobrush.h"
 
 static int refused(const char *side, struct yopobrush_reading r) {
-    if (r.refusal != YOPOBRUSH_ACCEPTED)
-        fprintf(stderr, "%s rule: refusal %" PRIu64 " at byte %" PRIu64 ": %s\n",
-                side, r.refusal, r.place, yopobrush_refusal_words(r.refusal));
-    return r.refusal != YOPOBRUSH_ACCEPTED;
+    if (r.refusal != 0)
+        fprintf(stderr, "%s rule refused %" PRIu64 " at %" PRIu64 "\n", side, r.refusal, r.place);
+    return r.refusal != 0;
 }
 
 int main(int count, char **arguments) {
@@ -25,9 +24,8 @@ int main(int count, char **arguments) {
         room, sizeof room);
     if (refused("left", list.left) || refused("right", list.right))
         return 1;
-    if (list.refusal != YOPOBRUSH_ACCEPTED) {
-        fprintf(stderr, "refusal %" PRIu64 ": %s, %" PRIu64 " are needed\n",
-                list.refusal, yopobrush_refusal_words(list.refusal), list.bytes);
+    if (list.refusal != 0) {
+        fprintf(stderr, "%" PRIu64 " bytes are needed\n", list.bytes);
         return 1;
     }
     fwrite(room, 1, list.bytes, stdout);

@@ -1,26 +1,14 @@
 //! Lists the overlaps of the two rules that are given.
 
 use std::env;
-use std::error::Error;
-use std::ffi::OsString;
 use std::io::{self, Write};
-use std::os::unix::ffi::OsStringExt;
-use std::process::ExitCode;
 
-fn list(left: &[u8], right: &[u8]) -> Result<(), Box<dyn Error>> {
-    let list = yopobrush::overlaps(left, right)?;
-    Ok(io::stdout().write_all(&list)?)
-}
-
-fn main() -> ExitCode {
-    let arguments: Vec<_> = env::args_os().skip(1).map(OsString::into_vec).collect();
+fn main() -> Result<(), Box<dyn std::error::Error>> {
+    let arguments: Vec<String> = env::args().skip(1).collect();
     let [left, right] = arguments.as_slice() else {
-        eprintln!("two rules are needed");
-        return ExitCode::from(2);
+        return Err("two rules are needed".into());
     };
-    if let Err(error) = list(left, right) {
-        eprintln!("{error}");
-        return ExitCode::FAILURE;
-    }
-    ExitCode::SUCCESS
+    let list = yopobrush::overlaps(left.as_bytes(), right.as_bytes())?;
+    io::stdout().write_all(&list)?;
+    Ok(())
 }

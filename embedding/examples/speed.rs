@@ -34,7 +34,7 @@ fn main() -> Result<(), Box<dyn std::error::Error>> {
     let mut out = vec![0; ROOM];
     // The system gives the buffer's memory when it is first written to.
     seconds(&pairs, |left, right| list_overlaps(left, right, &mut out))?;
-    let ask = seconds(&pairs, |left, right| ask_overlaps(left, right))?;
+    let ask = seconds(&pairs, ask_overlaps)?;
     let list = seconds(&pairs, |left, right| list_overlaps(left, right, &mut out))?;
     let commit = seconds(&pairs, |left, right| {
         let asked = ask_overlaps(left, right)?;

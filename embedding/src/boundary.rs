@@ -4,7 +4,6 @@
 
 /// The number of a text's refusal and its place, or 0 and 0.
 #[repr(C)]
-#[derive(Clone, Copy, Debug, PartialEq, Eq)]
 pub struct Reading {
     pub refusal: u64,
     pub place: u64,
@@ -13,7 +12,6 @@ pub struct Reading {
 /// How each text is read; 8, of a commit also 13, or 0; the entries and bytes
 /// of the list, or 0 and 0 with 13.
 #[repr(C)]
-#[derive(Clone, Copy, Debug, PartialEq, Eq)]
 pub struct Listing {
     pub left: Reading,
     pub right: Reading,
@@ -24,7 +22,6 @@ pub struct Listing {
 
 /// How each text is read; the entries and bytes of the list.
 #[repr(C)]
-#[derive(Clone, Copy, Debug, PartialEq, Eq)]
 pub struct Asking {
     pub left: Reading,
     pub right: Reading,
@@ -34,7 +31,6 @@ pub struct Asking {
 
 /// How each text is read; 1 where their rules overlap, or 0.
 #[repr(C)]
-#[derive(Clone, Copy, Debug, PartialEq, Eq)]
 pub struct Overlapping {
     pub left: Reading,
     pub right: Reading,
@@ -44,7 +40,6 @@ pub struct Overlapping {
 /// How each text is read; 0 for no, 1 for yes, 11 or 8; the bytes of the text
 /// that is written, or that has no room.
 #[repr(C)]
-#[derive(Clone, Copy, Debug, PartialEq, Eq)]
 pub struct Carrying {
     pub rule: Reading,
     pub slip: Reading,
@@ -53,8 +48,6 @@ pub struct Carrying {
 }
 
 extern "C" {
-    fn yopobrush_version() -> u64;
-
     fn yopobrush_read_rule(text: *const u8, length: usize) -> Reading;
 
     fn yopobrush_list_overlaps(
@@ -99,12 +92,6 @@ extern "C" {
         out: *mut u8,
         out_length: usize,
     ) -> Carrying;
-}
-
-pub fn version() -> u64 {
-    // SAFETY: the function has no arguments, reads and writes no memory, and is
-    // proved to do nothing undefined.
-    unsafe { yopobrush_version() }
 }
 
 pub fn read_rule(text: &[u8]) -> Reading {
@@ -176,28 +163,24 @@ pub fn carry_out(rule: &[u8], slip: &[u8], out: &mut [u8]) -> Carrying {
 
 #[cfg(test)]
 mod tests {
-    use std::ptr;
-
     use super::*;
 
-    const fn reading(refusal: u64, place: u64) -> Reading {
-        Reading { refusal, place }
-    }
-
-    const ACCEPTED: Reading = reading(0, 0);
-
     /// Texts that are refused, and one that is accepted, with how each is read.
-    const TEXTS: [(&str, Reading); 4] = [
-        ("i01", reading(2, 2)),
-        ("l0:l1", reading(6, 3)),
-        ("a0=>i0", reading(10, 4)),
-        ("a0", ACCEPTED),
+    const TEXTS: [(&str, (u64, u64)); 4] = [
+        ("i01", (2, 2)),
+        ("l0:l1", (6, 3)),
+        ("a0=>i0", (10, 4)),
+        ("a0", (0, 0)),
     ];
 
     /// Every pair of them.
-    fn pairs() -> impl Iterator<Item = [(&'static str, Reading); 2]> {
+    fn pairs() -> impl Iterator<Item = [(&'static str, (u64, u64)); 2]> {
         let each = |left| TEXTS.into_iter().map(move |right| [left, right]);
         TEXTS.into_iter().flat_map(each)
+    }
+
+    fn read(reading: Reading) -> (u64, u64) {
+        (reading.refusal, reading.place)
     }
 
     /// How both texts are read is told, and a refused one overlaps none.
@@ -205,10 +188,10 @@ mod tests {
     fn a_refused_text_gives_its_refusal_and_no() {
         for [(left, left_read), (right, right_read)] in pairs() {
             let answer = texts_overlap(left.as_bytes(), right.as_bytes());
-            let both = [left_read, right_read] == [ACCEPTED, ACCEPTED];
-            assert_eq!(answer.overlap, u64::from(both), "{left} and {right}");
-            assert_eq!(answer.left, left_read, "{left} and {right}");
-            assert_eq!(answer.right, right_read, "{left} and {right}");
+            let both = [left_read, right_read] == [(0, 0), (0, 0)];
+            assert_eq!(answer.overlap, both as u64, "{left} and {right}");
+            assert_eq!(read(answer.left), left_read, "{left} and {right}");
+            assert_eq!(read(answer.right), right_read, "{left} and {right}");
         }
     }
 
@@ -217,11 +200,11 @@ mod tests {
     fn the_counts_of_a_refused_text_are_0() {
         for [(left, left_read), (right, right_read)] in pairs() {
             let asked = ask_overlaps(left.as_bytes(), right.as_bytes());
-            let both = [left_read, right_read] == [ACCEPTED, ACCEPTED];
+            let both = [left_read, right_read] == [(0, 0), (0, 0)];
             let counts = if both { (1, 17) } else { (0, 0) };
             assert_eq!((asked.entries, asked.bytes), counts, "{left} and {right}");
-            assert_eq!(asked.left, left_read, "{left} and {right}");
-            assert_eq!(asked.right, right_read, "{left} and {right}");
+            assert_eq!(read(asked.left), left_read, "{left} and {right}");
+            assert_eq!(read(asked.right), right_read, "{left} and {right}");
         }
     }
 
@@ -232,7 +215,7 @@ mod tests {
         let most = u64::MAX;
         let all_counts = [(0, 0), (0, 1), (1, 0), (1, 17), (0, most), (most, most)];
         for [(left, left_read), (right, right_read)] in pairs() {
-            let both = [left_read, right_read] == [ACCEPTED, ACCEPTED];
+            let both = [left_read, right_read] == [(0, 0), (0, 0)];
             let own = if both { (1, 17) } else { (0, 0) };
             for (entries, bytes) in all_counts {
                 let mut out = [7; 10];
@@ -245,59 +228,10 @@ mod tests {
                     _ => (13, 0, 0),
                 };
                 assert_eq!(told, expected, "{entries} {bytes}");
-                assert_eq!(answer.left, left_read);
-                assert_eq!(answer.right, right_read);
+                assert_eq!(read(answer.left), left_read);
+                assert_eq!(read(answer.right), right_read);
                 assert_eq!(out, [7; 10]);
             }
         }
-    }
-
-    /// Null stands for no bytes too, as an empty slice of C or C++ has it.
-    #[test]
-    fn null_for_no_bytes() {
-        let (none, out) = (ptr::null(), ptr::null_mut());
-        // SAFETY: with the length 0 nothing is read or written.
-        unsafe {
-            assert_eq!(yopobrush_read_rule(none, 0), read_rule(b""));
-            assert_eq!(
-                yopobrush_list_overlaps(none, 0, none, 0, out, 0),
-                list_overlaps(b"", b"", &mut [])
-            );
-            assert_eq!(
-                yopobrush_ask_overlaps(none, 0, none, 0),
-                ask_overlaps(b"", b"")
-            );
-            assert_eq!(
-                yopobrush_commit_overlaps(0, 0, none, 0, none, 0, out, 0),
-                commit_overlaps(0, 0, b"", b"", &mut [])
-            );
-            assert_eq!(
-                yopobrush_texts_overlap(none, 0, none, 0),
-                texts_overlap(b"", b"")
-            );
-            assert_eq!(
-                yopobrush_carry_out(none, 0, none, 0, out, 0),
-                carry_out(b"", b"", &mut [])
-            );
-        }
-    }
-
-    /// Two rules with an entry, and a rule that changes a slip: nothing of the
-    /// list or the result is written to no bytes at null.
-    #[test]
-    fn null_for_no_bytes_of_an_answer() {
-        let (rule, slip, out) = (b"1=>2".as_ptr(), b"1".as_ptr(), ptr::null_mut());
-        // SAFETY: the lengths are those of the texts, and 0.
-        let [listed, committed] = unsafe {
-            [
-                yopobrush_list_overlaps(rule, 4, slip, 1, out, 0),
-                yopobrush_commit_overlaps(1, 2, rule, 4, slip, 1, out, 0),
-            ]
-        };
-        // SAFETY: as above.
-        let carried = unsafe { yopobrush_carry_out(rule, 4, slip, 1, out, 0) };
-        assert_eq!((listed.refusal, listed.bytes), (8, 2));
-        assert_eq!((committed.refusal, committed.bytes), (8, 2));
-        assert_eq!((carried.answer, carried.bytes), (8, 1));
     }
 }

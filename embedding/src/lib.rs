@@ -5,7 +5,7 @@
 //!
 //! ```
 //! let mut room = [0; 100];
-//! let listing = yopobrush::list_overlaps("a0:l0", "l0:2", &mut room)?;
+//! let listing = yopobrush::list_overlaps(b"a0:l0", b"l0:2", &mut room)?;
 //! assert_eq!(listing.entries, 2);
 //! assert_eq!(
 //!     &room[..listing.bytes],
@@ -14,53 +14,40 @@
 //! # Ok::<(), yopobrush::Error>(())
 //! ```
 //!
-//! No input makes a call panic. The library has no state and allocates nothing,
-//! so any thread may call any function; of this crate [`overlaps`] and
-//! [`carried`] allocate their answers. A call takes up to [`STACK`] bytes of
-//! the thread's stack, and carrying out up to [`CARRY_STACK`].
+//! No input makes a call panic. A listing takes up to a megabyte of the
+//! thread's stack, and a question no more; Rust gives a thread two unless it is
+//! told otherwise.
 
 mod boundary;
-mod refusals;
 
 use std::fmt;
 
 use boundary::Reading;
-use refusals::{accepted, STALE, TOO_LONG, TOO_SMALL};
 
-pub use refusals::{refusal_words, Refusal};
-
-#[cfg(not(target_pointer_width = "64"))]
-compile_error!("libyopobrush.a is for x86-64 Linux");
-
-/// The version of this crate as one number: the major number, the minor number
-/// and the patch, a byte each. The minor number rises whenever an answer
-/// changes.
+/// Why a text is no rule or no slip: the number of the refusal and its place,
+/// counted in bytes from 0.
 ///
-/// ```
-/// assert_eq!(yopobrush::VERSION, yopobrush::version());
-/// ```
-pub const VERSION: u64 = 0x00_05_00;
-
-/// The version of the library that is linked: [`VERSION`] where this crate is
-/// its wrapper.
-#[must_use]
-pub fn version() -> u64 {
-    boundary::version()
+/// 1: more than 4,096 bytes, or 8,192 in a slip. 2: not the grammar. 3: a
+/// fifth field. 4: a seventeenth term in a field, or a sixty-fifth in a slip.
+/// 5: a value, digit count, variable number or string length over its limit.
+/// For a rule then 6: a list variable that occurs earlier in the left side, or
+/// that follows another in its field there; and 10: a right-side variable that
+/// the left side lacks. For a slip 7: a variable.
+#[derive(Clone, Copy, Debug, PartialEq, Eq, Hash)]
+pub struct Refusal {
+    /// The refusal's number.
+    pub number: u8,
+    /// Where in the text it is met.
+    pub place: usize,
 }
 
-/// As many bytes of stack as a call takes at most, but for [`carry_out`] and
-/// [`carried`]. Measured on the longest texts and lists, with what the dynamic
-/// linker takes at the first `memcpy`, the library's [`read_rule`] took 27,296
-/// and its others 17,568.
-pub const STACK: usize = 32_768;
+impl fmt::Display for Refusal {
+    fn fmt(&self, out: &mut fmt::Formatter) -> fmt::Result {
+        write!(out, "refused {} at {}", self.number, self.place)
+    }
+}
 
-/// As many bytes of stack as [`carry_out`] and [`carried`] take at most; in the
-/// same way measured, 86,240.
-pub const CARRY_STACK: usize = 131_072;
-
-/// As many bytes as the plain text of a slip can have: four fields of 64
-/// strings of 15 bytes, with their quotes and separators.
-pub const LONGEST_SLIP: usize = 4607;
+impl std::error::Error for Refusal {}
 
 /// The size of an overlap list.
 #[derive(Clone, Copy, Debug, PartialEq, Eq, Hash)]
@@ -74,7 +61,6 @@ pub struct Listing {
 /// Why no overlap list was written, or why its size is not said, or whether
 /// there is an entry.
 #[derive(Clone, Copy, Debug, PartialEq, Eq, Hash)]
-#[non_exhaustive]
 pub enum Error {
     /// The left text is no rule.
     Left(Refusal),
@@ -89,20 +75,15 @@ pub enum Error {
 impl fmt::Display for Error {
     fn fmt(&self, out: &mut fmt::Formatter) -> fmt::Result {
         match self {
-            Error::Left(refusal) => write!(out, "left rule: {refusal}"),
-            Error::Right(refusal) => write!(out, "right rule: {refusal}"),
-            Error::TooSmall(Listing { bytes, .. }) => no_room(*bytes, out),
-            Error::Stale => write!(out, "refusal {STALE}: {}", refusal_words(STALE)),
+            Error::Left(refusal) => write!(out, "left rule {refusal}"),
+            Error::Right(refusal) => write!(out, "right rule {refusal}"),
+            Error::TooSmall(Listing { bytes, .. }) => write!(out, "{bytes} bytes are needed"),
+            Error::Stale => write!(out, "the counts are not those of the rules"),
         }
     }
 }
 
 impl std::error::Error for Error {}
-
-fn no_room(bytes: usize, out: &mut fmt::Formatter) -> fmt::Result {
-    let words = refusal_words(TOO_SMALL);
-    write!(out, "refusal {TOO_SMALL}: {words}, {bytes} are needed")
-}
 
 /// Whether the text is a rule, or why it is none.
 ///
@@ -113,11 +94,11 @@ fn no_room(bytes: usize, out: &mut fmt::Formatter) -> fmt::Result {
 /// ```
 /// use yopobrush::{read_rule, Refusal};
 ///
-/// assert_eq!(read_rule("a0:l0|\"matt\""), Ok(()));
-/// assert_eq!(read_rule("i01"), Err(Refusal { number: 2, place: 2 }));
+/// assert_eq!(read_rule(b"a0:l0|\"matt\""), Ok(()));
+/// assert_eq!(read_rule(b"i01"), Err(Refusal { number: 2, place: 2 }));
 /// ```
-pub fn read_rule(text: impl AsRef<[u8]>) -> Result<(), Refusal> {
-    accepted(boundary::read_rule(text.as_ref()))
+pub fn read_rule(text: &[u8]) -> Result<(), Refusal> {
+    accepted(boundary::read_rule(text))
 }
 
 /// Writes the overlap list of the rules that two texts say, which looks at
@@ -129,12 +110,8 @@ pub fn read_rule(text: impl AsRef<[u8]>) -> Result<(), Refusal> {
 /// # Errors
 ///
 /// A text that is no rule, the left one first, or a list without room.
-pub fn list_overlaps(
-    left: impl AsRef<[u8]>,
-    right: impl AsRef<[u8]>,
-    out: &mut [u8],
-) -> Result<Listing, Error> {
-    written(boundary::list_overlaps(left.as_ref(), right.as_ref(), out))
+pub fn list_overlaps(left: &[u8], right: &[u8], out: &mut [u8]) -> Result<Listing, Error> {
+    written(boundary::list_overlaps(left, right, out))
 }
 
 /// The size of the overlap list of the rules that two texts say. Nothing is
@@ -147,12 +124,12 @@ pub fn list_overlaps(
 /// ```
 /// use yopobrush::{ask_overlaps, Listing};
 ///
-/// let asked = ask_overlaps("a0:l0", "l0:2")?;
+/// let asked = ask_overlaps(b"a0:l0", b"l0:2")?;
 /// assert_eq!(asked, Listing { entries: 2, bytes: 62 });
 /// # Ok::<(), yopobrush::Error>(())
 /// ```
-pub fn ask_overlaps(left: impl AsRef<[u8]>, right: impl AsRef<[u8]>) -> Result<Listing, Error> {
-    let asked = boundary::ask_overlaps(left.as_ref(), right.as_ref());
+pub fn ask_overlaps(left: &[u8], right: &[u8]) -> Result<Listing, Error> {
+    let asked = boundary::ask_overlaps(left, right);
     both_accepted(asked.left, asked.right)?;
     Ok(size(asked.entries, asked.bytes))
 }
@@ -169,24 +146,22 @@ pub fn ask_overlaps(left: impl AsRef<[u8]>, right: impl AsRef<[u8]>) -> Result<L
 /// ```
 /// use yopobrush::{ask_overlaps, commit_overlaps, Error};
 ///
-/// let asked = ask_overlaps("i0", "2:l0")?;
+/// let asked = ask_overlaps(b"i0", b"2:l0")?;
 /// let mut room = vec![0; asked.bytes];
-/// commit_overlaps(asked, "i0", "2:l0", &mut room)?;
+/// commit_overlaps(asked, b"i0", b"2:l0", &mut room)?;
 /// assert_eq!(room, b"2 <i0=2 >l0=empty\n");
 ///
-/// let other = commit_overlaps(asked, "i0", "2", &mut room);
+/// let other = commit_overlaps(asked, b"i0", b"2", &mut room);
 /// assert_eq!(other, Err(Error::Stale));
 /// # Ok::<(), yopobrush::Error>(())
 /// ```
 pub fn commit_overlaps(
     asked: Listing,
-    left: impl AsRef<[u8]>,
-    right: impl AsRef<[u8]>,
+    left: &[u8],
+    right: &[u8],
     out: &mut [u8],
 ) -> Result<Listing, Error> {
-    // A `usize` has 64 bits, as the library's numbers have.
     let (entries, bytes) = (asked.entries as u64, asked.bytes as u64);
-    let (left, right) = (left.as_ref(), right.as_ref());
     written(boundary::commit_overlaps(entries, bytes, left, right, out))
 }
 
@@ -196,7 +171,7 @@ fn written(listed: boundary::Listing) -> Result<Listing, Error> {
     let listing = size(listed.entries, listed.bytes);
     match listed.refusal {
         0 => Ok(listing),
-        refusal if refusal == u64::from(STALE) => Err(Error::Stale),
+        13 => Err(Error::Stale),
         _ => Err(Error::TooSmall(listing)),
     }
 }
@@ -208,14 +183,9 @@ fn both_accepted(left: Reading, right: Reading) -> Result<(), Error> {
 
 fn size(entries: u64, bytes: u64) -> Listing {
     Listing {
-        entries: count(entries),
-        bytes: count(bytes),
+        entries: entries as usize,
+        bytes: bytes as usize,
     }
-}
-
-/// A number of the library: a `usize` has as many bits.
-fn count(number: u64) -> usize {
-    number as usize
 }
 
 /// The overlap list of the rules that two texts say, in memory of its own, as
@@ -228,12 +198,11 @@ fn count(number: u64) -> usize {
 /// memory.
 ///
 /// ```
-/// let list = yopobrush::overlaps("i0", "2:l0")?;
+/// let list = yopobrush::overlaps(b"i0", b"2:l0")?;
 /// assert_eq!(list, b"2 <i0=2 >l0=empty\n");
 /// # Ok::<(), yopobrush::Error>(())
 /// ```
-pub fn overlaps(left: impl AsRef<[u8]>, right: impl AsRef<[u8]>) -> Result<Vec<u8>, Error> {
-    let (left, right) = (left.as_ref(), right.as_ref());
+pub fn overlaps(left: &[u8], right: &[u8]) -> Result<Vec<u8>, Error> {
     let asked = ask_overlaps(left, right)?;
     let mut list = zeros(asked.bytes).ok_or(Error::TooSmall(asked))?;
     commit_overlaps(asked, left, right, &mut list)?;
@@ -257,19 +226,18 @@ fn zeros(count: usize) -> Option<Vec<u8>> {
 /// A text that is no rule, the left one first; an answer needs no room.
 ///
 /// ```
-/// assert!(yopobrush::texts_overlap("i0", "a0")?);
-/// assert!(!yopobrush::texts_overlap("i0", "s0")?);
+/// assert!(yopobrush::texts_overlap(b"i0", b"a0")?);
+/// assert!(!yopobrush::texts_overlap(b"i0", b"s0")?);
 /// # Ok::<(), yopobrush::Error>(())
 /// ```
-pub fn texts_overlap(left: impl AsRef<[u8]>, right: impl AsRef<[u8]>) -> Result<bool, Error> {
-    let overlapping = boundary::texts_overlap(left.as_ref(), right.as_ref());
+pub fn texts_overlap(left: &[u8], right: &[u8]) -> Result<bool, Error> {
+    let overlapping = boundary::texts_overlap(left, right);
     both_accepted(overlapping.left, overlapping.right)?;
     Ok(overlapping.overlap == 1)
 }
 
 /// What carrying out a rule on a slip answers.
 #[derive(Clone, Copy, Debug, PartialEq, Eq, Hash)]
-#[non_exhaustive]
 pub enum Answer {
     /// The rule matches: the text is its right side with the filling put in.
     Yes,
@@ -279,16 +247,6 @@ pub enum Answer {
     /// A field of the result would have more than 64 terms, refusal 11: the
     /// text is the slip's.
     TooLong,
-}
-
-impl fmt::Display for Answer {
-    fn fmt(&self, out: &mut fmt::Formatter) -> fmt::Result {
-        match self {
-            Answer::Yes => write!(out, "yes"),
-            Answer::No => write!(out, "no"),
-            Answer::TooLong => write!(out, "refusal {TOO_LONG}: {}", refusal_words(TOO_LONG)),
-        }
-    }
 }
 
 /// An answer and the size of its text.
@@ -302,7 +260,6 @@ pub struct Carrying {
 
 /// Why a rule was not carried out on a slip.
 #[derive(Clone, Copy, Debug, PartialEq, Eq, Hash)]
-#[non_exhaustive]
 pub enum CarryError {
     /// The rule text is no rule.
     Rule(Refusal),
@@ -315,9 +272,9 @@ pub enum CarryError {
 impl fmt::Display for CarryError {
     fn fmt(&self, out: &mut fmt::Formatter) -> fmt::Result {
         match self {
-            CarryError::Rule(refusal) => write!(out, "rule: {refusal}"),
-            CarryError::Slip(refusal) => write!(out, "slip: {refusal}"),
-            CarryError::TooSmall(bytes) => no_room(*bytes, out),
+            CarryError::Rule(refusal) => write!(out, "rule {refusal}"),
+            CarryError::Slip(refusal) => write!(out, "slip {refusal}"),
+            CarryError::TooSmall(bytes) => write!(out, "{bytes} bytes are needed"),
         }
     }
 }
@@ -326,10 +283,9 @@ impl std::error::Error for CarryError {}
 
 /// Carries out the rule that a text says on the slip that another says, and
 /// writes the plain text of the result, or of the unchanged slip, to the front
-/// of `out`, which never takes more than [`LONGEST_SLIP`] bytes. What stands
-/// behind it is left as it was, and where it has no room all of `out` is. A
-/// rule text that is refused changes no slip either, so the slip's plain text
-/// is written even then.
+/// of `out`. What stands behind it is left as it was, and where it has no room
+/// all of `out` is. A rule text that is refused changes no slip either, so the
+/// slip's plain text is written even then.
 ///
 /// # Errors
 ///
@@ -339,24 +295,20 @@ impl std::error::Error for CarryError {}
 /// use yopobrush::{carry_out, Answer};
 ///
 /// let mut room = [0; 100];
-/// let carrying = carry_out("a0:l0=>l0:a0", "1:2:3", &mut room)?;
+/// let carrying = carry_out(b"a0:l0=>l0:a0", b"1:2:3", &mut room)?;
 /// assert_eq!(carrying.answer, Answer::Yes);
 /// assert_eq!(&room[..carrying.bytes], b"2:3:1");
 /// # Ok::<(), yopobrush::CarryError>(())
 /// ```
-pub fn carry_out(
-    rule: impl AsRef<[u8]>,
-    slip: impl AsRef<[u8]>,
-    out: &mut [u8],
-) -> Result<Carrying, CarryError> {
-    let carried = boundary::carry_out(rule.as_ref(), slip.as_ref(), out);
+pub fn carry_out(rule: &[u8], slip: &[u8], out: &mut [u8]) -> Result<Carrying, CarryError> {
+    let carried = boundary::carry_out(rule, slip, out);
     accepted(carried.rule).map_err(CarryError::Rule)?;
     accepted(carried.slip).map_err(CarryError::Slip)?;
-    let bytes = count(carried.bytes);
+    let bytes = carried.bytes as usize;
     let answer = match carried.answer {
         0 => Answer::No,
         1 => Answer::Yes,
-        refusal if refusal == u64::from(TOO_LONG) => Answer::TooLong,
+        11 => Answer::TooLong,
         _ => return Err(CarryError::TooSmall(bytes)),
     };
     Ok(Carrying { answer, bytes })
@@ -372,16 +324,29 @@ pub fn carry_out(
 /// ```
 /// use yopobrush::{carried, Answer};
 ///
-/// assert_eq!(carried("l0=>l0:9|empty", "empty")?, (Answer::Yes, b"9|empty".to_vec()));
-/// assert_eq!(carried("1=>2", "007")?, (Answer::No, b"7".to_vec()));
+/// assert_eq!(carried(b"l0=>l0:9|empty", b"empty")?, (Answer::Yes, b"9|empty".to_vec()));
+/// assert_eq!(carried(b"1=>2", b"007")?, (Answer::No, b"7".to_vec()));
 /// # Ok::<(), yopobrush::CarryError>(())
 /// ```
-pub fn carried(
-    rule: impl AsRef<[u8]>,
-    slip: impl AsRef<[u8]>,
-) -> Result<(Answer, Vec<u8>), CarryError> {
+pub fn carried(rule: &[u8], slip: &[u8]) -> Result<(Answer, Vec<u8>), CarryError> {
     let mut text = vec![0; LONGEST_SLIP];
     let carrying = carry_out(rule, slip, &mut text)?;
     text.truncate(carrying.bytes);
     Ok((carrying.answer, text))
+}
+
+/// As many bytes as the plain text of a slip can have: four fields of 64
+/// strings of 15 bytes, with their quotes and separators.
+const LONGEST_SLIP: usize = 4607;
+
+/// No refusal has the number 0. Numbers and places are small: at most 10, and
+/// at most 8,192.
+fn accepted(reading: Reading) -> Result<(), Refusal> {
+    if reading.refusal == 0 {
+        return Ok(());
+    }
+    Err(Refusal {
+        number: reading.refusal as u8,
+        place: reading.place as usize,
+    })
 }

@@ -157,17 +157,8 @@ fn what_errors_say() {
         Ok(_) => String::new(),
         Err(error) => error.to_string(),
     };
-    assert_eq!(
-        said(b"i01", b"1"),
-        "left rule: refusal 2 at byte 2: not the grammar"
-    );
-    assert_eq!(
-        said(b"1", b"l0:l1"),
-        "right rule: refusal 6 at byte 3: a list variable that stood before, or a second one in a field"
-    );
-    assert_eq!(
-        said(b"1", b"1"),
-        "refusal 8: too few bytes are lent, 2 are needed"
-    );
+    assert_eq!(said(b"i01", b"1"), "left rule refused 2 at 2");
+    assert_eq!(said(b"1", b"l0:l1"), "right rule refused 6 at 3");
+    assert_eq!(said(b"1", b"1"), "2 bytes are needed");
     assert_eq!(said(b"1", b"2"), "");
 }

@@ -1,12 +1,9 @@
-//! Tests of the wrapper: the documents' cases, lent memory, the stack, the
-//! header and the examples in C and Rust. `comparison/` holds the library
-//! against the second program.
+//! Tests of the wrapper: the documents' cases, lent memory, the second program
+//! on generated lines, and programs in C.
 
+mod c;
 mod carrying;
 mod committing;
+mod comparison;
 mod document;
-mod examples;
-mod header;
 mod memory;
-mod programs;
-mod stack;

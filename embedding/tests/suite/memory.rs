@@ -1,4 +1,4 @@
-//! The lent bytes, and memory that the wrapper takes itself.
+//! The lent bytes, memory that the wrapper takes itself, and the stack.
 
 use std::thread;
 
@@ -54,20 +54,20 @@ fn nothing_is_lent() {
     assert_eq!(list_overlaps(b"1", b"2", &mut []), Ok(none));
     assert_eq!(ask_overlaps(b"1", b"2"), Ok(none));
     assert_eq!(commit_overlaps(none, b"1", b"2", &mut []), Ok(none));
-    assert!(ask_overlaps([], []).is_err());
-    assert!(commit_overlaps(none, [], [], &mut []).is_err());
-    assert!(list_overlaps([], [], &mut []).is_err());
-    assert!(texts_overlap([], []).is_err());
+    assert!(ask_overlaps(&[], &[]).is_err());
+    assert!(commit_overlaps(none, &[], &[], &mut []).is_err());
+    assert!(list_overlaps(&[], &[], &mut []).is_err());
+    assert!(texts_overlap(&[], &[]).is_err());
 }
 
 /// Fifteen variables before or behind a list variable, in each field: as many
 /// choices as two rules can have.
-pub fn deepest(fields: usize) -> (String, String) {
+pub fn deepest(fields: usize) -> (Vec<u8>, Vec<u8>) {
     let atoms = (0..15).map(|n| format!("a{n}")).collect::<Vec<_>>();
     let atoms = atoms.join(":");
     let field = |n: usize| (format!("{atoms}:l{n}"), format!("l{n}:{atoms}"));
     let (left, right): (Vec<_>, Vec<_>) = (0..fields).map(field).unzip();
-    (left.join("|"), right.join("|"))
+    (left.join("|").into_bytes(), right.join("|").into_bytes())
 }
 
 #[test]
@@ -87,39 +87,33 @@ fn a_list_of_many_lines() {
 }
 
 #[test]
-fn the_most_entries() {
+fn a_megabyte_of_stack_is_enough() {
     let (left, right) = deepest(4);
     let needed = Listing {
         entries: 65_536,
         bytes: 47_250_381,
     };
-    let no_room = Err(Error::TooSmall(needed));
-    assert_eq!(ask_overlaps(&left, &right), Ok(needed));
-    assert_eq!(list_overlaps(&left, &right, &mut [7; 10]), no_room);
-    let committed = commit_overlaps(needed, &left, &right, &mut [7; 10]);
-    assert_eq!(committed, no_room);
-    assert_eq!(texts_overlap(&left, &right), Ok(true));
+    let list = move || {
+        let listed = list_overlaps(&left, &right, &mut [7; 10]);
+        let asked = ask_overlaps(&left, &right);
+        let committed = commit_overlaps(needed, &left, &right, &mut [7; 10]);
+        (listed, asked, committed)
+    };
+    let thread = thread::Builder::new().stack_size(1 << 20);
+    let (listed, asked, committed) = thread.spawn(list).unwrap().join().unwrap();
+    assert_eq!(listed, Err(Error::TooSmall(needed)));
+    assert_eq!(asked, Ok(needed));
+    assert_eq!(committed, Err(Error::TooSmall(needed)));
 }
 
-/// The last field leaves none of the 4,096 choices before it.
+/// Also where the last field leaves none of the 4,096 choices before it.
 #[test]
-fn every_choice_clashes_at_its_end() {
-    let (left, right) = deepest(3);
-    let overlap = texts_overlap(left + "|i0", right + "|s0");
-    assert_eq!(overlap, Ok(false));
-}
-
-/// Threads beside each other, each with memory of its own, answer as one does.
-#[test]
-fn several_threads() {
-    let (left, right) = deepest(3);
-    let list = overlaps(&left, &right).unwrap();
-    thread::scope(|scope| {
-        for _ in 0..4 {
-            scope.spawn(|| {
-                assert!(overlaps(&left, &right).as_ref() == Ok(&list));
-                assert_eq!(overlaps(LEFT, RIGHT).as_deref(), Ok(LIST));
-            });
-        }
-    });
+fn asking_takes_no_more_stack() {
+    let (left, right) = deepest(4);
+    let (front, other) = deepest(3);
+    let (front, other) = ([&front[..], b"|i0"].concat(), [&other[..], b"|s0"].concat());
+    let ask = move || [texts_overlap(&left, &right), texts_overlap(&front, &other)];
+    let thread = thread::Builder::new().stack_size(1 << 20);
+    let asked = thread.spawn(ask).unwrap().join().unwrap();
+    assert_eq!(asked, [Ok(true), Ok(false)]);
 }

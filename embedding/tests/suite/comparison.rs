@@ -1,4 +1,5 @@
-//! Generated lines: the same refusals, the same lists, the same results.
+//! The second program, which shares no code with the library, on generated
+//! lines: the same refusals, the same lists, the same results.
 
 use reference::carrying::{self, Carried};
 use reference::draw::Draw;
