@@ -3,6 +3,7 @@ use mathlib.Core.Path.{◌≡◌, refl, sym, ap, ap₂, ◌∙◌, subst}
 use mathlib.Core.Logic.{if_pos, if_neg}
 use mathlib.Core.Bool.{Bool, true, false, cond, false≢true}
 use mathlib.Core.Option.{Option, none, some}
+use Rattle.std.specs.Prelude.{Option as OptionValue, Some, None}
 use mathlib.Core.List.{[], ◌∷◌, map}
 use Prim.Native.Nat.{ℕ}
 use borrow.Author.Tests.{le-leb, leb-true}
@@ -23,9 +24,8 @@ use Rattle.text_grammar.specs.rules.Limits.{IsRule}
 use Rattle.apply_spec.specs.Carrying.{Short, short?, result, unmatched, too_long, limited}
 use Rattle.apply_spec.specs.Rules.{carried}
 use Rattle.text_values.specs.declared.Rule.{Rule}
-use Rattle.text_values.specs.declared.RuleSide.{RuleSide}
-use Rattle.text_values.specs.declared.Slip.{Slip}
-use Rattle.text_values.specs.Values.{blank_slip, view_field, view_side, view_rule, view_slip, encode_side, encode_slip}
+use Rattle.text_values.specs.Values.{RuleSide, Slip}
+use Rattle.text_values.specs.Values.{view_field, view_side, view_rule, view_slip, encode_side, encode_slip}
 use Rattle.text_accepted.specs.Accepted.{counted_left}
 use Rattle.text_accepted.proofs.Accepted.{rule_is}
 use Rattle.text_accepted.specs.rules.Rules.{accepted_rule}
@@ -35,7 +35,6 @@ use Rattle.text_accepted.proofs.slips.Slips.{accepted_slip_lem, counted_accepted
 use Rattle.match_fields.specs.declared.bindings.Filling.{Filling as FillingValue}
 use Rattle.match_rules.specs.declared.Match.{Match}
 use Rattle.match_rules.specs.Answers.{encode_values, runs_of, found, match_of}
-use Rattle.apply_rules.specs.declared.filling.Filled.{Filled}
 use Rattle.apply_rules.specs.filling.Filled.{all_short, filled_side}
 use Rattle.apply_rules.proofs.filling.Fills.{filled_with}
 use Rattle.apply_rules.specs.declared.Carry.TheVariants.{Yes, No, TooLong}
@@ -54,14 +53,15 @@ true_short [] e = tt
 true_short (f ∷ w) e = let b = (both_is (leb (length f) most_items) (all_short w)).0 e in (leb-true (length f) most_items b.0, true_short w b.1)
 
 -- the answer by what was filled in
-abbrev by_filled : Slip → Filled → CarriedValue
-by_filled s f = cond f.ok (record { answer = Yes; slip = f.slip }) (record { answer = TooLong; slip = s })
+abbrev by_filled : Slip → OptionValue Slip → CarriedValue
+by_filled s None = record { answer = TooLong; slip = s }
+by_filled s (Some w) = record { answer = Yes; slip = w }
 
 limited_filled : (s : Slip) (w : SlipFields) → by_filled s (filled_with w) ≡ answer_of s (limited most_items w)
 limited_filled s w = go (all_short w) refl
   where
     go : (b : Bool) → all_short w ≡ b
-        → by_filled s (cond b (record { ok = true; slip = encode_slip (map (map con) w) }) (record { ok = false; slip = blank_slip }))
+        → by_filled s (cond b (Some (encode_slip (map (map con) w))) None)
         ≡ answer_of s (limited most_items w)
     go true e = sym (ap (answer_of s) (if_pos (short? most_items w) (true_short w e) (result w) too_long))
     go false e = sym (ap (answer_of s) (if_neg (short? most_items w) (λ h. false≢true (sym e ∙ short_true w h)) (result w) too_long))
@@ -168,7 +168,7 @@ module _ (r : Rule) (s : Slip) where
             let h = match_none x (counted_slip s) has_left (sym (ap (λ (a : Match). a.yes) m_is) ∙ e) in
             sym (counted ∙ ap (answer_of s) (by_match y (map constants (counted_slip s)) has_right h))
 
-        module _ (e : m.yes ≡ true) (f : Filled) (is_f : f ≡ filled_side r.right m.filling s) where
+        module _ (e : m.yes ≡ true) (f : OptionValue Slip) (is_f : f ≡ filled_side r.right m.filling s) where
           matched : IsCons (counted_slip s) × Found x (counted_slip s) (match_of x (counted_slip s)).filling
           matched = match_some x (counted_slip s) (sym (ap (λ (a : Match). a.yes) m_is) ∙ e)
 
@@ -196,11 +196,8 @@ module _ (r : Rule) (s : Slip) where
               ∙ ap (λ (w : OurFields). answer_of s (carried (x, y) (map constants w))) (sym slip_counted)
               ∙ sym counted
 
-          abbrev by_ok : Bool → CarriedValue
-          by_ok b = cond b (record { answer = Yes; slip = f.slip }) (record { answer = TooLong; slip = s })
+          pub too_long_lem : f ≡ None → record { answer = TooLong; slip = s } ≡ carried_of r s
+          too_long_lem q = sym (ap (by_filled s) q) ∙ both
 
-          pub too_long_lem : f.ok ≡ false → record { answer = TooLong; slip = s } ≡ carried_of r s
-          too_long_lem q = sym (ap by_ok q) ∙ both
-
-          pub carried_out : f.ok ≡ true → record { answer = Yes; slip = f.slip } ≡ carried_of r s
-          carried_out q = sym (ap by_ok q) ∙ both
+          pub carried_out : (w : Slip) → f ≡ Some w → record { answer = Yes; slip = w } ≡ carried_of r s
+          carried_out w q = sym (ap (by_filled s) q) ∙ both

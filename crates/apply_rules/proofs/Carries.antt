@@ -24,7 +24,7 @@ use Rattle.apply_spec.proofs.Carrying.{limited_result}
 use Rattle.apply_spec.proofs.Carried.{carries_out}
 use Rattle.apply_spec.proofs.Rules.{carried_no, result_readable}
 use Rattle.text_values.specs.declared.Rule.{Rule}
-use Rattle.text_values.specs.declared.Slip.{Slip}
+use Rattle.text_values.specs.Values.{Slip}
 use Rattle.text_values.specs.Values.{view_side, view_rule, view_slip, encode_slip}
 use Rattle.text_accepted.proofs.Accepted.{rule_is}
 use Rattle.text_accepted.specs.rules.Rules.{accepted_rule, counted_rule}

@@ -10,7 +10,7 @@ use Rattle.text_grammar.specs.constants.Matching.{constants}
 use Rattle.apply_spec.specs.Carrying.{Carried, result, unmatched, too_long}
 use Rattle.apply_spec.specs.Rules.{carried}
 use Rattle.text_values.specs.declared.Rule.{Rule}
-use Rattle.text_values.specs.declared.Slip.{Slip}
+use Rattle.text_values.specs.Values.{Slip}
 use Rattle.text_values.specs.Values.{encode_slip}
 use Rattle.text_accepted.specs.rules.Rules.{counted_rule}
 use Rattle.text_accepted.specs.slips.Slips.{counted_slip}

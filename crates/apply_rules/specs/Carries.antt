@@ -12,7 +12,7 @@ use Rattle.text_grammar.specs.constants.Constants.{Con, consts}
 use Rattle.text_grammar.specs.constants.Matching.{constants, Matches}
 use Rattle.apply_spec.specs.Carrying.{Short, Over}
 use Rattle.text_values.specs.declared.Rule.{Rule}
-use Rattle.text_values.specs.declared.Slip.{Slip}
+use Rattle.text_values.specs.Values.{Slip}
 use Rattle.text_values.specs.Values.{view_side, view_slip, encode_slip}
 use Rattle.text_accepted.specs.rules.Rules.{accepted_rule}
 use Rattle.text_accepted.specs.slips.Slips.{accepted_slip}

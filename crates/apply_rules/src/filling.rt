@@ -1,126 +1,87 @@
 // A filling put into a side of a rule: each variable replaced by its value, list variables by terms of the slip.
-ghost use Rattle.std.specs.Prelude.{◌≡◌, get_or};
-ghost use mathlib.Core.List.{foldl};
+ghost use Rattle.std.specs.Prelude.{◌≡◌, get_or, option_map};
 ghost use Rattle.text_values.specs.Values.{blank_slip_field};
 ghost use Rattle.apply_rules.specs.filling.Filled.{some_items, run_items, filled_term, filled_field, filled_side};
-ghost use Rattle.apply_rules.specs.filling.Pushes.{pushed, collected};
+ghost use Rattle.apply_rules.specs.filling.Pushes.{pushed, pushed_all, collected};
 
-use base_numbers::at_most;
 use match_fields::bindings::{Filling, Run};
 use text_values::{Field, Form, RuleSide, Slip, SlipField, Term};
 
-// The filled side; `ok` is false where a field has more terms than a slip's may have, and the slip is blank then.
-#[derive(Clone, Copy)]
-pub struct Filled {
-    pub ok: bool,
-    pub slip: Slip,
-}
-
-// The count of a field with more terms than it has places for.
-const OVERFULL: usize = base_limits::MOST_ITEMS + 1;
-
-// The field with t behind its terms. A full field has no place for it, and its count says so.
-fn push(w: SlipField, t: Term) -> SlipField
-    ensures { result ≡ pushed w t }
+// Puts t behind the terms of w, if there is a place for it.
+fn push(w: &mut SlipField, t: Term) -> Option<()>
+    ensures { pushed w.old t ≡ option_map (λ u. w.new) result }
 {
     let n = w.n;
-    let mut x = w;
     if base_limits::MOST_ITEMS <= n {
-        x.n = OVERFULL;
-        return x;
+        return None;
     }
-    x.n = n + 1;
-    x.terms[n] = t;
-    x
+    w.n = n + 1;
+    w.terms[n] = t;
+    Some(())
 }
 
-// So many items of f from one on.
-fn push_items(w: SlipField, f: SlipField, start: usize, count: usize) -> SlipField
-    ensures { result ≡ foldl pushed w (some_items f start count) }
+// So many items of f from one on, as far as there are so many.
+fn push_items(w: &mut SlipField, f: SlipField, start: usize, count: usize) -> Option<()>
+    ensures { pushed_all w.old (some_items f start count) ≡ option_map (λ u. w.new) result }
 {
-    let n = at_most(f.n, base_limits::MOST_ITEMS);
-    let mut y = w;
-    let mut i = start;
-    let mut left = count;
-    while i < n {
-        if left == 0 {
-            return y;
-        }
-        y = push(y, f.terms[i]);
-        i += 1;
-        left -= 1;
+    let items = &f.terms[..f.n.min(base_limits::MOST_ITEMS)];
+    let behind = &items[start.min(items.len())..];
+    for t in &behind[..count.min(behind.len())] {
+        push(w, *t)?;
     }
-    y
+    Some(())
 }
 
-fn field_at(s: Slip, j: usize) -> SlipField
-    ensures { result ≡ get_or s.fields j blank_slip_field }
+fn field_at(s: &Slip, j: usize) -> SlipField
+    ensures { result ≡ get_or s.now.fields j blank_slip_field }
 {
-    if base_limits::MOST_FIELDS <= j {
-        return text_values::blank_slip_field();
+    match s.fields.get(j) {
+        Some(f) => *f,
+        None => text_values::no_terms(),
     }
-    s.fields[j]
 }
 
-fn push_run(w: SlipField, s: Slip, r: Run) -> SlipField
-    ensures { result ≡ foldl pushed w (run_items s r) }
+fn push_run(w: &mut SlipField, s: &Slip, r: Run) -> Option<()>
+    ensures { pushed_all w.old (run_items s.now r) ≡ option_map (λ u. w.new) result }
 {
-    let f = field_at(s, r.field);
-    let start = r.start;
-    let count = r.count;
-    push_items(w, f, start, count)
+    push_items(w, field_at(s, r.field), r.start, r.count)
 }
 
 // What the term t becomes, behind the terms of w.
-fn push_term(w: SlipField, t: Term, x: Filling, s: Slip) -> SlipField
-    ensures { result ≡ foldl pushed w (filled_term x s t) }
+fn push_term(w: &mut SlipField, t: Term, x: &Filling, s: &Slip) -> Option<()>
+    ensures { pushed_all w.old (filled_term x.now s.now t) ≡ option_map (λ u. w.new) result }
 {
-    let form = t.form;
-    match form {
+    match t.form {
         Form::Con(_) => push(w, t),
-        Form::Var(k, n) => {
-            if math_types::is_list(k) {
-                return push_run(w, s, match_fields::bindings::run_of(x, n));
-            }
-            push(w, match_fields::bindings::value_of(x.values, k, n))
-        }
+        Form::Var(k, n) if math_types::is_list(k) => push_run(
+            w,
+            s,
+            match_fields::bindings::run_of(*x, n),
+        ),
+        Form::Var(k, n) => push(w, match_fields::bindings::value_of(x.values, k, n)),
     }
 }
 
-fn fill_field(f: Field, x: Filling, s: Slip) -> SlipField
-    ensures { result ≡ collected (filled_field x s f) }
+// The field with the filling put in, if it then has no more terms than a slip's may have.
+fn fill_field(f: Field, x: &Filling, s: &Slip) -> Option<SlipField>
+    ensures { result ≡ collected (filled_field x.now s.now f) }
 {
-    let n = at_most(f.n, base_limits::MOST_TERMS);
-    let mut y = text_values::blank_slip_field();
-    let mut i: usize = 0;
-    while i < n {
-        y = push_term(y, f.terms[i], x, s);
-        i += 1;
+    let mut y = text_values::no_terms();
+    for t in &f.terms[..f.n.min(base_limits::MOST_TERMS)] {
+        push_term(&mut y, *t, x, s)?;
     }
-    y
+    Some(y)
 }
 
-// The side with the filling put in, where no field then has more terms than a slip's.
-pub(crate) fn fill_side(side: RuleSide, x: Filling, s: Slip) -> Filled
-    ensures { result ≡ filled_side side x s }
+// The side with the filling put in, if no field then has more terms than a slip's may have.
+pub(crate) fn fill_side(side: RuleSide, x: &Filling, s: &Slip) -> Option<Slip>
+    ensures { result ≡ filled_side side x.now s.now }
 {
-    let n = at_most(side.n, base_limits::MOST_FIELDS);
-    let mut out = text_values::blank_slip();
-    out.n = n;
-    let mut i: usize = 0;
-    while i < n {
-        let f = fill_field(side.fields[i], x, s);
-        if base_limits::MOST_ITEMS < f.n {
-            return Filled {
-                ok: false,
-                slip: text_values::blank_slip(),
-            };
-        }
-        out.fields[i] = f;
-        i += 1;
+    let fields = &side.fields[..side.n.min(base_limits::MOST_FIELDS)];
+    let mut out = text_values::no_fields();
+    out.n = fields.len();
+    for (i, f) in fields.iter().enumerate() {
+        out.fields[i] = fill_field(*f, x, s)?;
     }
-    Filled {
-        ok: true,
-        slip: out,
-    }
+    Some(out)
 }

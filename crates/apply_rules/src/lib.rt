@@ -16,6 +16,7 @@ pub enum Carry {
     TooLong,
 }
 
+// Document 02 gives a slip back whatever the answer is, so it stands beside it.
 #[derive(Clone, Copy)]
 pub struct Carried {
     pub answer: Carry,
@@ -26,35 +27,25 @@ pub struct Carried {
 pub fn carry_out(rule: Rule, slip: Slip) -> Carried
     ensures { result ≡ carried_of rule slip }
 {
-    if !text_accepted::rules::is_rule(rule) {
+    if !text_accepted::rules::is_rule(rule) || rule.right.n == 0 {
         return Carried {
             answer: Carry::No,
-            slip: slip,
+            slip,
         };
     }
-    let right = rule.right;
-    if right.n == 0 {
-        return Carried {
-            answer: Carry::No,
-            slip: slip,
-        };
-    }
-    let left = rule.left;
-    let m = match_rules::match_side(left, slip);
+    let m = match_rules::match_side(rule.left, slip);
     if !m.yes {
         return Carried {
             answer: Carry::No,
-            slip: slip,
+            slip,
         };
     }
-    let f = crate::filling::fill_side(right, m.filling, slip);
-    if !f.ok {
+    let Some(result) = crate::filling::fill_side(rule.right, &m.filling, &slip) else {
         return Carried {
             answer: Carry::TooLong,
-            slip: slip,
+            slip,
         };
-    }
-    let result = f.slip;
+    };
     Carried {
         answer: Carry::Yes,
         slip: result,

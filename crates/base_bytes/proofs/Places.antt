@@ -1,38 +1,41 @@
--- The place of a byte, from a place on before which it does not stand.
-use Rattle.std.proofs.Common.{◌≡◌, ◌≢◌, ℕ, suc, ◌+◌, ◌<◌, ◌≤◌, Bool, true, false, List, [], ◌∷◌, length, get_or, drop, refl, sym, ◌∙◌, ap, arith}
-use Rattle.std.proofs.Math.Dec.{eqb}
-use Rattle.std.proofs.Math.ListN.{drop_of_length-le}
-use Rattle.std.proofs.lemmas.List.{drop_more}
-use Rattle.std.proofs.lemmas.Bool.{eq-eqb, ne_eqb}
+-- The place of a byte, as `position` tells it.
+use Rattle.std.specs.Prelude.{unwrap_or}
+use Rattle.std.specs.List.{prefix_len}
+use Rattle.std.proofs.Common.{◌≡◌, ◌==◌, ℕ, suc, ◌+◌, ◌≤◌, Bool, true, false, cond, not, List, [], ◌∷◌, length, position, Option, Some, None}
+use Rattle.std.proofs.Common.{refl, ◌∙◌, ap, arith}
+use Rattle.std.proofs.Math.Dec.{eqb, ltb}
+use Rattle.std.proofs.lemmas.Bool.{ltb-false}
 use Rattle.base_bytes.specs.Bytes.{index_of, index_after}
 
--- by the first byte of what is left
-met : (b x : ℕ) (v : List ℕ) → x ≡ b → index_of b (x ∷ v) ≡ 0
+pub index_le : (b : ℕ) (v : List ℕ) → index_of b v ≤ length v
 unfolding index_of index_after
-met b x v e = ap (λ (y : Bool). index_after y (index_of b v)) (eq-eqb x b e)
+index_le b [] = omega arith
+index_le b (x ∷ v) = at (eqb x b) (index_le b v)
+  where
+    at : (y : Bool) → index_of b v ≤ length v → index_after y (index_of b v) ≤ suc (length v)
+    at true h = omega arith
+    at false h = omega arith
 
-passed : (b x : ℕ) (v : List ℕ) → x ≢ b → index_of b (x ∷ v) ≡ suc (index_of b v)
+-- how many bytes are before it
+before : (b : ℕ) (v : List ℕ) → prefix_len (λ x. not (x == b)) v ≡ index_of b v
 unfolding index_of index_after
-passed b x v n = ap (λ (y : Bool). index_after y (index_of b v)) (ne_eqb x b n)
+before b [] = refl
+before b (x ∷ v) = at (eqb x b) (before b v)
+  where
+    at : (y : Bool) → prefix_len (λ x. not (x == b)) v ≡ index_of b v → cond (not y) (1 + prefix_len (λ x. not (x == b)) v) 0 ≡ index_after y (index_of b v)
+    at true e = refl
+    at false e = omega arith
 
--- it stands at the place i, and not before
-pub here : (b : ℕ) (v : List ℕ) (i : ℕ) → i < length v → get_or v i 0 ≡ b → index_of b v ≡ i + index_of b (drop i v) → i ≡ index_of b v
-here b v i h e z =
-    let d : index_of b (drop i v) ≡ index_of b (get_or v i 0 ∷ drop (i + 1) v) = ap (index_of b) (drop_more v i 0 h) in
-    let m = met b (get_or v i 0) (drop (i + 1) v) e in
-    omega arith
+pub place : (b : ℕ) (v : List ℕ) → unwrap_or (position (λ x. x == b) v) (length v) ≡ index_of b v
+place b v = at (ltb n (length v)) refl
+  where
+    n : ℕ
+    n = prefix_len (λ x. not (x == b)) v
 
--- it does not stand at the place i
-pub later : (b : ℕ) (v : List ℕ) (i : ℕ) → i < length v → get_or v i 0 ≢ b → index_of b v ≡ i + index_of b (drop i v)
-    → index_of b v ≡ i + 1 + index_of b (drop (i + 1) v)
-later b v i h e z =
-    let d : index_of b (drop i v) ≡ index_of b (get_or v i 0 ∷ drop (i + 1) v) = ap (index_of b) (drop_more v i 0 h) in
-    let m = passed b (get_or v i 0) (drop (i + 1) v) e in
-    omega arith
+    at : (y : Bool) → ltb n (length v) ≡ y → unwrap_or (cond y (Some n) None) (length v) ≡ index_of b v
+    at true e = before b v
+    at false e = omega (arith, ltb-false n (length v) e, before b v, index_le b v)
 
--- it stands nowhere
-pub nowhere : (b : ℕ) (v : List ℕ) (i : ℕ) → length v ≤ i → i ≤ length v → index_of b v ≡ i + index_of b (drop i v) → length v ≡ index_of b v
-unfolding index_of
-nowhere b v i h k z =
-    let d : index_of b (drop i v) ≡ 0 = ap (index_of b) (drop_of_length-le v h) in
-    omega arith
+-- as it is returned
+pub found : (b : ℕ) (v : List ℕ) {o : Option ℕ} → o ≡ position (λ x. x == b) v → unwrap_or o (length v) ≡ index_of b v
+found b v e = ap (λ o. unwrap_or o (length v)) e ∙ place b v

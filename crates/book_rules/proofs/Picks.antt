@@ -23,7 +23,7 @@ use Rattle.match_rules.specs.Answers.{found, match_of}
 use Rattle.book_spec.specs.Picks.{pick_in}
 use Rattle.book_spec.specs.Books.{Book, is_some, gives, rule_at, pick}
 use Rattle.book_rules.specs.declared.Book.{Book as BookValue}
-use Rattle.book_rules.specs.declared.Picked.TheVariants.{Rule, Nothing}
+use Rattle.std.specs.Prelude.{Some, None}
 use Rattle.book_rules.specs.Books.{left_of, counted_book, PicksRule}
 
 -- ---- a yes of matching is what it is to give a slip
@@ -92,7 +92,7 @@ module _ (B : Book) (s : OurFields) where
     goes : cond m.yes (some i) (pick_in test (numbers_from (n - (i + 1)) (i + 1))) ≡ pick B (map constants s)
     goes = ap (λ (b : Bool). cond b (some i) (pick_in test (numbers_from (n - (i + 1)) (i + 1)))) tested ∙ sym (at_next n i h) ∙ p
 
-    pub passed_found : m.yes ≡ true → PicksRule B s (Rule (i + 1))
+    pub passed_found : m.yes ≡ true → PicksRule B s (Some (i + 1))
     passed_found e =
         let z : i + 1 ≡ suc i = omega arith in
         ap some z
@@ -101,10 +101,10 @@ module _ (B : Book) (s : OurFields) where
     pub passed_next : m.yes ≡ false → Passed n (i + 1)
     passed_next e = ap (λ (b : Bool). cond b (some i) (pick_in test (numbers_from (n - (i + 1)) (i + 1)))) (sym e) ∙ goes
 
-  pub passed_all : (n i : ℕ) → n ≤ i → Passed n i → PicksRule B s Nothing
+  pub passed_all : (n i : ℕ) → n ≤ i → Passed n i → PicksRule B s None
   passed_all n i h p =
       let z : 0 ≡ n - i = omega arith in
       ap (Option.map suc) (ap (λ (m : ℕ). pick_in test (numbers_from m i)) z ∙ p)
 
-pub too_many : (book : BookValue) (s : OurFields) → most_rules < book.n → PicksRule (counted_book book) s Nothing
+pub too_many : (book : BookValue) (s : OurFields) → most_rules < book.n → PicksRule (counted_book book) s None
 too_many book s h = ap (λ (B : Book). Option.map suc (pick B (map constants s))) (sym (none_counted book h))

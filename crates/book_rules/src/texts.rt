@@ -4,17 +4,17 @@ ghost use Rattle.base_limits.specs.Limits.{most_rules, longest_rule};
 ghost use Rattle.text_grammar.specs.Plain.{plain};
 ghost use Rattle.text_accepted.specs.rules.Rules.{counted_rule};
 ghost use Rattle.text_write.specs.Answers.{Writes};
-ghost use Rattle.text_write.specs.pieces.Placed.{Placed};
+ghost use Rattle.text_write.specs.pieces.Placed.{PlacedOn};
 ghost use Rattle.book_spec.specs.Books.{meet, pair_text, book_text};
 ghost use Rattle.book_rules.specs.Books.{counted_book};
 ghost use Rattle.book_rules.specs.texts.Keeping.{book_bytes, no_texts, room_for, Keeps, AddsLine, book_in};
 ghost use Rattle.book_rules.specs.texts.Pairs.{row_text};
 
 use crate::Book;
-use base_numbers::at_most;
-use text_refusals::verdicts::{Reason, Verdict};
+use text_refusals::verdicts::{Reason, Refusal};
 use text_values::Rule;
-use text_write::Written;
+use text_write::TooSmall;
+use text_write::pieces::Page;
 
 // The bytes of a whole book: no text that is accepted is longer than the longest plain text.
 pub const BOOK_BYTES: usize = base_limits::MOST_RULES * base_limits::LONGEST_RULE;
@@ -22,7 +22,7 @@ pub const BOOK_BYTES: usize = base_limits::MOST_RULES * base_limits::LONGEST_RUL
 pub const LONGEST_TEXT: usize = base_limits::MOST_RULES * (base_limits::MOST_RULES - 1) / 2
     * (2 + 1 + 2 + 1);
 
-// How many texts are kept, and how many bytes each has.
+// How many texts are kept, and how many bytes each has. Stays a count beside an array: the texts themselves stand in lent bytes.
 #[derive(Clone, Copy)]
 pub struct Kept {
     pub n: usize,
@@ -57,7 +57,7 @@ pub fn no_texts() -> Kept
 fn room_for(size: usize) -> usize
     ensures { result ≡ room_for size }
 {
-    at_most(size / base_limits::LONGEST_RULE, base_limits::MOST_RULES)
+    (size / base_limits::LONGEST_RULE).min(base_limits::MOST_RULES)
 }
 
 // The text goes behind those that are kept.
@@ -86,14 +86,14 @@ pub fn add_line(kept: Kept, line: &[u8], row: &mut [u8]) -> Adding
     let judged = text_read::judge_left(line);
     let verdict = judged.verdict;
     match verdict {
-        Verdict::Accepted => {
+        Ok(()) => {
             let more = keep_text(kept, line, row);
             Adding {
                 added: Added::Taken,
                 kept: more,
             }
         }
-        Verdict::Refused(reason, place) => Adding {
+        Err(Refusal { reason, place }) => Adding {
             added: Added::Refused(reason, place),
             kept,
         },
@@ -109,64 +109,59 @@ fn overlap(kept: Kept, row: &[u8], i: usize, j: usize) -> bool
 {
     let a = i * base_limits::LONGEST_RULE;
     let b = j * base_limits::LONGEST_RULE;
-    let c = a + at_most(kept.sizes[i], base_limits::LONGEST_RULE);
-    let d = b + at_most(kept.sizes[j], base_limits::LONGEST_RULE);
-    let said = overlap_list::shared::texts_overlap(&row[a..c], &row[b..d]);
-    said.overlap
+    let c = a + kept.sizes[i].min(base_limits::LONGEST_RULE);
+    let d = b + kept.sizes[j].min(base_limits::LONGEST_RULE);
+    overlap_list::shared::texts_overlap(&row[a..c], &row[b..d]).overlap
 }
 
 // A line of two positions, shown from 1.
-fn put_pair(i: usize, j: usize, out: &mut [u8], at: usize) -> usize
+fn put_pair(page: &mut Page, i: usize, j: usize)
     requires { (i < most_rules) × (j < most_rules) }
-    ensures { Placed (pair_text (i, j)) at out.old result out.new }
+    ensures { PlacedOn (pair_text (i, j)) page.old page.new }
 {
-    let a = text_write::pieces::put_number(i as u64 + 1, out, at);
-    let b = text_write::pieces::put_bytes(b" ", out, a);
-    let c = text_write::pieces::put_number(j as u64 + 1, out, b);
-    text_write::pieces::put_bytes(b"\n", out, c)
+    page.put_number(i as u64 + 1);
+    page.put_bytes(b" ");
+    page.put_number(j as u64 + 1);
+    page.put_bytes(b"\n");
 }
 
 // The lines of position i with those behind it.
-fn put_row(kept: Kept, row: &[u8], i: usize, out: &mut [u8], at: usize) -> usize
+fn put_row(page: &mut Page, kept: Kept, row: &[u8], i: usize)
     requires { (kept.n ≤ room_for (length row.now)) × (i < kept.n) }
-    ensures { Placed (row_text (book_in kept row.now) i) at out.old result out.new }
+    ensures { PlacedOn (row_text (book_in kept row.now) i) page.old page.new }
 {
-    let mut p = at;
-    let mut j = i + 1;
-    while j < kept.n {
+    for j in i + 1..kept.n {
         if overlap(kept, row, i, j) {
-            p = put_pair(i, j, out, p);
+            put_pair(page, i, j);
         }
-        j += 1;
     }
-    p
 }
 
 // The lines of all positions.
-fn put_rows(kept: Kept, row: &[u8], out: &mut [u8]) -> usize
+fn put_rows(page: &mut Page, kept: Kept, row: &[u8])
     requires { kept.n ≤ room_for (length row.now) }
-    ensures { Placed (book_text (book_in kept row.now)) 0 out.old result out.new }
+    ensures { PlacedOn (book_text (book_in kept row.now)) page.old page.new }
 {
-    let mut p: usize = 0;
-    let mut i: usize = 0;
-    while i < kept.n {
-        p = put_row(kept, row, i, out, p);
-        i += 1;
+    for i in 0..kept.n {
+        put_row(page, kept, row, i);
     }
-    p
 }
 
 // Document 02: "a line `I J` for each overlapping pair, lower number first, sorted by I, then by J, as numbers". More texts than the bytes
 // have room for count as an empty book.
-pub fn write_pairs(kept: Kept, row: &[u8], out: &mut [u8]) -> Written
+pub fn write_pairs(kept: Kept, row: &[u8], out: &mut [u8]) -> Result<usize, TooSmall>
     ensures { Writes (book_text (book_in kept row.now)) out.old result out.new }
 {
     if room_for(row.len()) < kept.n {
-        return Written::Bytes(0);
+        return Ok(0);
     }
     let mut text = [0u8; LONGEST_TEXT];
-    let n = put_rows(kept, row, &mut text);
-    text_write::pieces::give(&text[..n], out)
+    let mut page = Page {
+        bytes: &mut text,
+        at: 0,
+    };
+    put_rows(&mut page, kept, row);
+    page.give(out)
 }
 
 // ---- of a value
@@ -191,10 +186,8 @@ pub(crate) fn keep_book(book: Book, row: &mut [u8]) -> Kept
     if base_limits::MOST_RULES < book.n {
         return kept;
     }
-    let mut i: usize = 0;
-    while i < book.n {
+    for i in 0..book.n {
         kept = keep_rule(kept, book.rules[i], row);
-        i += 1;
     }
     kept
 }

@@ -6,7 +6,7 @@
 --     book_rules::write_pairs          `Writes (book_text (counted_book b)) old r new`
 --     book_rules::texts::write_pairs   `Writes (book_text (book_in kept row)) old r new`
 -- What `book` prints for its lines is said by `run_all`, `run_stops` and `cut_same` of print_book's proofs/Runs.
-use Rattle.std.specs.Prelude.{◌≡◌, refl, ◌↔◌, Bool, true, false, cond, ℕ, suc, ◌<◌, leb, length, take}
+use Rattle.std.specs.Prelude.{◌≡◌, refl, ◌↔◌, Bool, true, false, cond, ℕ, suc, ◌<◌, leb, length, take, Result}
 use Rattle.std.proofs.Common.{sym, ◌∙◌, ap, subst, inl, inr, arith, le-leb}
 use Rattle.std.proofs.Math.Logic.Iff
 use Rattle.std.proofs.Math.Option
@@ -24,11 +24,11 @@ use Rattle.text_grammar.specs.constants.Matching.{constants, Matches}
 use Rattle.overlap_spec.specs.Variables.{Rising}
 use Rattle.overlap_spec.specs.Overlaps.{lines_of}
 use Rattle.text_values.specs.declared.Rule.{Rule}
-use Rattle.text_values.specs.declared.Slip.{Slip}
+use Rattle.text_values.specs.Values.{Slip}
 use Rattle.text_accepted.specs.rules.Rules.{accepted_rule}
 use Rattle.text_accepted.specs.slips.Slips.{counted_slip}
 use Rattle.text_read.specs.Answers.{left_said}
-use Rattle.text_write.specs.declared.Written.{Written}
+use Rattle.text_write.specs.declared.TooSmall.{TooSmall}
 use Rattle.text_write.specs.Answers.{told, Writes}
 use Rattle.apply_spec.specs.Rules.{Readable}
 use Rattle.book_spec.specs.Picks.{IsOrder}
@@ -36,7 +36,7 @@ use Rattle.book_spec.specs.Books.{Book, Counted, IsBook, rule_at, pick_by, pick,
 use Rattle.book_spec.proofs.Books.{order_free, order_matters, order_iff, pick_matches, none_matches}
 use Rattle.book_spec.proofs.Pairs.{in_pairs, pairs_rising, apart_pairs, text_none}
 use Rattle.book_rules.specs.declared.Book.{Book as BookValue}
-use Rattle.book_rules.specs.declared.Picked.{Picked}
+use Rattle.book_rules.specs.Books.{Picked}
 use Rattle.book_rules.specs.declared.texts.Kept.{Kept}
 use Rattle.book_rules.specs.Books.{left_of, counted_book, shown, PicksRule}
 use Rattle.book_rules.specs.texts.Keeping.{texts_in, said_by, book_in}
@@ -67,11 +67,11 @@ abbrev pub SamePick : Book → List ℕ → List ℕ → SlipFields → Type 0
 SamePick B p q w = IsOrder (length B) p → IsOrder (length B) q → pick_by B p w ≡ pick_by B q w
 
 -- nothing was written, and nothing had to be
-abbrev pub Nothing : Written → Type 0
+abbrev pub Nothing : Result ℕ TooSmall → Type 0
 Nothing r = told r ≡ record { number = none; values = 0 ∷ [] }
 
 -- WHAT IS WRITTEN of the book B, and what it says of its order
-pub record Ordering (B : Book) (old : List ℕ) (r : Written) (new : List ℕ) : Type 0 where
+pub record Ordering (B : Book) (old : List ℕ) (r : Result ℕ TooSmall) (new : List ℕ) : Type 0 where
   -- "a line `I J` for each overlapping pair, lower number first, sorted by I, then by J, as numbers"
   pub pairs : List (ℕ × ℕ)
   pub written : Writes (concat_map pair_text pairs) old r new
@@ -119,7 +119,7 @@ module _ (B : Book) (book : IsBook B) where
       none_from : ((i : ℕ) → i < length B → MatchesAt B i w → ⊥) → k ≡ none
       none_from h = e ∙ ap (Option.map suc) ((none_matches B book w).1 h)
 
-  module _ {old : List ℕ} {r : Written} {new : List ℕ} (writes : Writes (book_text B) old r new) where
+  module _ {old : List ℕ} {r : Result ℕ TooSmall} {new : List ℕ} (writes : Writes (book_text B) old r new) where
     nothing_iff : Nothing r ↔ (book_text B ≡ [])
     nothing_iff = (to (book_text B) refl, from)
       where

@@ -27,7 +27,7 @@ use Rattle.apply_spec.specs.Carried.{CarriesOut}
 use Rattle.apply_spec.proofs.Carrying.{limited_result}
 use Rattle.apply_spec.proofs.Carried.{carries_out}
 use Rattle.text_values.specs.declared.Rule.{Rule}
-use Rattle.text_values.specs.declared.Slip.{Slip}
+use Rattle.text_values.specs.Values.{Slip}
 use Rattle.text_values.specs.Values.{view_side, view_rule, view_slip, blank_rule, blank_slip, encode_rule, encode_slip}
 use Rattle.text_accepted.specs.rules.Rules.{accepted_rule, counted_rule}
 use Rattle.text_accepted.proofs.rules.Rules.{accepted_rule_lem, rule_accepts, view_encode_rule, counted_yes}

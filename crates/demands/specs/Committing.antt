@@ -21,21 +21,19 @@ use Rattle.overlap_spec.specs.Overlaps.{lines_of, overlap_text}
 use Rattle.overlap_spec.proofs.Exact.{no_right}
 use Rattle.text_values.specs.declared.Rule.{Rule}
 use Rattle.text_accepted.specs.rules.Rules.{accepted_rule, counted_rule}
-use Rattle.text_refusals.specs.declared.verdicts.Verdict.TheVariants.{Accepted, Refused}
+use Rattle.text_refusals.specs.verdicts.Verdicts.{Accepted, Refused}
 use Rattle.text_refusals.specs.verdicts.Verdicts.{reason_from, verdict_of}
 use Rattle.text_read.specs.Answers.{left_said}
 use Rattle.text_write.specs.Answers.{after}
 use Rattle.overlap_counts.specs.declared.Counts.{Counts}
-use Rattle.overlap_counts.specs.declared.Committed.{Committed}
-use Rattle.overlap_counts.specs.Answers.{no_counts, told, commit_told}
+use Rattle.overlap_counts.specs.Answers.{Committed, no_counts, told, commit_told}
 use Rattle.overlap_counts.proofs.Answers.{told_fresh, told_stale, thirteen_iff, eight_iff, fits_iff, same_counts_lem}
 use Rattle.overlap_counts.proofs.Answers.{leaves_fresh, leaves_stale, leaves_small}
-use Rattle.overlap_list.specs.declared.Listed.{Listed}
-use Rattle.overlap_list.specs.declared.Listed.TheVariants.{Lines}
+use Rattle.std.specs.Prelude.{Ok}
 use Rattle.overlap_list.specs.declared.asking.TextsAsked.{TextsAsked}
 use Rattle.overlap_list.specs.declared.asking.TextsCommitted.{TextsCommitted}
 use Rattle.overlap_list.specs.Answers as listing
-use Rattle.overlap_list.specs.Answers.{Lists}
+use Rattle.overlap_list.specs.Answers.{Listed, Lists}
 use Rattle.overlap_list.specs.asking.Answers.{counts_of, Commits, TextsAsk, TextsCommit}
 use Rattle.overlap_list.proofs.Answers.{counts_are}
 use Rattle.demands.specs.Overlaps.{Demand3, rules_3, is_left, not_counted}
@@ -112,7 +110,7 @@ module _ (x y : OurFields) {asked : Counts} {old : List ℕ} {r : Committed} {ne
     rules_commit B a b room =
         let fits : length text ≤ length old = subst (λ (c : Counts). c.bytes ≤ length old) same room in
         let e = le-leb (length text) (length old) fits in
-        let listed : Lists x y old (Lines (length (lines_of x y)) (length text)) new = record { answer = rw e; bytes = fresh_bytes } in
+        let listed : Lists x y old (Ok (counts_of x y)) new = record { answer = rw e; bytes = fresh_bytes } in
         let shared = rules_3 listed B a b fits in
         subst (λ (c : Counts). CommittedSlips B c x y old r new) (sym same)
         (record { answer = fresh ∙ rw e; list = shared.list; behind = shared.behind })

@@ -18,7 +18,7 @@ use Rattle.text_grammar.specs.Limits.{Linear}
 use Rattle.text_grammar.specs.constants.Matching.{constants, matcher, tests, compared}
 use Rattle.text_grammar.proofs.constants.Matching.{match_iff}
 use Rattle.text_values.specs.declared.Rule.{Rule}
-use Rattle.text_values.specs.declared.Slip.{Slip}
+use Rattle.text_values.specs.Values.{Slip}
 use Rattle.text_values.specs.Values.{view_side, view_rule, view_slip}
 use Rattle.text_accepted.proofs.Accepted.{accepted_rule_lem}
 use Rattle.text_accepted.specs.rules.Rules.{accepted_rule, counted_rule}

@@ -28,7 +28,8 @@ use Rattle.book_spec.proofs.Books.{gives_iff, slip_overlaps, overlap_slip}
 use Rattle.overlap_spec.proofs.Exact.{no_right}
 use Rattle.overlap_list.proofs.Rules.{none_listed}
 use Rattle.yopobrush.specs.declared.Reading.{Reading}
-use Rattle.overlap_list.specs.declared.Listed.TheVariants.{Lines}
+use Rattle.std.specs.Prelude.{Ok}
+use Rattle.overlap_list.specs.asking.Answers.{counts_of}
 use Rattle.text_write.proofs.Answers.{after_small}
 use Rattle.text_read.specs.Answers.{left_said}
 use Rattle.overlap_list.specs.Answers.{Lists}
@@ -142,7 +143,7 @@ module _ {t u old : List ℕ} {r : Listing} {new : List ℕ} (is : LibraryLists 
   stays h = is.bytes ∙ after_small (overlap_text x₀ y₀) old h
 
   -- the list as the lister has it, where there is room
-  lists : size ≤ length old → Lists x₀ y₀ old (Lines (length (lines_of x₀ y₀)) size) new
+  lists : size ≤ length old → Lists x₀ y₀ old (Ok (counts_of x₀ y₀)) new
   lists room = record { answer = rw (le-leb size (length old) room); bytes = is.bytes }
 
   pub library_demand_3 : (B : Type 0) (x y : OurRule) → read_rule t ≡ accepted x → read_rule u ≡ accepted y

@@ -37,9 +37,8 @@ use Rattle.text_grammar.specs.constants.Written.{written_field}
 use Rattle.text_grammar.proofs.constants.Written.{written_matches, terms_matches}
 use Rattle.text_grammar.proofs.constants.Matching.{match_iff, match_is, match_yes, match_blank}
 use Rattle.text_grammar.proofs.Limited.{number_rule}
-use Rattle.text_values.specs.declared.RuleSide.{RuleSide}
+use Rattle.text_values.specs.Values.{RuleSide, Slip}
 use Rattle.text_values.specs.declared.Rule.{Rule}
-use Rattle.text_values.specs.declared.Slip.{Slip}
 use Rattle.text_values.specs.Values.{blank_term, encode_term, encode_side, encode_rule, encode_slip, view_side, view_slip}
 use Rattle.text_accepted.specs.Accepted.{accepted_left, counted_left}
 use Rattle.text_accepted.specs.rules.Rules.{accepted_rule, counted_rule, left_value}
@@ -47,7 +46,7 @@ use Rattle.text_accepted.proofs.rules.Rules.{left_yes, left_encode, left_accepte
 use Rattle.text_accepted.specs.slips.Slips.{accepted_slip, counted_slip}
 use Rattle.text_accepted.proofs.Accepted.{rule_is, accepted_rule_lem, encode_accepted_rule, view_encode_rule}
 use Rattle.text_accepted.proofs.slips.Slips.{slip_is, accepted_slip_lem, encode_accepted_slip, view_encode_slip}
-use Rattle.text_refusals.specs.declared.verdicts.Verdict.TheVariants.{Accepted, Refused}
+use Rattle.text_refusals.specs.verdicts.Verdicts.{Accepted, Refused}
 use Rattle.text_refusals.specs.verdicts.Verdicts.{reason_from}
 use Rattle.text_read.specs.declared.RuleRead.{RuleRead}
 use Rattle.text_read.specs.declared.SlipRead.{SlipRead}

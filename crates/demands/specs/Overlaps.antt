@@ -10,7 +10,7 @@
 use Rattle.std.specs.Prelude.{◌≡◌, refl, ◌↔◌, ◌⊎◌, ◌≢◌, Bool, true, false, cond, ℕ, ◌≤◌, ◌<◌, leb, length, take, drop}
 use Rattle.std.proofs.Common.{sym, ◌∙◌, ap, ap₂, subst, subst₂, inl, inr, arith, take_at, drop_at, le-leb}
 use Rattle.std.proofs.Math.Option.{Option, none, some}
-use mathlib.Core.List.{List, [], ◌∷◌, map, ◌++◌, Memᴰ}
+use mathlib.Core.List.{List, [], ◌∷◌, map, Memᴰ}
 use Rattle.std.proofs.Math.Decide.{dec_le}
 use Rattle.std.proofs.Math.ListN.{get_elem?}
 use Rattle.base_lists.specs.Seqs.{All}
@@ -36,13 +36,13 @@ use Rattle.text_values.specs.declared.Rule.{Rule}
 use Rattle.text_values.specs.Values.{encode_rule}
 use Rattle.text_accepted.specs.rules.Rules.{accepted_rule, counted_rule}
 use Rattle.text_accepted.proofs.rules.Rules.{accepted_rule_lem, counted_yes, counted_no, counted_encode, rule_value_iff}
-use Rattle.text_refusals.specs.declared.verdicts.Verdict.TheVariants.{Accepted, Refused}
+use Rattle.text_refusals.specs.verdicts.Verdicts.{Accepted, Refused}
 use Rattle.text_refusals.specs.verdicts.Verdicts.{reason_from, verdict_of}
 use Rattle.text_read.specs.Answers.{left_said}
-use Rattle.overlap_list.specs.declared.Listed.{Listed}
-use Rattle.overlap_list.specs.declared.Listed.TheVariants.{Lines, TooSmall}
+use Rattle.std.specs.Prelude.{Ok, Err}
+use Rattle.overlap_counts.specs.declared.Counts.{Counts}
 use Rattle.overlap_list.specs.declared.TextsListed.{TextsListed}
-use Rattle.overlap_list.specs.Answers.{told, Lists, TextsList}
+use Rattle.overlap_list.specs.Answers.{Listed, told, Lists, TextsList}
 use Rattle.overlap_list.proofs.Answers.{eight_iff, fits_iff, counts_are, written, kept}
 use Rattle.overlap_list.proofs.Lists.{lines_none}
 use Rattle.overlap_list.proofs.Rules.{none_listed}
@@ -148,26 +148,24 @@ module _ {x y : OurFields} {old : List ℕ} {r : Listed} {new : List ℕ} (lists
       besides (yes h) = inl ((fits_iff lists).1 h)
       besides (no h) = inr ((eight_iff lists).1 (omega arith))
 
+counts_once : (a b : Counts) → a.entries ∷ a.bytes ∷ [] ≡ b.entries ∷ b.bytes ∷ [] → a ≡ b
+counts_once a b v =
+    let p : a.entries ≡ b.entries = cc in
+    let q : a.bytes ≡ b.bytes = cc in
+    ap₂ (λ (n m : ℕ). record { entries = n; bytes = m }) p q
+
 -- the number and the values settle the answer
 pub told_once : (r s : Listed) → told r ≡ told s → r ≡ s
-told_once (Lines n b) (Lines m c) e =
-    let v : n ∷ b ∷ [] ≡ m ∷ c ∷ [] = ap (λ (a : Told). a.values) e in
-    let p : n ≡ m = cc in
-    let q : b ≡ c = cc in
-    ap₂ Lines p q
-told_once (Lines n b) (TooSmall m c) e =
+told_once (Ok a) (Ok b) e = ap Ok (counts_once a b (ap (λ (t : Told). t.values) e))
+told_once (Ok a) (Err b) e =
     let v : ◌≡◌ {A = Option ℕ} none (some 8) = ap (λ (a : Told). a.number) e in
     let z : ◌≡◌ {A = ℕ} 0 1 = cc in
     absurd (omega arith)
-told_once (TooSmall n b) (Lines m c) e =
+told_once (Err a) (Ok b) e =
     let v : ◌≡◌ {A = Option ℕ} (some 8) none = ap (λ (a : Told). a.number) e in
     let z : ◌≡◌ {A = ℕ} 0 1 = cc in
     absurd (omega arith)
-told_once (TooSmall n b) (TooSmall m c) e =
-    let v : n ∷ b ∷ [] ≡ m ∷ c ∷ [] = ap (λ (a : Told). a.values) e in
-    let p : n ≡ m = cc in
-    let q : b ≡ c = cc in
-    ap₂ TooSmall p q
+told_once (Err a) (Err b) e = ap (λ (c : Counts). Err (record { counts = c })) (counts_once a.counts b.counts (ap (λ (t : Told). t.values) e))
 
 -- ---- no entries: counts of 0, no refusal, the old bytes
 

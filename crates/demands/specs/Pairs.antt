@@ -1,7 +1,7 @@
 -- DEMAND 3 OF `pairs`: what it prints for one line is the list of demand 3 under its title, or one line in the list's place.
 -- Over the relation that the contract of `print_pairs::pair_answer` cites, for line number k, the line t and the lent bytes `old`:
 -- `Writes (pair_answer k t) old r new`.
-use Rattle.std.specs.Prelude.{◌≡◌, refl, Bool, true, cond, ℕ, suc, ◌≤◌, ◌<◌, leb, length, take, drop}
+use Rattle.std.specs.Prelude.{◌≡◌, refl, Bool, true, cond, ℕ, suc, ◌≤◌, ◌<◌, leb, length, take, drop, Result}
 use Rattle.std.proofs.Common.{◌∙◌, ap, ap₂, length-take, length-drop, take_at, drop_at, le-leb, le-ltb}
 use Rattle.std.proofs.Math.Path.{subst}
 use Rattle.std.proofs.Math.Option.{none, some}
@@ -17,7 +17,7 @@ use Rattle.text_grammar.specs.Read.{Reason, number, OutcomeOf, refused, accepted
 use Rattle.text_grammar.specs.rules.Read.{OurRule, read_rule}
 use Rattle.text_grammar.proofs.rules.Read.{rule_accepted}
 use Rattle.text_grammar.proofs.rules.Accepted.{rule_read_lem}
-use Rattle.text_write.specs.declared.Written.{Written}
+use Rattle.text_write.specs.declared.TooSmall.{TooSmall}
 use Rattle.text_write.specs.Answers.{told, Writes}
 use Rattle.text_write.proofs.Answers.{after_fits}
 use Rattle.text_write.specs.pieces.Refusals.{number_at}
@@ -28,12 +28,12 @@ use Rattle.print_pairs.proofs.Lengths.{line_long}
 use Rattle.demands.specs.Overlaps.{Demand3, of_rules}
 
 -- what is answered of a text that has room in the lent bytes: its size; they hold it in front of the old bytes
-pub record Prints (text old : List ℕ) (r : Written) (new : List ℕ) : Type 0 where
+pub record Prints (text old : List ℕ) (r : Result ℕ TooSmall) (new : List ℕ) : Type 0 where
   pub answer : told r ≡ record { number = none; values = length text ∷ [] }
   pub front : take (length text) new ≡ text
   pub behind : drop (length text) new ≡ drop (length text) old
 
-prints : {text old : List ℕ} {r : Written} {new : List ℕ} → Writes text old r new → length text ≤ length old
+prints : {text old : List ℕ} {r : Result ℕ TooSmall} {new : List ℕ} → Writes text old r new → length text ≤ length old
     → Prints text old r new
 prints {text} {old} {r} {new} is room =
     record {
@@ -74,12 +74,12 @@ both_said t x y e f = short_said t (both_short t x y e f) ∙ ap₂ read_text e 
 -- ---- the theorems, for line number k, the line t and lent bytes that have room for the answer
 
 -- the title, and under it the list of demand 3 of rules with the left sides x and y
-pub record PrintsShared (B : Type 0) (k : ℕ) (x y : OurFields) (old : List ℕ) (r : Written) (new : List ℕ) : Type 0 where
+pub record PrintsShared (B : Type 0) (k : ℕ) (x y : OurFields) (old : List ℕ) (r : Result ℕ TooSmall) (new : List ℕ) : Type 0 where
   pub list : List ℕ
   pub demanded : Demand3 B x y (length (lines_of x y)) list
   pub printed : Prints (title_text k ++ list) old r new
 
-module _ (k : ℕ) (t : List ℕ) {old : List ℕ} {r : Written} {new : List ℕ} (is : Writes (pair_answer k t) old r new)
+module _ (k : ℕ) (t : List ℕ) {old : List ℕ} {r : Result ℕ TooSmall} {new : List ℕ} (is : Writes (pair_answer k t) old r new)
     (room : length (pair_answer k t) ≤ length old) where
   said : {s : List ℕ} → line_text t ≡ s → Prints (title_text k ++ s) old r new
   unfolding pair_answer
@@ -119,7 +119,7 @@ module _ (k : ℕ) (t : List ℕ) {old : List ℕ} {r : Written} {new : List ℕ
 -- ---- what src/ ensures
 
 -- of `pair_answer`: of whatever line, demand 3 at the numbers as names, or the line in the list's place
-pub record PairSaid (k : ℕ) (t old : List ℕ) (r : Written) (new : List ℕ) : Type 0 where
+pub record PairSaid (k : ℕ) (t old : List ℕ) (r : Result ℕ TooSmall) (new : List ℕ) : Type 0 where
   pub shared : (x y : OurRule) → read_rule (left_part t) ≡ accepted x → read_rule (right_part t) ≡ accepted y
       → length (overlap_text x.0 y.0) ≤ most_list_bytes → PrintsShared ℕ k x.0 y.0 old r new
   pub too_long : (x y : OurRule) → read_rule (left_part t) ≡ accepted x → read_rule (right_part t) ≡ accepted y
@@ -132,7 +132,7 @@ pub record PairSaid (k : ℕ) (t old : List ℕ) (r : Written) (new : List ℕ) 
       → Prints (title_text k ++ (ascii "refused right " ++ number_at (number s) p ++ newline)) old r new
   pub line_long : pair_line < length t → Prints (title_text k ++ (ascii "line too long" ++ newline)) old r new
 
-pair_said : (k : ℕ) (t : List ℕ) {old : List ℕ} {r : Written} {new : List ℕ} → Writes (pair_answer k t) old r new
+pair_said : (k : ℕ) (t : List ℕ) {old : List ℕ} {r : Result ℕ TooSmall} {new : List ℕ} → Writes (pair_answer k t) old r new
     → length (pair_answer k t) ≤ length old → PairSaid k t old r new
 pair_said k t is room =
     record {
@@ -144,9 +144,9 @@ pair_said k t is room =
     }
 
 -- with the 65,562 bytes that no answer exceeds, all of it is said
-abbrev pub PairSharedSlips : ℕ → List ℕ → List ℕ → Written → List ℕ → Type 0
+abbrev pub PairSharedSlips : ℕ → List ℕ → List ℕ → Result ℕ TooSmall → List ℕ → Type 0
 PairSharedSlips k t old r new = longest_answer ≤ length old → PairSaid k t old r new
 
-pub pair_shared : (k : ℕ) (t : List ℕ) {old : List ℕ} {r : Written} {new : List ℕ} → Writes (pair_answer k t) old r new
+pub pair_shared : (k : ℕ) (t : List ℕ) {old : List ℕ} {r : Result ℕ TooSmall} {new : List ℕ} → Writes (pair_answer k t) old r new
     → length (pair_answer k t) ≤ longest_answer → PairSharedSlips k t old r new
 pair_shared k t is short enough = pair_said k t is (omega arith)

@@ -55,7 +55,7 @@ use Rattle.search_spec.proofs.Search.{equation_linear}
 use Rattle.search_spec.proofs.Shown as shown
 use Rattle.search_spec.proofs.Shown.{lines_answers, nine_peak}
 use Rattle.search_spec.proofs.Lines.{answer_lines_one, lines_writable, lines_named, lines_solve, lines_complete}
-use Rattle.text_values.specs.declared.Field.{Field}
+use Rattle.text_values.specs.Values.{Field}
 use Rattle.text_values.specs.Values.{view_field, view_side, one_field}
 use Rattle.text_accepted.specs.Accepted.{accepted_field, counted_field}
 use Rattle.text_accepted.proofs.Accepted.{accepted_field_lem}
@@ -63,8 +63,7 @@ use Rattle.text_write.specs.Answers.{after}
 use Rattle.text_write.proofs.Answers.{after_fits, after_small}
 use Rattle.search_problems.specs.declared.Problem.{Problem}
 use Rattle.search_steps.specs.Row.{blanks}
-use Rattle.search_row.specs.declared.Searched.{Searched}
-use Rattle.search_row.specs.Answers.{told, searched_of, found_in, Searches}
+use Rattle.search_row.specs.Answers.{Searched, told, searched_of, found_in, Searches}
 
 -- What demand 2 says of the bytes of `count` lines for the fields f and g. A solution's lists are of any length.
 pub record Demand2 (f g : List OurTerm) (count : ℕ) (bytes : List ℕ) : Type 0 where

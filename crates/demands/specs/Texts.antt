@@ -4,6 +4,7 @@
 --     text_plain::rules::write_rule   answers r and leaves `new` with `Writes (plain_both (counted_rule v)) old r new`
 --     text_plain::slips::write_slip   answers r and leaves `new` with `Writes (plain (counted_slip v)) old r new`
 use Rattle.std.specs.Prelude.{◌≡◌, refl, ◌≢◌, ◌↔◌, ◌⊎◌, Bool, true, false, cond, List, [], ◌∷◌, ◌++◌, ℕ, suc, ◌≤◌, ◌<◌, length, take, drop}
+use Rattle.std.specs.Prelude.{Result}
 use Rattle.std.proofs.Common.{sym, ◌∙◌, ap, subst, inl, inr, arith, take_at, drop_at, le-leb}
 use Rattle.std.proofs.Math.Logic.Iff
 use Rattle.std.proofs.Math.Option.{none, some, some-ne-none}
@@ -33,18 +34,17 @@ use Rattle.text_grammar.proofs.rules.Read.{rule_refused, never_seven, rule_accep
 use Rattle.text_grammar.proofs.rules.Sharp.{first_in_lem}
 use Rattle.text_grammar.proofs.rules.Before.{NoEqual, read_before, no_arrow}
 use Rattle.text_values.specs.declared.Rule.{Rule}
-use Rattle.text_values.specs.declared.Slip.{Slip}
+use Rattle.text_values.specs.Values.{Slip}
 use Rattle.text_values.specs.Values.{blank_rule, blank_slip, encode_rule, encode_slip}
 use Rattle.text_accepted.specs.rules.Rules.{accepted_rule, counted_rule}
 use Rattle.text_accepted.specs.slips.Slips.{accepted_slip, counted_slip}
-use Rattle.text_refusals.specs.declared.verdicts.Verdict.{Verdict}
-use Rattle.text_refusals.specs.declared.verdicts.Verdict.TheVariants.{Accepted}
+use Rattle.text_refusals.specs.verdicts.Verdicts.{Verdict, Accepted}
 use Rattle.text_refusals.specs.verdicts.Verdicts.{verdict_of, told, refusal, no_refusal}
 use Rattle.text_refusals.proofs.verdicts.Verdicts.{told_refused, told_number}
 use Rattle.text_read.specs.declared.RuleRead.{RuleRead}
 use Rattle.text_read.specs.declared.SlipRead.{SlipRead}
 use Rattle.text_read.specs.Answers.{rule_read, slip_read, ReadsRule, ReadsSlip}
-use Rattle.text_write.specs.declared.Written.{Written}
+use Rattle.text_write.specs.declared.TooSmall.{TooSmall}
 use Rattle.text_write.specs.Answers.{after, Writes}
 use Rattle.text_write.proofs.Answers.{after_fits, after_small}
 use Rattle.text_write.specs.Answers as writing
@@ -316,7 +316,7 @@ slip_unread_nothing = slips.unread_nothing
 -- ---- writing
 
 -- WHAT WRITING LEAVES of a text in the lent bytes: `old` before the call, `new` after it
-pub record Writing (text old : List ℕ) (r : Written) (new : List ℕ) : Type 0 where
+pub record Writing (text old : List ℕ) (r : Result ℕ TooSmall) (new : List ℕ) : Type 0 where
   -- "8: the lines need more bytes than the output buffer has": in that case only, and else nothing is refused
   pub eight : ((writing.told r).number ≡ some 8) ↔ (length old < length text)
   pub fits : ((writing.told r).number ≡ none) ↔ (length text ≤ length old)
@@ -327,7 +327,7 @@ pub record Writing (text old : List ℕ) (r : Written) (new : List ℕ) : Type 0
   pub front : length text ≤ length old → take (length text) new ≡ text
   pub behind : length text ≤ length old → drop (length text) new ≡ drop (length text) old
 
-pub text_writing : (text old : List ℕ) (r : Written) (new : List ℕ) → Writes text old r new → Writing text old r new
+pub text_writing : (text old : List ℕ) (r : Result ℕ TooSmall) (new : List ℕ) → Writes text old r new → Writing text old r new
 text_writing text old r new w =
     record {
       eight = rw w.answer (eight_iff (length text) (length old) (length text ∷ []));
@@ -342,7 +342,8 @@ text_writing text old r new w =
     left h = w.bytes ∙ after_fits text old h
 
 -- WRITING A VALUE, and reading what was written: whether some reading returns it, its plain text, and what reading that text returns
-pub record WritingOf (readable : Bool) (text : List ℕ) (Again : List ℕ → Type 0) (old : List ℕ) (r : Written) (new : List ℕ) : Type 0 where
+pub record WritingOf (readable : Bool) (text : List ℕ) (Again : List ℕ → Type 0)
+    (old : List ℕ) (r : Result ℕ TooSmall) (new : List ℕ) : Type 0 where
   pub written : Writing text old r new
   -- "Reading that text returns the rule": the bytes written are read again
   pub again : readable ≡ true → length text ≤ length old → Again (take (length text) new)
@@ -356,13 +357,13 @@ AgainRule v t = (a : RuleRead) → ReadsRule t a → (told a.verdict ≡ no_refu
 abbrev pub AgainSlip : Slip → List ℕ → Type 0
 AgainSlip v t = (a : SlipRead) → ReadsSlip t a → (told a.verdict ≡ no_refusal) × (a.slip ≡ v)
 
-abbrev pub RuleWriting : Rule → List ℕ → Written → List ℕ → Type 0
+abbrev pub RuleWriting : Rule → List ℕ → Result ℕ TooSmall → List ℕ → Type 0
 RuleWriting v old r new = WritingOf (accepted_rule v) (plain_both (counted_rule v)) (AgainRule v) old r new
 
-abbrev pub SlipWriting : Slip → List ℕ → Written → List ℕ → Type 0
+abbrev pub SlipWriting : Slip → List ℕ → Result ℕ TooSmall → List ℕ → Type 0
 SlipWriting v old r new = WritingOf (accepted_slip v) (plain (counted_slip v)) (AgainSlip v) old r new
 
-writing_of : (readable : Bool) (text : List ℕ) (Again : List ℕ → Type 0) (old : List ℕ) (r : Written) (new : List ℕ)
+writing_of : (readable : Bool) (text : List ℕ) (Again : List ℕ → Type 0) (old : List ℕ) (r : Result ℕ TooSmall) (new : List ℕ)
     → (readable ≡ true → Again text) → (readable ≡ false → text ≡ []) → Writes text old r new → WritingOf readable text Again old r new
 writing_of readable text Again old r new back nothing w =
     record {
@@ -377,7 +378,7 @@ writing_of readable text Again old r new back nothing w =
     x = text_writing text old r new w
 
 -- WRITING A RULE
-pub rule_writing : (v : Rule) (old : List ℕ) (r : Written) (new : List ℕ) → Writes (plain_both (counted_rule v)) old r new
+pub rule_writing : (v : Rule) (old : List ℕ) (r : Result ℕ TooSmall) (new : List ℕ) → Writes (plain_both (counted_rule v)) old r new
     → RuleWriting v old r new
 rule_writing v old r new =
     writing_of (accepted_rule v) (plain_both (counted_rule v)) (AgainRule v) old r new
@@ -387,7 +388,7 @@ rule_writing v old r new =
     (unread_nothing v)
 
 -- WRITING A SLIP
-pub slip_writing : (v : Slip) (old : List ℕ) (r : Written) (new : List ℕ) → Writes (plain (counted_slip v)) old r new
+pub slip_writing : (v : Slip) (old : List ℕ) (r : Result ℕ TooSmall) (new : List ℕ) → Writes (plain (counted_slip v)) old r new
     → SlipWriting v old r new
 slip_writing v old r new =
     writing_of (accepted_slip v) (plain (counted_slip v)) (AgainSlip v) old r new

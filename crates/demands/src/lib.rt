@@ -20,17 +20,17 @@ ghost use Rattle.book_rules.specs.texts.Keeping.{book_in};
 ghost use Rattle.yopobrush.specs.Version.{library_version};
 
 use apply_rules::Carried;
+use book_rules::Book;
 use book_rules::texts::Kept;
-use book_rules::{Book, Picked};
 use match_rules::{Comparison, Match};
-use overlap_counts::{Committed, Counts};
+use overlap_counts::{CommitRefusal, Counts, NoRoom};
+use overlap_list::TextsListed;
 use overlap_list::asking::{TextsAsked, TextsCommitted};
-use overlap_list::{Listed, TextsListed};
 use search_problems::Problem;
 use search_row::Searched;
 use text_read::{RuleRead, SlipRead};
 use text_values::{Field, Rule, Slip};
-use text_write::Written;
+use text_write::TooSmall;
 use yopobrush::{Asking, Listing, Overlapping};
 
 // ---- reading and writing
@@ -50,13 +50,13 @@ pub fn read_slip(text: &[u8]) -> SlipRead
 }
 
 // The plain text and the old bytes behind it, or refusal 8 and all old bytes; read again, the text gives the rule, or the slip.
-pub fn write_rule(r: Rule, out: &mut [u8]) -> Written
+pub fn write_rule(r: Rule, out: &mut [u8]) -> Result<usize, TooSmall>
     ensures { RuleWriting r out.old result out.new }
 {
     text_plain::rules::write_rule(r, out)
 }
 
-pub fn write_slip(s: Slip, out: &mut [u8]) -> Written
+pub fn write_slip(s: Slip, out: &mut [u8]) -> Result<usize, TooSmall>
     ensures { SlipWriting s out.old result out.new }
 {
     text_plain::slips::write_slip(s, out)
@@ -99,7 +99,7 @@ pub fn search(left: Field, right: Field, row: &mut [Problem], out: &mut [u8]) ->
 // ---- demand 3
 
 // The list of two rule values, which is that of their left sides.
-pub fn list_overlaps(left: Rule, right: Rule, out: &mut [u8]) -> Listed
+pub fn list_overlaps(left: Rule, right: Rule, out: &mut [u8]) -> Result<Counts, NoRoom>
     ensures { ListsSharedSlips left right out.old result out.new }
 {
     overlap_list::list_overlaps(left, right, out)
@@ -120,14 +120,19 @@ pub fn ask(left: Rule, right: Rule) -> Counts
 }
 
 // The list of two rule values that was asked for: 13 exactly where the counts are not its own, and else demand 3 in the room for it.
-pub fn commit(asked: Counts, left: Rule, right: Rule, out: &mut [u8]) -> Committed
+pub fn commit(
+    asked: Counts,
+    left: Rule,
+    right: Rule,
+    out: &mut [u8],
+) -> Result<Counts, CommitRefusal>
     ensures { RulesCommitting asked left right out.old result out.new }
 {
     overlap_list::asking::commit(asked, left, right, out)
 }
 
 // An ask and then a commit: what the one call answers and leaves.
-pub fn ask_then_commit(left: Rule, right: Rule, out: &mut [u8]) -> Committed
+pub fn ask_then_commit(left: Rule, right: Rule, out: &mut [u8]) -> Result<Counts, CommitRefusal>
     ensures { AskingFirst left right out.old result out.new }
 {
     let counts = overlap_list::asking::ask(left, right);
@@ -148,7 +153,7 @@ pub fn commit_texts(asked: Counts, left: &[u8], right: &[u8], out: &mut [u8]) ->
 }
 
 // What `pairs` prints for a line.
-pub fn pair_answer(k: u64, line: &[u8], out: &mut [u8]) -> Written
+pub fn pair_answer(k: u64, line: &[u8], out: &mut [u8]) -> Result<usize, TooSmall>
     ensures { PairSharedSlips k line.now out.old result out.new }
 {
     print_pairs::pair_answer(k, line, out)
@@ -191,21 +196,21 @@ pub fn library_commit(
 // ---- a maker's book
 
 // The first rule that matches the slip, or none exactly where none does.
-pub fn pick(book: Book, slip: Slip) -> Picked
+pub fn pick(book: Book, slip: Slip) -> Option<usize>
     ensures { Picking book slip result }
 {
     book_rules::pick(book, slip)
 }
 
 // The overlapping pairs: none exactly where every order picks the same.
-pub fn write_pairs(book: Book, out: &mut [u8]) -> Written
+pub fn write_pairs(book: Book, out: &mut [u8]) -> Result<usize, TooSmall>
     ensures { Ordering (counted_book book) out.old result out.new }
 {
     book_rules::write_pairs(book, out)
 }
 
 // The same of a book as texts.
-pub fn write_pairs_of_texts(kept: Kept, row: &[u8], out: &mut [u8]) -> Written
+pub fn write_pairs_of_texts(kept: Kept, row: &[u8], out: &mut [u8]) -> Result<usize, TooSmall>
     ensures { Ordering (book_in kept row.now) out.old result out.new }
 {
     book_rules::texts::write_pairs(kept, row, out)

@@ -12,7 +12,7 @@ use Rattle.base_bytes.specs.Bytes.{slice, index_of}
 use Rattle.line_io.specs.declared.Input.{Input}
 use Rattle.line_io.specs.declared.Line.{Line}
 use Rattle.line_io.specs.Placing.{placed}
-use Rattle.line_io.specs.Taking.{added_line, untaken, at_place, taken}
+use Rattle.line_io.specs.Taking.{added_line, untaken, at_place, whole_line, taken}
 use Rattle.line_io.specs.Putting.{used_with, buffer_with}
 
 -- ---- copying
@@ -92,10 +92,10 @@ module _ (i : Input) (chunk : List ℕ) (order : i.at ≤ i.end) (within : i.end
     added_is = added ∙ ap (λ (k : ℕ). added_line l k size) part_length
 
     pub taken_newline : e < i.end
-        → record { input = at_place i (e + 1); line = record { found = true; whole = true; kept = more.kept; cut = more.cut } } ≡ taken i l u size
+        → record { input = at_place i (e + 1); line = whole_line more } ≡ taken i l u size
     taken_newline h =
         rw (lt-ltb n (length u) (omega (arith, untaken_length)))
-        (ap₂ (λ (k : ℕ) (m : Line). record { input = at_place i (k + 1); line = record { found = true; whole = true; kept = m.kept; cut = m.cut } })
+        (ap₂ (λ (k : ℕ) (m : Line). record { input = at_place i (k + 1); line = whole_line m })
         found added_is)
 
     pub taken_rest : i.end ≤ e → record { input = at_place i i.end; line = more } ≡ taken i l u size

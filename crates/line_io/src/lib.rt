@@ -2,13 +2,12 @@
 // what is done with the bytes once they are read, and before they are written, is an equation.
 #![tactic(auto)]
 
-ghost use Rattle.std.specs.Prelude.{◌≡◌, ◌≤◌, ltb, length};
+ghost use Rattle.std.specs.Prelude.{◌≡◌, ◌≤◌, ltb, length, IfOk};
 ghost use Rattle.line_io.specs.Taking.{no_line, added_line, added_bytes, untaken, in_chunk, taken};
 ghost use Rattle.line_io.specs.Going.{nothing_yet, is_open};
 ghost use Rattle.line_io.specs.Putting.{Written, Puts};
 ghost use Rattle.line_io.specs.Lines.{first_line, Refills, Holds, Steps, Finds};
 
-use base_numbers::at_most;
 use std::io::{Read, Write};
 
 // How many bytes a program reads at once, and how many may wait before they are written.
@@ -76,7 +75,7 @@ fn flush<W: Write>(writer: &mut W, buffer: &[u8], o: Output) -> Output
             failed: true,
         };
     }
-    let used = at_most(o.used, buffer.len());
+    let used = o.used.min(buffer.len());
     let is_written = write_whole(writer, &buffer[..used]);
     Output {
         used: 0,
@@ -88,7 +87,7 @@ fn flush<W: Write>(writer: &mut W, buffer: &[u8], o: Output) -> Output
 pub fn put<W: Write>(writer: &mut W, text: &[u8], buffer: &mut [u8], o: Output) -> Output
     ensures { Puts o result text.now buffer.old buffer.new }
 {
-    let used = at_most(o.used, buffer.len());
+    let used = o.used.min(buffer.len());
     let n = text.len();
     if n <= buffer.len() - used {
         let both = used + n;
@@ -136,10 +135,8 @@ fn in_chunk(input: Input, chunk: &[u8]) -> Input
     ensures { result ≡ in_chunk input (length chunk.now) }
 {
     Input {
-        at: input.at,
-        end: at_most(input.end, chunk.len()),
-        ended: input.ended,
-        failed: input.failed,
+        end: input.end.min(chunk.len()),
+        ..input
     }
 }
 
@@ -214,27 +211,15 @@ fn take_part(input: Input, chunk: &[u8], line: &mut [u8], l: Line) -> Taken
     let more = add_part(&chunk[at..e], line, l);
     if e < end {
         return Taken {
-            input: Input {
-                at: e + 1,
-                end: end,
-                ended: input.ended,
-                failed: input.failed,
-            },
+            input: Input { at: e + 1, ..input },
             line: Line {
-                found: true,
                 whole: true,
-                kept: more.kept,
-                cut: more.cut,
+                ..more
             },
         };
     }
     Taken {
-        input: Input {
-            at: end,
-            end: end,
-            ended: input.ended,
-            failed: input.failed,
-        },
+        input: Input { at: end, ..input },
         line: more,
     }
 }
@@ -257,23 +242,16 @@ fn step<R: Read, W: Write>(
     let input = refill(reader, before, chunk);
     if input.at < input.end {
         let t = take_part(input, chunk, line, l);
-        let rest = t.input;
-        let more = t.line;
         return State {
-            input: rest,
+            input: t.input,
             output: output,
-            line: more,
+            line: t.line,
         };
     }
     State {
         input: input,
         output: output,
-        line: Line {
-            found: l.found,
-            whole: true,
-            kept: l.kept,
-            cut: l.cut,
-        },
+        line: Line { whole: true, ..l },
     }
 }
 
@@ -308,7 +286,8 @@ pub fn start() -> State
 }
 
 // The next line: its first bytes, as many as the line buffer holds; the rest of it is passed over.
-// A proved loop has to end, and nothing says that a line does; so the turns are counted down, from a number that no run uses up.
+// The lent bytes stay parameters of their own, and in no struct: the clause names the old and the new bytes of each.
+// A proved loop has to end, and nothing says that a line does; so the turns are counted to a number that no run reaches.
 pub fn next_line<R: Read, W: Write>(
     reader: &mut R,
     writer: &mut W,
@@ -319,17 +298,15 @@ pub fn next_line<R: Read, W: Write>(
 ) -> State
     ensures { Finds s.input s.output result chunk.old chunk.new line.old line.new }
 {
-    let input = s.input;
-    let output = s.output;
-    let mut turns = u64::MAX;
     let mut t = State {
-        input: input,
-        output: output,
         line: no_line(),
+        ..s
     };
-    while turns > 0 && !t.line.whole {
+    for _turn in 0..u64::MAX {
+        if t.line.whole {
+            break;
+        }
         t = step(reader, writer, t, chunk, line, buffer);
-        turns -= 1;
     }
     t
 }
@@ -338,13 +315,7 @@ pub fn next_line<R: Read, W: Write>(
 pub fn is_open(s: State) -> bool
     ensures { result ≡ is_open s }
 {
-    if s.output.failed {
-        return false;
-    }
-    if s.line.found {
-        return true;
-    }
-    !s.line.whole
+    !s.output.failed && (s.line.found || !s.line.whole)
 }
 
 // Writes what still waits, and says to `errors` what failed.
@@ -356,4 +327,36 @@ pub fn finish<W: Write, E: Write>(writer: &mut W, errors: &mut E, s: State, buff
     if output.failed {
         write_whole(errors, b"standard output cannot be written\n");
     }
+}
+
+// ---- a program that answers each line
+
+// Takes the lines one by one, and puts the answer to each behind those that wait: `answer` is given the line's number, its bytes and the
+// text's, and says how many of these the answer has. What it refuses has no answer.
+pub fn answer_lines<
+    R: Read,
+    W: Write,
+    X: Write,
+    E: Copy,
+    F: Fn(u64, &[u8], &mut [u8]) -> Result<usize, E>,
+>(reader: &mut R, writer: &mut W, errors: &mut X, answer: F, line: &mut [u8], text: &mut [u8])
+    requires callable { F.IsAlwaysCallable answer }
+    requires within { (k l t r t' : _) → F.post answer k l t r t' → IfOk r (λ n. n ≤ length t'.now) }
+{
+    let mut chunk = [0u8; BUFFER];
+    let mut buffer = [0u8; BUFFER];
+    let mut s = start();
+    // A proved loop has to end, so the lines are counted to a number that no run reaches.
+    for k in 1..=u64::MAX {
+        if !is_open(s) {
+            break;
+        }
+        s = next_line(reader, writer, s, &mut chunk, line, &buffer);
+        if s.line.found {
+            if let Ok(n) = answer(k, &line[..s.line.kept], text) {
+                s.output = put(writer, &text[..n], &mut buffer, s.output);
+            }
+        }
+    }
+    finish(writer, errors, s, &buffer);
 }

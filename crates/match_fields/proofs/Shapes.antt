@@ -1,12 +1,14 @@
 -- A field's shape counts its atoms and its list variables: the length test is the matcher's.
-use mathlib.Core.Path.{◌≡◌, ◌∙◌, ap, ap₂}
+use mathlib.Core.Path.{◌≡◌, refl, ◌∙◌, ap, ap₂}
 use mathlib.Core.Bool.{Bool, cond}
-use mathlib.Core.List.{List, [], ◌∷◌, map, foldl}
-use Prim.Native.Nat.{ℕ, suc, ◌+◌, ◌-◌}
+use mathlib.Core.List.{List, [], ◌∷◌, map}
+use Prim.Native.Nat.{ℕ, ◌+◌, ◌-◌}
 use native.Mathlib.Omega.{arith}
 use borrow.Author.Tests.{ne_eqb}
 use lib.Dec.{eqb, leb}
-use lib.ListN.{length}
+use lib.ListN.{length, length-map}
+use Rattle.std.specs.List.{count_by}
+use Rattle.std.proofs.lemmas.List.Sums.{sum_by-cons}
 use Rattle.math_types.specs.Order.{basic, list}
 use Rattle.math_types.specs.Values.{kind_of_from}
 use Rattle.math_terms.specs.Terms.{con, var}
@@ -15,27 +17,41 @@ use Rattle.math_terms.specs.Linear.{lists}
 use Rattle.text_grammar.specs.Terms.{OurTerm}
 use Rattle.text_values.specs.Values.{encode_term}
 use Rattle.match_fields.specs.declared.Shape.{Shape}
-use Rattle.match_fields.specs.Fields.{shape_with, no_shape, shape_of, fits_length}
+use Rattle.match_fields.specs.Fields.{is_list_term, shape_of, fits_length}
 
-shape_from_lem : (f : List OurTerm) (x : Shape) → foldl shape_with x (map encode_term f) ≡ record { atoms = x.atoms + atoms f; lists = x.lists + length (lists f) }
-shape_from_lem [] x = ap₂ (λ (a b : ℕ). record { atoms = a; lists = b }) (omega arith) (omega arith)
-shape_from_lem (con c ∷ f) x =
-    shape_from_lem f (record { atoms = x.atoms + 1; lists = x.lists }) ∙ ap (λ (a : ℕ). record { atoms = a; lists = x.lists + length (lists f) }) (omega arith)
-shape_from_lem (var (basic k) n ∷ f) x =
-    rw (kind_of_from (basic k), foldl)
-    (shape_from_lem f (record { atoms = x.atoms + 1; lists = x.lists }) ∙ ap (λ (a : ℕ). record { atoms = a; lists = x.lists + length (lists f) }) (omega arith))
-shape_from_lem (var list n ∷ f) x =
-    shape_from_lem f (record { atoms = x.atoms; lists = x.lists + 1 }) ∙ ap (λ (a : ℕ). record { atoms = x.atoms + atoms f; lists = a }) (omega arith)
+count_cons : (t : OurTerm) (f : List OurTerm)
+    → count_by is_list_term (map encode_term (t ∷ f)) ≡ cond (is_list_term (encode_term t)) 1 0 + count_by is_list_term (map encode_term f)
+count_cons t f = sum_by-cons (λ x. cond (is_list_term x) 1 0) (encode_term t) (map encode_term f)
+
+list_count : (f : List OurTerm) → count_by is_list_term (map encode_term f) ≡ length (lists f)
+list_count [] = refl
+list_count (con c ∷ f) = count_cons (con c) f ∙ omega (arith, list_count f)
+list_count (var (basic k) n ∷ f) =
+    count_cons (var (basic k) n) f
+    ∙ rw (kind_of_from (basic k)) (let z : 0 + count_by is_list_term (map encode_term f) ≡ length (lists f) = omega (arith, list_count f) in z)
+list_count (var list n ∷ f) = count_cons (var list n) f ∙ omega (arith, list_count f)
+
+-- the terms of a field are its atoms and its list variables
+pub atoms_lists : (f : List OurTerm) → length f ≡ atoms f + length (lists f)
+atoms_lists [] = refl
+atoms_lists (con c ∷ f) = omega (arith, atoms_lists f)
+atoms_lists (var (basic k) n ∷ f) = omega (arith, atoms_lists f)
+atoms_lists (var list n ∷ f) = omega (arith, atoms_lists f)
+
+shape_is : (f : List OurTerm) → shape_of (map encode_term f) ≡ record { atoms = atoms f; lists = length (lists f) }
+shape_is f =
+    let n = list_count f in
+    let m = length-map f encode_term in
+    ap₂ (λ (a b : ℕ). record { atoms = a; lists = b })
+    (let z : length (map encode_term f) - count_by is_list_term (map encode_term f) ≡ atoms f = omega (arith, atoms_lists f) in z) n
 
 pub fits_room : (f : List OurTerm) (n : ℕ) → fits_length (shape_of (map encode_term f)) n ≡ has_room f n
-fits_room f n = ap (λ (x : Shape). fits_length x n) (shape_from_lem f no_shape) ∙ go (lists f)
+fits_room f n = ap (λ (x : Shape). fits_length x n) (shape_is f) ∙ go (lists f)
   where
-    go : (l : List ℕ) → fits_length (record { atoms = 0 + atoms f; lists = 0 + length l }) n ≡ room l (atoms f) n
-    go [] = ap (λ (a : ℕ). eqb a n) (let z : 0 + atoms f ≡ atoms f = omega arith in z)
-    go (a ∷ l) =
-        ap₂ (λ (b : Bool) (m : ℕ). cond b (eqb m n) (leb m n)) (ne_eqb (0 + suc (length l)) 0 (λ e. omega arith))
-        (let z : 0 + atoms f ≡ atoms f = omega arith in z)
+    go : (l : List ℕ) → fits_length (record { atoms = atoms f; lists = length l }) n ≡ room l (atoms f) n
+    go [] = refl
+    go (a ∷ l) = ap (λ (b : Bool). cond b (eqb (atoms f) n) (leb (atoms f) n)) (ne_eqb (length (a ∷ l)) 0 (λ e. omega arith))
 
 -- how many items a field leaves to its list variable
 pub gap_is : (f : List OurTerm) (n : ℕ) → n - (shape_of (map encode_term f)).atoms ≡ n - atoms f
-gap_is f n = ap (λ (a : ℕ). n - a) (ap (λ (x : Shape). x.atoms) (shape_from_lem f no_shape) ∙ (let z : 0 + atoms f ≡ atoms f = omega arith in z))
+gap_is f n = ap (λ (x : Shape). n - x.atoms) (shape_is f)

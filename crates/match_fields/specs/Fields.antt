@@ -1,16 +1,14 @@
 -- The test of a field on values, as code makes it. `field_agrees` of matching's proofs/Agree says that it is the matcher's.
-use Rattle.std.specs.Prelude.{Bool, true, false, cond, ℕ, ◌+◌, ◌-◌, eqb, leb, length, get_or, take}
-use mathlib.Core.List.{List, [], ◌∷◌, foldl}
+use Rattle.std.specs.Prelude.{Bool, false, cond, ℕ, ◌+◌, ◌-◌, eqb, leb, length, get_or, take, count_by, Option, Some, None, option_and_then}
+use mathlib.Core.List.{List, [], ◌∷◌}
 use Rattle.math_types.specs.Types.{is_list}
 use Rattle.math_types.specs.Values.{kind_of}
 use Rattle.text_values.specs.declared.Form.{Form}
 use Rattle.text_values.specs.declared.Form.TheVariants.{Con, Var}
 use Rattle.text_values.specs.declared.Term.{Term}
-use Rattle.text_values.specs.declared.Field.{Field}
-use Rattle.text_values.specs.declared.SlipField.{SlipField}
+use Rattle.text_values.specs.Values.{Field, SlipField}
 use Rattle.text_values.specs.Values.{blank_term}
 use Rattle.match_fields.specs.declared.bindings.Values.{Values}
-use Rattle.match_fields.specs.declared.items.Tested.{Tested}
 use Rattle.match_fields.specs.items.Tests.{tested}
 use Rattle.match_fields.specs.declared.Shape.{Shape}
 use Rattle.match_fields.specs.declared.Progress.{Progress}
@@ -27,23 +25,17 @@ is_list_term t = is_list_form t.form
 abbrev pub width_of : ℕ → Term → ℕ
 width_of gap t = cond (is_list_term t) gap 1
 
-abbrev pub pick : Bool → Tested → Tested → Tested
-pick true t u = t
-pick false t u = u
-
-abbrev pub go_on : Tested → (Values → Tested) → Tested
-go_on r k = pick r.ok (k r.values) r
-
-abbrev pub walked : ℕ → List Term → List Term → ℕ → Values → Tested
-walked gap items [] p v = record { ok = true; values = v }
-walked gap items (t ∷ f) p v = go_on (tested t (get_or items p blank_term) v) (walked gap items f (p + width_of gap t))
+abbrev pub walked : ℕ → List Term → List Term → ℕ → Values → Option Values
+walked gap items [] p v = Some v
+walked gap items (t ∷ f) p v = option_and_then (walked gap items f (p + width_of gap t)) (tested t (get_or items p blank_term) v)
 
 -- how many of the items are compared on the way: one for each atom reached, the failing one included
 abbrev pub atoms_in : Term → ℕ
 atoms_in t = cond (is_list_term t) 0 1
 
-abbrev pub count_on : Tested → (Values → ℕ) → ℕ
-count_on r k = cond r.ok (k r.values) 0
+abbrev pub count_on : Option Values → (Values → ℕ) → ℕ
+count_on None k = 0
+count_on (Some v) k = k v
 
 abbrev pub walk_compared : ℕ → List Term → List Term → ℕ → Values → ℕ
 walk_compared gap items [] p v = 0
@@ -56,22 +48,14 @@ walk_progress gap items f v = record { tested = walked gap items f 0 v; compared
 
 -- ---- a field: first its length
 
-abbrev pub shape_with : Shape → Term → Shape
-shape_with s t = cond (is_list_term t) (record { atoms = s.atoms; lists = s.lists + 1 }) (record { atoms = s.atoms + 1; lists = s.lists })
-
-abbrev pub no_shape : Shape
-no_shape = record { atoms = 0; lists = 0 }
-
 abbrev pub shape_of : List Term → Shape
-shape_of f = foldl shape_with no_shape f
+shape_of f = record { atoms = length f - count_by is_list_term f; lists = count_by is_list_term f }
 
 abbrev pub fits_length : Shape → ℕ → Bool
 fits_length s n = cond (eqb s.lists 0) (eqb s.atoms n) (leb s.atoms n)
 
-abbrev pub field_tested : List Term → List Term → Values → Tested
-field_tested f items v =
-    cond (fits_length (shape_of f) (length items)) (walked (length items - (shape_of f).atoms) items f 0 v)
-    (record { ok = false; values = v })
+abbrev pub field_tested : List Term → List Term → Values → Option Values
+field_tested f items v = cond (fits_length (shape_of f) (length items)) (walked (length items - (shape_of f).atoms) items f 0 v) None
 
 -- a field whose length fails compares nothing
 abbrev pub field_compared : List Term → List Term → Values → ℕ

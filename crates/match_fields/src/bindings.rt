@@ -7,6 +7,8 @@ use math_types::Kind;
 use text_values::Term;
 
 // The values of the atom variables: as many places for each type below list as there are numbers, blank where a variable has no value.
+// Stays two arrays: document 01's blank filling has every number zero, so a place without a value has the blank term, which None has not
+// (`blank_atoms` of demands/specs/Matching says both).
 #[derive(Clone, Copy)]
 pub struct Values {
     pub known: [bool; base_limits::ATOM_PLACES],
@@ -39,23 +41,22 @@ pub fn value_of(v: Values, k: Kind, n: u8) -> Term
     ensures { result ≡ atom_of v (kind_of k) n }
 {
     let i = slot(k, n);
-    if base_limits::ATOM_PLACES <= i {
-        return text_values::blank_term();
+    match v.terms.get(i) {
+        Some(t) => *t,
+        None => text_values::blank_term(),
     }
-    v.terms[i]
 }
 
 // A list variable's run, blank where it has none.
 pub fn run_of(x: Filling, n: u8) -> Run
     ensures { result ≡ run_of x n }
 {
-    let place = n as usize;
-    if base_limits::NUMBERS_OF_SIDE <= place {
-        return Run {
+    match x.runs.get(usize::from(n)) {
+        Some(r) => *r,
+        None => Run {
             field: 0,
             start: 0,
             count: 0,
-        };
+        },
     }
-    x.runs[place]
 }

@@ -4,21 +4,19 @@
 ghost use Rattle.std.specs.Prelude.{◌≡◌, ◌≤◌, get_or};
 ghost use Rattle.base_limits.specs.Limits.{most_terms, most_items};
 ghost use Rattle.text_values.specs.Values.{blank_term};
-ghost use Rattle.match_fields.specs.Fields.{is_list_term, walk_progress, shape_with, shape_of, fits_length, field_progress, terms_of};
+ghost use Rattle.match_fields.specs.Fields.{is_list_term, walk_progress, shape_of, fits_length, field_progress, terms_of};
 ghost use Rattle.match_fields.specs.Fields.{items_of};
 
 pub mod bindings; // what variables are bound to
 pub mod items; // one term against one item
 
 use crate::bindings::Values;
-use crate::items::Tested;
-use base_numbers::at_most;
 use text_values::{Field, Form, SlipField, Term};
 
-// How far the tests got: the values so far or that a test has failed, and how many of the slip's items were compared.
+// How far the tests got: the values so far, none where a test has failed, and how many of the slip's items were compared.
 #[derive(Clone, Copy)]
 pub struct Progress {
-    pub tested: Tested,
+    pub tested: Option<Values>,
     pub compared: usize,
 }
 
@@ -33,54 +31,31 @@ struct Shape {
 pub fn is_list_term(t: Term) -> bool
     ensures { result ≡ is_list_term t }
 {
-    let form = t.form;
-    match form {
+    match t.form {
         Form::Con(_) => false,
         Form::Var(k, _) => math_types::is_list(k),
-    }
-}
-
-// The shape with one term more.
-fn with_term(s: Shape, t: Term) -> Shape
-    requires { (s.atoms ≤ most_terms) × (s.lists ≤ most_terms) }
-    ensures { result ≡ shape_with s t }
-{
-    if is_list_term(t) {
-        return Shape {
-            atoms: s.atoms,
-            lists: s.lists + 1,
-        };
-    }
-    Shape {
-        atoms: s.atoms + 1,
-        lists: s.lists,
     }
 }
 
 fn shape_of(f: Field) -> Shape
     ensures { result ≡ shape_of (terms_of f) }
 {
-    let n = at_most(f.n, base_limits::MOST_TERMS);
-    let mut s = Shape { atoms: 0, lists: 0 };
-    let mut i: usize = 0;
-    while i < n {
-        s = with_term(s, f.terms[i]);
-        i += 1;
+    let terms = &f.terms[..f.n.min(base_limits::MOST_TERMS)];
+    let lists = terms.iter().filter(|t| is_list_term(**t)).count();
+    Shape {
+        atoms: terms.len() - lists,
+        lists,
     }
-    s
 }
 
 // The item at p, or the blank one behind the last.
 fn item_at(w: SlipField, p: usize) -> Term
     ensures { result ≡ get_or (items_of w) p blank_term }
 {
-    if w.n <= p {
-        return text_values::blank_term();
+    match w.terms[..w.n.min(base_limits::MOST_ITEMS)].get(p) {
+        Some(t) => *t,
+        None => text_values::blank_term(),
     }
-    if base_limits::MOST_ITEMS <= p {
-        return text_values::blank_term();
-    }
-    w.terms[p]
 }
 
 // The terms of a field from the left, up to the first that fails; a list variable takes gap items and compares none.
@@ -88,40 +63,27 @@ fn walk_field(f: Field, w: SlipField, gap: usize, v: Values) -> Progress
     requires { gap ≤ most_items }
     ensures { (result ≡ walk_progress gap (items_of w) (terms_of f) v) × (result.compared ≤ most_terms) }
 {
-    let n = at_most(f.n, base_limits::MOST_TERMS);
     let mut now = v;
     let mut compared: usize = 0;
     let mut p: usize = 0;
-    let mut i: usize = 0;
-    while i < n {
-        let t = f.terms[i];
-        if is_list_term(t) {
+    for t in &f.terms[..f.n.min(base_limits::MOST_TERMS)] {
+        if is_list_term(*t) {
             p += gap;
         } else {
             let item = item_at(w, p);
             compared += 1;
-            if !crate::items::passes(t, item, now) {
-                let failed = Tested {
-                    ok: false,
-                    values: now,
-                };
+            if !crate::items::passes(*t, item, &mut now) {
                 return Progress {
-                    tested: failed,
-                    compared: compared,
+                    tested: None,
+                    compared,
                 };
             }
-            now = crate::items::bound_by(t, item, now);
             p += 1;
         }
-        i += 1;
     }
-    let passed = Tested {
-        ok: true,
-        values: now,
-    };
     Progress {
-        tested: passed,
-        compared: compared,
+        tested: Some(now),
+        compared,
     }
 }
 
@@ -140,17 +102,12 @@ pub fn match_field(f: Field, w: SlipField, v: Values) -> Progress
     ensures { (result ≡ field_progress (terms_of f) (items_of w) v) × (result.compared ≤ most_terms) }
 {
     let s = shape_of(f);
-    let atoms = s.atoms;
-    let n = at_most(w.n, base_limits::MOST_ITEMS);
+    let n = w.n.min(base_limits::MOST_ITEMS);
     if !fits_length(s, n) {
-        let failed = Tested {
-            ok: false,
-            values: v,
-        };
         return Progress {
-            tested: failed,
+            tested: None,
             compared: 0,
         };
     }
-    walk_field(f, w, n - atoms, v)
+    walk_field(f, w, n - s.atoms, v)
 }

@@ -3,7 +3,7 @@ use mathlib.Core.Path.{◌≡◌, refl, sym, ◌∙◌, ap, ap₂}
 use mathlib.Core.Logic.{◌≢◌}
 use mathlib.Core.Bool.{Bool, true, false, cond}
 use mathlib.Core.List.{List, [], ◌∷◌, map}
-use Prim.Native.Nat.{ℕ, ◌+◌, ◌-◌, ◌≤◌}
+use Prim.Native.Nat.{ℕ, ◌+◌, ◌≤◌}
 use native.Mathlib.Omega.{arith}
 use borrow.Author.Tests.{eq-eqb, ne_eqb}
 use lib.Dec.{eqb}
@@ -16,10 +16,7 @@ use Rattle.text_grammar.specs.Limits.{TermIn, IsCon}
 use Rattle.text_grammar.specs.constants.Matching.{constants, matcher, compared}
 use Rattle.text_grammar.proofs.constants.Linear.{left_linear}
 use Rattle.text_grammar.proofs.constants.Matching.{constants_are}
-use Rattle.text_values.specs.declared.Field.{Field}
-use Rattle.text_values.specs.declared.SlipField.{SlipField}
-use Rattle.text_values.specs.declared.RuleSide.{RuleSide}
-use Rattle.text_values.specs.declared.Slip.{Slip}
+use Rattle.text_values.specs.Values.{Field, RuleSide, SlipField, Slip}
 use Rattle.text_values.specs.Values.{blank_field, blank_slip_field, encode_field, encode_slip_field, encode_side, encode_slip, view_side, view_slip}
 use Rattle.text_values.proofs.Pads.{unpadded}
 use Rattle.text_accepted.specs.Accepted.{accepted_left, counted_left}
@@ -144,3 +141,5 @@ module _ (rule : RuleSide) (slip : Slip) (a : accepted_left rule ≡ true) (b : 
       sym (ap (λ (c : Bool). cond c (comparison_by rule_values slip_values) no_comparison)
       (eq-eqb (length rule_values) (length slip_values) (long_rule ∙ sym e ∙ sym long_slip)))
       ∙ compares
+
+pub ruleset compared_sides = (nothing_rule, nothing_slip, at_most_four, says_counts, says)

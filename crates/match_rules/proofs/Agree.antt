@@ -1,8 +1,9 @@
 -- The tests on values are the matcher's tests, where the values are those of terms and constants.
 use mathlib.Core.Path.{◌≡◌, refl, sym, ◌∙◌, ap, ap₂, subst}
 use mathlib.Core.Logic.{◌≢◌, ite}
-use mathlib.Core.Bool.{Bool, true, false, cond}
+use mathlib.Core.Bool.{Bool, true, false, cond, false≢true}
 use mathlib.Core.Option.{Option, none, some}
+use Rattle.std.specs.Prelude.{Option as OptionValue, Some, None, option_and_then}
 use mathlib.Core.List.{List, [], ◌∷◌, map, map-map}
 use Prim.Native.Nat.{ℕ, ◌+◌, ◌-◌, ◌<◌, ◌≤◌}
 use native.Mathlib.Omega.{arith}
@@ -24,7 +25,7 @@ use Rattle.math_terms.proofs.Seqs.{item_at_lem}
 use Rattle.text_grammar.specs.Terms.{OurTerm, OurFields, SlipFields}
 use Rattle.text_grammar.specs.constants.Constants.{Con, con_eq, con_kind, some_of, consts}
 use Rattle.text_grammar.specs.Limits.{TermIn}
-use Rattle.text_values.specs.declared.SlipField.{SlipField}
+use Rattle.text_values.specs.Values.{SlipField}
 use Rattle.text_values.specs.constants.Constants.{encode_constant}
 use Rattle.text_values.specs.Values.{blank_term, encode_term, encode_field, encode_slip_field}
 use Rattle.text_values.specs.declared.Term.{Term as TermValue}
@@ -32,9 +33,8 @@ use Rattle.text_values.proofs.Pads.{unpadded}
 use Rattle.text_values.proofs.constants.Constants.{view_encode_constant, same_constant_is, constant_kind_lem}
 use Rattle.match_fields.specs.declared.bindings.Values.{Values}
 use Rattle.match_fields.specs.bindings.Values.{slot}
-use Rattle.match_fields.specs.declared.items.Tested.{Tested}
 use Rattle.match_fields.specs.items.Tests.{same_term, item_kind, bound, met, test_var, tested}
-use Rattle.match_fields.specs.Fields.{pick, go_on, width_of, walked, shape_of, field_tested, terms_of, items_of}
+use Rattle.match_fields.specs.Fields.{width_of, walked, shape_of, field_tested, terms_of, items_of}
 use Rattle.match_fields.proofs.Shapes.{fits_room, gap_is}
 use Rattle.match_rules.specs.Tests.{no_values, fields_tested}
 
@@ -54,9 +54,11 @@ pub record Holds (v : Values) (φ : Filling Con Kind ℕ) : Type 0 where
   pub held : (k : Basic) (n : ℕ) → n ≤ largest_number
       → Held (φ (basic k) n) (get_or v.known (slot (basic k) n) false) (get_or v.terms (slot (basic k) n) blank_term)
 
-abbrev pub Agrees : Tested → Option (Filling Con Kind ℕ) → Type 0
-Agrees r none = r.ok ≡ false
-Agrees r (some ψ) = (r.ok ≡ true) × Holds r.values ψ
+abbrev pub Agrees : OptionValue Values → Option (Filling Con Kind ℕ) → Type 0
+Agrees None none = Unit {0}
+Agrees None (some ψ) = ⊥
+Agrees (Some v) none = ⊥
+Agrees (Some v) (some ψ) = Holds v ψ
 
 slot_small : (k : Basic) (n : ℕ) → n ≤ largest_number → slot (basic k) n < atom_places
 slot_small k n h = omega (arith, rank_basic k)
@@ -114,13 +116,11 @@ module _ (v : Values) (φ : Filling Con Kind ℕ) (k : Basic) (n : ℕ) (c : Con
 -- ---- one test
 
 same_agrees : (v : Values) (φ : Filling Con Kind ℕ) (d c : Con) (q : Dec (c ≡ d)) (b : Bool)
-    → b ≡ same_term (enc d) (enc c) → Holds v φ → Agrees (record { ok = b; values = v }) (ite q (some φ) none)
-same_agrees v φ d c (yes e) b s h = (s ∙ (same_constant_is d c).1 (sym e), h)
-same_agrees v φ d c (no n) b s h = go b refl
-  where
-    go : (x : Bool) → b ≡ x → b ≡ false
-    go true e = absurd (n (sym ((same_constant_is d c).0 (sym s ∙ e))))
-    go false e = e
+    → b ≡ same_term (enc d) (enc c) → Holds v φ → Agrees (cond b (Some v) None) (ite q (some φ) none)
+same_agrees v φ d c (yes e) true s h = h
+same_agrees v φ d c (yes e) false s h = absurd (false≢true (s ∙ (same_constant_is d c).1 (sym e)))
+same_agrees v φ d c (no n) true s h = absurd (n (sym ((same_constant_is d c).0 (sym s))))
+same_agrees v φ d c (no n) false s h = tt
 
 item_kind_lem : (c : Con) → item_kind (enc c).form ≡ basic (con_kind c)
 item_kind_lem c = constant_kind_lem (encode_constant c).0 (encode_constant c).1 ∙ ap (λ (d : Con). basic (con_kind d)) (view_encode_constant c)
@@ -136,24 +136,27 @@ meets_agrees v φ k n c h l = go (φ (basic k) n) (h.held k n l)
         → Agrees (met (get_or v.known i false) (basic k) i (enc c) v) (meets basics consts ℕ_discrete k n old c φ)
     go [] e =
         subst (λ (b : Bool). Agrees (met b (basic k) i (enc c) v) (meets basics consts ℕ_discrete k n [] c φ)) (sym e.0)
-        (subst (λ (q : Kind). Agrees (cond (le q (basic k)) (record { ok = true; values = bound v i (enc c) }) (record { ok = false; values = v }))
+        (subst (λ (q : Kind). Agrees (cond (le q (basic k)) (Some (bound v i (enc c))) None)
         (meets basics consts ℕ_discrete k n [] c φ)) (sym (item_kind_lem c)) (new (le (basic (con_kind c)) (basic k))))
       where
         new : (b : Bool)
-            → Agrees (cond b (record { ok = true; values = bound v i (enc c) }) (record { ok = false; values = v }))
+            → Agrees (cond b (Some (bound v i (enc c))) None)
             (cond b (some (bind (full-eq basic_eq) ℕ_discrete (basic k) n (c ∷ []) φ)) none)
-        new true = (refl, holds_bind v φ k n c h l)
-        new false = refl
+        new true = holds_bind v φ k n c h l
+        new false = tt
     go (d ∷ old) e =
         subst (λ (b : Bool). Agrees (met b (basic k) i (enc c) v) (meets basics consts ℕ_discrete k n (d ∷ old) c φ)) (sym e.0)
         (same_agrees v φ d c (con_eq c d) (same_term (get_or v.terms i blank_term) (enc c)) (ap (λ (t : TermValue). same_term t (enc c)) e.1) h)
 
 -- ---- the terms of a field
 
-go_on_lem : (r : Tested) (o : Option (Filling Con Kind ℕ)) (k : Values → Tested) (g : Filling Con Kind ℕ → Option (Filling Con Kind ℕ)) → Agrees r o
-    → ((v : Values) (ψ : Filling Con Kind ℕ) → Holds v ψ → Agrees (k v) (g ψ)) → Agrees (go_on r k) (and_then o g)
-go_on_lem r none k g a f = subst (λ (b : Bool). (pick b (k r.values) r).ok ≡ false) (sym a) a
-go_on_lem r (some ψ) k g a f = subst (λ (b : Bool). Agrees (pick b (k r.values) r) (g ψ)) (sym a.0) (f r.values ψ a.1)
+go_on_lem : (r : OptionValue Values) (o : Option (Filling Con Kind ℕ)) (k : Values → OptionValue Values)
+    (g : Filling Con Kind ℕ → Option (Filling Con Kind ℕ)) → Agrees r o
+    → ((v : Values) (ψ : Filling Con Kind ℕ) → Holds v ψ → Agrees (k v) (g ψ)) → Agrees (option_and_then k r) (and_then o g)
+go_on_lem None none k g a f = tt
+go_on_lem None (some ψ) k g a f = absurd a
+go_on_lem (Some v) none k g a f = absurd a
+go_on_lem (Some v) (some ψ) k g a f = f v ψ a
 
 pub width_enc : (gap : ℕ) (u : OurTerm) → width_of gap (encode_term u) ≡ width gap u
 width_enc gap (con c) = refl
@@ -170,7 +173,7 @@ pub test_agrees : (gap : ℕ) (w : List Con) (p : ℕ) (u : OurTerm) (v : Values
 test_agrees gap w p (con d) v φ i h l =
     let e = mapped_at enc w p no_item blank_term (omega arith) in
     let q = item_at_lem w p no_item (omega arith) in
-    subst (λ (o : Option Con). Agrees (record { ok = same_term (enc d) (get_or (map enc w) p blank_term); values = v })
+    subst (λ (o : Option Con). Agrees (cond (same_term (enc d) (get_or (map enc w) p blank_term)) (Some v) None)
     (and_then o (λ c. same basics consts ℕ_discrete d c φ))) (sym q)
     (same_agrees v φ d (get_or w p no_item) (con_eq (get_or w p no_item) d) _ (ap (same_term (enc d)) e) h)
 test_agrees gap w p (var (basic k) n) v φ i h l =
@@ -182,11 +185,11 @@ test_agrees gap w p (var (basic k) n) v φ i h l =
     (sym (kind_of_from (basic k)))
     (subst (λ (t : TermValue). Agrees (test_var (basic k) n t v) (meets basics consts ℕ_discrete k n (φ (basic k) n) (get_or w p no_item) φ)) (sym e)
     (meets_agrees v φ k n (get_or w p no_item) h i)))
-test_agrees gap w p (var list n) v φ i h l = (refl, holds_list v φ n (take gap (drop p w)) h)
+test_agrees gap w p (var list n) v φ i h l = holds_list v φ n (take gap (drop p w)) h
 
 walk_agrees : (gap : ℕ) (w : List Con) (f : List OurTerm) (p : ℕ) (v : Values) (φ : Filling Con Kind ℕ) → All TermIn f → Holds v φ → p + span gap f ≤ length w
     → Agrees (walked gap (map enc w) (map encode_term f) p v) (walk basics consts ℕ_discrete gap w f p φ)
-walk_agrees gap w [] p v φ i h l = (refl, h)
+walk_agrees gap w [] p v φ i h l = h
 walk_agrees gap w (u ∷ f) p v φ i h l =
     go_on_lem (tested (encode_term u) (get_or (map enc w) p blank_term) v) (test basics consts ℕ_discrete gap w p u φ)
     (walked gap (map enc w) (map encode_term f) (p + width_of gap (encode_term u))) (λ ψ. walk basics consts ℕ_discrete gap w f (p + width gap u) ψ)
@@ -201,8 +204,8 @@ pub field_agrees : (f : List OurTerm) (w : List Con) (v : Values) (φ : Filling 
     → Agrees (field_tested (map encode_term f) (map enc w) v) (match_field basics consts ℕ_discrete f w φ)
 field_agrees f w v φ i o h =
     subst (λ (b : Bool). Agrees (cond b (walked (length (map enc w) - (shape_of (map encode_term f)).atoms) (map enc w) (map encode_term f) 0 v)
-    (record { ok = false; values = v })) (match_field basics consts ℕ_discrete f w φ)) (sym (fits_room f (length (map enc w)) ∙ ap (has_room f) long))
-    (subst (λ (gap : ℕ). Agrees (cond (has_room f (length w)) (walked gap (map enc w) (map encode_term f) 0 v) (record { ok = false; values = v }))
+    None) (match_field basics consts ℕ_discrete f w φ)) (sym (fits_room f (length (map enc w)) ∙ ap (has_room f) long))
+    (subst (λ (gap : ℕ). Agrees (cond (has_room f (length w)) (walked gap (map enc w) (map encode_term f) 0 v) None)
     (match_field basics consts ℕ_discrete f w φ)) (sym (gap_is f (length (map enc w)) ∙ ap (λ (n : ℕ). n - atoms f) long))
     (go (has_room f (length w)) refl))
   where
@@ -210,10 +213,10 @@ field_agrees f w v φ i o h =
     long = length-map w enc
 
     go : (b : Bool) → has_room f (length w) ≡ b
-        → Agrees (cond b (walked (length w - atoms f) (map enc w) (map encode_term f) 0 v) (record { ok = false; values = v }))
+        → Agrees (cond b (walked (length w - atoms f) (map enc w) (map encode_term f) 0 v) None)
         (cond b (walk basics consts ℕ_discrete (length w - atoms f) w f 0 φ) none)
     go true e = walk_agrees (length w - atoms f) w f 0 v φ i h (omega (arith, room_span f o (length w) e))
-    go false e = refl
+    go false e = tt
 
 -- ---- the fields
 
@@ -229,9 +232,9 @@ items_of_lem w = unpadded most_items blank_term encode_term (map con w) ∙ map-
 
 pub fields_agree : (fs : OurFields) (ws : SlipFields) (v : Values) (φ : Filling Con Kind ℕ) → All (All TermIn) fs → All OneList fs → Holds v φ
     → Agrees (fields_tested (map encode_field fs) (map encode_items ws) v) (match_fields basics consts ℕ_discrete fs ws φ)
-fields_agree [] [] v φ i o h = (refl, h)
-fields_agree [] (w ∷ ws) v φ i o h = refl
-fields_agree (f ∷ fs) [] v φ i o h = refl
+fields_agree [] [] v φ i o h = h
+fields_agree [] (w ∷ ws) v φ i o h = tt
+fields_agree (f ∷ fs) [] v φ i o h = tt
 fields_agree (f ∷ fs) (w ∷ ws) v φ i o h =
     go_on_lem (field_tested (terms_of (encode_field f)) (items_of (encode_items w)) v) (match_field basics consts ℕ_discrete f w φ)
     (fields_tested (map encode_field fs) (map encode_items ws)) (λ ψ. match_fields basics consts ℕ_discrete fs ws ψ)

@@ -2,6 +2,7 @@
 use mathlib.Core.Path.{◌≡◌, refl, ◌∙◌, ap, ap₂}
 use mathlib.Core.Bool.{Bool, true, false, cond}
 use mathlib.Core.Option.{Option, none, some}
+use Rattle.std.specs.Prelude.{Option as OptionValue, Some, None}
 use mathlib.Core.List.{List, [], ◌∷◌, map}
 use Prim.Native.Nat.{ℕ, ◌+◌, ◌-◌, ◌≤◌}
 use native.Mathlib.Omega.{arith}
@@ -23,17 +24,18 @@ use Rattle.text_grammar.specs.Limits.{TermIn}
 use Rattle.text_values.specs.declared.Term.{Term as TermValue}
 use Rattle.text_values.specs.Values.{blank_term, encode_term, encode_field}
 use Rattle.match_fields.specs.declared.bindings.Values.{Values}
-use Rattle.match_fields.specs.declared.items.Tested.{Tested}
 use Rattle.match_fields.specs.items.Tests.{tested}
 use Rattle.match_fields.specs.Fields.{width_of, atoms_in, count_on, walk_compared, field_tested, field_compared}
 use Rattle.match_fields.proofs.Shapes.{fits_room, gap_is}
 use Rattle.match_rules.specs.Tests.{fields_compared}
 use Rattle.match_rules.proofs.Agree.{enc, Holds, Agrees, width_enc, test_agrees, field_agrees, terms_of_lem, encode_items, items_of_lem}
 
-count_on_lem : (r : Tested) (o : Option (Filling Con Kind ℕ)) (k : Values → ℕ) (g : Filling Con Kind ℕ → ℕ) → Agrees r o
+count_on_lem : (r : OptionValue Values) (o : Option (Filling Con Kind ℕ)) (k : Values → ℕ) (g : Filling Con Kind ℕ → ℕ) → Agrees r o
     → ((v : Values) (ψ : Filling Con Kind ℕ) → Holds v ψ → k v ≡ g ψ) → count_on r k ≡ count_then o g
-count_on_lem r none k g a f = ap (λ (b : Bool). cond b (k r.values) 0) a
-count_on_lem r (some ψ) k g a f = ap (λ (b : Bool). cond b (k r.values) 0) a.0 ∙ f r.values ψ a.1
+count_on_lem None none k g a f = refl
+count_on_lem None (some ψ) k g a f = absurd a
+count_on_lem (Some v) none k g a f = absurd a
+count_on_lem (Some v) (some ψ) k g a f = f v ψ a
 
 atoms_enc : (u : OurTerm) → atoms_in (encode_term u) ≡ atoms (u ∷ [])
 atoms_enc (con c) = refl

@@ -12,7 +12,7 @@ use Rattle.text_grammar.specs.Limits.{IsCon}
 use Rattle.text_grammar.specs.constants.Matching.{constants}
 use Rattle.text_grammar.proofs.constants.Matching.{constants_are}
 use Rattle.text_values.specs.declared.Term.{Term}
-use Rattle.text_values.specs.declared.SlipField.{SlipField}
+use Rattle.text_values.specs.Values.{SlipField}
 use Rattle.text_values.specs.Values.{blank_term, blank_slip_field, encode_term, encode_slip_field, encode_slip}
 use Rattle.text_values.proofs.Pads.{unpadded}
 use Rattle.match_fields.specs.declared.bindings.Run.{Run}

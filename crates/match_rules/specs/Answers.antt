@@ -1,7 +1,8 @@
 -- What matching answers. Document 01: "no with the blank filling (every number zero), or yes with the value of every variable,
 -- blank for those the rule lacks; a list variable's value is a run of the slip's terms".
-use Rattle.std.specs.Prelude.{Bool, true, false, cond, List, [], ◌∷◌, map, ℕ, ◌+◌, ◌-◌, ◌/◌, ◌%◌, ◌<◌, ◌≤◌, eqb, length, get_or, set, take, drop, replicate}
+use Rattle.std.specs.Prelude.{Bool, true, false, cond, List, [], ◌∷◌, map, ℕ, ◌+◌, ◌-◌, ◌/◌, ◌%◌, ◌<◌, ◌≤◌, eqb, length, get_or, set, take, drop}
 use Rattle.std.proofs.Math.Option.{Option, none, some}
+use Rattle.std.specs.Prelude.{Option as OptionValue, Some, None}
 use Rattle.base_limits.specs.Limits.{numbers_of_side, atom_places}
 use Rattle.base_lists.specs.Seqs.{tabulate}
 use Rattle.math_types.specs.Order.{basic, list}
@@ -13,17 +14,13 @@ use Rattle.text_grammar.specs.Terms.{OurTerm, OurFields, terms_of, SlipFields, i
 use Rattle.text_grammar.specs.constants.Constants.{Con}
 use Rattle.text_grammar.specs.constants.Matching.{constants, matcher, compared}
 use Rattle.text_values.specs.declared.Term.{Term}
-use Rattle.text_values.specs.declared.Field.{Field}
-use Rattle.text_values.specs.declared.SlipField.{SlipField}
+use Rattle.text_values.specs.Values.{Field, SlipField}
 use Rattle.text_values.specs.Values.{blank_term, encode_term}
 use Rattle.match_fields.specs.declared.bindings.Values.{Values}
 use Rattle.match_fields.specs.declared.bindings.Run.{Run}
-use Rattle.match_fields.specs.declared.bindings.Filling.{Filling as FillingValue}
-use Rattle.match_fields.specs.bindings.Values.{blank_run}
-use Rattle.match_fields.specs.declared.items.Tested.{Tested}
 use Rattle.match_rules.specs.declared.Match.{Match}
 use Rattle.match_rules.specs.declared.Comparison.{Comparison}
-use Rattle.match_rules.specs.Tests.{no_values, fields_tested, fields_compared, runs_all}
+use Rattle.match_rules.specs.Tests.{no_values, fields_tested, fields_compared, no_runs, runs_all}
 
 -- ---- the atom variables
 
@@ -56,7 +53,7 @@ runs_from j (f ∷ fs) [] rs = rs
 runs_from j (f ∷ fs) (w ∷ ws) rs = runs_from (j + 1) fs ws (runs_field j (length w - atoms f) 0 f rs)
 
 abbrev pub runs_of : OurFields → SlipFields → List Run
-runs_of rule slip = runs_from 0 (terms_of rule) (items_of slip) (replicate numbers_of_side blank_run)
+runs_of rule slip = runs_from 0 (terms_of rule) (items_of slip) no_runs
 
 -- the items that a run names
 abbrev pub items_at : SlipFields → Run → List Con
@@ -70,7 +67,7 @@ pub record LiesIn (slip : SlipFields) (r : Run) : Type 0 where
 -- ---- the answer
 
 abbrev pub no_match : Match
-no_match = record { yes = false; filling = record { values = no_values; runs = replicate numbers_of_side blank_run } }
+no_match = record { yes = false; filling = record { values = no_values; runs = no_runs } }
 
 abbrev pub found : OurFields → SlipFields → Option (Filling Con Kind ℕ) → Match
 found rule slip none = no_match
@@ -81,9 +78,6 @@ abbrev pub match_of : OurFields → OurFields → Match
 match_of [] slip = no_match
 match_of (f ∷ fs) [] = no_match
 match_of (f ∷ fs) (w ∷ ws) = found (f ∷ fs) (map constants (w ∷ ws)) (matcher (f ∷ fs) (map constants (w ∷ ws)))
-
-abbrev pub filling_of : Values → FillingValue
-filling_of v = record { values = v; runs = replicate numbers_of_side blank_run }
 
 -- ---- the answer with the count
 
@@ -96,8 +90,9 @@ no_comparison = record { found = no_match; compared = 0 }
 
 -- The same on values, as code makes it: "0 where the field counts differ", else by the tests, with the runs where they pass.
 -- `comparison_on_lem` of proofs/Found says that it is the comparison, where the values are those of fields within their limits.
-abbrev pub found_by : List Field → List SlipField → Tested → Match
-found_by fs ws t = cond t.ok (record { yes = true; filling = runs_all 0 fs ws (filling_of t.values) }) no_match
+abbrev pub found_by : List Field → List SlipField → OptionValue Values → Match
+found_by fs ws None = no_match
+found_by fs ws (Some v) = record { yes = true; filling = record { values = v; runs = runs_all 0 fs ws no_runs } }
 
 abbrev pub comparison_by : List Field → List SlipField → Comparison
 comparison_by fs ws = record { found = found_by fs ws (fields_tested fs ws no_values); compared = fields_compared fs ws no_values }

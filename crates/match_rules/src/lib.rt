@@ -1,22 +1,21 @@
 // Matching a rule against a slip: yes with the one filling of the rule's variables, or no.
 #![tactic(auto)]
 
-ghost use Rattle.std.specs.Prelude.{◌≡◌, ◌-◌, ◌≤◌, take};
+ghost use Rattle.std.specs.Prelude.{◌≡◌, ◌≤◌, length};
 ghost use Rattle.base_limits.specs.Limits.{most_fields};
-ghost use Rattle.match_rules.specs.Tests.{fields_progress, no_values, with_run, runs_in, runs_all};
-ghost use Rattle.match_rules.specs.Answers.{filling_of, match_of, no_match, comparison, no_comparison, found_by};
+ghost use Rattle.match_rules.specs.Tests.{fields_progress, no_values, no_runs, runs_in, runs_all};
+ghost use Rattle.match_rules.specs.Answers.{match_of, no_match, comparison, no_comparison, found_by};
 ghost use Rattle.text_accepted.specs.Accepted.{counted_left};
 ghost use Rattle.text_accepted.specs.rules.Rules.{counted_rule};
 ghost use Rattle.text_accepted.specs.slips.Slips.{counted_slip};
 
 pub mod texts; // texts that were just read
 
-use base_numbers::{at_most, left_over};
 use match_fields::Progress;
 use match_fields::bindings::{Filling, Run, Values};
-use match_fields::items::Tested;
 use text_values::{Field, Form, Rule, RuleSide, Slip, SlipField, Term};
 
+// Document 01 gives a no the blank filling, so a match is not an Option of one.
 #[derive(Clone, Copy)]
 pub struct Match {
     pub yes: bool,
@@ -41,119 +40,84 @@ pub(crate) fn no_values() -> Values
 }
 
 // As many fields of the slip as of the rule, one after the other, up to the first test that fails.
-fn match_fields(r: RuleSide, s: Slip) -> Progress
-    requires { (r.n ≤ most_fields) × (s.n ≡ r.n) }
-    ensures { result ≡ fields_progress (take r.n r.fields) (take s.n s.fields) no_values }
+fn match_fields(fs: &[Field], ws: &[SlipField]) -> Progress
+    requires { (length fs.now ≤ most_fields) × (length ws.now ≡ length fs.now) }
+    ensures { result ≡ fields_progress fs.now ws.now no_values }
 {
-    let n = r.n;
     let mut v = no_values();
     let mut compared: usize = 0;
-    let mut i: usize = 0;
-    while i < n {
-        let p = match_fields::match_field(r.fields[i], s.fields[i], v);
+    for (f, w) in fs.iter().zip(ws) {
+        let p = match_fields::match_field(*f, *w, v);
         compared += p.compared;
-        let t = p.tested;
-        if !t.ok {
+        let Some(values) = p.tested else {
             return Progress {
-                tested: t,
-                compared: compared,
+                tested: None,
+                compared,
             };
-        }
-        v = t.values;
-        i += 1;
+        };
+        v = values;
     }
-    let passed = Tested {
-        ok: true,
-        values: v,
-    };
     Progress {
-        tested: passed,
-        compared: compared,
-    }
-}
-
-// The filling with the run r for the term t, where that is a list variable.
-fn with_run(x: Filling, t: Term, r: Run) -> Filling
-    ensures { result ≡ with_run t r x }
-{
-    let form = t.form;
-    match form {
-        Form::Con(_) => x,
-        Form::Var(k, n) => {
-            if !math_types::is_list(k) {
-                return x;
-            }
-            let i = n as usize;
-            if base_limits::NUMBERS_OF_SIDE <= i {
-                return x;
-            }
-            let mut y = x;
-            y.runs[i] = r;
-            y
-        }
+        tested: Some(v),
+        compared,
     }
 }
 
 // The run of one field's list variable. There is at most one: it takes the items that the other terms leave.
-pub(crate) fn run_field(j: usize, f: Field, w: SlipField, x: Filling) -> Filling
-    ensures { result ≡ runs_in j f w x }
+pub(crate) fn run_field(j: usize, f: Field, w: SlipField, runs: &mut [Run])
+    ensures { runs.new ≡ runs_in j f w runs.old }
 {
-    let n = at_most(f.n, base_limits::MOST_TERMS);
-    let gap = left_over(at_most(w.n, base_limits::MOST_ITEMS) + 1, n);
-    let mut y = x;
-    let mut i: usize = 0;
-    while i < n {
-        let t = f.terms[i];
-        if match_fields::is_list_term(t) {
-            let r = Run {
-                field: j,
-                start: i,
-                count: gap,
-            };
-            y = with_run(y, t, r);
+    let terms = &f.terms[..f.n.min(base_limits::MOST_TERMS)];
+    let items = w.n.min(base_limits::MOST_ITEMS);
+    let count = (items + 1).saturating_sub(terms.len());
+    for (i, t) in terms.iter().enumerate() {
+        match t.form {
+            Form::Var(k, n) if math_types::is_list(k) => {
+                let place = usize::from(n);
+                if place < runs.len() {
+                    runs[place] = Run {
+                        field: j,
+                        start: i,
+                        count,
+                    };
+                }
+            }
+            _ => {}
         }
-        i += 1;
     }
-    y
 }
 
-fn run_fields(r: RuleSide, s: Slip, x: Filling) -> Filling
-    requires { (r.n ≤ most_fields) × (s.n ≡ r.n) }
-    ensures { result ≡ runs_all 0 (take r.n r.fields) (take s.n s.fields) x }
+#[tactic(auto, using(crate::proofs::Walks::runs_end))]
+fn run_fields(fs: &[Field], ws: &[SlipField], runs: &mut [Run])
+    ensures { runs.new ≡ runs_all 0 fs.now ws.now runs.old }
 {
-    let n = r.n;
-    let mut y = x;
-    let mut j: usize = 0;
-    while j < n {
-        y = run_field(j, r.fields[j], s.fields[j], y);
-        j += 1;
+    for (j, (f, w)) in fs.iter().zip(ws).enumerate() {
+        run_field(j, *f, *w, runs);
     }
-    y
 }
 
-// The filling with these values and no runs.
-pub(crate) fn filling_of(v: Values) -> Filling
-    ensures { result ≡ filling_of v }
+// No list variable's run.
+pub(crate) fn no_runs() -> [Run; base_limits::NUMBERS_OF_SIDE]
+    ensures { result ≡ no_runs }
 {
     let r = Run {
         field: 0,
         start: 0,
         count: 0,
     };
-    Filling {
-        values: v,
-        runs: [r; base_limits::NUMBERS_OF_SIDE],
-    }
+    [r; base_limits::NUMBERS_OF_SIDE]
 }
 
 // No, with the blank filling.
 pub(crate) fn no_match() -> Match
     ensures { result ≡ no_match }
 {
-    let v = no_values();
     Match {
         yes: false,
-        filling: filling_of(v),
+        filling: Filling {
+            values: no_values(),
+            runs: no_runs(),
+        },
     }
 }
 
@@ -168,37 +132,34 @@ pub(crate) fn no_comparison() -> Comparison
 }
 
 // What the tests come to: no, or yes with the runs of the list variables too.
-fn found_by(rule: RuleSide, slip: Slip, t: Tested) -> Match
-    requires { (rule.n ≤ most_fields) × (slip.n ≡ rule.n) }
-    ensures { result ≡ found_by (take rule.n rule.fields) (take slip.n slip.fields) t }
+fn found_by(fs: &[Field], ws: &[SlipField], tested: Option<Values>) -> Match
+    ensures { result ≡ found_by fs.now ws.now tested }
 {
-    if !t.ok {
+    let Some(values) = tested else {
         return no_match();
-    }
-    let x = filling_of(t.values);
+    };
+    let mut runs = no_runs();
+    run_fields(fs, ws, &mut runs);
     Match {
         yes: true,
-        filling: run_fields(rule, slip, x),
+        filling: Filling { values, runs },
     }
 }
 
 // Whether this left side matches the slip, with which filling, and how many of the slip's items were compared. What no reading returns
 // has no fields, and matches nothing.
+#[tactic(auto, using(crate::proofs::Accept::compared_sides))]
 pub(crate) fn compare_side(rule: RuleSide, slip: Slip) -> Comparison
     ensures { result ≡ comparison (counted_left rule) (counted_slip slip) }
 {
-    if !text_accepted::is_left(rule) {
+    if !text_accepted::is_left(rule) || !text_accepted::slips::is_slip(slip) || slip.n != rule.n {
         return no_comparison();
     }
-    if !text_accepted::slips::is_slip(slip) {
-        return no_comparison();
-    }
-    if slip.n != rule.n {
-        return no_comparison();
-    }
-    let p = match_fields(rule, slip);
+    let fs = &rule.fields[..rule.n];
+    let ws = &slip.fields[..slip.n];
+    let p = match_fields(fs, ws);
     Comparison {
-        found: found_by(rule, slip, p.tested),
+        found: found_by(fs, ws, p.tested),
         compared: p.compared,
     }
 }
@@ -214,14 +175,12 @@ pub fn compare_rule(rule: Rule, slip: Slip) -> Comparison
 pub fn match_side(rule: RuleSide, slip: Slip) -> Match
     ensures { result ≡ match_of (counted_left rule) (counted_slip slip) }
 {
-    let c = compare_side(rule, slip);
-    c.found
+    compare_side(rule, slip).found
 }
 
 // Whether the rule matches the slip, and with which filling.
 pub fn match_rule(rule: Rule, slip: Slip) -> Match
     ensures { result ≡ match_of (counted_rule rule).0 (counted_slip slip) }
 {
-    let c = compare_rule(rule, slip);
-    c.found
+    compare_rule(rule, slip).found
 }

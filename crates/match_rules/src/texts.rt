@@ -2,27 +2,13 @@
 // each is built at a time, and none behind the first that fails.
 ghost use Rattle.std.specs.Prelude.{◌≡◌};
 ghost use Rattle.match_rules.specs.Answers.{comparison_on};
-ghost use Rattle.match_rules.specs.texts.Texts.{side_fields, slip_fields, yes_with};
+ghost use Rattle.match_rules.specs.texts.Texts.{side_fields, slip_fields};
 
 use crate::{Comparison, Match};
-use match_fields::bindings::{Filling, Values};
-
-// Yes, with these values and the runs of x.
-fn yes_with(v: Values, x: Filling) -> Match
-    ensures { result ≡ yes_with v x }
-{
-    let runs = x.runs;
-    let filling = Filling {
-        values: v,
-        runs: runs,
-    };
-    Match {
-        yes: true,
-        filling: filling,
-    }
-}
+use match_fields::bindings::Filling;
 
 // How the fields of the one text match those of the other, and how many of the slip's items were compared.
+#[tactic(auto, using(crate::proofs::texts::Texts::text_fields))]
 pub fn compare_texts(rule: &[u8], slip: &[u8]) -> Comparison
     ensures { result ≡ comparison_on (side_fields rule.now) (slip_fields slip.now) }
 {
@@ -31,27 +17,25 @@ pub fn compare_texts(rule: &[u8], slip: &[u8]) -> Comparison
         return crate::no_comparison();
     }
     let mut v = crate::no_values();
-    let mut x = crate::filling_of(v);
+    let mut runs = crate::no_runs();
     let mut compared: usize = 0;
-    let mut j: usize = 0;
-    while j < n {
-        let f = text_passes::side_field(rule, j);
-        let w = text_passes::slip_field(slip, j);
+    for j in 0..n {
+        let f = text_passes::field_in(rule, j);
+        let w = text_passes::field_in(slip, j);
         let p = match_fields::match_field(f, w, v);
         compared += p.compared;
-        let t = p.tested;
-        if !t.ok {
+        let Some(values) = p.tested else {
             return Comparison {
                 found: crate::no_match(),
-                compared: compared,
+                compared,
             };
-        }
-        v = t.values;
-        x = crate::run_field(j, f, w, x);
-        j += 1;
+        };
+        v = values;
+        crate::run_field(j, f, w, &mut runs);
     }
-    Comparison {
-        found: yes_with(v, x),
-        compared: compared,
-    }
+    let found = Match {
+        yes: true,
+        filling: Filling { values: v, runs },
+    };
+    Comparison { found, compared }
 }

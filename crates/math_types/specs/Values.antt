@@ -1,14 +1,13 @@
 -- The views: which kind a value of the code stands for, and back. They are inverse, so a contract over kinds settles the value.
-use Rattle.std.specs.Prelude.{◌≡◌, refl, ◌↔◌, true, cond, ℕ}
+use Rattle.std.specs.Prelude.{◌≡◌, refl, ◌↔◌, true, cond, ℕ, Option, Some, None}
 use Rattle.std.proofs.Common.{ap, ◌∙◌, sym}
-use Rattle.std.proofs.Math.Option.{Option, none, some}
+use Rattle.std.proofs.Math.Option.{none, some}
+use Rattle.std.proofs.Math.Option as math
 use Rattle.math_types.specs.Order.{basic, list}
 use Rattle.math_types.specs.Types.{leaf, integer, string, atom}
 use Rattle.math_types.specs.Types as types
 use Rattle.math_types.specs.declared.Kind.{Kind}
 use Rattle.math_types.specs.declared.Kind.TheVariants.{Integer, String, Atom, List}
-use Rattle.math_types.specs.declared.Met.{Met}
-use Rattle.math_types.specs.declared.Met.TheVariants.{Is, Nothing}
 
 abbrev pub kind_of : Kind → types.Kind
 kind_of Integer = basic (leaf integer)
@@ -35,13 +34,13 @@ kind_from_of Atom = refl
 kind_from_of List = refl
 
 -- of two ranks the lower, where they are comparable
-abbrev pub meet_rank : ℕ → ℕ → Met
-meet_rank j k = cond (types.entry j k) (Is j) (cond (types.entry k j) (Is k) Nothing)
+abbrev pub meet_rank : ℕ → ℕ → Option ℕ
+meet_rank j k = cond (types.entry j k) (Some j) (cond (types.entry k j) (Some k) None)
 
 -- the code's answer for a meet
-abbrev pub meet_of : Option types.Kind → Met
-meet_of (some k) = Is (types.rank k)
-meet_of none = Nothing
+abbrev pub meet_of : math.Option types.Kind → Option ℕ
+meet_of (some k) = Some (types.rank k)
+meet_of none = None
 
 -- kinds are the same exactly where the code's values are
 pub same_kind_is : (j k : Kind) → (types.same (kind_of j) (kind_of k) ≡ true) ↔ (j ≡ k)

@@ -8,19 +8,13 @@ ghost use Rattle.math_types.specs.Values.{kind_of, meet_rank};
 
 use base_limits::KINDS;
 
-#[derive(Clone, Copy)]
+// Each with its rank. The order of the types is none of these numbers: integer and string are incomparable.
+#[derive(Clone, Copy, PartialEq, Eq)]
 pub enum Kind {
-    Integer,
-    String,
-    Atom,
-    List,
-}
-
-// The answer of `meet_rank`: the meet's rank.
-#[derive(Clone, Copy)]
-pub enum Met {
-    Is(u8),
-    Nothing,
+    Integer = 0,
+    String = 1,
+    Atom = 2,
+    List = 3,
 }
 
 const CELLS: usize = KINDS * KINDS;
@@ -49,15 +43,10 @@ const BELOW: [bool; CELLS] = [
 pub fn rank(k: Kind) -> usize
     ensures { result ≡ rank (kind_of k) }
 {
-    match k {
-        Kind::Integer => 0,
-        Kind::String => 1,
-        Kind::Atom => 2,
-        Kind::List => 3,
-    }
+    k as usize
 }
 
-// The kind of a rank; what is no rank counts for list's.
+// The kind of a rank; what is no rank counts for list's, where a TryFrom would fail.
 pub fn kind_at(i: usize) -> Kind
     ensures { kind_of result ≡ kind_at i }
 {
@@ -89,28 +78,28 @@ pub fn below_rank(j: u8, k: u8) -> bool
 }
 
 // The greatest rank below both (`meet_rank_is`), read from the table: kinds that have one are comparable, so it is the lower of the two.
-pub fn meet_rank(j: u8, k: u8) -> Met
+pub fn meet_rank(j: u8, k: u8) -> Option<u8>
     ensures { result ≡ meet_rank j k }
 {
     if below_rank(j, k) {
-        return Met::Is(j);
+        return Some(j);
     }
     if below_rank(k, j) {
-        return Met::Is(k);
+        return Some(k);
     }
-    Met::Nothing
+    None
 }
 
 // Whether j and k are one kind (`same_is`, `same_kind_is`).
 pub fn same_kind(j: Kind, k: Kind) -> bool
     ensures { result ≡ same (kind_of j) (kind_of k) }
 {
-    rank(j) == rank(k)
+    j == k
 }
 
 // Whether k is the kind of list variables.
 pub fn is_list(k: Kind) -> bool
     ensures { result ≡ is_list (kind_of k) }
 {
-    same_kind(k, Kind::List)
+    k == Kind::List
 }

@@ -4,6 +4,7 @@ use mathlib.Core.Logic.{◌↔◌, ◌≢◌}
 use mathlib.Core.Bool.{Bool, true, false, cond, ◌&&◌}
 use mathlib.Core.List.{List, [], ◌∷◌}
 use mathlib.Core.Option.{Option, none, some}
+use Rattle.std.specs.Prelude.{Ok, Err}
 use Prim.Native.Nat.{ℕ, ◌≤◌, ◌<◌}
 use native.Mathlib.Omega.{arith}
 use lib.Dec.{eqb, leb}
@@ -15,7 +16,7 @@ use Rattle.text_grammar.proofs.Told as told_by
 use Rattle.text_write.specs.Answers.{after}
 use Rattle.text_write.proofs.Answers.{after_small}
 use Rattle.overlap_counts.specs.declared.Counts.{Counts}
-use Rattle.overlap_counts.specs.declared.Committed.TheVariants.{Lines, TooSmall, Stale}
+use Rattle.overlap_counts.specs.declared.CommitRefusal.TheVariants.{NoRoom, Stale}
 use Rattle.overlap_counts.specs.Answers.{told, same_counts, commit_told, commit_leaves}
 
 -- ---- the test of both counts
@@ -45,17 +46,6 @@ same_counts_lem a c = go (same_counts a c) refl
     go true e = yes ((same_iff a c).0 e)
     go false e = no ((other_iff a c).0 e)
 
--- one after the other, as code compares them
-module _ (a c : Counts) where
-  abbrev by_entries : Bool → Bool
-  by_entries b = b && eqb a.bytes c.bytes
-
-  pub entries_other : a.entries ≢ c.entries → false ≡ same_counts a c
-  entries_other n = sym (ap by_entries (ne_eqb a.entries c.entries n))
-
-  pub entries_same : a.entries ≡ c.entries → eqb a.bytes c.bytes ≡ same_counts a c
-  entries_same e = sym (ap by_entries (eq-eqb a.entries c.entries e))
-
 -- ---- the answer, by the counts
 
 module _ (asked c : Counts) (lent : ℕ) where
@@ -63,7 +53,7 @@ module _ (asked c : Counts) (lent : ℕ) where
   fresh = by_room c.bytes lent (c.entries ∷ c.bytes ∷ [])
 
   abbrev by : Bool → Told
-  by b = cond b fresh (told Stale)
+  by b = cond b fresh (told (Err Stale))
 
   -- no refusal by room is 13
   room_other : (by true).number ≡ some 13 → ⊥
@@ -73,25 +63,11 @@ module _ (asked c : Counts) (lent : ℕ) where
       go true q = let z : ◌≡◌ {A = ℕ} 0 1 = cc in absurd (omega arith)
       go false q = let z : ◌≡◌ {A = ℕ} 8 13 = cc in absurd (omega arith)
 
-  pub told_stale : asked ≢ c → commit_told asked c lent ≡ told Stale
+  pub told_stale : asked ≢ c → commit_told asked c lent ≡ told (Err Stale)
   told_stale n = ap by ((other_iff asked c).1 n)
 
   pub told_fresh : asked ≡ c → commit_told asked c lent ≡ fresh
   told_fresh e = ap by ((same_iff asked c).1 e)
-
-  -- the answers, by the two tests
-  pub answers_stale : same_counts asked c ≡ false → told Stale ≡ commit_told asked c lent
-  answers_stale e = sym (ap by e)
-
-  module _ (e : same_counts asked c ≡ true) where
-    abbrev with_room : Bool → Told
-    with_room b = record { number = cond b none (some 8); values = c.entries ∷ c.bytes ∷ [] }
-
-    pub answers_small : leb c.bytes lent ≡ false → told (TooSmall c.entries c.bytes) ≡ commit_told asked c lent
-    answers_small f = sym (ap by e ∙ ap with_room f)
-
-    pub answers_lines : leb c.bytes lent ≡ true → told (Lines c.entries c.bytes) ≡ commit_told asked c lent
-    answers_lines f = sym (ap by e ∙ ap with_room f)
 
   pub thirteen_iff : ((commit_told asked c lent).number ≡ some 13) ↔ (asked ≢ c)
   thirteen_iff = (go (same_counts asked c) refl, λ n. ap (λ (a : Told). a.number) (told_stale n))

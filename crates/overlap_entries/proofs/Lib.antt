@@ -1,4 +1,2 @@
-pub mod Cells
-pub mod Choices
 pub mod Laws
 pub mod Runs

@@ -1,8 +1,10 @@
 -- The loop over the positions of two fields: what is left of the joins, a position where nothing differs, and a clash.
 use mathlib.Core.Path.{◌≡◌, refl, sym, ◌∙◌, ap, ap₂}
-use mathlib.Core.Bool.{Bool, true, false, false≢true}
+use mathlib.Core.Bool.{Bool, false}
 use mathlib.Core.Option.{Option, none, some}
 use mathlib.Core.List.{List}
+use Rattle.std.specs.Prelude as std
+use Rattle.std.specs.Prelude.{Some, None}
 use Prim.Native.Nat.{ℕ, suc, ◌+◌, ◌-◌, ◌<◌, ◌≤◌}
 use native.Mathlib.Omega.{arith}
 use lib.Dec.{eqb}
@@ -12,19 +14,18 @@ use Rattle.math_terms.specs.Matcher.{and_then}
 use Rattle.math_codes.specs.Tables.{Table}
 use Rattle.math_codes.specs.Spots.{join_cells, join_from}
 use Rattle.pair_state.specs.declared.State.{State}
-use Rattle.pair_state.specs.declared.Joined.{Joined}
 use Rattle.pair_state.specs.States.{joined_of}
 use Rattle.overlap_entries.specs.Entries.{differ}
 
 -- ---- what an answer says of the join
 
-fell : (st : State) (x : Option (List ℕ)) → (joined_of st x).ok ≡ false → x ≡ none
-fell st none e = refl
-fell st (some l) e = absurd (false≢true (sym e))
+fell : (x : Option (List ℕ)) → joined_of x ≡ None → x ≡ none
+fell none e = refl
+fell (some l) e = cc
 
-went : (st : State) (x : Option (List ℕ)) → (joined_of st x).ok ≡ true → x ≡ some (joined_of st x).next.atoms
-went st none e = absurd (false≢true e)
-went st (some l) e = refl
+went : (x : Option (List ℕ)) (st : State) → joined_of x ≡ Some st → x ≡ some st.atoms
+went none st e = cc
+went (some l) st e = cc
 
 -- where nothing differs, the join leaves the state as it is
 same_join : (below : ℕ → ℕ → Bool) (T : Table) (x y : Option ℕ) (atoms : List ℕ) → differ x y atoms ≡ false → join_cells below T x y atoms ≡ some atoms
@@ -63,24 +64,16 @@ module _ (below : ℕ → ℕ → Bool) (T : Table) (a b : ℕ → Option ℕ) (
   )
 
   module _ (start : List ℕ) (now : State) (p : ℕ) (x y : Option ℕ) (is_x : x ≡ a p) (is_y : y ≡ b p) (v : Left start now.atoms p) (h : p < n)
-      (j : Joined) (is-j : j ≡ joined_of now (join_cells below T x y now.atoms)) where
-    abbrev joins : Option (List ℕ)
-    joins = join_cells below T (a p) (b p) now.atoms
+      (j : std.Option State) (is-j : j ≡ joined_of (join_cells below T x y now.atoms)) where
+    is_joins : j ≡ joined_of (join_cells below T (a p) (b p) now.atoms)
+    is_joins = is-j ∙ ap₂ (λ (u w : Option ℕ). joined_of (join_cells below T u w now.atoms)) is_x is_y
 
-    is_joins : j ≡ joined_of now joins
-    is_joins = is-j ∙ ap₂ (λ (u w : Option ℕ). joined_of now (join_cells below T u w now.atoms)) is_x is_y
+    left_by : (r : Option (List ℕ)) → join_cells below T (a p) (b p) now.atoms ≡ r
+        → join_from below T a b n 0 start ≡ and_then r (λ next. join_from below T a b (n - (p + 1)) (p + 1) next)
+    left_by r e = opened start now.atoms p v h ∙ ap (λ (r : Option (List ℕ)). and_then r (λ next. join_from below T a b (n - (p + 1)) (p + 1) next)) e
 
-    pub left_clash : j.ok ≡ false → join_from below T a b n 0 start ≡ none
-    left_clash e =
-        opened start now.atoms p v h
-        ∙ ap (λ (r : Option (List ℕ)). and_then r (λ next. join_from below T a b (n - (p + 1)) (p + 1) next))
-        (fell now joins (ap (λ (k : Joined). k.ok) (sym is_joins) ∙ e))
+    pub left_clash : j ≡ None → join_from below T a b n 0 start ≡ none
+    left_clash e = left_by none (fell (join_cells below T (a p) (b p) now.atoms) (sym is_joins ∙ e))
 
-    pub left_one : j.ok ≡ true → Left start j.next.atoms (p + 1)
-    left_one e = (
-      omega arith,
-      opened start now.atoms p v h
-          ∙ ap (λ (r : Option (List ℕ)). and_then r (λ next. join_from below T a b (n - (p + 1)) (p + 1) next))
-          (went now joins (ap (λ (k : Joined). k.ok) (sym is_joins) ∙ e))
-          ∙ ap (λ (k : Joined). join_from below T a b (n - (p + 1)) (p + 1) k.next.atoms) (sym is_joins),
-    )
+    pub left_one : (st : State) → j ≡ Some st → Left start st.atoms (p + 1)
+    left_one st e = (omega arith, left_by (some st.atoms) (went (join_cells below T (a p) (b p) now.atoms) st (sym is_joins ∙ e)))

@@ -1,13 +1,13 @@
 -- Candidates and items of two fields, by their numbers. `cands_are` and `items_are` of proofs/ say that they are the mathematics' own.
-use Rattle.std.specs.Prelude.{Bool, true, false, cond, not, ◌&&◌, List, ℕ, suc, ◌+◌, ◌-◌, max, eqb, leb, ltb, get_or, set, replicate}
+use Rattle.std.specs.Prelude as std
+use Rattle.std.specs.Prelude.{Some, None, Bool, true, false, cond, not, ◌&&◌, List, ℕ, suc, ◌+◌, ◌-◌, max, eqb, leb, ltb, get_or, set, replicate}
 use Rattle.std.proofs.Math.Option.{Option, none, some}
 use Rattle.base_limits.specs.Limits.{most_fields}
 use Rattle.math_overlaps.specs.Candidates.{Cand, exact, long}
 use Rattle.math_codes.specs.Spots.{Spot, cell_at, pick_cell}
 use Rattle.overlap_entries.specs.declared.Span.{Span}
+use Rattle.overlap_entries.specs.declared.Candidate.{Candidate}
 use Rattle.overlap_entries.specs.declared.Choice.{Choice}
-use Rattle.overlap_entries.specs.declared.Cell.{Cell}
-use Rattle.overlap_entries.specs.declared.Cell.TheVariants.{At, Nothing}
 
 -- ---- candidates
 
@@ -36,17 +36,25 @@ cand_at sp i = cand_of (sp.least + i) (sp.long && eqb (suc i) sp.count)
 
 -- ---- choices
 
+abbrev pub no_candidate : Candidate
+no_candidate = record { items = 0; long = false }
+
 abbrev pub no_choice : Choice
-no_choice = record { sizes = replicate most_fields 0; longs = replicate most_fields false }
+no_choice = record { fields = replicate most_fields no_candidate }
 
 abbrev pub chosen_at : Choice → ℕ → ℕ → Bool → Choice
-chosen_at c j n l = record { sizes = set c.sizes j n; longs = set c.longs j l }
+chosen_at c j n l = record { fields = set c.fields j (record { items = n; long = l }) }
+
+-- that of field j
+abbrev pub chosen_in : Choice → ℕ → Candidate
+chosen_in c j = get_or c.fields j no_candidate
 
 -- ---- places and items
 
-abbrev pub place_in : Cell → Option ℕ
-place_in (At x) = some x
-place_in Nothing = none
+-- the code's answer as the mathematics has it
+abbrev pub place_in : std.Option ℕ → Option ℕ
+place_in (Some x) = some x
+place_in None = none
 
 -- there are two atoms, and they stand for different ones
 abbrev pub differ : Option ℕ → Option ℕ → List ℕ → Bool

@@ -1,7 +1,7 @@
 // Two fields laid over each other: the candidates, the joins of one, and the items that it gives an entry's field.
 #![tactic(auto)]
 
-ghost use Rattle.std.specs.Prelude.{◌≡◌, max};
+ghost use Rattle.std.specs.Prelude.{◌≡◌};
 ghost use Rattle.math_types.specs.Types.{entry};
 ghost use Rattle.math_codes.specs.Spots.{cell_at, pick_cell, join_cells, join_from};
 ghost use Rattle.pair_row.specs.Row.{table_in, spot_of};
@@ -9,7 +9,7 @@ ghost use Rattle.pair_state.specs.States.{joined_of};
 ghost use Rattle.overlap_entries.specs.Entries.{only, span_of, place_in, code_at, item_at, item_count, no_choice, chosen_at, differ};
 
 use pair_row::Shape;
-use pair_state::{Joined, State};
+use pair_state::State;
 
 // The candidates of a field pair: how many items the first has, how many there are, each with an item more,
 // and whether the last has a list variable among its items.
@@ -20,51 +20,46 @@ pub struct Span {
     pub long: bool,
 }
 
-// A candidate for each field: how many atoms it has, and whether a list variable stands among them.
+// How many atoms a field has by a candidate, and whether a list variable stands among them.
 #[derive(Clone, Copy)]
-pub struct Choice {
-    pub sizes: [u16; base_limits::MOST_FIELDS],
-    pub longs: [bool; base_limits::MOST_FIELDS],
+pub struct Candidate {
+    pub items: u16,
+    pub long: bool,
 }
 
-// The place of the atom at a position of a field, if there is one.
+// A candidate for each field.
 #[derive(Clone, Copy)]
-enum Cell {
-    At(usize),
-    Nothing,
+pub struct Choice {
+    pub fields: [Candidate; base_limits::MOST_FIELDS],
 }
 
 // Nothing is chosen.
 pub fn no_choice() -> Choice
     ensures { result ≡ no_choice }
 {
+    let none = Candidate {
+        items: 0,
+        long: false,
+    };
     Choice {
-        sizes: [0; base_limits::MOST_FIELDS],
-        longs: [false; base_limits::MOST_FIELDS],
+        fields: [none; base_limits::MOST_FIELDS],
     }
 }
 
 // The choice with a candidate for field j. (There are four fields.)
-pub fn choose_at(c: Choice, j: u8, n: u16, long: bool) -> Choice
-    ensures { result ≡ chosen_at c j n long }
+pub fn choose_at(c: Choice, j: u8, x: Candidate) -> Choice
+    ensures { result ≡ chosen_at c j x.items x.long }
 {
     let k = j as usize;
     if base_limits::MOST_FIELDS <= k {
         return c;
     }
     let mut d = c;
-    d.sizes[k] = n;
-    d.longs[k] = long;
+    d.fields[k] = x;
     d
 }
 
 // ---- candidates
-
-fn larger(m: u16, n: u16) -> u16
-    ensures { result ≡ max m n }
-{
-    if m < n { n } else { m }
-}
 
 // The one candidate with n items, or none.
 fn only(n: u16, fits: bool) -> Span
@@ -95,8 +90,8 @@ pub fn span_of(s: Shape, t: Shape) -> Span
     if !t.gapped {
         return only(k, m <= k);
     }
-    let wide = larger(h, k) + larger(s.tail as u16, t.tail as u16);
-    let least = larger(m, n);
+    let wide = h.max(k) + (s.tail as u16).max(t.tail as u16);
+    let least = m.max(n);
     Span {
         least,
         count: wide - least + 1,
@@ -106,93 +101,68 @@ pub fn span_of(s: Shape, t: Shape) -> Span
 
 // ---- joins
 
-// The place of a field's atom at position p of n.
-fn cell_at(s: Shape, n: u16, p: u16) -> Cell
+// The place of a field's atom at position p of n, if one stands there.
+fn cell_at(s: Shape, n: u16, p: u16) -> Option<usize>
     ensures { place_in result ≡ cell_at (spot_of s) n p }
 {
     let base = s.base as usize;
     let head = s.head as usize;
     let end = p as usize + s.tail as usize;
     if (p as usize) < head {
-        return Cell::At(base + p as usize);
+        return Some(base + p as usize);
     }
     if !s.gapped {
-        return Cell::Nothing;
+        return None;
     }
     if end < n as usize {
-        return Cell::Nothing;
+        return None;
     }
-    Cell::At(base + head + 1 + (end - n as usize))
+    Some(base + head + 1 + (end - n as usize))
 }
 
 // Whether two atoms share a position and stand for different ones: else there is nothing to join.
-fn differ(a: Cell, b: Cell, atoms: &[u8]) -> bool
+fn differ(a: Option<usize>, b: Option<usize>, atoms: &[u8]) -> bool
     ensures { result ≡ differ (place_in a) (place_in b) atoms.now }
 {
-    match a {
-        Cell::At(x) => match b {
-            Cell::At(y) => pair_row::byte_at(atoms, x) != pair_row::byte_at(atoms, y),
-            Cell::Nothing => false,
-        },
-        Cell::Nothing => false,
+    match (a, b) {
+        (Some(x), Some(y)) => pair_row::byte_at(atoms, x) != pair_row::byte_at(atoms, y),
+        _ => false,
     }
 }
 
 // The join of two atoms that share a position; where one of them is missing there is none.
-fn join_cells(a: Cell, b: Cell, st: State, row: &[u8]) -> Joined
-    ensures { result ≡ joined_of st (join_cells entry (table_in row.now) (place_in a) (place_in b) st.atoms) }
+fn join_cells(a: Option<usize>, b: Option<usize>, st: State, row: &[u8]) -> Option<State>
+    ensures { result ≡ joined_of (join_cells entry (table_in row.now) (place_in a) (place_in b) st.atoms) }
 {
-    match a {
-        Cell::At(x) => match b {
-            Cell::At(y) => st.join(x, y, row),
-            Cell::Nothing => Joined { ok: true, next: st },
-        },
-        Cell::Nothing => Joined { ok: true, next: st },
+    match (a, b) {
+        (Some(x), Some(y)) => st.join(x, y, row),
+        _ => Some(st),
     }
 }
 
 // The state after the joins of two fields that have n atoms, or a clash. Atoms that share a position are joined.
-pub fn join_fields(row: &[u8], s: Shape, t: Shape, n: u16, st: State) -> Joined
-    ensures { result ≡ joined_of st (join_from entry (table_in row.now) (cell_at (spot_of s) n) (cell_at (spot_of t) n) n 0
-        st.atoms) }
+pub fn join_fields(row: &[u8], s: Shape, t: Shape, n: u16, st: State) -> Option<State>
+    ensures { result ≡ joined_of (join_from entry (table_in row.now) (cell_at (spot_of s) n) (cell_at (spot_of t) n) n 0 st.atoms) }
 {
     let mut now = st;
-    let mut p: u16 = 0;
-    while p < n {
+    for p in 0..n {
         let a = cell_at(s, n, p);
         let b = cell_at(t, n, p);
         // Tested first, so that the state is copied only where something is joined.
         if differ(a, b, &now.atoms) {
-            let joined = join_cells(a, b, now, row);
-            if !joined.ok {
-                return Joined {
-                    ok: false,
-                    next: st,
-                };
-            }
-            now = joined.next;
+            now = join_cells(a, b, now, row)?;
         }
-        p += 1;
     }
-    Joined {
-        ok: true,
-        next: now,
-    }
+    Some(now)
 }
 
 // ---- items
 
 // The left cell's place, else the right one's.
-fn picked(a: Cell, b: Cell) -> usize
+fn picked(a: Option<usize>, b: Option<usize>) -> usize
     ensures { result ≡ pick_cell (place_in a) (place_in b) }
 {
-    match a {
-        Cell::At(x) => x,
-        Cell::Nothing => match b {
-            Cell::At(y) => y,
-            Cell::Nothing => 0,
-        },
-    }
+    a.or(b).unwrap_or(0)
 }
 
 // The code at position p of n.
@@ -216,7 +186,7 @@ pub fn item_at(s: Shape, t: Shape, n: u16, long: bool, list: u8, i: u16, atoms: 
     if !long {
         return code_at(s, t, n, i, atoms);
     }
-    let h = larger(s.head as u16, t.head as u16);
+    let h = (s.head as u16).max(t.head as u16);
     if i < h {
         return code_at(s, t, n, i, atoms);
     }

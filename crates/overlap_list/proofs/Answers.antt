@@ -10,9 +10,9 @@ use Rattle.text_grammar.specs.Terms.{OurFields}
 use Rattle.text_grammar.proofs.Told as told_by
 use Rattle.text_write.proofs.Answers.{after_fits, after_small}
 use Rattle.overlap_spec.specs.Overlaps.{lines_of, overlap_text}
-use Rattle.overlap_list.specs.declared.Listed.{Listed}
-use Rattle.overlap_list.specs.declared.Listed.TheVariants.{Lines, TooSmall}
-use Rattle.overlap_list.specs.Answers.{told, Lists}
+use Rattle.std.specs.Prelude.{Ok, Err}
+use Rattle.overlap_counts.specs.declared.Counts.{Counts}
+use Rattle.overlap_list.specs.Answers.{Listed, told, Lists}
 
 module _ {x y : OurFields} {old : List ℕ} {r : Listed} {new : List ℕ} (is : Lists x y old r new) where
   abbrev text : List ℕ
@@ -46,17 +46,17 @@ module _ {x y : OurFields} {old : List ℕ} {r : Listed} {new : List ℕ} (is : 
   kept h = is.bytes ∙ after_small text old h
 
   -- the counts of each answer
-  module _ (e b : ℕ) where
-    pub lines_told : r ≡ Lines e b → (b ≡ length text) × (length text ≤ length old)
+  module _ (c : Counts) where
+    pub lines_told : r ≡ Ok c → (c.bytes ≡ length text) × (length text ≤ length old)
     lines_told h =
         let number : (told r).number ≡ none = ap (λ (a : Listed). (told a).number) h in
-        let values : e ∷ b ∷ [] ≡ counts = sym (ap (λ (a : Listed). (told a).values) h) ∙ counts_are in
-        let k : b ≡ length text = cc in
+        let values : c.entries ∷ c.bytes ∷ [] ≡ counts = sym (ap (λ (a : Listed). (told a).values) h) ∙ counts_are in
+        let k : c.bytes ≡ length text = cc in
         (k, fits_iff.0 number)
 
-    pub small_told : r ≡ TooSmall e b → (b ≡ length text) × (length old < length text)
+    pub small_told : r ≡ Err (record { counts = c }) → (c.bytes ≡ length text) × (length old < length text)
     small_told h =
         let number : (told r).number ≡ some 8 = ap (λ (a : Listed). (told a).number) h in
-        let values : e ∷ b ∷ [] ≡ counts = sym (ap (λ (a : Listed). (told a).values) h) ∙ counts_are in
-        let k : b ≡ length text = cc in
+        let values : c.entries ∷ c.bytes ∷ [] ≡ counts = sym (ap (λ (a : Listed). (told a).values) h) ∙ counts_are in
+        let k : c.bytes ≡ length text = cc in
         (k, eight_iff.0 number)

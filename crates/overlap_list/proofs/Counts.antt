@@ -1,6 +1,6 @@
 -- The whole list: how many lines there can be, and what storing them leaves of a buffer that has room for them. Assumes nothing.
 use mathlib.Core.Path.{◌≡◌, sym, ◌∙◌, ap, ap₂, subst}
-use mathlib.Core.Bool.{Bool, true, false, cond}
+use mathlib.Core.Bool.{Bool, true, false}
 use mathlib.Core.List.{List, [], ◌∷◌, ◌++◌}
 use mathlib.Core.Option.{Option, none, some}
 use Prim.Native.Nat.{ℕ, zero, suc, ◌+◌, ◌-◌, ◌*◌, ◌≤◌, ◌<◌}
@@ -8,7 +8,7 @@ use native.Mathlib.Nat.{zero-add, mul-le-mul_right}
 use native.Mathlib.Omega.{arith}
 use lib.ListN.{length, drop, length-append}
 use lib.Seq.{sets, sets-eq}
-use borrow.Author.Tests.{le-leb, lt-leb}
+use borrow.Author.Tests.{le-leb}
 use Rattle.base_limits.specs.Limits.{most_terms, field_places}
 use Rattle.base_lists.specs.Seqs.{All, tabulate}
 use Rattle.text_grammar.specs.Terms.{OurFields}
@@ -18,23 +18,22 @@ use Rattle.math_codes.specs.Whole.{spots_of}
 use Rattle.math_codes.proofs.Measures.{spot_terms, spots_few}
 use Rattle.pair_row.specs.Row.{table_in, spot_in}
 use Rattle.pair_state.specs.declared.State.{State}
-use Rattle.pair_state.specs.declared.Joined.{Joined}
+use Rattle.std.specs.Prelude.{Some, None}
+use Rattle.std.specs.Prelude as std
+use Rattle.std.specs.Prelude.{Ok, Err}
 use Rattle.overlap_entries.specs.declared.Choice.{Choice}
 use Rattle.overlap_entries.specs.Entries.{no_choice, chosen_at}
 use Rattle.overlap_entries.proofs.Laws.{span_few}
 use Rattle.text_write.specs.pieces.Stored.{bytes_of}
 use Rattle.text_write.proofs.pieces.Pieces.{sets_out}
 use Rattle.overlap_counts.specs.declared.Counts.{Counts}
-use Rattle.overlap_list.specs.declared.Candidate.{Candidate}
-use Rattle.overlap_list.specs.declared.Listed.TheVariants.{Lines, TooSmall}
-use Rattle.overlap_list.specs.declared.Pairing.{Pairing}
-use Rattle.overlap_list.specs.declared.Pairing.TheVariants.{Fields, Apart}
+use Rattle.overlap_entries.specs.declared.Candidate.{Candidate}
 use Rattle.overlap_list.specs.Answers.{ListsLines}
 use Rattle.overlap_list.specs.asking.Answers.{line_counts}
 use Rattle.pair_lines.specs.Lines.{spots_in}
 use Rattle.overlap_list.specs.Listing.{span_at, candidate_of, joins_at, after_join, candidate_lines, choice_lines, lines_from, lines_in, all_lines}
 use Rattle.overlap_counts.specs.Answers.{no_counts}
-use Rattle.overlap_list.specs.Listing.{tallied, Stores, most_entries, Countable, pair_lines}
+use Rattle.overlap_list.specs.Listing.{Pairing, tallied, Stores, most_entries, Countable, pair_lines}
 
 -- ---- how many lines: no field pair of two rules has more than 17 candidates
 
@@ -46,12 +45,9 @@ module _ (next : Choice → State → List (List ℕ)) (row : List ℕ) (j b : �
   join_few : (c : Candidate) (ch : Choice) (st : State) → length (candidate_lines next row j c ch st) ≤ b
   join_few c ch st = go (joins_at row j c.items st)
     where
-      by : (x : Bool) (st : State) → length (cond x (next (chosen_at ch j c.items c.long) st) []) ≤ b
-      by true st = few (chosen_at ch j c.items c.long) st
-      by false st = omega arith
-
-      go : (r : Joined) → length (after_join r (next (chosen_at ch j c.items c.long))) ≤ b
-      go r = by r.ok r.next
+      go : (r : std.Option State) → length (after_join r (next (chosen_at ch j c.items c.long))) ≤ b
+      go None = omega arith
+      go (Some st) = few (chosen_at ch j c.items c.long) st
 
   pub choice_few : (k : ℕ) (ch : Choice) (st : State) → length (choice_lines next row j k ch st) ≤ k * b
   choice_few zero ch st = omega arith
@@ -112,14 +108,14 @@ module _ (row : List ℕ) (right : Bool) (n : ℕ) where
 -- ---- every choice from the first field on
 
 -- rules that are apart have no line
-pub none_stored : (p : Pairing) (row texts old : List ℕ) (u : Counts) → p ≡ Apart → u ≡ no_counts → Stores (pair_lines p row texts) no_counts old u old
+pub none_stored : (p : Pairing) (row texts old : List ℕ) (u : Counts) → p ≡ None → u ≡ no_counts → Stores (pair_lines p row texts) no_counts old u old
 none_stored p row texts old u is_p is_u =
     let none : pair_lines p row texts ≡ [] = ap (λ (q : Pairing). pair_lines q row texts) is_p in (
       is_u ∙ ap (tallied no_counts) (sym none),
       ap (λ (ls : List (List ℕ)). sets old 0 (bytes_of ls)) (sym none),
     )
 
-module _ (p : Pairing) (row texts : List ℕ) (n : ℕ) (is_p : p ≡ Fields n) (ch : Choice) (st : State) (t : Counts) (is-ch : ch ≡ no_choice)
+module _ (p : Pairing) (row texts : List ℕ) (n : ℕ) (is_p : p ≡ Some n) (ch : Choice) (st : State) (t : Counts) (is-ch : ch ≡ no_choice)
     (is-st : st.atoms ≡ (table_in row).first) (is-t : t ≡ no_counts) where
   all_are : lines_in row texts n 0 ch st ≡ pair_lines p row texts
   all_are =
@@ -153,19 +149,14 @@ module _ (ls : List (List ℕ)) (old : List ℕ) (t : Counts) (is-t : t ≡ tall
   bytes_are : t.bytes ≡ length (bytes_of ls)
   bytes_are = ap (λ (x : Counts). x.bytes) (counted_all ls t is-t)
 
-  pub too_small : length old < t.bytes → ListsLines ls old (TooSmall t.entries t.bytes) old
-  too_small h =
-      let e = lt-leb (length (bytes_of ls)) (length old) (omega (arith, bytes_are)) in
-      record { answer = rw e (ap₂ (λ (n b : ℕ). record { number = some 8; values = n ∷ b ∷ [] }) entries_are bytes_are); bytes = rw e }
-
   -- the list in front of the old bytes
   in_front : t.bytes ≤ length old → {new : List ℕ} → new ≡ bytes_of ls ++ drop (length (bytes_of ls)) old
-      → ListsLines ls old (Lines t.entries t.bytes) new
+      → ListsLines ls old (Ok t) new
   in_front h is-new =
       let e = le-leb (length (bytes_of ls)) (length old) (omega (arith, bytes_are)) in
       record { answer = rw e (ap₂ (λ (n b : ℕ). record { number = none; values = n ∷ b ∷ [] }) entries_are bytes_are); bytes = rw e is-new }
 
-  pub room_enough : t.bytes ≤ length old → {new : List ℕ} → new ≡ sets old 0 (bytes_of ls) → ListsLines ls old (Lines t.entries t.bytes) new
+  pub room_enough : t.bytes ≤ length old → {new : List ℕ} → new ≡ sets old 0 (bytes_of ls) → ListsLines ls old (Ok t) new
   room_enough h is-new =
       in_front h (
       is-new

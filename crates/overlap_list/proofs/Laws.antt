@@ -1,8 +1,7 @@
 -- Laws of the listing: lines one behind the other, their counts, and the lent bytes. Assumes nothing.
-use mathlib.Core.Path.{◌≡◌, refl, sym, ◌∙◌, ap, ap₂, subst}
-use mathlib.Core.Bool.{Bool, true, false, cond}
+use mathlib.Core.Path.{◌≡◌, sym, ◌∙◌, ap, ap₂, subst}
 use mathlib.Core.List.{List, [], ◌∷◌, ◌++◌, append-nil}
-use Prim.Native.Nat.{ℕ, suc, ◌+◌, ◌-◌, ◌*◌, ◌≤◌, ◌<◌, min}
+use Prim.Native.Nat.{ℕ, suc, ◌+◌, ◌-◌, ◌*◌, ◌≤◌, min}
 use native.Mathlib.Omega.{arith}
 use lib.ListN.{length, take, drop, length-append}
 use lib.Seq.{sets, length-sets}
@@ -11,14 +10,15 @@ use Rattle.math_terms.proofs.Seqs.{concat_map_append}
 use Rattle.text_write.specs.pieces.Stored.{bytes_of}
 use Rattle.text_write.proofs.pieces.Stored.{bytes_length, store_part}
 use Rattle.pair_state.specs.declared.State.{State}
-use Rattle.pair_state.specs.declared.Joined.{Joined}
+use Rattle.std.specs.Prelude.{Some, None}
+use Rattle.std.specs.Prelude as std
 use Rattle.overlap_entries.specs.declared.Span.{Span}
 use Rattle.overlap_entries.specs.declared.Choice.{Choice}
 use Rattle.overlap_entries.specs.Entries.{chosen_at}
-use Rattle.pair_lines.specs.Lines.{line_in, line_bound}
+use Rattle.pair_lines.specs.Lines.{line_bound}
 use Rattle.overlap_counts.specs.declared.Counts.{Counts}
-use Rattle.overlap_list.specs.declared.Candidate.{Candidate}
-use Rattle.overlap_list.specs.Listing.{span_at, candidate_of, joins_at, candidate_lines, choice_lines, lines_from, lines_in, choices_in}
+use Rattle.overlap_entries.specs.declared.Candidate.{Candidate}
+use Rattle.overlap_list.specs.Listing.{span_at, after_join, candidate_of, joins_at, candidate_lines, choice_lines, lines_from, lines_in, choices_in}
 use Rattle.overlap_list.specs.Listing.{tallied, Stores, Moderate, Countable}
 
 -- ---- counts
@@ -58,17 +58,7 @@ line_part l old n at a e = store_part l old n at a e ∙ ap (sets old n) (sym (a
 
 -- ---- what is left to list
 
-module _ (row texts : List ℕ) (n j : ℕ) (ch : Choice) (st : State) where
-  pub lines_end : n ≤ j → lines_in row texts n j ch st ≡ line_in row texts n ch st.atoms ∷ []
-  lines_end h = let e : n - j ≡ 0 = omega arith in ap (λ (m : ℕ). lines_from m row texts n j ch st) e
-
-  pub lines_goes : j < n → lines_in row texts n j ch st ≡ choices_in row texts n j ch st
-  lines_goes h = let k : n - j ≡ suc (n - (j + 1)) = omega arith in ap (λ (m : ℕ). lines_from m row texts n j ch st) k
-
 module _ (next : Choice → State → List (List ℕ)) (row : List ℕ) (j k : ℕ) (ch : Choice) (st : State) where
-  pub choice_none : k ≡ 0 → choice_lines next row j k ch st ≡ []
-  choice_none e = ap (λ (m : ℕ). choice_lines next row j m ch st) e
-
   choice_goes : 1 ≤ k
       → choice_lines next row j k ch st ≡ candidate_lines next row j (candidate_of (span_at row j) k) ch st ++ choice_lines next row j (k - 1) ch st
   choice_goes h =
@@ -77,34 +67,26 @@ module _ (next : Choice → State → List (List ℕ)) (row : List ℕ) (j k : �
       ∙ ap (λ (m : ℕ). candidate_lines next row j (candidate_of (span_at row j) m) ch st ++ choice_lines next row j (k - 1) ch st) (sym e)
 
   -- by what the joins of the candidate say
-  module _ (s : Span) (c : Candidate) (r : Joined) (h : 1 ≤ k) (is-s : s ≡ span_at row j) (is_c : c ≡ candidate_of s k)
+  module _ (s : Span) (c : Candidate) (r : std.Option State) (h : 1 ≤ k) (is-s : s ≡ span_at row j) (is_c : c ≡ candidate_of s k)
       (is-r : r ≡ joins_at row j c.items st) where
-    by : choice_lines next row j k ch st
-        ≡ cond r.ok (next (chosen_at ch j c.items c.long) r.next) [] ++ choice_lines next row j (k - 1) ch st
-    by =
+    by : (q : std.Option State) → r ≡ q
+        → choice_lines next row j k ch st ≡ after_join q (next (chosen_at ch j c.items c.long)) ++ choice_lines next row j (k - 1) ch st
+    by q e =
         choice_goes h
         ∙ ap (λ (d : Candidate). candidate_lines next row j d ch st ++ choice_lines next row j (k - 1) ch st)
         (ap (λ (x : Span). candidate_of x k) (sym is-s) ∙ sym is_c)
-        ∙ ap (λ (x : Joined). cond x.ok (next (chosen_at ch j c.items c.long) x.next) [] ++ choice_lines next row j (k - 1) ch st) (sym is-r)
+        ∙ ap (λ (x : std.Option State). after_join x (next (chosen_at ch j c.items c.long)) ++ choice_lines next row j (k - 1) ch st) (sym is-r ∙ e)
 
-    pub choice_clash : r.ok ≡ false → choice_lines next row j k ch st ≡ choice_lines next row j (k - 1) ch st
-    choice_clash e =
-        by
-        ∙ ap (λ (b : Bool). cond b (next (chosen_at ch j c.items c.long) r.next) [] ++ choice_lines next row j (k - 1) ch st) e
+    pub choice_clash : r ≡ None → choice_lines next row j k ch st ≡ choice_lines next row j (k - 1) ch st
+    choice_clash e = by None e
 
-    pub choice_alive : (d : Choice) → r.ok ≡ true → d ≡ chosen_at ch j c.items c.long
-        → choice_lines next row j k ch st ≡ next d r.next ++ choice_lines next row j (k - 1) ch st
-    choice_alive d e is-d =
-        by
-        ∙ ap (λ (b : Bool). cond b (next (chosen_at ch j c.items c.long) r.next) [] ++ choice_lines next row j (k - 1) ch st) e
-        ∙ ap (λ (x : Choice). next x r.next ++ choice_lines next row j (k - 1) ch st) (sym is-d)
+    pub choice_alive : (d : Choice) (nx : State) → r ≡ Some nx → d ≡ chosen_at ch j c.items c.long
+        → choice_lines next row j k ch st ≡ next d nx ++ choice_lines next row j (k - 1) ch st
+    choice_alive d nx e is-d = by (Some nx) e ∙ ap (λ (x : Choice). next x nx ++ choice_lines next row j (k - 1) ch st) (sym is-d)
 
 -- ---- what a call leaves: the counts and the bytes of its lines, from the counts t and the bytes old
 
 module _ (t : Counts) (old : List ℕ) where
-  pub listed_as : (ls ms : List (List ℕ)) {u : Counts} {new : List ℕ} → ls ≡ ms → Stores ms t old u new → Stores ls t old u new
-  listed_as ls ms e h = (h.0 ∙ ap (tallied t) (sym e), h.1 ∙ ap (λ (l : List (List ℕ)). sets old t.bytes (bytes_of l)) (sym e))
-
   -- the bytes stay as many
   pub listed_length : (ls : List (List ℕ)) {u : Counts} {new : List ℕ} → Stores ls t old u new → length new ≡ length old
   listed_length ls h = ap length h.1 ∙ length-sets old t.bytes (bytes_of ls)
@@ -134,24 +116,9 @@ module _ (row texts : List ℕ) (n j : ℕ) (ch : Choice) (st : State) (t : Coun
     pub can : Countable u (rest k)
     pub long : length out ≡ length old
 
-  pub choosing_start : (s : Span) → s ≡ span_at row j → Countable t all → Choosing s s.count t old
-  choosing_start s e h =
-      let k : s.count ≡ (span_at row j).count = ap (λ (x : Span). x.count) e in
-      record {
-        span_is = e;
-        within = omega arith;
-        counts = ap (λ (m : ℕ). tallied t (rest m)) k;
-        stores = ap (λ (m : ℕ). sets old t.bytes (bytes_of (rest m))) k;
-        can = subst (λ (m : ℕ). Countable t (rest m)) (sym k) h;
-        long = refl;
-      }
-
-  pub choosing_as : (s : Span) (k : ℕ) (u v : Counts) (out new : List ℕ) → new ≡ out → v ≡ u → Choosing s k u out → Choosing s k v new
-  choosing_as s k u v out new e f C = subst (λ (x : Counts). Choosing s k x new) (sym f) (subst (λ (l : List ℕ). Choosing s k u l) (sym e) C)
-
   module _ (s : Span) (k : ℕ) (u : Counts) (out : List ℕ) (C : Choosing s k u out) where
-    module _ (h : 1 ≤ k) (c : Candidate) (r : Joined) (is_c : c ≡ candidate_of s k) (is-r : r ≡ joins_at row j c.items st) where
-      pub choosing_clash : r.ok ≡ false → Choosing s (k - 1) u out
+    module _ (h : 1 ≤ k) (c : Candidate) (r : std.Option State) (is_c : c ≡ candidate_of s k) (is-r : r ≡ joins_at row j c.items st) where
+      pub choosing_clash : r ≡ None → Choosing s (k - 1) u out
       choosing_clash q =
           let e = choice_clash next row j k ch st s c r h C.span_is is_c is-r q in
           record {
@@ -163,12 +130,12 @@ module _ (row texts : List ℕ) (n j : ℕ) (ch : Choice) (st : State) (t : Coun
             long = C.long;
           }
 
-      module _ (d : Choice) (ok : r.ok ≡ true) (is-d : d ≡ chosen_at ch j c.items c.long) where
+      module _ (d : Choice) (nx : State) (ok : r ≡ Some nx) (is-d : d ≡ chosen_at ch j c.items c.long) where
         abbrev here : List (List ℕ)
-        here = lines_in row texts n (j + 1) d r.next
+        here = lines_in row texts n (j + 1) d nx
 
         splits : rest k ≡ here ++ rest (k - 1)
-        splits = choice_alive next row j k ch st s c r h C.span_is is_c is-r d ok is-d
+        splits = choice_alive next row j k ch st s c r h C.span_is is_c is-r d nx ok is-d
 
         can_both : Countable u (here ++ rest (k - 1))
         can_both = subst (Countable u) splits C.can
@@ -194,10 +161,3 @@ module _ (row texts : List ℕ) (n j : ℕ) (ch : Choice) (st : State) (t : Coun
               can = countable_next u here (rest (k - 1)) can_both v l.0 o;
               long = listed_length u out here l ∙ C.long;
             }
-
-    pub choosing_end : k ≤ 0 → Stores all t old u out × Moderate u
-    choosing_end h =
-        let e = choice_none next row j k ch st (omega arith) in (
-          (sym (tally_none u) ∙ ap (tallied u) (sym e) ∙ C.counts, ap (λ (l : List (List ℕ)). sets out u.bytes (bytes_of l)) (sym e) ∙ C.stores),
-          C.can.0,
-        )

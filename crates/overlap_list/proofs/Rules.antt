@@ -31,15 +31,13 @@ use Rattle.text_write.specs.Answers.{after}
 use Rattle.text_write.specs.pieces.Stored.{bytes_of}
 use Rattle.pair_lines.specs.Lines.{spots_in}
 use Rattle.pair_lines.proofs.Lines.{line_is, numbers_few_lem}
-use Rattle.overlap_list.specs.declared.Listed.{Listed}
-use Rattle.overlap_list.specs.declared.Listed.TheVariants.{Lines}
+use Rattle.std.specs.Prelude.{Some, None, Ok}
 use Rattle.overlap_counts.specs.declared.Counts.{Counts}
-use Rattle.overlap_counts.specs.declared.Committed.{Committed}
+use Rattle.overlap_counts.specs.Answers.{Committed}
 use Rattle.overlap_counts.specs.Answers as list
-use Rattle.overlap_list.specs.declared.Pairing.TheVariants.{Fields, Apart}
 use Rattle.overlap_counts.specs.Answers.{no_counts}
 use Rattle.overlap_list.specs.Listing.{all_lines, choices, tallied, Countable, pairing_of, Listable}
-use Rattle.overlap_list.specs.Answers.{told, Lists, ListsLines}
+use Rattle.overlap_list.specs.Answers.{Listed, told, Lists, ListsLines}
 use Rattle.overlap_list.specs.asking.Answers.{counts_of, Commits, line_counts, CommitsLines}
 use Rattle.overlap_list.proofs.Lists.{LineIs, all_lines_lem}
 use Rattle.overlap_list.proofs.Counts.{rule_short, countable_all, counted_all}
@@ -47,11 +45,11 @@ use Rattle.overlap_list.proofs.Short.{pair_short}
 
 -- ---- no lines
 
-pub none_listed : (x y : OurFields) → lines_of x y ≡ [] → (old : List ℕ) → Lists x y old (Lines 0 0) old
+pub none_listed : (x y : OurFields) → lines_of x y ≡ [] → (old : List ℕ) → Lists x y old (Ok no_counts) old
 none_listed x y e old =
     let z = le-leb 0 (length old) (omega arith) in
     record {
-      answer = subst (λ (l : List Line). told (Lines 0 0) ≡ by_room (length (list_text l)) (length old) (length l ∷ length (list_text l) ∷ [])) (sym e) (rw z);
+      answer = subst (λ (l : List Line). told (Ok no_counts) ≡ by_room (length (list_text l)) (length old) (length l ∷ length (list_text l) ∷ [])) (sym e) (rw z);
       bytes = subst (λ (l : List Line). old ≡ after (list_text l) old) (sym e) (rw z);
     }
 
@@ -119,16 +117,16 @@ module _ (r₁ r₂ : OurFields) (ok₁ : IsLeft r₁) (ok₂ : IsLeft r₂) (ro
 
 -- ---- whether two rules can have an entry
 
-pub pairing_none : (n m : ℕ) → n ≡ 0 → pairing_of n m ≡ Apart
+pub pairing_none : (n m : ℕ) → n ≡ 0 → pairing_of n m ≡ None
 pairing_none n m e = ap (λ (k : ℕ). pairing_of k m) e
 
-pub pairing_other : (n m : ℕ) → n ≢ m → pairing_of n m ≡ Apart
+pub pairing_other : (n m : ℕ) → n ≢ m → pairing_of n m ≡ None
 pairing_other zero m d = refl
-pairing_other (suc n) m d = ap (λ (b : Bool). cond b (Fields (suc n)) Apart) (ne_eqb (suc n) m d)
+pairing_other (suc n) m d = ap (λ (b : Bool). cond b (Some (suc n)) None) (ne_eqb (suc n) m d)
 
-pub pairing_same : (n m : ℕ) → n ≢ 0 → n ≡ m → pairing_of n m ≡ Fields n
+pub pairing_same : (n m : ℕ) → n ≢ 0 → n ≡ m → pairing_of n m ≡ Some n
 pairing_same zero m d e = absurd (d refl)
-pairing_same (suc n) m d e = ap (λ (b : Bool). cond b (Fields (suc n)) Apart) (eq-eqb (suc n) m e)
+pairing_same (suc n) m d e = ap (λ (b : Bool). cond b (Some (suc n)) None) (eq-eqb (suc n) m e)
 
 -- ---- texts of sides
 
@@ -181,7 +179,7 @@ module _ (t u row₀ texts₀ row₁ texts₁ row₂ texts₂ : List ℕ) (is-ro
     ok_right : IsLeft y
     ok_right = rule_read_lem u y reads-right
 
-    pub same_noted : Listable (Fields n) row₂ texts₂ × (all_lines row₂ texts₂ n ≡ map line_text (lines_of x y))
+    pub same_noted : Listable (Some n) row₂ texts₂ × (all_lines row₂ texts₂ n ≡ map line_text (lines_of x y))
     same_noted = (
       record {
         few = omega (arith, left_count, ok_left.0.1);

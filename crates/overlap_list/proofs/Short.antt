@@ -1,6 +1,6 @@
 -- How long a list can be: no more lines than there are choices, of any tables; and a bound on every line.
 use mathlib.Core.Path.{◌≡◌, ◌∙◌, ap, ap₂, subst}
-use mathlib.Core.Bool.{Bool, true, false, cond}
+use mathlib.Core.Bool.{true, false}
 use mathlib.Core.List.{List, [], ◌∷◌}
 use Prim.Native.Nat.{ℕ, zero, suc, ◌+◌, ◌-◌, ◌*◌, ◌/◌, ◌≤◌, ◌<◌}
 use native.Mathlib.Nat.{mul-le-mul, mul-le-mul_right, div-mul-le_self}
@@ -10,13 +10,14 @@ use Rattle.base_limits.specs.Limits.{longest_string, kind_count, numbers_of_side
 use Rattle.base_lists.specs.Seqs.{All, all_append}
 use Rattle.pair_row.specs.Row.{table_in, cell_bytes, top_in}
 use Rattle.pair_state.specs.declared.State.{State}
-use Rattle.pair_state.specs.declared.Joined.{Joined}
+use Rattle.std.specs.Prelude.{Some, None}
+use Rattle.std.specs.Prelude as std
 use Rattle.overlap_entries.specs.declared.Choice.{Choice}
 use Rattle.overlap_entries.specs.Entries.{no_choice, chosen_at}
 use Rattle.pair_lines.specs.Lines.{line_in}
 use Rattle.pair_lines.proofs.Short.{any_line}
 use Rattle.text_write.specs.pieces.Stored.{bytes_of}
-use Rattle.overlap_list.specs.declared.Candidate.{Candidate}
+use Rattle.overlap_entries.specs.declared.Candidate.{Candidate}
 use Rattle.overlap_list.specs.Listing.{span_at, candidate_of, joins_at, after_join, candidate_lines, choice_lines, lines_from, all_lines}
 use Rattle.overlap_list.specs.Listing.{choices}
 use Rattle.overlap_list.proofs.Counts.{choice_few}
@@ -40,12 +41,9 @@ module _ (P : List ℕ → Type 0) where
     join_every : (c : Candidate) (ch : Choice) (st : State) → All P (candidate_lines next row j c ch st)
     join_every c ch st = go (joins_at row j c.items st)
       where
-        by : (x : Bool) (st : State) → All P (cond x (next (chosen_at ch j c.items c.long) st) [])
-        by true st = every (chosen_at ch j c.items c.long) st
-        by false st = tt
-
-        go : (r : Joined) → All P (after_join r (next (chosen_at ch j c.items c.long)))
-        go r = by r.ok r.next
+        go : (r : std.Option State) → All P (after_join r (next (chosen_at ch j c.items c.long)))
+        go None = tt
+        go (Some st) = every (chosen_at ch j c.items c.long) st
 
     choice_every : (k : ℕ) (ch : Choice) (st : State) → All P (choice_lines next row j k ch st)
     choice_every zero ch st = tt
@@ -128,9 +126,3 @@ module _ (row : List ℕ) (n : ℕ) where
           product = subst (λ m. s * k ≡ choices row (j - 1) m) z (ap₂ (λ a b. a * b) e (h.product ∙ ap (λ i. choices row i (n - j)) one));
           small = subst (λ m. s * k ≤ most_choices m) z times_small;
         }
-
-  pub product_end : (j k : ℕ) → j ≤ 0 → Product row n j k → k ≡ choices row 0 n
-  product_end j k p h =
-      let a : j ≡ 0 = omega arith in
-      let b : n - j ≡ n = omega arith in
-      h.product ∙ ap₂ (choices row) a b

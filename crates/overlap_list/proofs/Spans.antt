@@ -1,24 +1,22 @@
 -- The candidate that comes next, and what is read of a pair's fields. Assumes nothing.
-use mathlib.Core.Path.{◌≡◌, ◌∙◌, ap, ap₂, sym}
-use mathlib.Core.Logic.{◌≢◌}
-use mathlib.Core.Bool.{Bool, true, false, and-true, and-false}
+use mathlib.Core.Path.{◌≡◌, ◌∙◌, ap, ap₂}
+use mathlib.Core.Bool.{Bool, true, false}
 use mathlib.Core.Option.{Option, none, some}
 use mathlib.Core.List.{List}
-use Prim.Native.Nat.{ℕ, ◌+◌, ◌-◌, ◌≤◌, ◌<◌}
+use Prim.Native.Nat.{ℕ, ◌+◌, ◌≤◌, ◌<◌}
 use native.Mathlib.Omega.{arith}
 use lib.Dec.{eqb, leb}
-use borrow.Author.Tests.{eq-eqb, ne_eqb}
 use Rattle.math_codes.specs.Makers.{largest_byte}
 use Rattle.math_types.specs.Types.{entry}
 use Rattle.math_codes.specs.Spots.{Spot, cell_at, join_from}
 use Rattle.pair_row.specs.declared.Shape.{Shape}
 use Rattle.pair_row.specs.Row.{table_in, shape_in, spot_of}
 use Rattle.pair_state.specs.declared.State.{State}
-use Rattle.pair_state.specs.declared.Joined.{Joined}
+use Rattle.std.specs.Prelude as std
 use Rattle.pair_state.specs.States.{joined_of}
 use Rattle.overlap_entries.specs.declared.Span.{Span}
 use Rattle.overlap_entries.specs.Entries.{only, span_from, span_of}
-use Rattle.overlap_list.specs.Listing.{span_at, candidate_of, joins_at, span_bound}
+use Rattle.overlap_list.specs.Listing.{span_at, joins_at, span_bound}
 
 -- ---- the candidate that comes next where k are left
 
@@ -45,19 +43,13 @@ few_candidates f g s k e a b c d p h =
     let q = span_low (spot_of f) (spot_of g) (omega arith) (omega arith) (omega arith) (omega arith) in
     (omega arith, h, omega (arith, q, ap (λ (x : Span). x.count) e, ap (λ (x : Span). x.least) e))
 
-pub candidate_last : (s : Span) (k : ℕ) → k ≡ 1 → record { items = s.least + (s.count - k); long = s.long } ≡ candidate_of s k
-candidate_last s k e = rw (eq-eqb k 1 e) (ap (λ (b : Bool). record { items = s.least + (s.count - k); long = b }) (sym (and-true s.long)))
-
-pub candidate_before : (s : Span) (k : ℕ) → k ≢ 1 → record { items = s.least + (s.count - k); long = false } ≡ candidate_of s k
-candidate_before s k n = rw (ne_eqb k 1 n) (ap (λ (b : Bool). record { items = s.least + (s.count - k); long = b }) (sym (and-false s.long)))
-
 -- ---- what is read of field j
 
 module _ (row : List ℕ) (j : ℕ) (f g : Shape) (is_f : f ≡ shape_in row false j) (is-g : g ≡ shape_in row true j) where
   pub span_is : (s : Span) → s ≡ span_of (spot_of f) (spot_of g) → s ≡ span_at row j
   span_is s e = e ∙ ap₂ (λ (x y : Shape). span_of (spot_of x) (spot_of y)) is_f is-g
 
-  pub join_is : (n : ℕ) (st : State) (r : Joined)
-      → r ≡ joined_of st (join_from entry (table_in row) (cell_at (spot_of f) n) (cell_at (spot_of g) n) n 0 st.atoms) → r ≡ joins_at row j n st
+  pub join_is : (n : ℕ) (st : State) (r : std.Option State)
+      → r ≡ joined_of (join_from entry (table_in row) (cell_at (spot_of f) n) (cell_at (spot_of g) n) n 0 st.atoms) → r ≡ joins_at row j n st
   join_is n st r e =
-      e ∙ ap₂ (λ (x y : Shape). joined_of st (join_from entry (table_in row) (cell_at (spot_of x) n) (cell_at (spot_of y) n) n 0 st.atoms)) is_f is-g
+      e ∙ ap₂ (λ (x y : Shape). joined_of (join_from entry (table_in row) (cell_at (spot_of x) n) (cell_at (spot_of y) n) n 0 st.atoms)) is_f is-g

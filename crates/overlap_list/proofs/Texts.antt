@@ -1,4 +1,5 @@
 -- What the texts of two rules say, in the tables of a pair; and two rule values by their plain texts. Assumes nothing.
+use Rattle.std.specs.Prelude.{Result, Ok}
 use mathlib.Core.Path.{◌≡◌, refl, sym, ap, ap₂, ◌∙◌, subst, subst₂}
 use mathlib.Core.Logic.{◌≢◌, ◌⊎◌, inl, inr}
 use mathlib.Core.Bool.{Bool, true, false, cond}
@@ -19,15 +20,15 @@ use Rattle.text_grammar.proofs.rules.Before.{one_sided}
 use Rattle.overlap_spec.specs.Lines.{line_text}
 use Rattle.overlap_spec.specs.Overlaps.{lines_of}
 use Rattle.overlap_spec.proofs.Exact.{no_right}
-use Rattle.text_values.specs.declared.RuleSide.{RuleSide}
+use Rattle.text_values.specs.Values.{RuleSide}
 use Rattle.text_values.specs.declared.Rule.{Rule}
 use Rattle.text_values.specs.Values.{view_side}
 use Rattle.text_accepted.specs.Accepted.{accepted_left, counted_left}
 use Rattle.text_accepted.proofs.Accepted.{accepted_rule_lem}
 use Rattle.text_accepted.specs.rules.Rules.{counted_rule, left_value}
 use Rattle.text_accepted.proofs.rules.Rules.{left_counted}
-use Rattle.text_refusals.specs.declared.verdicts.Verdict.{Verdict}
-use Rattle.text_refusals.specs.declared.verdicts.Verdict.TheVariants.{Accepted, Refused}
+use Rattle.std.specs.Prelude.{Ok, Err}
+use Rattle.text_refusals.specs.verdicts.Verdicts.{Verdict, Accepted, Refused}
 use Rattle.pair_table.specs.Notes.{blank_rows}
 use Rattle.text_passes.specs.Fields.{field_count}
 use Rattle.text_passes.specs.Notes.{noted_in}
@@ -35,24 +36,19 @@ use Rattle.text_passes.proofs.Fields.{side_fields_lem}
 use Rattle.text_read.specs.declared.LeftJudged.{LeftJudged}
 use Rattle.text_read.specs.Answers.{left_said, left_end, JudgesLeft}
 use Rattle.text_read.proofs.Judged.{judged_accepted, judged_refused}
-use Rattle.text_write.specs.declared.Written.{Written}
-use Rattle.text_write.specs.declared.Written.TheVariants.{Bytes}
 use Rattle.text_write.specs.Answers.{after, Writes}
-use Rattle.text_write.specs.pieces.Sizes.{size_of}
-use Rattle.text_write.proofs.pieces.Pieces.{size_told, written_long, written_count, written_front}
+use Rattle.text_write.proofs.pieces.Pieces.{written_long, written_count, written_front}
 use Rattle.text_plain.proofs.Lengths.{plain_short}
 use Rattle.overlap_counts.specs.declared.Counts.{Counts}
-use Rattle.overlap_counts.specs.declared.Committed.{Committed}
-use Rattle.overlap_list.specs.declared.Listed.{Listed}
+use Rattle.std.specs.Prelude.{Some, None, Ok}
+use Rattle.overlap_counts.specs.Answers.{Committed}
 use Rattle.overlap_list.specs.declared.TextsListed.{TextsListed}
 use Rattle.overlap_list.specs.declared.TextsNoted.{TextsNoted}
-use Rattle.overlap_list.specs.declared.Pairing.{Pairing}
-use Rattle.overlap_list.specs.declared.Pairing.TheVariants.{Fields, Apart}
 use Rattle.overlap_list.specs.declared.asking.TextsAsked.{TextsAsked}
 use Rattle.overlap_list.specs.declared.asking.TextsCommitted.{TextsCommitted}
 use Rattle.overlap_counts.specs.Answers.{no_counts}
-use Rattle.overlap_list.specs.Listing.{pairing_of, pair_lines, tallied, Listable}
-use Rattle.overlap_list.specs.Answers.{Lists, ListsLines, NotesTexts, TextsList, left_plain}
+use Rattle.overlap_list.specs.Listing.{Pairing, pairing_of, pair_lines, tallied, Listable}
+use Rattle.overlap_list.specs.Answers.{Listed, Lists, ListsLines, NotesTexts, TextsList, left_plain}
 use Rattle.overlap_list.specs.shared.Choices.{any_of}
 use Rattle.overlap_list.specs.shared.Answers.{TextsMeet}
 use Rattle.overlap_list.specs.asking.Answers.{counts_of, Commits, TextsAsk, TextsCommit, CommitsLines}
@@ -72,13 +68,13 @@ side_of_lem : (t : List ℕ) (l : LeftJudged) → JudgesLeft t l → Side t l
 side_of_lem t l is = go l.verdict refl
   where
     go : (v : Verdict) → l.verdict ≡ v → Side t l
-    go Accepted e = let a = judged_accepted t l is e in inl (a.0.0, a.2, ap left_said a.1)
-    go (Refused q p) e =
+    go (Ok u) e = let a = judged_accepted t l is e in inl (a.0.0, a.2, ap left_said a.1)
+    go (Err x) e =
         let z : l.end ≡ 0 = is.ends ∙ ap (λ (v : Verdict). left_end v t) e in
-        inr (ap (λ (k : ℕ). field_count (take k t)) z, ap left_said (judged_refused t l is q p e).1)
+        inr (ap (λ (k : ℕ). field_count (take k t)) z, ap left_said (judged_refused t l is x.reason x.place e).1)
 
 -- no rule has an entry with one that has no fields
-none_right : (n : ℕ) → pairing_of n 0 ≡ Apart
+none_right : (n : ℕ) → pairing_of n 0 ≡ None
 none_right zero = refl
 none_right (suc n) = pairing_other (suc n) 0 (λ e. absurd (omega (arith, e)))
 
@@ -106,8 +102,8 @@ module _ (t u : List ℕ) (l r : LeftJudged) (is-l : JudgesLeft t l) (is-r : Jud
         lines = ap (λ (z : Pairing). pair_lines z row₂ texts₂) (is_p ∙ e) ∙ are;
       }
 
-  apart : pairing_of n m ≡ Apart → lines_of X Y ≡ [] → Noted
-  apart e none = noted Apart e (record { few = tt; can = (omega arith, omega arith); short = omega arith }) (sym (ap (map line_text) none))
+  apart : pairing_of n m ≡ None → lines_of X Y ≡ [] → Noted
+  apart e none = noted None e (record { few = tt; can = (omega arith, omega arith); short = omega arith }) (sym (ap (map line_text) none))
 
   both : (x y : OurFields) → read_side (take l.end t) ≡ accepted x → X ≡ x → read_side (take r.end u) ≡ accepted y → Y ≡ y → Noted
   both x y reads-x e reads_y f = go (ℕ_discrete n m)
@@ -125,7 +121,7 @@ module _ (t u : List ℕ) (l r : LeftJudged) (is-l : JudgesLeft t l) (is-r : Jud
       go (yes q) =
           let s = same_noted (take l.end t) (take r.end u) row₀ texts₀ row₁ texts₁ row₂ texts₂ is-row₀ is-texts₀ is-row₁ is-texts₁
           is-row₂ is-texts₂ x y reads-x reads_y n left_count (q ∙ right_count) in
-          noted (Fields n) (pairing_same n m some q) s.0 (s.1 ∙ ap (map line_text) (sym (ap₂ lines_of e f)))
+          noted (Some n) (pairing_same n m some q) s.0 (s.1 ∙ ap (map line_text) (sym (ap₂ lines_of e f)))
       go (no d) = apart (pairing_other n m d) (ap₂ lines_of e f ∙ lines_none x y (λ q. d (left_count ∙ q ∙ sym right_count)))
 
   pub texts_noted : Noted
@@ -192,17 +188,11 @@ module _ (v : Rule) where
   pub plain_is : {x : RuleSide} → x ≡ left_value v → plain (counted_left x) ≡ left_plain v
   plain_is is_x = ap (λ (y : RuleSide). plain (counted_left y)) is_x ∙ ap plain (left_counted v)
 
-  pub left_put : {x : RuleSide} → x ≡ left_value v → {n : ℕ} {w : Written} {old new : List ℕ} → n ≡ size_of w → Writes (plain (counted_left x)) old w new
-      → (n ≡ length (left_plain v)) × (new ≡ after (left_plain v) old)
-  left_put is_x {n} {w} {old} {new} size put =
-      let e = plain_is is_x in
-      (size ∙ size_told put ∙ ap length e, put.bytes ∙ ap (λ (t : List ℕ). after t old) e)
-
   pub left_short : length (left_plain v) ≤ longest_side
   left_short = subst (λ (x : OurFields). length (plain x) ≤ longest_side) (left_counted v) (plain_short (left_value v))
 
   module _ {n : ℕ} {new : List ℕ} (put : (n ≡ length (left_plain v)) × (new ≡ after (left_plain v) (replicate longest_side 0))) where
-    as_written : Writes (left_plain v) (replicate longest_side 0) (Bytes (length (left_plain v))) new
+    as_written : Writes (left_plain v) (replicate longest_side 0) (Ok (length (left_plain v))) new
     as_written = record { answer = rw (le-leb (length (left_plain v)) longest_side left_short); bytes = put.1 }
 
     pub left_long : n ≤ length new

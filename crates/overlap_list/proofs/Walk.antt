@@ -24,7 +24,7 @@ use Rattle.overlap_entries.specs.Entries.{span_of, cand_of, cand_at, no_choice, 
 use Rattle.overlap_entries.proofs.Laws.{cands_are, span_is}
 use Rattle.pair_lines.specs.Lines.{spots_in, line_in}
 use Rattle.pair_lines.specs.Lines.{is_long, chosen_by}
-use Rattle.overlap_list.specs.declared.Candidate.{Candidate}
+use Rattle.overlap_entries.specs.declared.Candidate.{Candidate}
 use Rattle.overlap_list.specs.Listing.{span_at, candidate_of, after_join, candidate_lines, choice_lines, lines_from, all_lines}
 
 -- ---- the candidate that comes next where k are left
@@ -57,10 +57,9 @@ module _ (P Q : Spot ℕ) where
 
 -- ---- one field pair
 
-after_join_lem : (st : State) (o : Option (List ℕ)) (f : State → List (List ℕ))
-    → after_join (joined_of st o) f ≡ or_nothing o (λ atoms. f (record { atoms = atoms }))
-after_join_lem st none f = refl
-after_join_lem st (some atoms) f = refl
+after_join_lem : (o : Option (List ℕ)) (f : State → List (List ℕ)) → after_join (joined_of o) f ≡ or_nothing o (λ atoms. f (record { atoms = atoms }))
+after_join_lem none f = refl
+after_join_lem (some atoms) f = refl
 
 module _ (row : List ℕ) (j : ℕ) (ch : Choice) (st : State) (next : Choice → State → List (List ℕ)) (rest : Cand → List ℕ → List (List ℕ))
     (rec : (c : Cand) (atoms : List ℕ)
@@ -82,7 +81,7 @@ module _ (row : List ℕ) (j : ℕ) (ch : Choice) (st : State) (next : Choice �
   candidate_agrees c =
       let o = joins_on entry (table_in row) P Q c st.atoms in
       let f : State → List (List ℕ) = next (chosen_at ch j (span_on P Q c) (is_long c)) in
-      after_join_lem st o f ∙ or_same o (λ atoms. f (record { atoms = atoms })) (rest c) (λ atoms. rec c atoms)
+      after_join_lem o f ∙ or_same o (λ atoms. f (record { atoms = atoms })) (rest c) (λ atoms. rec c atoms)
 
   -- k candidates are left
   choices_agree : (k : ℕ) → k ≤ count → choice_lines next row j k ch st ≡ concat_map step (tabulate k (λ i. cand_at (span_of P Q) (count - k + i)))

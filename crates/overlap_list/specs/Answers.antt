@@ -1,7 +1,7 @@
 -- What listing overlaps answers, and what it leaves in the lent bytes. Document 01: "The lines written are those of the entries, in their
 -- order. The entry count, which is their number, and the byte count, which is the length of all their lines, are returned.
 -- 8: as in searching, with the entry count and the needed byte count, the old bytes left."
-use Rattle.std.specs.Prelude.{◌≡◌, List, [], ◌∷◌, map, ℕ, length}
+use Rattle.std.specs.Prelude.{◌≡◌, Result, Ok, Err, List, [], ◌∷◌, map, ℕ, length}
 use Rattle.std.proofs.Math.Option.{none, some}
 use Rattle.text_grammar.specs.Told.{Told, by_room}
 use Rattle.text_grammar.specs.Terms.{OurFields}
@@ -15,17 +15,21 @@ use Rattle.overlap_spec.specs.Lines.{line_text}
 use Rattle.overlap_spec.specs.Overlaps.{lines_of, overlap_text}
 use Rattle.text_values.specs.declared.Rule.{Rule}
 use Rattle.text_accepted.specs.rules.Rules.{counted_rule}
-use Rattle.overlap_list.specs.declared.Listed.{Listed}
-use Rattle.overlap_list.specs.declared.Listed.TheVariants.{Lines, TooSmall}
+use Rattle.overlap_counts.specs.declared.Counts.{Counts}
+use Rattle.overlap_counts.specs.declared.NoRoom.{NoRoom}
 use Rattle.overlap_list.specs.declared.TextsListed.{TextsListed}
 use Rattle.overlap_list.specs.declared.TextsNoted.{TextsNoted}
 use Rattle.overlap_list.specs.Listing.{pair_lines, Listable}
 
+-- what listing returns: the list's counts, or that it has no room
+abbrev pub Listed : Type 0
+Listed = Result Counts NoRoom
+
 -- document 01's number and values of each answer: "The entry count .. and the byte count .. are returned. 8: as in searching, with the
 -- entry count and the needed byte count"
 abbrev pub told : Listed → Told
-told (Lines n b) = record { number = none; values = n ∷ b ∷ [] }
-told (TooSmall n b) = record { number = some 8; values = n ∷ b ∷ [] }
+told (Ok c) = record { number = none; values = c.entries ∷ c.bytes ∷ [] }
+told (Err r) = record { number = some 8; values = r.counts.entries ∷ r.counts.bytes ∷ [] }
 
 -- WHAT LISTING PROMISES of the rules with the left sides x and y and the lent bytes `old`: the answer, and what the bytes are afterwards
 pub record Lists (x y : OurFields) (old : List ℕ) (r : Listed) (new : List ℕ) : Type 0 where

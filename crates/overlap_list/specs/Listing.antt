@@ -1,6 +1,6 @@
 -- Listing overlaps as code does it, on the tables of a pair: "Choosing a length for one field leads to the next field's choices; the first
 -- field varies slowest." `all_lines` of proofs/ says that the lines are those of the overlap list.
-use Rattle.std.specs.Prelude.{◌≡◌, true, false, cond, ◌&&◌, List, [], ◌∷◌, ◌++◌, ℕ, zero, suc, ◌+◌, ◌-◌, ◌*◌, ◌^◌, ◌≤◌, eqb, length}
+use Rattle.std.specs.Prelude.{◌≡◌, Option, Some, None, true, false, cond, ◌&&◌, List, [], ◌∷◌, ◌++◌, ℕ, zero, suc, ◌+◌, ◌-◌, ◌*◌, ◌^◌, ◌≤◌, eqb, length}
 use Rattle.std.proofs.lemmas.List.Edits.{sets}
 use Rattle.base_limits.specs.Limits.{most_fields, most_terms, entry_line}
 use Rattle.math_types.specs.Types.{entry}
@@ -8,7 +8,6 @@ use Rattle.math_codes.specs.Spots.{cell_at, join_from}
 use Rattle.text_write.specs.pieces.Stored.{bytes_of}
 use Rattle.pair_row.specs.Row.{table_in, spot_in}
 use Rattle.pair_state.specs.declared.State.{State}
-use Rattle.pair_state.specs.declared.Joined.{Joined}
 use Rattle.pair_state.specs.States.{joined_of}
 use Rattle.overlap_entries.specs.declared.Span.{Span}
 use Rattle.overlap_entries.specs.declared.Choice.{Choice}
@@ -16,9 +15,7 @@ use Rattle.overlap_entries.specs.Entries.{span_of, no_choice, chosen_at}
 use Rattle.pair_lines.specs.Lines.{line_in, line_bound}
 use Rattle.overlap_counts.specs.declared.Counts.{Counts}
 use Rattle.overlap_counts.specs.Answers.{no_counts}
-use Rattle.overlap_list.specs.declared.Candidate.{Candidate}
-use Rattle.overlap_list.specs.declared.Pairing.{Pairing}
-use Rattle.overlap_list.specs.declared.Pairing.TheVariants.{Fields, Apart}
+use Rattle.overlap_entries.specs.declared.Candidate.{Candidate}
 
 -- ---- the candidates of a field pair
 
@@ -30,15 +27,16 @@ abbrev pub candidate_of : Span → ℕ → Candidate
 candidate_of s k = record { items = s.least + (s.count - k); long = s.long && eqb k 1 }
 
 -- the joins of field j with n atoms
-abbrev pub joins_at : List ℕ → ℕ → ℕ → State → Joined
+abbrev pub joins_at : List ℕ → ℕ → ℕ → State → Option State
 joins_at row j n st =
-    joined_of st (join_from entry (table_in row) (cell_at (spot_in row false j) n) (cell_at (spot_in row true j) n) n 0 st.atoms)
+    joined_of (join_from entry (table_in row) (cell_at (spot_in row false j) n) (cell_at (spot_in row true j) n) n 0 st.atoms)
 
 -- ---- the lines of all choices, in their order
 
 -- what follows a join, nothing where it clashes
-abbrev pub after_join : Joined → (State → List (List ℕ)) → List (List ℕ)
-after_join j next = cond j.ok (next j.next) []
+abbrev pub after_join : Option State → (State → List (List ℕ)) → List (List ℕ)
+after_join None next = []
+after_join (Some st) next = next st
 
 -- the lines of one candidate for field j; `next` lists what follows it
 abbrev pub candidate_lines : (Choice → State → List (List ℕ)) → List ℕ → ℕ → Candidate → Choice → State → List (List ℕ)
@@ -97,24 +95,28 @@ Countable t ls = Moderate t × (t.entries + length ls ≤ most_entries)
 
 -- ---- two rules
 
+-- how many fields two rules have that can have an entry
+abbrev pub Pairing : Type 0
+Pairing = Option ℕ
+
 -- "Rules with different field counts have no entries", and "A rule with no fields counts as having no entries": of n and of m fields
 abbrev pub pairing_of : ℕ → ℕ → Pairing
-pairing_of zero m = Apart
-pairing_of (suc n) m = cond (eqb (suc n) m) (Fields (suc n)) Apart
+pairing_of zero m = None
+pairing_of (suc n) m = cond (eqb (suc n) m) (Some (suc n)) None
 
 -- the lines on their tables, and how many choices there are
 abbrev pub pair_lines : Pairing → List ℕ → List ℕ → List (List ℕ)
-pair_lines (Fields n) row texts = all_lines row texts n
-pair_lines Apart row texts = []
+pair_lines (Some n) row texts = all_lines row texts n
+pair_lines None row texts = []
 
 abbrev pub pair_choices : Pairing → List ℕ → ℕ
-pair_choices (Fields n) row = choices row 0 n
-pair_choices Apart row = 0
+pair_choices (Some n) row = choices row 0 n
+pair_choices None row = 0
 
 -- no rule has more than four fields
 abbrev pub Few : Pairing → Type 0
-Few (Fields n) = n ≤ most_fields
-Few Apart = Unit {0}
+Few (Some n) = n ≤ most_fields
+Few None = Unit {0}
 
 -- what listing asks of the tables of a pair: those of two rules have it
 pub record Listable (p : Pairing) (row texts : List ℕ) : Type 0 where

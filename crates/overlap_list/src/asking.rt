@@ -6,8 +6,7 @@ ghost use Rattle.overlap_counts.specs.Answers.{no_counts};
 ghost use Rattle.overlap_list.specs.Listing.{pair_lines, Countable};
 ghost use Rattle.overlap_list.specs.asking.Answers.{counts_of, Commits, TextsAsk, TextsCommit, CommitsLines};
 
-use crate::Pairing;
-use overlap_counts::{Committed, Counts};
+use overlap_counts::{CommitRefusal, Counts};
 use text_refusals::verdicts::Verdict;
 use text_values::Rule;
 
@@ -24,7 +23,7 @@ pub struct TextsAsked {
 pub struct TextsCommitted {
     pub left: Verdict,
     pub right: Verdict,
-    pub committed: Committed,
+    pub committed: Result<Counts, CommitRefusal>,
 }
 
 // ---- texts
@@ -36,32 +35,27 @@ pub fn ask_texts(left: &[u8], right: &[u8]) -> TextsAsked
     let mut row = [0u8; pair_row::ROW_BYTES];
     let mut texts = [0u8; pair_row::TEXTS_BYTES];
     let noted = crate::note_texts(left, right, &mut row, &mut texts);
-    let left_verdict = noted.left;
-    let right_verdict = noted.right;
-    let pair = noted.pair;
-    let mut none = [0u8; 0];
     TextsAsked {
-        left: left_verdict,
-        right: right_verdict,
-        counts: crate::all_lines(pair, &row, &texts, &mut none),
+        left: noted.left,
+        right: noted.right,
+        counts: crate::all_lines(noted.pair, &row, &texts, &mut []),
     }
 }
 
 // Measured once, and written once where the counts are the list's and there is room.
-fn commit_pair(asked: Counts, pair: Pairing, row: &[u8], texts: &[u8], out: &mut [u8]) -> Committed
+fn commit_pair(
+    asked: Counts,
+    pair: Option<u8>,
+    row: &[u8],
+    texts: &[u8],
+    out: &mut [u8],
+) -> Result<Counts, CommitRefusal>
     requires { Countable no_counts (pair_lines pair row.now texts.now) }
     ensures { CommitsLines asked (pair_lines pair row.now texts.now) out.old result out.new }
 {
     let counts = crate::all_lines(pair, row, texts, &mut out[..0]);
-    let answer = overlap_counts::answer_of(asked, counts, out.len());
-    match answer {
-        Committed::Lines(_, _) => {
-            let written = crate::all_lines(pair, row, texts, out);
-            Committed::Lines(written.entries, written.bytes)
-        }
-        Committed::TooSmall(_, _) => answer,
-        Committed::Stale => answer,
-    }
+    overlap_counts::answer_of(asked, counts, out.len())?;
+    Ok(crate::all_lines(pair, row, texts, out))
 }
 
 // THE LIST THAT WAS ASKED FOR, of the rules that two texts say, and how each is read.
@@ -71,13 +65,10 @@ pub fn commit_texts(asked: Counts, left: &[u8], right: &[u8], out: &mut [u8]) ->
     let mut row = [0u8; pair_row::ROW_BYTES];
     let mut texts = [0u8; pair_row::TEXTS_BYTES];
     let noted = crate::note_texts(left, right, &mut row, &mut texts);
-    let left_verdict = noted.left;
-    let right_verdict = noted.right;
-    let pair = noted.pair;
     TextsCommitted {
-        left: left_verdict,
-        right: right_verdict,
-        committed: commit_pair(asked, pair, &row, &texts, out),
+        left: noted.left,
+        right: noted.right,
+        committed: commit_pair(asked, noted.pair, &row, &texts, out),
     }
 }
 
@@ -91,18 +82,21 @@ pub fn ask(left: Rule, right: Rule) -> Counts
     let mut b = [0u8; base_limits::LONGEST_SIDE];
     let n = crate::put_left(left, &mut a);
     let m = crate::put_left(right, &mut b);
-    let said = ask_texts(&a[..n], &b[..m]);
-    said.counts
+    ask_texts(&a[..n], &b[..m]).counts
 }
 
 // The list of two rule values that was asked for.
-pub fn commit(asked: Counts, left: Rule, right: Rule, out: &mut [u8]) -> Committed
+pub fn commit(
+    asked: Counts,
+    left: Rule,
+    right: Rule,
+    out: &mut [u8],
+) -> Result<Counts, CommitRefusal>
     ensures { Commits asked (counted_rule left).0 (counted_rule right).0 out.old result out.new }
 {
     let mut a = [0u8; base_limits::LONGEST_SIDE];
     let mut b = [0u8; base_limits::LONGEST_SIDE];
     let n = crate::put_left(left, &mut a);
     let m = crate::put_left(right, &mut b);
-    let said = commit_texts(asked, &a[..n], &b[..m], out);
-    said.committed
+    commit_texts(asked, &a[..n], &b[..m], out).committed
 }

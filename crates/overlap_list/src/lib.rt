@@ -19,50 +19,28 @@ ghost use Rattle.overlap_list.specs.Answers.{Lists, ListsLines, NotesTexts, Text
 pub mod asking; // the counts of the list without a buffer, and the list that was asked for
 pub mod shared; // whether two rules overlap, without the list
 
-use base_numbers::at_most;
-use overlap_counts::Counts;
-use overlap_entries::{Choice, Span};
+use overlap_counts::{Counts, NoRoom};
+use overlap_entries::{Candidate, Choice, Span};
 use pair_state::State;
 use text_refusals::verdicts::Verdict;
 use text_values::Rule;
 
-// The answer of a listing: the entry count and the byte count. `told` of specs/Answers has document 01's number of each.
-#[derive(Clone, Copy)]
-pub enum Listed {
-    // the lines were written
-    Lines(usize, usize),
-    // they would need so many bytes, and none was written
-    TooSmall(usize, usize),
-}
-
-// How two texts are read, and the answer of listing what they say.
+// How two texts are read, and the answer of listing what they say: the counts of the lines that were written, or that none was for want
+// of room. `told` of specs/Answers has document 01's number of each.
 #[derive(Clone, Copy)]
 pub struct TextsListed {
     pub left: Verdict,
     pub right: Verdict,
-    pub listed: Listed,
+    pub listed: Result<Counts, NoRoom>,
 }
 
-// Whether two rules can have an entry: only those with as many fields can, and a rule with no fields has none.
-#[derive(Clone, Copy)]
-enum Pairing {
-    Fields(u8),
-    Apart,
-}
-
-// How two texts are read, and whether the rules that they say can have an entry.
+// How two texts are read, and how many fields the rules that they say have, if they can have an entry: only rules with as many fields can,
+// and a rule with no fields has none.
 #[derive(Clone, Copy)]
 struct TextsNoted {
     left: Verdict,
     right: Verdict,
-    pair: Pairing,
-}
-
-// How many atoms a field has, and whether a list variable stands among them.
-#[derive(Clone, Copy)]
-struct Candidate {
-    items: u16,
-    long: bool,
+    pair: Option<u8>,
 }
 
 // An entry's line goes into the part of the buffer behind the line before it, as far as there is room.
@@ -80,7 +58,7 @@ fn put_entry(
         out.new }
     ensures moderate { Moderate result }
 {
-    let at = at_most(t.bytes, out.len());
+    let at = t.bytes.min(out.len());
     let n = pair_lines::put_line(row, texts, fields, ch, &st.atoms, &mut out[at..]);
     Counts {
         entries: t.entries + 1,
@@ -93,14 +71,10 @@ pub(crate) fn candidate_of(s: Span, k: u16) -> Candidate
     requires { (1 ≤ k) × (k ≤ s.count) × (s.least + s.count ≤ span_bound) }
     ensures { result ≡ candidate_of s k }
 {
-    let items = s.least + (s.count - k);
-    if k == 1 {
-        return Candidate {
-            items,
-            long: s.long,
-        };
+    Candidate {
+        items: s.least + (s.count - k),
+        long: s.long && k == 1,
     }
-    Candidate { items, long: false }
 }
 
 // All fields from j on: each choice of the next field, or the line where every field is chosen.
@@ -145,15 +119,13 @@ fn choose(
     let g = pair_row::shape_at(row, true, j);
     let s = overlap_entries::span_of(f, g);
     let mut u = t;
-    let mut k = s.count;
-    while 0 < k {
-        let c = candidate_of(s, k);
-        let joined = overlap_entries::join_fields(row, f, g, c.items, st);
-        if joined.ok {
-            let chosen = overlap_entries::choose_at(ch, j, c.items, c.long);
-            u = next_field(row, texts, fields, j + 1, chosen, joined.next, out, u);
+    // k more are left behind each
+    for k in (0..s.count).rev() {
+        let c = candidate_of(s, k + 1);
+        if let Some(next) = overlap_entries::join_fields(row, f, g, c.items, st) {
+            let chosen = overlap_entries::choose_at(ch, j, c);
+            u = next_field(row, texts, fields, j + 1, chosen, next, out, u);
         }
-        k -= 1;
     }
     u
 }
@@ -170,13 +142,13 @@ fn no_counts() -> Counts
 }
 
 // Every choice from the first field on; none of rules that are apart.
-pub(crate) fn all_lines(pair: Pairing, row: &[u8], texts: &[u8], out: &mut [u8]) -> Counts
+pub(crate) fn all_lines(pair: Option<u8>, row: &[u8], texts: &[u8], out: &mut [u8]) -> Counts
     requires { Countable no_counts (pair_lines pair row.now texts.now) }
     ensures { Stores (pair_lines pair row.now texts.now) no_counts out.old result out.new }
 {
     match pair {
-        Pairing::Apart => no_counts(),
-        Pairing::Fields(n) => next_field(
+        None => no_counts(),
+        Some(n) => next_field(
             row,
             texts,
             n,
@@ -195,9 +167,7 @@ fn choices(row: &[u8], fields: u8) -> usize
     ensures { result ≡ choices row.now 0 fields }
 {
     let mut n = 1usize;
-    let mut j = fields;
-    while 0 < j {
-        j -= 1;
+    for j in (0..fields).rev() {
         let f = pair_row::shape_at(row, false, j);
         let g = pair_row::shape_at(row, true, j);
         n = overlap_entries::span_of(f, g).count as usize * n;
@@ -206,48 +176,43 @@ fn choices(row: &[u8], fields: u8) -> usize
 }
 
 // No pair has more lines than that.
-fn most_lines(pair: Pairing, row: &[u8]) -> usize
+fn most_lines(pair: Option<u8>, row: &[u8]) -> usize
     requires { Few pair }
     ensures { result ≡ pair_choices pair row.now }
 {
     match pair {
-        Pairing::Apart => 0,
-        Pairing::Fields(n) => choices(row, n),
+        None => 0,
+        Some(n) => choices(row, n),
     }
 }
 
 // Measured with no room unless it surely fits, so that a buffer that is too small keeps its old bytes; then written.
-fn list_pair(pair: Pairing, row: &[u8], texts: &[u8], out: &mut [u8]) -> Listed
+fn list_pair(pair: Option<u8>, row: &[u8], texts: &[u8], out: &mut [u8]) -> Result<Counts, NoRoom>
     requires { Listable pair row.now texts.now }
     ensures { ListsLines (pair_lines pair row.now texts.now) out.old result out.new }
 {
     // No list has more bytes than its choices have lines of the longest: one that then fits need not be measured.
     if most_lines(pair, row) <= out.len() / base_limits::ENTRY_LINE {
-        let u = all_lines(pair, row, texts, out);
-        return Listed::Lines(u.entries, u.bytes);
+        return Ok(all_lines(pair, row, texts, out));
     }
-    let t = all_lines(pair, row, texts, &mut out[..0]);
-    if out.len() < t.bytes {
-        return Listed::TooSmall(t.entries, t.bytes);
+    let counts = all_lines(pair, row, texts, &mut out[..0]);
+    if out.len() < counts.bytes {
+        return Err(NoRoom { counts });
     }
-    let u = all_lines(pair, row, texts, out);
-    Listed::Lines(u.entries, u.bytes)
+    Ok(all_lines(pair, row, texts, out))
 }
 
 // ---- texts
 
 // Whether rules with n and m fields can have an entry.
-fn pair_of(n: usize, m: usize) -> Pairing
+fn pair_of(n: usize, m: usize) -> Option<u8>
     requires { n ≤ most_fields }
     ensures { result ≡ pairing_of n m }
 {
-    if n == 0 {
-        return Pairing::Apart;
+    if n == 0 || n != m {
+        return None;
     }
-    if n != m {
-        return Pairing::Apart;
-    }
-    Pairing::Fields(n as u8)
+    Some(n as u8)
 }
 
 // How two texts are read, and the tables of the rules that they say. What a rule makes of a slip is no part of an overlap, so only the
@@ -258,13 +223,11 @@ pub(crate) fn note_texts(left: &[u8], right: &[u8], row: &mut [u8], texts: &mut 
 {
     let l = text_read::judge_left(left);
     let r = text_read::judge_left(right);
-    let left_verdict = l.verdict;
-    let right_verdict = r.verdict;
     let n = text_passes::note_side(&left[..l.end], false, row, texts);
     let m = text_passes::note_side(&right[..r.end], true, row, texts);
     TextsNoted {
-        left: left_verdict,
-        right: right_verdict,
+        left: l.verdict,
+        right: r.verdict,
         pair: pair_of(n, m),
     }
 }
@@ -278,13 +241,10 @@ pub fn list_texts(left: &[u8], right: &[u8], out: &mut [u8]) -> TextsListed
     let mut row = [0u8; pair_row::ROW_BYTES];
     let mut texts = [0u8; pair_row::TEXTS_BYTES];
     let noted = note_texts(left, right, &mut row, &mut texts);
-    let left_verdict = noted.left;
-    let right_verdict = noted.right;
-    let pair = noted.pair;
     TextsListed {
-        left: left_verdict,
-        right: right_verdict,
-        listed: list_pair(pair, &row, &texts, out),
+        left: noted.left,
+        right: noted.right,
+        listed: list_pair(noted.pair, &row, &texts, out),
     }
 }
 
@@ -302,13 +262,12 @@ pub(crate) fn put_left(rule: Rule, out: &mut [u8]) -> usize
 }
 
 // The list of two rule values: that of their left sides' plain texts.
-pub fn list_overlaps(left: Rule, right: Rule, out: &mut [u8]) -> Listed
+pub fn list_overlaps(left: Rule, right: Rule, out: &mut [u8]) -> Result<Counts, NoRoom>
     ensures { Lists (counted_rule left).0 (counted_rule right).0 out.old result out.new }
 {
     let mut a = [0u8; base_limits::LONGEST_SIDE];
     let mut b = [0u8; base_limits::LONGEST_SIDE];
     let n = put_left(left, &mut a);
     let m = put_left(right, &mut b);
-    let said = list_texts(&a[..n], &b[..m], out);
-    said.listed
+    list_texts(&a[..n], &b[..m], out).listed
 }

@@ -4,7 +4,6 @@ ghost use Rattle.std.specs.Prelude.{◌≡◌, ◌≤◌, ◌<◌};
 ghost use Rattle.overlap_list.specs.shared.Choices.{any_in, any_of};
 ghost use Rattle.overlap_list.specs.shared.Answers.{TextsMeet};
 
-use crate::Pairing;
 use pair_state::State;
 use text_refusals::verdicts::Verdict;
 
@@ -37,26 +36,25 @@ fn choose(row: &[u8], fields: u8, j: u8, st: State) -> bool
     let f = pair_row::shape_at(row, false, j);
     let g = pair_row::shape_at(row, true, j);
     let s = overlap_entries::span_of(f, g);
-    let mut found = false;
-    let mut k = s.count;
-    while 0 < k && !found {
-        let c = crate::candidate_of(s, k);
-        let joined = overlap_entries::join_fields(row, f, g, c.items, st);
-        if joined.ok {
-            found = next_field(row, fields, j + 1, joined.next);
+    // k more are left behind each
+    for k in (0..s.count).rev() {
+        let c = crate::candidate_of(s, k + 1);
+        if let Some(next) = overlap_entries::join_fields(row, f, g, c.items, st) {
+            if next_field(row, fields, j + 1, next) {
+                return true;
+            }
         }
-        k -= 1;
     }
-    found
+    false
 }
 
 // Every choice from the first field on; none of rules that are apart.
-fn any_choice(pair: Pairing, row: &[u8]) -> bool
+fn any_choice(pair: Option<u8>, row: &[u8]) -> bool
     ensures { result ≡ any_of pair row.now }
 {
     match pair {
-        Pairing::Apart => false,
-        Pairing::Fields(n) => next_field(row, n, 0, pair_state::start(row)),
+        None => false,
+        Some(n) => next_field(row, n, 0, pair_state::start(row)),
     }
 }
 
@@ -68,12 +66,9 @@ pub fn texts_overlap(left: &[u8], right: &[u8]) -> TextsOverlap
     let mut row = [0u8; pair_row::ROW_BYTES];
     let mut texts = [0u8; pair_row::TEXTS_BYTES];
     let noted = crate::note_texts(left, right, &mut row, &mut texts);
-    let left_verdict = noted.left;
-    let right_verdict = noted.right;
-    let pair = noted.pair;
     TextsOverlap {
-        left: left_verdict,
-        right: right_verdict,
-        overlap: any_choice(pair, &row),
+        left: noted.left,
+        right: noted.right,
+        overlap: any_choice(noted.pair, &row),
     }
 }

@@ -19,10 +19,9 @@ use Rattle.math_codes.proofs.Measures.{values_bounded}
 use Rattle.pair_row.specs.Row.{table_in, text_in, index_in, top_in}
 use Rattle.pair_lines.specs.Lines.{Few, side_few, numbers_few, run_by, tag_of, unled, values_in, line_bound, most_count, run_places}
 use Rattle.pair_lines.specs.Answers.{are_items, value_fits, whole_runs, listed_in, answer_in}
-use Rattle.pair_lines.proofs.Bounds.{tops_few}
+use Rattle.pair_lines.proofs.Bounds.{text_short, tops_few}
 use Rattle.pair_lines.proofs.Loops.{all_named}
 use Rattle.pair_lines.proofs.Values.{values_agree}
-use Rattle.pair_lines.proofs.Answers.{Gives, in_hand, in_hand_lem}
 use Rattle.pair_lines.proofs.AnswerNumbers.{Bound, side_numbers, no_numbers}
 
 -- ---- runs that are all items
@@ -67,14 +66,13 @@ module _ (row texts atoms left right : List ℕ) where
   both_is_second : both ≡ name_fields T first (listed_in row true atoms right)
   both_is_second = foldl-append (name_codes T) (no_names pair_items 4) (listed_in row false atoms left) (listed_in row true atoms right)
 
-  -- the numbers of all values, by those of the left ones
-  pub both_named : (counts numbers counts' numbers' : List ℕ) → Gives first counts numbers
-      → Gives (name_fields T (in_hand counts numbers) (listed_in row true atoms right)) counts' numbers'
-      → numbers' ≡ both.numbers
-  both_named counts numbers counts' numbers' g h =
-      h.1
-      ∙ ap (λ (y : Names). (name_fields T y (listed_in row true atoms right)).numbers) (in_hand_lem first counts numbers g)
-      ∙ ap (λ (y : Names). y.numbers) (sym both_is_second)
+  -- the names of all values, one side after the other
+  pub both_named : (x y z : Names) → x ≡ no_names pair_items 4 → y ≡ name_fields T x (listed_in row false atoms left)
+      → z ≡ name_fields T y (listed_in row true atoms right)
+      → z ≡ both
+  both_named x y z o e h =
+      h ∙ ap (λ (w : Names). name_fields T w (listed_in row true atoms right)) (e ∙ ap (λ (w : Names). name_fields T w (listed_in row false atoms left)) o)
+      ∙ sym both_is_second
 
   module _ (few : numbers_few row ≡ true) (ok₁ : value_fits left ≡ true) (ok₂ : value_fits right ≡ true) where
     few₁ : side_few row false ≡ true
@@ -92,15 +90,17 @@ module _ (row texts atoms left right : List ℕ) where
         ((all_named T (listed_in row false atoms left) (no_names pair_items 4)).1 ∙ length-replicate {A = ℕ} pair_items 0) bound₁
 
     -- there is room for all numbers
-    pub left_few : Few most_count first.counts
-    left_few i = omega (arith, at_most 79 first.counts bound₁.0 i)
+    pub left_few : (x : Names) → x ≡ no_names pair_items 4 → Few most_count (name_fields T x (listed_in row false atoms left)).counts
+    left_few x o i =
+        omega (arith, ap (λ (w : Names). get_or (name_fields T w (listed_in row false atoms left)).counts i 0) o, at_most 79 first.counts bound₁.0 i)
 
-    pub right_few : (counts numbers : List ℕ) → Gives first counts numbers
-        → Few most_count (name_fields T (in_hand counts numbers) (listed_in row true atoms right)).counts
-    right_few counts numbers g i =
-        let y = name_fields T first (listed_in row true atoms right) in
-        let e = ap (λ (x : Names). get_or (name_fields T x (listed_in row true atoms right)).counts i 0) (in_hand_lem first counts numbers g) in
-        omega (arith, e, at_most 158 y.counts bound₂.0 i)
+    pub right_few : (x y : Names) → x ≡ no_names pair_items 4 → y ≡ name_fields T x (listed_in row false atoms left)
+        → Few most_count (name_fields T y (listed_in row true atoms right)).counts
+    right_few x y o e i =
+        let y₂ = name_fields T first (listed_in row true atoms right) in
+        let q = ap (λ (w : Names). get_or (name_fields T w (listed_in row true atoms right)).counts i 0)
+        (e ∙ ap (λ (w : Names). name_fields T w (listed_in row false atoms left)) o) in
+        omega (arith, q, at_most 158 y₂.counts bound₂.0 i)
 
     module _ (numbers runs₁ runs₂ : List ℕ) (is-numbers : numbers ≡ both.numbers) (is₁ : runs₁ ≡ whole_runs (length left))
         (is₂ : runs₂ ≡ whole_runs (length right)) where
@@ -164,6 +164,15 @@ module _ (row texts atoms left right : List ℕ) where
               length-drop 1 (left_values ++ right_values),
               length-append left_values right_values,
             )
+
+    -- the parts that are put
+    pub both_short : (x y z : Names) → x ≡ no_names pair_items 4 → y ≡ name_fields T x (listed_in row false atoms left)
+        → z ≡ name_fields T y (listed_in row true atoms right) → (runs₁ runs₂ : List ℕ) → runs₁ ≡ whole_runs (length left) → runs₂ ≡ whole_runs (length right)
+        → ((i : ℕ) → get_or texts i 0 < 256)
+        → length (values_in row texts z.numbers false atoms (run_by runs₁ left)) + (length (values_in row texts z.numbers true atoms (run_by runs₂ right)) + 1)
+        ≤ line_bound
+    both_short x y z o e h runs₁ runs₂ is₁ is₂ bytes =
+        answer_short z.numbers runs₁ runs₂ (ap (λ (w : Names). w.numbers) (both_named x y z o e h)) is₁ is₂ (text_short row texts bytes)
 
     -- of any tables whose constants have short texts
     pub any_answer : ((c : ℕ) → length (text_in row texts c) ≤ 257) → length (answer_in row texts atoms left right) ≤ line_bound

@@ -1,15 +1,17 @@
 -- The values of an answer: their items get few numbers, the text of the line, and its size. Assumes nothing.
-use mathlib.Core.Path.{◌≡◌, refl, sym, ap, ap₂, ◌∙◌}
+use mathlib.Core.Path.{◌≡◌, refl, sym, ap, ◌∙◌}
 use mathlib.Core.Bool.{Bool, true, false, cond, ◌&&◌}
 use mathlib.Core.List.{List, [], ◌∷◌, ◌++◌, foldl-append}
-use Prim.Native.Nat.{ℕ, suc, ◌+◌, ◌-◌, ◌*◌, ◌≤◌, ◌<◌}
+use Prim.Native.Nat.{ℕ, zero, suc, ◌+◌, ◌*◌, ◌≤◌, ◌<◌}
 use native.Mathlib.Omega.{arith}
 use native.Mathlib.Decide.{ℕ_discrete, dec_lt}
 use lib.Dec.{eqb, ltb}
-use lib.ListN.{length, get_or, set, take, drop, take-append-drop, drop_of_length-le}
-use lib.Seq.{get_or-set_same, get_or-set_other, set_out, take-suc, drop-cons, take_all}
-use borrow.Author.Tests.{lt-ltb, le-ltb, lt-leb, le-leb}
-use Rattle.base_limits.specs.Limits.{atom_kind_count, entry_terms, numbers_of_side, pair_items}
+use lib.ListN.{length, get_or, set, take, drop, take-append-drop}
+use Rattle.std.specs.Bool.{MatchBool}
+use Rattle.std.specs.List.{AllWithin, HoldsAt}
+use lib.Seq.{get_or-set_same, get_or-set_other, set_out, take-suc}
+use borrow.Author.Tests.{lt-ltb, le-ltb, le-leb}
+use Rattle.base_limits.specs.Limits.{entry_terms, numbers_of_side, pair_items}
 use Rattle.math_terms.specs.Seqs.{concat_map}
 use Rattle.math_overlaps.specs.Candidates.{range}
 use Rattle.math_codes.specs.Tables.{Table}
@@ -19,20 +21,6 @@ use Rattle.pair_row.specs.Row.{index_in}
 use Rattle.pair_lines.specs.Lines.{Few}
 use Rattle.pair_lines.specs.Answers.{are_items, value_fits, value_with, listed_at}
 use Rattle.pair_lines.proofs.Values.{texts_one, texts_split}
-
--- ---- names in hand, as two rows of bytes
-
-abbrev pub Gives : Names → List ℕ → List ℕ → Type 0
-Gives y counts numbers = (counts ≡ y.counts) × (numbers ≡ y.numbers)
-
-abbrev pub in_hand : List ℕ → List ℕ → Names
-in_hand counts numbers = record { counts = counts; numbers = numbers }
-
-pub in_hand_lem : (y : Names) (counts numbers : List ℕ) → Gives y counts numbers → in_hand counts numbers ≡ y
-in_hand_lem y counts numbers g = ap₂ (λ (a b : List ℕ). in_hand a b) g.0 g.1
-
-pub gives_as : (y z : Names) (counts numbers : List ℕ) → y ≡ z → Gives y counts numbers → Gives z counts numbers
-gives_as y z counts numbers e g = (g.0 ∙ ap (λ (x : Names). x.counts) e, g.1 ∙ ap (λ (x : Names). x.numbers) e)
 
 module _ (T : Table) where
   -- ---- counts only grow
@@ -73,30 +61,22 @@ module _ (T : Table) where
   -- ---- items, from the left: the first i have their numbers
 
   module _ (x : Names) (items : List ℕ) where
-    pub items_first : Gives (name_codes T x (take 0 items)) x.counts x.numbers
-    items_first = (refl, refl)
+    pub items_few : (m i : ℕ) (y : Names) → y ≡ name_codes T x (take i items) → Few m (name_codes T x items).counts → Few m y.counts
+    items_few m i y e h =
+        let w : name_codes T y (drop i items) ≡ name_codes T x items =
+        ap (λ (z : Names). name_codes T z (drop i items)) e ∙ sym (foldl-append (name_code T) x (take i items) (drop i items))
+        ∙ ap (name_codes T x) (take-append-drop i items) in
+        few_first m (drop i items) y (rw w h)
 
-    pub items_few : (m i : ℕ) (counts numbers : List ℕ) → Gives (name_codes T x (take i items)) counts numbers → Few m (name_codes T x items).counts
-        → Few m counts
-    items_few m i counts numbers g h =
-        let e : name_codes T (name_codes T x (take i items)) (drop i items) ≡ name_codes T x items =
-        sym (foldl-append (name_code T) x (take i items) (drop i items)) ∙ ap (name_codes T x) (take-append-drop i items) in
-        rw g.0 (few_first m (drop i items) (name_codes T x (take i items)) (rw e h))
-
-    pub items_one : (i : ℕ) (counts numbers : List ℕ) → Gives (name_codes T x (take i items)) counts numbers → i < length items → (counts' numbers' : List ℕ)
-        → Gives (name_code T (in_hand counts numbers) (get_or items i 0)) counts' numbers'
-        → Gives (name_codes T x (take (i + 1) items)) counts' numbers'
-    items_one i counts numbers g h counts' numbers' n =
+    pub items_one : (i : ℕ) (y z : Names) → y ≡ name_codes T x (take i items) → i < length items → z ≡ name_code T y (get_or items i 0)
+        → z ≡ name_codes T x (take (i + 1) items)
+    items_one i y z e h n =
         let c = get_or items i 0 in
-        gives_as (name_code T (in_hand counts numbers) c) (name_codes T x (take (i + 1) items)) counts' numbers'
-        (ap (λ (y : Names). name_code T y c) (in_hand_lem (name_codes T x (take i items)) counts numbers g)
+        n
+        ∙ ap (λ (w : Names). name_code T w c) e
         ∙ sym (foldl-append (name_code T) x (take i items) (c ∷ []))
         ∙ ap (name_codes T x) (sym (take-suc items i 0 h))
-        ∙ ap (λ (k : ℕ). name_codes T x (take k items)) (let e : suc i ≡ i + 1 = omega arith in e)) n
-
-    pub items_all : (i : ℕ) (counts numbers : List ℕ) → Gives (name_codes T x (take i items)) counts numbers → length items ≤ i
-        → Gives (name_codes T x items) counts numbers
-    items_all i counts numbers g h = gives_as (name_codes T x (take i items)) (name_codes T x items) counts numbers (ap (name_codes T x) (take_all i items h)) g
+        ∙ ap (λ (k : ℕ). name_codes T x (take k items)) (let e : suc i ≡ i + 1 = omega arith in e)
 
   -- ---- values, one list of them for each number
 
@@ -104,60 +84,46 @@ module _ (T : Table) where
     abbrev pub up_to : ℕ → Names
     up_to n = name_fields T x (concat_map f (range 0 n))
 
-    pub values_one : (n : ℕ) (counts numbers : List ℕ) → Gives (up_to n) counts numbers → (counts' numbers' : List ℕ)
-        → Gives (name_fields T (in_hand counts numbers) (f n)) counts' numbers'
-        → Gives (up_to (n + 1)) counts' numbers'
-    values_one n counts numbers g counts' numbers' h =
-        gives_as (name_fields T (in_hand counts numbers) (f n)) (up_to (n + 1)) counts' numbers'
-        (ap (λ (y : Names). name_fields T y (f n)) (in_hand_lem (up_to n) counts numbers g)
+    pub values_one : (n : ℕ) (y z : Names) → y ≡ up_to n → z ≡ name_fields T y (f n) → z ≡ up_to (n + 1)
+    values_one n y z e h =
+        h
+        ∙ ap (λ (w : Names). name_fields T w (f n)) e
         ∙ sym (foldl-append (name_codes T) x (concat_map f (range 0 n)) (f n))
-        ∙ ap (name_fields T x) (texts_one f n)) h
+        ∙ ap (name_fields T x) (texts_one f n)
 
     -- those of number n are few where all are
-    pub values_few : (m n k : ℕ) (counts numbers : List ℕ) → Gives (up_to n) counts numbers → n < k → Few m (up_to k).counts
-        → Few m (name_fields T (in_hand counts numbers) (f n)).counts
-    values_few m n k counts numbers g h few =
+    pub values_few : (m n k : ℕ) (y : Names) → y ≡ up_to n → n < k → Few m (up_to k).counts → Few m (name_fields T y (f n)).counts
+    values_few m n k y e h few =
         let s = texts_split f (n + 1) k 0 (omega arith) in
         let all : Few m (up_to (n + 1)).counts = few_front m (concat_map f (range 0 (n + 1))) s.0 x (rw s.1 few) in
-        rw (in_hand_lem (up_to n) counts numbers g, ← foldl-append (name_codes T) x (concat_map f (range 0 n)) (f n), texts_one f n) all
+        rw (e, ← foldl-append (name_codes T) x (concat_map f (range 0 n)) (f n), texts_one f n) all
 
--- ---- a value that an answer has: what is left to look at
+-- ---- a value that an answer has
 
-abbrev pub FitsFrom : List ℕ → ℕ → Type 0
-FitsFrom items i = (i ≤ length items) × (are_items items ≡ are_items (drop i items))
+all_items : (cs : List ℕ) → ((i d : ℕ) → i < length cs → get_or cs i d < pair_items) → are_items cs ≡ true
+all_items [] h = refl
+all_items (c ∷ cs) h =
+    rw (lt-ltb c pair_items (h 0 0 (omega arith))) (all_items cs (λ i d l. h (suc i) d (omega arith)))
 
-module _ (items : List ℕ) where
-  pub value_long : entry_terms < length items → false ≡ value_fits items
-  value_long h = rw (lt-leb (length items) entry_terms h)
+no_item : (cs : List ℕ) (i : ℕ) → i < length cs → pair_items ≤ get_or cs i 0 → are_items cs ≡ false
+no_item [] i l b = absurd (omega arith)
+no_item (c ∷ cs) zero l b = ap (λ (t : Bool). t && are_items cs) (le-ltb c pair_items b)
+no_item (c ∷ cs) (suc i) l b = ap (λ (t : Bool). ltb c pair_items && t) (no_item cs i (omega arith) b) ∙ neither (ltb c pair_items)
+  where
+    neither : (t : Bool) → (t && false) ≡ false
+    neither true = refl
+    neither false = refl
 
-  module _ (short : length items ≤ entry_terms) (i : ℕ) (v : FitsFrom items i) where
-    value_is : value_fits items ≡ are_items (drop i items)
-    value_is = rw (le-leb (length items) entry_terms short) v.1
-
-    pub value_all : length items ≤ i → true ≡ value_fits items
-    value_all h = sym (value_is ∙ ap are_items (drop_of_length-le items {i = i} h))
-
-    module _ (h : i < length items) where
-      opened : are_items (drop i items) ≡ (ltb (get_or items i 0) pair_items && are_items (drop (i + 1) items))
-      opened =
-          ap are_items (drop-cons items i 0 h)
-          ∙ ap (λ (k : ℕ). ltb (get_or items i 0) pair_items && are_items (drop k items)) (let e : suc i ≡ i + 1 = omega arith in e)
-
-      pub value_bad : pair_items ≤ get_or items i 0 → false ≡ value_fits items
-      value_bad b = sym (value_is ∙ opened ∙ ap (λ (a : Bool). a && are_items (drop (i + 1) items)) (le-ltb (get_or items i 0) pair_items b))
-
-      pub value_one : get_or items i 0 < pair_items → FitsFrom items (i + 1)
-      value_one b = (omega arith, v.1 ∙ opened ∙ ap (λ (a : Bool). a && are_items (drop (i + 1) items)) (lt-ltb (get_or items i 0) pair_items b))
+-- what a look at all items says
+pub value_all : (items : List ℕ) → length items ≤ entry_terms → (r : Bool)
+    → MatchBool r (AllWithin (λ c. c < pair_items) items 0 (length items)) ((i : ℕ) × (i < length items) × HoldsAt (λ c. pair_items ≤ c) items i)
+    → r ≡ value_fits items
+value_all items short true h = sym (rw (le-leb (length items) entry_terms short) (all_items items (λ i d l. h i d (omega arith) l)))
+value_all items short false h = sym (rw (le-leb (length items) entry_terms short) (no_item items h.0 h.1 (h.2 0)))
 
 -- ---- what is listed of a variable
 
 module _ (row : List ℕ) (right : Bool) (atoms items : List ℕ) (k n : ℕ) where
-  pub with_atom_lem : k < atom_kind_count → (c : ℕ) → c ≡ get_or atoms (index_in row right (numbers_of_side * k + n) - 1) 0 → c ∷ [] ≡ value_with row right atoms items k n
-  with_atom_lem h c e = ap (λ (y : ℕ). y ∷ []) e ∙ rw (lt-ltb k 3 h)
-
-  pub with_items : 3 ≤ k → items ≡ value_with row right atoms items k n
-  with_items h = rw (le-ltb k 3 h)
-
   pub listed_there : (index_in row right (numbers_of_side * k + n) ≡ 0 → ⊥) → value_with row right atoms items k n ∷ [] ≡ listed_at row right atoms items k n
   listed_there h = rw (there (index_in row right (numbers_of_side * k + n)) h)
 

@@ -22,8 +22,7 @@ use Rattle.math_codes.specs.Whole as whole
 use Rattle.math_codes.proofs.Makers as makers
 use Rattle.pair_row.specs.Row.{table_in, shape_in, spot_in}
 use Rattle.overlap_entries.specs.declared.Choice.{Choice}
-use Rattle.overlap_entries.specs.Entries.{item_at}
-use Rattle.pair_lines.specs.declared.Run.{Run}
+use Rattle.overlap_entries.specs.Entries.{chosen_in, item_at}
 use Rattle.pair_lines.specs.Lines.{Few, count_at, fits_from, fits, field_in, items_in, names_in, laid_from, laid_in, spots_in, run_places}
 use Rattle.pair_lines.specs.Lines.{run_at, runs_over, no_runs, run_by}
 
@@ -99,7 +98,7 @@ laid_at (suc n) f few at items room (suc j) h =
 
 pub field_long : (row : List ℕ) (c : Choice) (atoms : List ℕ) (j : ℕ) → length (field_in row c atoms j) ≡ count_at c j
 field_long row c atoms j =
-    tabulate_long (count_at c j) (item_at atoms (spot_in row false j) (spot_in row true j) (get_or c.sizes j 0) (get_or c.longs j false) (pair_places + j))
+    tabulate_long (count_at c j) (item_at atoms (spot_in row false j) (spot_in row true j) (chosen_in c j).items (chosen_in c j).long (pair_places + j))
 
 module _ (row : List ℕ) (n : ℕ) (c : Choice) (atoms : List ℕ) where
   -- there are 124 places
@@ -120,17 +119,6 @@ module _ (row : List ℕ) (n : ℕ) (c : Choice) (atoms : List ℕ) where
     laid_room j h = omega (arith, count_fits n c ok j h, fields_fit n c ok)
 
 -- ---- runs
-
--- a run is within 124 places
-abbrev pub Within : Run → Type 0
-Within r = (r.from ≤ r.to) × (r.to ≤ entry_places)
-
-pub run_within : (from count h t : ℕ) → from + count ≤ entry_places → Within (run_at from count h t)
-run_within from count h t room = go (dec_lt count (h + t))
-  where
-    go : Dec (count < h + t) → Within (run_at from count h t)
-    go (yes p) = rw (lt-ltb count (h + t) p) (omega arith, omega arith)
-    go (no p) = rw (le-ltb count (h + t) (omega arith)) (omega arith, omega arith)
 
 no_items : (m : ℕ) (l : List ℕ) → m ≡ 0 → take m l ≡ []
 no_items m l e = ap (λ (k : ℕ). take k l) e

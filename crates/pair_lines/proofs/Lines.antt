@@ -5,7 +5,7 @@ use mathlib.Core.List.{List, [], ◌∷◌, Memᴰ}
 use Prim.Native.Nat.{ℕ, zero, suc, ◌+◌, ◌≤◌, ◌<◌}
 use native.Mathlib.Omega.{arith}
 use lib.Dec.{leb}
-use lib.ListN.{length, get_or, length-set}
+use lib.ListN.{length, length-set}
 use lib.Seq.{get_or-set_same, get_or-set_other}
 use borrow.Author.Tests.{le-leb}
 use Rattle.base_limits.specs.Limits.{most_terms, kind_count, entry_terms, numbers_of_side, pair_places, pair_items}
@@ -20,8 +20,9 @@ use Rattle.math_codes.specs.Index.{indexed_items, indexed_line}
 use Rattle.math_codes.proofs.Whole.{Chosen}
 use Rattle.math_codes.proofs.Measures.{spot_terms, items_few}
 use Rattle.pair_row.specs.Row.{table_in, text_in, spot_in, index_in, top_in}
+use Rattle.overlap_entries.specs.declared.Candidate.{Candidate}
 use Rattle.overlap_entries.specs.declared.Choice.{Choice}
-use Rattle.overlap_entries.specs.Entries.{cand_of, item_count, item_at, no_choice, chosen_at}
+use Rattle.overlap_entries.specs.Entries.{no_candidate, chosen_in, cand_of, item_count, item_at, no_choice, chosen_at}
 use Rattle.overlap_entries.proofs.Laws.{items_are}
 use Rattle.pair_lines.specs.Lines.{count_at, fits_from, fits, field_in, items_in, spots_in, side_few, numbers_few, line_in, is_long, chosen_by}
 
@@ -31,31 +32,30 @@ abbrev Has : Choice → ℕ → List (Spot ℕ) → List (Spot ℕ) → List Can
 Has c j [] Qs cs = Unit {0}
 Has c j (P ∷ Ps) [] cs = Unit {0}
 Has c j (P ∷ Ps) (Q ∷ Qs) [] = Unit {0}
-Has c j (P ∷ Ps) (Q ∷ Qs) (x ∷ xs) = (get_or c.sizes j 0 ≡ span_on P Q x) × (get_or c.longs j false ≡ is_long x) × Has c (suc j) Ps Qs xs
+Has c j (P ∷ Ps) (Q ∷ Qs) (x ∷ xs) = ((chosen_in c j).items ≡ span_on P Q x) × ((chosen_in c j).long ≡ is_long x) × Has c (suc j) Ps Qs xs
 
 -- the choices from field j on change none before it
 chosen_keeps : (Ps Qs : List (Spot ℕ)) (cs : List Cand) (ch : Choice) (j i : ℕ) → i < j
-    → (get_or (chosen_by ch j Ps Qs cs).sizes i 0 ≡ get_or ch.sizes i 0) × (get_or (chosen_by ch j Ps Qs cs).longs i false ≡ get_or ch.longs i false)
-chosen_keeps [] Qs cs ch j i h = (refl, refl)
-chosen_keeps (P ∷ Ps) [] cs ch j i h = (refl, refl)
-chosen_keeps (P ∷ Ps) (Q ∷ Qs) [] ch j i h = (refl, refl)
+    → chosen_in (chosen_by ch j Ps Qs cs) i ≡ chosen_in ch i
+chosen_keeps [] Qs cs ch j i h = refl
+chosen_keeps (P ∷ Ps) [] cs ch j i h = refl
+chosen_keeps (P ∷ Ps) (Q ∷ Qs) [] ch j i h = refl
 chosen_keeps (P ∷ Ps) (Q ∷ Qs) (x ∷ xs) ch j i h =
-    let r = chosen_keeps Ps Qs xs (chosen_at ch j (span_on P Q x) (is_long x)) (suc j) i (omega arith) in (
-      r.0 ∙ get_or-set_other ch.sizes j i (span_on P Q x) 0 (λ e. omega (arith, e)),
-      r.1 ∙ get_or-set_other ch.longs j i (is_long x) false (λ e. omega (arith, e)),
-    )
+    chosen_keeps Ps Qs xs (chosen_at ch j (span_on P Q x) (is_long x)) (suc j) i (omega arith)
+    ∙ get_or-set_other ch.fields j i (record { items = span_on P Q x; long = is_long x }) no_candidate (λ e. omega (arith, e))
 
-chosen_has : (Ps Qs : List (Spot ℕ)) (cs : List Cand) (ch : Choice) (j : ℕ) → length ch.sizes ≡ 4 → length ch.longs ≡ 4 → j + length Ps ≤ 4
+chosen_has : (Ps Qs : List (Spot ℕ)) (cs : List Cand) (ch : Choice) (j : ℕ) → length ch.fields ≡ 4 → j + length Ps ≤ 4
     → Has (chosen_by ch j Ps Qs cs) j Ps Qs cs
-chosen_has [] Qs cs ch j p q h = tt
-chosen_has (P ∷ Ps) [] cs ch j p q h = tt
-chosen_has (P ∷ Ps) (Q ∷ Qs) [] ch j p q h = tt
-chosen_has (P ∷ Ps) (Q ∷ Qs) (x ∷ xs) ch j p q h =
+chosen_has [] Qs cs ch j p h = tt
+chosen_has (P ∷ Ps) [] cs ch j p h = tt
+chosen_has (P ∷ Ps) (Q ∷ Qs) [] ch j p h = tt
+chosen_has (P ∷ Ps) (Q ∷ Qs) (x ∷ xs) ch j p h =
     let n = span_on P Q x in
-    let r = chosen_keeps Ps Qs xs (chosen_at ch j n (is_long x)) (suc j) j (omega arith) in (
-      r.0 ∙ get_or-set_same ch.sizes j n 0 (omega (arith, p)),
-      r.1 ∙ get_or-set_same ch.longs j (is_long x) false (omega (arith, q)),
-      chosen_has Ps Qs xs (chosen_at ch j n (is_long x)) (suc j) (length-set ch.sizes j n ∙ p) (length-set ch.longs j (is_long x) ∙ q) (omega arith),
+    let y : Candidate = record { items = n; long = is_long x } in
+    let r = chosen_keeps Ps Qs xs (chosen_at ch j n (is_long x)) (suc j) j (omega arith) ∙ get_or-set_same ch.fields j y no_candidate (omega (arith, p)) in (
+      ap (λ (z : Candidate). z.items) r,
+      ap (λ (z : Candidate). z.long) r,
+      chosen_has Ps Qs xs (chosen_at ch j n (is_long x)) (suc j) (length-set ch.fields j y ∙ p) (omega arith),
     )
 
 -- ---- a field
@@ -95,7 +95,7 @@ module _ (c : Choice) where
   module _ (atoms : List ℕ) where
     -- the items of a field, as code has them
     abbrev items_at : Spot ℕ → Spot ℕ → ℕ → List ℕ
-    items_at P Q j = tabulate (count_at c j) (item_at atoms P Q (get_or c.sizes j 0) (get_or c.longs j false) (pair_places + j))
+    items_at P Q j = tabulate (count_at c j) (item_at atoms P Q (chosen_in c j).items (chosen_in c j).long (pair_places + j))
 
     items_chosen : (k j : ℕ) (P Q : ℕ → Spot ℕ) (F : ℕ → List ℕ) (cs : List Cand) → Has c j (tabulate k P) (tabulate k Q) cs
         → Chosen (tabulate k P) (tabulate k Q) cs
@@ -125,7 +125,7 @@ module _ (row texts : List ℕ) (n : ℕ) (few : n ≤ 4) (cs : List Cand) (h : 
   made = chosen_by no_choice 0 Ps Qs cs
 
   made_has : Has made 0 Ps Qs cs
-  made_has = chosen_has Ps Qs cs no_choice 0 refl refl (let e = tabulate_long n (spot_in row false) in omega (arith, e, few))
+  made_has = chosen_has Ps Qs cs no_choice 0 refl (let e = tabulate_long n (spot_in row false) in omega (arith, e, few))
 
   -- the items of the fields
   pub items_made : (atoms : List ℕ) → items_in row n made atoms ≡ items_from atoms pair_places 0 Ps Qs cs

@@ -1,5 +1,5 @@
--- A variable without a number gets the next one of its type, and a count goes up by one at most.
-use mathlib.Core.Path.{◌≡◌, refl, sym, ap}
+-- Naming an item keeps how many there are of counts and of numbers, and a count goes up by one at most.
+use mathlib.Core.Path.{◌≡◌, refl}
 use mathlib.Core.Bool.{Bool, true, false, cond}
 use mathlib.Core.List.{List}
 use Prim.Native.Nat.{ℕ, ◌+◌, ◌≤◌, ◌<◌}
@@ -8,29 +8,9 @@ use native.Mathlib.Decide.{ℕ_discrete, dec_lt}
 use lib.Dec.{eqb}
 use lib.ListN.{length, get_or, set, length-set}
 use lib.Seq.{get_or-set_same, get_or-set_other, set_out}
-use borrow.Author.Tests.{eq-eqb, ne_eqb}
 use Rattle.math_codes.specs.Tables.{Table}
 use Rattle.math_codes.specs.Names.{Names, counted, name_code}
 use Rattle.pair_lines.specs.Lines.{Few}
-
-module _ (T : Table) (x : Names) (c : ℕ) where
-  -- the counts and numbers are as they were
-  abbrev Same : Type 0
-  Same = (x.counts ≡ (name_code T x c).counts) × (x.numbers ≡ (name_code T x c).numbers)
-
-  same_names : name_code T x c ≡ x → Same
-  same_names e = (ap (λ (y : Names). y.counts) (sym e), ap (λ (y : Names). y.numbers) (sym e))
-
-  pub name_none : T.variable c ≡ false → Same
-  name_none e = same_names (rw e)
-
-  pub name_again : T.variable c ≡ true → (get_or x.numbers c 0 ≡ 0 → ⊥) → Same
-  name_again e h = same_names (rw (e, ne_eqb (get_or x.numbers c 0) 0 h))
-
-  -- k is the item's type and n how many of it have a number
-  pub name_new : T.variable c ≡ true → get_or x.numbers c 0 ≡ 0 → (k n : ℕ) → k ≡ T.kind c → n ≡ get_or x.counts k 0
-      → (set x.counts k (n + 1) ≡ (name_code T x c).counts) × (set x.numbers c (n + 1) ≡ (name_code T x c).numbers)
-  name_new e h k n p q = rw (e, eq-eqb (get_or x.numbers c 0) 0 h, q, p) (refl, refl)
 
 -- as many as before
 pub name_long : (T : Table) (x : Names) (c : ℕ)

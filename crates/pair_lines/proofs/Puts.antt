@@ -2,12 +2,12 @@
 use mathlib.Core.Path.{◌≡◌, refl, sym, ap, ap₂, ◌∙◌, subst}
 use mathlib.Core.Bool.{Bool, true, false, cond, ◌||◌}
 use mathlib.Core.List.{List, [], ◌∷◌, ◌++◌}
-use Prim.Native.Nat.{ℕ, suc, ◌+◌, ◌/◌, ◌%◌, ◌^◌, ◌≤◌, ◌<◌}
+use Prim.Native.Nat.{ℕ, ◌+◌, ◌/◌, ◌%◌, ◌≤◌, ◌<◌}
 use native.Mathlib.Omega.{arith}
 use native.Mathlib.Decide.{dec_lt}
 use lib.Dec.{ltb}
-use lib.ListN.{length, get_or, take, drop, length-append, length-take, length-drop}
-use lib.Seq.{sets, length-sets, take_all, take-suc, get_or-drop}
+use lib.ListN.{length, drop, length-append, length-drop}
+use lib.Seq.{sets}
 use borrow.Author.Tests.{lt-ltb, le-ltb}
 use Rattle.base_lists.specs.Arrays.{sets_append}
 use Rattle.text_grammar.specs.Numbers.{digits_of}
@@ -22,9 +22,6 @@ puts_as at l {p} {m} e q = subst (λ (t : List ℕ). Puts t at l p m) e q
 
 pub puts_moved : (a : List ℕ) (at : ℕ) (l : List ℕ) {p r : ℕ} {m n : List ℕ} → r ≡ p → n ≡ m → Puts a at l p m → Puts a at l r n
 puts_moved a at l e f q = (e ∙ q.0, f ∙ q.1)
-
-pub puts_long : (a : List ℕ) (at : ℕ) (l : List ℕ) {p : ℕ} {m : List ℕ} → Puts a at l p m → length m ≡ length l
-puts_long a at l q = ap length q.1 ∙ length-sets l at a
 
 pub puts_next : (a b : List ℕ) (at : ℕ) (l : List ℕ) {p r : ℕ} {m n : List ℕ} → Puts a at l p m → Puts b p m r n → Puts (a ++ b) at l r n
 puts_next a b at l q s =
@@ -57,13 +54,6 @@ module _ (led : Bool) (at : ℕ) where
       go : (b : Bool) → length (cond b t (drop 1 t)) ≤ length t
       go true = omega arith
       go false = omega (arith, length-drop 1 t)
-
-  pub blank_few : length (blank led at) ≤ 1
-  blank_few = go (led || ltb 0 at)
-    where
-      go : (b : Bool) → length {A = ℕ} (cond b (32 ∷ []) []) ≤ 1
-      go true = omega arith
-      go false = omega arith
 
   -- the blank of the first binding
   pub blank_led : (t : List ℕ) → blank led at ++ t ≡ unled led at (32 ∷ t)
@@ -117,29 +107,3 @@ digits_three n h k =
     digits_more n (omega arith)
     ∙ ap (λ (t : List ℕ). t ++ (48 + n % 10) ∷ []) (digits_two (n / 10) (omega arith) (omega arith)
     ∙ ap (λ (d : ℕ). (48 + d) ∷ (48 + n / 10 % 10) ∷ []) (let e : n / 10 / 10 ≡ n / 100 = omega arith in e))
-
--- ---- a constant's bytes, one by one
-
-module _ (texts : List ℕ) (f : ℕ) where
-  past_front : (i : ℕ) → f + i < length texts → i < length (drop f texts)
-  past_front i h = omega (arith, length-drop f texts)
-
-  -- one byte more
-  pub bytes_one : (i at : ℕ) (l : List ℕ) {q r : ℕ} {m n : List ℕ} → f + i < length texts → Puts (take i (drop f texts)) at l q m
-      → Puts (get_or texts (f + i) 0 ∷ []) q m r n
-      → Puts (take (i + 1) (drop f texts)) at l r n
-  bytes_one i at l h p s =
-      puts_as at l
-      (ap (λ (b : ℕ). take i (drop f texts) ++ b ∷ []) (sym (get_or-drop f texts i 0))
-      ∙ sym (take-suc (drop f texts) i 0 (past_front i h))
-      ∙ ap (λ (k : ℕ). take k (drop f texts)) (let e : suc i ≡ i + 1 = omega arith in e))
-      (puts_next (take i (drop f texts)) (get_or texts (f + i) 0 ∷ []) at l p s)
-
-  -- which the whole has room for
-  pub bytes_room : (i n at q : ℕ) → f + i < length texts → i < n → q ≡ at + length (take i (drop f texts)) → at + length (take n (drop f texts)) < 2 ^ 64
-      → q + 1 < 2 ^ 64
-  bytes_room i n at q h k e s = omega (arith, past_front i h, length-take i (drop f texts), length-take n (drop f texts))
-
-  -- the text ends before all are put
-  pub bytes_short : (i n : ℕ) → length texts ≤ f + i → i ≤ n → take i (drop f texts) ≡ take n (drop f texts)
-  bytes_short i n h k = let e = length-drop f texts in take_all i (drop f texts) (omega arith) ∙ sym (take_all n (drop f texts) (omega arith))

@@ -2,29 +2,23 @@
 use mathlib.Core.Path.{◌≡◌, refl, sym, ap, ◌∙◌}
 use mathlib.Core.Bool.{Bool, true, false, cond, false≢true}
 use mathlib.Core.List.{List, [], ◌∷◌, ◌++◌, append_assoc, append-nil}
-use Prim.Native.Nat.{ℕ, zero, suc, ◌+◌, ◌-◌, ◌≤◌, ◌<◌}
+use Prim.Native.Nat.{ℕ, zero, suc, ◌+◌, ◌≤◌, ◌<◌}
 use native.Mathlib.Omega.{arith}
 use lib.Dec.{leb}
-use lib.ListN.{length, get_or, take, drop, length-append, length-drop, take-append-drop}
-use lib.Seq.{take_all, take-suc}
+use lib.ListN.{length, get_or, take, drop, length-append, take-append-drop}
+use lib.Seq.{take-suc}
 use Rattle.base_limits.specs.Limits.{pair_places}
 use Rattle.base_lists.specs.Seqs.{tabulate, tabulate_long, tabulate_at}
-use borrow.Author.Tests.{eq-eqb, ne_eqb}
+use borrow.Author.Tests.{eq-eqb}
 use Rattle.math_types.specs.Order.{list}
 use Rattle.math_types.specs.Types.{rank}
-use Rattle.text_grammar.specs.Numbers.{digits_of}
 use Rattle.math_codes.specs.Tables.{Table}
-use Rattle.text_grammar.specs.Letters.{letter_at}
 use Rattle.math_codes.specs.Lines.{item_text, colon_texts, items_text, bar_texts, fields_text}
 use Rattle.pair_row.specs.Row.{kinds_at, variables_at, is_set, table_in, bytes_in, text_in}
 
 -- ---- an item
 
 module _ (row texts numbers : List ℕ) (c : ℕ) where
-  pub item_name : (table_in row).variable c ≡ true
-      → letter_at ((table_in row).kind c) ∷ digits_of (get_or numbers c 0 - 1) ≡ item_text (table_in row) (text_in row texts) numbers c
-  item_name h = rw h
-
   -- what is no variable has a place
   place_kind : (table_in row).variable c ≡ false → (table_in row).kind c ≡ get_or row (kinds_at + c) 0
   place_kind h = go (leb pair_places c) h
@@ -33,9 +27,6 @@ module _ (row texts numbers : List ℕ) (c : ℕ) where
           → cond b (rank list) (get_or row (kinds_at + c) 0) ≡ get_or row (kinds_at + c) 0
       go true e = absurd (false≢true (sym e))
       go false e = refl
-
-  pub item_plain : (table_in row).variable c ≡ false → ((table_in row).kind c ≡ 1 → ⊥) → bytes_in texts c ≡ item_text (table_in row) (text_in row texts) numbers c
-  item_plain h k = rw (h, ne_eqb (get_or row (kinds_at + c) 0) 1 (λ e. k (place_kind h ∙ e)))
 
   pub item_string : (table_in row).variable c ≡ false → (table_in row).kind c ≡ 1
       → 34 ∷ (bytes_in texts c ++ 34 ∷ []) ≡ item_text (table_in row) (text_in row texts) numbers c
@@ -55,53 +46,37 @@ module _ (T : Table) (texts : ℕ → List ℕ) (numbers : List ℕ) where
       ap (λ (t : List ℕ). 58 ∷ (item_text T texts numbers c ++ t)) (colons_append a b)
       ∙ ap (λ (t : List ℕ). 58 ∷ t) (sym (append_assoc (item_text T texts numbers c) (colon_texts T texts numbers a) (colon_texts T texts numbers b)))
 
-  pub items_none : (run : List ℕ) → length run ≡ 0 → 101 ∷ 109 ∷ 112 ∷ 116 ∷ 121 ∷ [] ≡ items_text T texts numbers run
-  items_none [] h = refl
-  items_none (c ∷ run) h = absurd (omega arith)
+  -- item i of those behind the first, behind those before it
+  pub colons_one : (cs : List ℕ) (i : ℕ) → i < length cs
+      → colon_texts T texts numbers (take i cs) ++ 58 ∷ item_text T texts numbers (get_or cs i 0) ≡ colon_texts T texts numbers (take (i + 1) cs)
+  colons_one cs i h =
+      ap (λ (t : List ℕ). colon_texts T texts numbers (take i cs) ++ 58 ∷ t) (sym (append-nil (item_text T texts numbers (get_or cs i 0))))
+      ∙ sym (colons_append (take i cs) (get_or cs i 0 ∷ []))
+      ∙ ap (colon_texts T texts numbers) (sym (take-suc cs i 0 h))
+      ∙ ap (λ (n : ℕ). colon_texts T texts numbers (take n cs)) (let e : suc i ≡ i + 1 = omega arith in e)
 
-  -- the first, and the others behind it
-  pub items_cut : (run : List ℕ) → 0 < length run
-      → item_text T texts numbers (get_or run 0 0) ++ colon_texts T texts numbers (drop 1 run) ≡ items_text T texts numbers run
-  items_cut [] h = absurd (omega arith)
-  items_cut (c ∷ run) h = refl
-
-  -- item i of a run, behind those between it and the first
-  pub colons_one : (run : List ℕ) (i : ℕ) → 1 ≤ i → i < length run
-      → colon_texts T texts numbers (take (i - 1) (drop 1 run)) ++ 58 ∷ item_text T texts numbers (get_or run i 0)
-      ≡ colon_texts T texts numbers (take (i + 1 - 1) (drop 1 run))
-  colons_one [] i h k = absurd (omega arith)
-  colons_one (c ∷ run) zero h k = absurd (omega arith)
-  colons_one (c ∷ run) (suc i) h k =
-      ap (λ (n : ℕ). colon_texts T texts numbers (take n run) ++ 58 ∷ item_text T texts numbers (get_or run i 0)) (let e : suc i - 1 ≡ i = omega arith in e)
-      ∙ ap (λ (t : List ℕ). colon_texts T texts numbers (take i run) ++ 58 ∷ t) (sym (append-nil (item_text T texts numbers (get_or run i 0))))
-      ∙ sym (colons_append (take i run) (get_or run i 0 ∷ []))
-      ∙ ap (colon_texts T texts numbers) (sym (take-suc run i 0 (omega arith)))
-      ∙ ap (λ (n : ℕ). colon_texts T texts numbers (take n run)) (let e : suc i ≡ suc i + 1 - 1 = omega arith in e)
-
-  colons_front : (run : List ℕ) (i : ℕ) → length (colon_texts T texts numbers (take i run)) ≤ length (colon_texts T texts numbers run)
-  colons_front run i =
-      let a = colon_texts T texts numbers (take i run) in
-      let b = colon_texts T texts numbers (drop i run) in
-      let e : colon_texts T texts numbers run ≡ a ++ b =
-      ap (colon_texts T texts numbers) (sym (take-append-drop i run)) ∙ colons_append (take i run) (drop i run) in
+  colons_front : (cs : List ℕ) (i : ℕ) → length (colon_texts T texts numbers (take i cs)) ≤ length (colon_texts T texts numbers cs)
+  colons_front cs i =
+      let a = colon_texts T texts numbers (take i cs) in
+      let b = colon_texts T texts numbers (drop i cs) in
+      let e : colon_texts T texts numbers cs ≡ a ++ b =
+      ap (colon_texts T texts numbers) (sym (take-append-drop i cs)) ∙ colons_append (take i cs) (drop i cs) in
       omega (arith, ap length e, length-append a b)
 
   -- which the whole has room for
-  pub colons_room : (run : List ℕ) (i : ℕ) → 1 ≤ i → i < length run
-      → length (colon_texts T texts numbers (take (i - 1) (drop 1 run))) + (1 + length (item_text T texts numbers (get_or run i 0)))
-      ≤ length (colon_texts T texts numbers (drop 1 run))
-  colons_room run i h k =
-      let last : List ℕ = 58 ∷ item_text T texts numbers (get_or run i 0) in
+  pub colons_room : (run : List ℕ) (c : ℕ) (cs : List ℕ) → run ≡ c ∷ cs → (i : ℕ) → i < length cs
+      → length (item_text T texts numbers c) + (length (colon_texts T texts numbers (take i cs)) + (1 + length (item_text T texts numbers (get_or cs i 0))))
+      ≤ length (items_text T texts numbers run)
+  colons_room run c cs e i h =
+      let last : List ℕ = 58 ∷ item_text T texts numbers (get_or cs i 0) in
       omega (
         arith,
-        colons_front (drop 1 run) (i + 1 - 1),
-        ap length (colons_one run i h k),
-        length-append (colon_texts T texts numbers (take (i - 1) (drop 1 run))) last,
+        colons_front cs (i + 1),
+        ap length (colons_one cs i h),
+        length-append (colon_texts T texts numbers (take i cs)) last,
+        ap (λ (l : List ℕ). length (items_text T texts numbers l)) e,
+        length-append (item_text T texts numbers c) (colon_texts T texts numbers cs),
       )
-
-  pub colons_all : (run : List ℕ) (i : ℕ) → 1 ≤ i → length run ≤ i
-      → colon_texts T texts numbers (take (i - 1) (drop 1 run)) ≡ colon_texts T texts numbers (drop 1 run)
-  colons_all run i h k = ap (colon_texts T texts numbers) (take_all (i - 1) (drop 1 run) (omega (arith, length-drop 1 run)))
 
   bars_append : (a b : List (List ℕ)) → bar_texts T texts numbers (a ++ b) ≡ bar_texts T texts numbers a ++ bar_texts T texts numbers b
   bars_append [] b = refl

@@ -5,16 +5,16 @@ use mathlib.Core.List.{List, [], ◌∷◌, ◌++◌, append_assoc, append-nil}
 use Prim.Native.Nat.{ℕ, zero, suc, ◌+◌, ◌-◌, ◌*◌, ◌≤◌, ◌<◌, min}
 use native.Mathlib.Omega.{arith}
 use native.Mathlib.Decide.{dec_lt}
-use lib.ListN.{length, get_or, take, drop, length-append, length-take, drop_of_length-le}
+use lib.ListN.{length, take, drop, length-append, length-take, drop_of_length-le}
 use lib.Seq.{slice, take_all}
-use borrow.Author.Tests.{lt-ltb, le-ltb}
-use Rattle.base_limits.specs.Limits.{atom_kind_count, numbers_of_side}
+use borrow.Author.Tests.{le-ltb}
+use Rattle.base_limits.specs.Limits.{numbers_of_side}
 use Rattle.base_lists.specs.Arrays.{part_of}
 use Rattle.text_grammar.specs.Numbers.{digits_of}
 use Rattle.math_terms.specs.Seqs.{concat_map}
 use Rattle.math_terms.proofs.Seqs.{concat_map_append}
 use Rattle.math_overlaps.specs.Candidates.{range}
-use Rattle.math_codes.specs.Lines.{item_text, items_text}
+use Rattle.math_codes.specs.Lines.{items_text}
 use Rattle.math_codes.specs.Index.{has_at, name_at, bound_text, ranked_value}
 use Rattle.math_codes.proofs.Index.{there}
 use Rattle.pair_row.specs.Row.{table_in, text_in, index_in, top_in}
@@ -24,14 +24,6 @@ use Rattle.pair_lines.proofs.Puts.{Led, led_append}
 -- ---- a value
 
 module _ (row : List ℕ) (right : Bool) (atoms : List ℕ) (runs : ℕ → List ℕ) (k v : ℕ) where
-  -- an atom
-  pub value_atom : (texts numbers : List ℕ) (x : ℕ) → k < atom_kind_count → x ≡ get_or atoms (index_in row right (numbers_of_side * k + v) - 1) 0
-      → item_text (table_in row) (text_in row texts) numbers x ≡ items_text (table_in row) (text_in row texts) numbers (value_in row right atoms runs k v)
-  value_atom texts numbers x h e =
-      sym (append-nil (item_text (table_in row) (text_in row texts) numbers x))
-      ∙ ap (λ (y : ℕ). items_text (table_in row) (text_in row texts) numbers (y ∷ [])) e
-      ∙ rw (lt-ltb k 3 h)
-
   -- a run
   pub value_run : 3 ≤ k → runs v ≡ value_in row right atoms runs k v
   value_run h = rw (le-ltb k 3 h)

@@ -1,6 +1,6 @@
 -- The line of a choice and its last codes, as code makes it of the pair's tables. `line_is` of proofs/ says that it is the mathematics'
 -- `indexed_line`.
-use Rattle.std.specs.Prelude.{◌≡◌, Bool, true, false, cond, ◌&&◌, ◌||◌, List, [], ◌∷◌, ◌++◌, ℕ, zero, suc, ◌+◌, ◌-◌, ◌*◌, ◌^◌, ◌≤◌, leb, ltb, length, get_or, set, drop, replicate}
+use Rattle.std.specs.Prelude.{◌≡◌, Bool, true, false, cond, ◌&&◌, ◌||◌, List, [], ◌∷◌, ℕ, zero, suc, ◌+◌, ◌-◌, ◌*◌, ◌^◌, ◌≤◌, leb, ltb, length, get_or, set, drop, replicate}
 use Rattle.std.proofs.lemmas.List.Edits.{sets}
 use Rattle.std.proofs.Math.Seq.{slice}
 use Rattle.base_limits.specs.Limits.{most_fields, kind_count, entry_terms, numbers_of_side, pair_places, pair_items, entry_places}
@@ -11,12 +11,16 @@ use Rattle.overlap_spec.specs.Lines.{left_tag, right_tag}
 use Rattle.math_codes.specs.Spots.{Spot}
 use Rattle.math_codes.specs.Walks.{span_on}
 use Rattle.math_codes.specs.Names.{Names, no_names, name_fields}
+use Rattle.math_codes.specs.Lines.{item_text, items_text, fields_text}
 use Rattle.math_codes.specs.Index.{value_at, rank_values, indexed_values, indexed_items}
 use Rattle.pair_row.specs.Row.{table_in, text_in, shape_in, spot_in, index_in, top_in}
 use Rattle.pair_row.specs.declared.Shape.{Shape}
 use Rattle.overlap_entries.specs.declared.Choice.{Choice}
-use Rattle.overlap_entries.specs.Entries.{item_count, item_at, chosen_at}
+use Rattle.overlap_entries.specs.Entries.{chosen_in, item_count, item_at, chosen_at}
+use Rattle.pair_lines.specs.declared.Numbering.{Numbering}
 use Rattle.pair_lines.specs.declared.Run.{Run}
+use Rattle.pair_lines.specs.declared.Shown.{Shown}
+use Rattle.pair_lines.specs.declared.Bindings.{Bindings}
 
 -- a text put at a place, as far as there is room; the place behind it is counted whether there is or not
 abbrev pub Puts : List ℕ → ℕ → List ℕ → ℕ → List ℕ → Type 0
@@ -37,7 +41,7 @@ abbrev pub most_count : ℕ
 most_count = largest_byte - 1
 
 abbrev pub count_at : Choice → ℕ → ℕ
-count_at c j = item_count (get_or c.sizes j 0) (get_or c.longs j false)
+count_at c j = item_count (chosen_in c j).items (chosen_in c j).long
 
 -- n fields from field j on have no more
 abbrev pub fits_from : Choice → ℕ → ℕ → Bool
@@ -52,10 +56,14 @@ fits n c = leb n most_fields && fits_from c 0 n
 abbrev pub field_in : List ℕ → Choice → List ℕ → ℕ → List ℕ
 field_in row c atoms j =
     tabulate (count_at c j)
-    (item_at atoms (spot_in row false j) (spot_in row true j) (get_or c.sizes j 0) (get_or c.longs j false) (pair_places + j))
+    (item_at atoms (spot_in row false j) (spot_in row true j) (chosen_in c j).items (chosen_in c j).long (pair_places + j))
 
 abbrev pub items_in : List ℕ → ℕ → Choice → List ℕ → List (List ℕ)
 items_in row n c atoms = tabulate n (field_in row c atoms)
+
+-- numbers in hand
+abbrev pub names_of : Numbering → Names
+names_of x = record { counts = x.counts; numbers = x.numbers }
 
 -- the numbers that they get
 abbrev pub names_in : List ℕ → ℕ → Choice → List ℕ → Names
@@ -125,6 +133,27 @@ rank_in row texts numbers right atoms runs k =
 abbrev pub values_in : List ℕ → List ℕ → List ℕ → Bool → List ℕ → (ℕ → List ℕ) → List ℕ
 values_in row texts numbers right atoms runs =
     indexed_values (table_in row) (text_in row texts) numbers (tag_of right) (index_in row right) (top_in row right) atoms runs
+
+-- the texts that code makes: of an item, of a run, of fields
+abbrev pub shown_item : Shown → ℕ → List ℕ
+shown_item s c = item_text (table_in s.row.now) (text_in s.row.now s.texts.now) s.numbers.now c
+
+abbrev pub shown_run : Shown → List ℕ → List ℕ
+shown_run s run = items_text (table_in s.row.now) (text_in s.row.now s.texts.now) s.numbers.now run
+
+abbrev pub shown_fields : Shown → List (List ℕ) → List ℕ
+shown_fields s fs = fields_text (table_in s.row.now) (text_in s.row.now s.texts.now) s.numbers.now fs
+
+-- a variable's value; the texts of the variables of a type's rank, and of all
+abbrev pub shown_value : Bindings → ℕ → ℕ → List ℕ
+shown_value x k n = value_in x.shown.row.now x.side.right x.side.atoms.now (run_by x.runs.now x.side.items.now) k n
+
+abbrev pub shown_rank : Bindings → ℕ → List ℕ
+shown_rank x k =
+    rank_in x.shown.row.now x.shown.texts.now x.shown.numbers.now x.side.right x.side.atoms.now (run_by x.runs.now x.side.items.now) k
+
+abbrev pub shown_values : Bindings → List ℕ
+shown_values x = values_in x.shown.row.now x.shown.texts.now x.shown.numbers.now x.side.right x.side.atoms.now (run_by x.runs.now x.side.items.now)
 
 -- ---- the line
 

@@ -7,34 +7,21 @@ ghost use Rattle.math_codes.specs.States.{replaced, join_places};
 ghost use Rattle.pair_row.specs.Row.{table_in};
 ghost use Rattle.pair_state.specs.States.{joined_of};
 
-use math_types::Met;
-
 // Document 01: "Each join of two atoms turns one state of the fillings into the next".
 #[derive(Clone, Copy)]
 pub struct State {
     pub atoms: [u8; base_limits::PAIR_PLACES],
 }
 
-// The next state, or a clash with the state as it was.
-#[derive(Clone, Copy)]
-pub struct Joined {
-    pub ok: bool,
-    pub next: State,
-}
-
 // Each atom stands for itself.
 pub fn start(row: &[u8]) -> State
     ensures { result.atoms ≡ (table_in row.now).first }
 {
-    let mut st = State {
-        atoms: [0; base_limits::PAIR_PLACES],
-    };
-    let mut i: usize = 0;
-    while i < base_limits::PAIR_PLACES {
-        st.atoms[i] = pair_row::byte_at(row, i);
-        i += 1;
+    let mut atoms = [0; base_limits::PAIR_PLACES];
+    for (i, a) in atoms.iter_mut().enumerate() {
+        *a = pair_row::byte_at(row, i);
     }
-    st
+    State { atoms }
 }
 
 // Whether x is a variable and m, the meet of its type and an atom's, is that atom's type: then its class goes over into that of the atom.
@@ -53,58 +40,36 @@ impl State {
         ensures { result.atoms ≡ replaced x w self.atoms }
     {
         let mut st = self;
-        let mut i: usize = 0;
-        while i < base_limits::PAIR_PLACES {
-            if st.atoms[i] == x {
-                st.atoms[i] = w;
+        for a in &mut st.atoms {
+            if *a == x {
+                *a = w;
             }
-            i += 1;
         }
         st
     }
 
     // The next state, where what the atoms at two places stand for is one, or a clash.
-    pub fn join(self, p: usize, q: usize, row: &[u8]) -> Joined
-        ensures { result ≡ joined_of self (join_places entry (table_in row.now) p q self.atoms) }
+    pub fn join(self, p: usize, q: usize, row: &[u8]) -> Option<State>
+        ensures { result ≡ joined_of (join_places entry (table_in row.now) p q self.atoms) }
     {
         let x = pair_row::byte_at(&self.atoms, p);
         let y = pair_row::byte_at(&self.atoms, q);
         if x == y {
-            return Joined {
-                ok: true,
-                next: self,
-            };
+            return Some(self);
         }
         // The joined class takes the atom whose type is the meet of both; the other, a variable, goes over. No meet is a clash.
         let j = pair_row::kind_at(row, x);
         let k = pair_row::kind_at(row, y);
-        // The class of gone goes over into that of kept: decided first, so that one call does both ways.
-        let mut gone = x;
-        let mut kept = y;
-        // The left atom's class goes over most often: its test is the meet's first.
-        match math_types::meet_rank(k, j) {
-            Met::Is(m) => {
-                if !goes_over(x, m, k, row) {
-                    if !goes_over(y, m, j, row) {
-                        return Joined {
-                            ok: false,
-                            next: self,
-                        };
-                    }
-                    gone = y;
-                    kept = x;
-                }
-            }
-            Met::Nothing => {
-                return Joined {
-                    ok: false,
-                    next: self,
-                };
-            }
-        }
-        Joined {
-            ok: true,
-            next: self.replace(gone, kept),
-        }
+        let m = math_types::meet_rank(k, j)?;
+        // The class of gone goes over into that of kept: decided first, so that one call does both ways. That of the left atom goes over
+        // most often, so its test is the first.
+        let (gone, kept) = if goes_over(x, m, k, row) {
+            (x, y)
+        } else if goes_over(y, m, j, row) {
+            (y, x)
+        } else {
+            return None;
+        };
+        Some(self.replace(gone, kept))
     }
 }

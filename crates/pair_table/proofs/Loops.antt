@@ -2,25 +2,26 @@
 use mathlib.Core.Path.{◌≡◌, refl, sym, ap, ap₂, ◌∙◌}
 use mathlib.Core.Logic.{ite}
 use mathlib.Core.Bool.{Bool, true, false, cond, ◌&&◌}
-use mathlib.Core.List.{List, [], ◌∷◌}
+use mathlib.Core.List.{List, ◌∷◌}
 use Prim.Native.Nat.{ℕ, zero, suc, ◌+◌, ◌-◌, ◌*◌, ◌≤◌, ◌<◌}
 use native.Mathlib.Omega.{arith}
 use native.Mathlib.Decide.{ℕ_discrete, dec_le}
-use lib.Dec.{eqb, leb}
+use lib.Dec.{eqb}
 use lib.ListN.{length, get_or, set, get_or-eq_default}
 use lib.Seq.{sets}
+use Rattle.std.proofs.Common.{zero-add, subst}
+use Rattle.std.proofs.lemmas.List.FromFn.{length-range_with_len, get_or-range_with_len}
+use Rattle.std.specs.Bool.{MatchBool}
+use Rattle.std.specs.List.{AllWithin, HoldsAt, range_with_len}
 use Rattle.base_lists.specs.Seqs.{tabulate_same, tabulate_long}
 use Rattle.base_lists.specs.Truths.{both_is}
 use Rattle.text_grammar.specs.constants.Constants.{signed}
 use Rattle.math_codes.specs.Texts.{zeros}
-use borrow.Author.Tests.{eq-eqb, leb-true}
+use borrow.Author.Tests.{eq-eqb, eqb-true}
 use Rattle.pair_row.specs.Row.{kinds_at, members_at, cell_bytes}
-use Rattle.pair_table.specs.Notes.{is_field, part_of, celled, same_from, same_constant, member_from}
+use Rattle.pair_table.specs.Notes.{part_of, celled, same_from, same_constant, member_from}
 
 -- ---- a part of a text
-
-pub part_none : (text : List ℕ) (from n : ℕ) → n ≡ 0 → part_of text from n ≡ []
-part_none text from n e = ap (part_of text from) e
 
 pub part_one : (text : List ℕ) (from n : ℕ) → 0 < n → part_of text from n ≡ get_or text from 0 ∷ part_of text (from + 1) (n - 1)
 part_one text from n h =
@@ -44,13 +45,6 @@ put_one text texts from q i n h =
     ap (λ (bs : List ℕ). sets texts (q + i) bs) (part_one text (from + i) (n - i) (omega arith))
     ∙ ap₂ (λ (j : ℕ) (bs : List ℕ). sets x j bs) e (ap₂ (part_of text) f g)
 
-pub put_all : (text texts : List ℕ) (from q n : ℕ) → sets texts (q + 0) (part_of text (from + 0) (n - 0)) ≡ sets texts q (part_of text from n)
-put_all text texts from q n =
-    let e : q + 0 ≡ q = omega arith in
-    let f : from + 0 ≡ from = omega arith in
-    let g : n - 0 ≡ n = omega arith in
-    ap₂ (λ (j : ℕ) (bs : List ℕ). sets texts j bs) e (ap₂ (part_of text) f g)
-
 -- a cell's number and its bytes, behind a minus or not
 module _ (p : ℕ) (m : Bool) (text texts : List ℕ) (from n : ℕ) where
   abbrev part : List ℕ
@@ -71,13 +65,6 @@ module _ (p : ℕ) (m : Bool) (text texts : List ℕ) (from n : ℕ) where
   cell_plain e ht hv = rw e (hv ∙ ap (λ (l : List ℕ). sets l (cell_bytes * p + 1) part) (ht ∙ ap (set texts (cell_bytes * p)) (sym long)))
 
 -- ---- leading zeros
-
-pub zeros_begin : (text : List ℕ) (at n : ℕ) → zeros (part_of text at n) ≡ 0 + zeros (part_of text (at + 0) (n - 0))
-zeros_begin text at n =
-    let e : at ≡ at + 0 = omega arith in
-    let f : n ≡ n - 0 = omega arith in
-    let g = ap₂ (λ (j m : ℕ). zeros (part_of text j m)) e f in
-    omega (arith, g)
 
 zeros_zero : (d e : ℕ) (ds : List ℕ) → d ≡ 48 → zeros (d ∷ (e ∷ ds)) ≡ suc (zeros (e ∷ ds))
 zeros_zero d e ds q = go (ℕ_discrete d 48)
@@ -133,32 +120,44 @@ zeros_last text at n i h = go (n - i) (omega arith)
 
 -- ---- constants
 
-pub same_begin : (texts : List ℕ) (a b n : ℕ) → same_from texts a b n ≡ same_from texts (a + 0) (b + 0) (n - 0)
-same_begin texts a b n =
-    let e : a ≡ a + 0 = omega arith in
-    let f : b ≡ b + 0 = omega arith in
-    let g : n ≡ n - 0 = omega arith in
-    ap₂ (λ (x y : ℕ). same_from texts x y n) e f ∙ ap (same_from texts (a + 0) (b + 0)) g
+same_true : (texts : List ℕ) (a b k : ℕ) → ((i : ℕ) → i < k → get_or texts (a + i) 0 ≡ get_or texts (b + i) 0) → same_from texts a b k ≡ true
+same_true texts a b zero h = refl
+same_true texts a b (suc k) h =
+    let u : a + 0 ≡ a = omega arith in
+    let v : b + 0 ≡ b = omega arith in
+    let e : get_or texts a 0 ≡ get_or texts b 0 = rw (u, v) at (h 0 (omega arith)) in
+    rw (eq-eqb (get_or texts a 0) (get_or texts b 0) e) (same_true texts (suc a) (suc b) k
+    (λ i l. let p : suc a + i ≡ a + suc i = omega arith in let q : suc b + i ≡ b + suc i = omega arith in rw (p, q) (h (suc i) (omega arith))))
 
-same_step : (texts : List ℕ) (a b n i : ℕ) → i < n
-    → same_from texts (a + i) (b + i) (n - i) ≡ eqb (get_or texts (a + i) 0) (get_or texts (b + i) 0) && same_from texts (a + (i + 1)) (b + (i + 1)) (n - (i + 1))
-same_step texts a b n i h =
-    let e : n - i ≡ suc (n - (i + 1)) = omega arith in
-    let p : suc (a + i) ≡ a + (i + 1) = omega arith in
-    let q : suc (b + i) ≡ b + (i + 1) = omega arith in
-    ap (same_from texts (a + i) (b + i)) e
-    ∙ ap₂ (λ (x y : ℕ). eqb (get_or texts (a + i) 0) (get_or texts (b + i) 0) && same_from texts x y (n - (i + 1))) p q
+same_each : (texts : List ℕ) (a b k : ℕ) → same_from texts a b k ≡ true → (i : ℕ) → i < k → get_or texts (a + i) 0 ≡ get_or texts (b + i) 0
+same_each texts a b zero e i l = absurd (omega arith)
+same_each texts a b (suc k) e zero l =
+    let u : a + 0 ≡ a = omega arith in
+    let v : b + 0 ≡ b = omega arith in
+    rw (u, v) (eqb-true (get_or texts a 0) (get_or texts b 0) ((both_is (eqb (get_or texts a 0) (get_or texts b 0)) (same_from texts (suc a) (suc b) k)).0 e).0)
+same_each texts a b (suc k) e (suc i) l =
+    let p : a + suc i ≡ suc a + i = omega arith in
+    let q : b + suc i ≡ suc b + i = omega arith in
+    rw (p, q)
+    (same_each texts (suc a) (suc b) k ((both_is (eqb (get_or texts a 0) (get_or texts b 0)) (same_from texts (suc a) (suc b) k)).0 e).1 i (omega arith))
 
-pub same_one : (texts : List ℕ) (a b n i : ℕ) → i < n → eqb (get_or texts (a + i) 0) (get_or texts (b + i) 0) ≡ true
-    → same_from texts (a + i) (b + i) (n - i) ≡ same_from texts (a + (i + 1)) (b + (i + 1)) (n - (i + 1))
-same_one texts a b n i h e = same_step texts a b n i h ∙ ap (λ (t : Bool). t && same_from texts (a + (i + 1)) (b + (i + 1)) (n - (i + 1))) e
+number_at : (Q : ℕ → Type 0) (k i : ℕ) → i < k → Q (get_or (range_with_len 0 k) i 0) → Q i
+number_at Q k i l h = subst Q (get_or-range_with_len 0 k i 0 l ∙ zero-add i) h
 
-pub same_other : (texts : List ℕ) (a b n i : ℕ) → i < n → eqb (get_or texts (a + i) 0) (get_or texts (b + i) 0) ≡ false
-    → same_from texts (a + i) (b + i) (n - i) ≡ false
-same_other texts a b n i h e = same_step texts a b n i h ∙ ap (λ (t : Bool). t && same_from texts (a + (i + 1)) (b + (i + 1)) (n - (i + 1))) e
-
-pub same_none : (texts : List ℕ) (a b n i : ℕ) → n ≤ i → same_from texts (a + i) (b + i) (n - i) ≡ true
-same_none texts a b n i h = let e : n - i ≡ 0 = omega arith in ap (same_from texts (a + i) (b + i)) e
+-- what a look at all of k pairs of bytes says
+pub same_all : (texts : List ℕ) (a b k : ℕ) (r : Bool) → let P : ℕ → Type 0 = λ i. get_or texts (a + i) 0 ≡ get_or texts (b + i) 0 in
+    let ns = range_with_len 0 k in
+    MatchBool r (AllWithin P ns 0 (length ns)) ((i : ℕ) × (i < length ns) × HoldsAt (λ j. P j → ⊥) ns i) → same_from texts a b k ≡ r
+same_all texts a b k true h =
+    same_true texts a b k (λ i l. number_at (λ j. get_or texts (a + j) 0 ≡ get_or texts (b + j) 0) k i l
+    (h i 0 (omega arith) (omega (arith, length-range_with_len 0 k))))
+same_all texts a b k false h = go (same_from texts a b k) refl
+  where
+    go : (s : Bool) → same_from texts a b k ≡ s → same_from texts a b k ≡ false
+    go false e = e
+    go true e =
+        let l : h.0 < k = omega (arith, h.1, length-range_with_len 0 k) in
+        absurd (number_at (λ j. get_or texts (a + j) 0 ≡ get_or texts (b + j) 0 → ⊥) k h.0 l (h.2 0) (same_each texts a b k e h.0 l))
 
 -- of constants that have one type it is their bytes that tell
 pub same_whole : (row texts : List ℕ) (p q n : ℕ) (r : Bool) → get_or row (kinds_at + p) 0 ≡ get_or row (kinds_at + q) 0 → n ≡ get_or texts (cell_bytes * p) 0
@@ -172,9 +171,6 @@ same_whole row texts p q n r k e s =
 
 -- ---- members
 
-pub member_begin : (row texts : List ℕ) (p n : ℕ) → member_from row texts p 0 n ≡ member_from row texts p 0 (n - 0)
-member_begin row texts p n = let e : n ≡ n - 0 = omega arith in ap (member_from row texts p 0) e
-
 member_step : (row texts : List ℕ) (p n k q : ℕ) → k < n → q ≡ get_or row (members_at + k) 0
     → member_from row texts p k (n - k) ≡ cond (same_constant row texts p q) q (member_from row texts p (k + 1) (n - (k + 1)))
 member_step row texts p n k q h d =
@@ -183,20 +179,9 @@ member_step row texts p n k q h d =
     ap (member_from row texts p k) e
     ∙ ap₂ (λ (m x : ℕ). cond (same_constant row texts p x) x (member_from row texts p m (n - (k + 1)))) f (sym d)
 
-pub member_found : (row texts : List ℕ) (p n k q : ℕ) → k < n → q ≡ get_or row (members_at + k) 0 → same_constant row texts p q ≡ true
-    → member_from row texts p k (n - k) ≡ q
-member_found row texts p n k q h d s =
-    member_step row texts p n k q h d ∙ ap (λ (t : Bool). cond t q (member_from row texts p (k + 1) (n - (k + 1)))) s
-
 pub member_other : (row texts : List ℕ) (p n k q : ℕ) → k < n → q ≡ get_or row (members_at + k) 0 → same_constant row texts p q ≡ false
     → member_from row texts p k (n - k) ≡ member_from row texts p (k + 1) (n - (k + 1))
 member_other row texts p n k q h d s =
     member_step row texts p n k q h d ∙ ap (λ (t : Bool). cond t q (member_from row texts p (k + 1) (n - (k + 1)))) s
 
-pub member_none : (row texts : List ℕ) (p n k : ℕ) → n ≤ k → member_from row texts p k (n - k) ≡ p
-member_none row texts p n k h = let e : n - k ≡ 0 = omega arith in ap (member_from row texts p k) e
-
 -- ---- fields
-
-pub field_within : (n : ℕ) → is_field n ≡ true → (1 ≤ n) × (n ≤ 4)
-field_within n e = let b = (both_is (leb 1 n) (leb n 4)).0 e in (leb-true 1 n b.0, leb-true n 4 b.1)

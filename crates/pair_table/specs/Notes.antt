@@ -1,7 +1,7 @@
 -- What noting a term makes of the row and of the constants' bytes, as code does it.
 -- `pair_noted` of proofs/ says that, of two texts that are accepted, the tables are those of their rules (specs/Pairs).
-use Rattle.std.specs.Prelude.{Bool, true, false, cond, ◌&&◌, ℕ, zero, suc, ◌+◌, ◌-◌, ◌*◌, ◌%◌, eqb, leb, ltb, length, get_or, set, replicate}
-use mathlib.Core.List.{List, [], ◌∷◌, foldl}
+use Rattle.std.specs.Prelude.{◌≡◌, Bool, true, false, cond, ◌&&◌, ℕ, zero, suc, ◌+◌, ◌-◌, ◌*◌, ◌%◌, eqb, leb, ltb, length, get_or, set, replicate}
+use mathlib.Core.List.{List, foldl}
 use Rattle.std.proofs.lemmas.List.Edits.{sets}
 use Rattle.base_limits.specs.Limits.{most_fields, most_terms, longest_string, kind_count, numbers_of_side, variable_places, field_places}
 use Rattle.base_limits.specs.Limits.{pair_places}
@@ -20,6 +20,7 @@ use Rattle.text_scan.specs.declared.Spelled.{Spelled}
 use Rattle.text_scan.specs.declared.Spelled.TheVariants.{Con, Var, Empty}
 use Rattle.text_scan.specs.Lexemes.{lexeme_of}
 use Rattle.pair_row.specs.Row.{kinds_at, variables_at, shapes_at, indexes_at, tops_at, count_at, members_at, cell_bytes, row_bytes, texts_bytes}
+use Rattle.pair_table.specs.declared.Tables.{Tables}
 use Rattle.pair_row.specs.Row.{shape_bytes}
 use Rattle.pair_row.specs.Row.{field_of, is_set}
 
@@ -117,6 +118,10 @@ shape_noted f is_list n row =
     (cond is_list (set (set row (k + 2) n) (k + 3) 1) (set row k (more (get_or row k 0))))
 
 -- ---- terms
+
+-- the tables that are lent are the same ones
+abbrev pub Kept : Tables → Tables → Type 0
+Kept t u = (u.row.ghost_name ≡ t.row.ghost_name) × (u.texts.ghost_name ≡ t.texts.ghost_name)
 
 -- a rule has four fields, counted from 1
 abbrev pub is_field : ℕ → Bool

@@ -2,7 +2,7 @@
 // never again.
 #![tactic(auto)]
 
-ghost use Rattle.std.specs.Prelude.{◌≡◌, ◌+◌, ◌-◌, ◌*◌, ◌≤◌, ◌<◌, length, get_or};
+ghost use Rattle.std.specs.Prelude.{◌≡◌, cond, ◌+◌, ◌-◌, ◌*◌, ◌≤◌, ◌<◌, length, get_or};
 ghost use Rattle.std.proofs.lemmas.List.Edits.{sets};
 ghost use Rattle.base_limits.specs.Limits.{most_fields, longest_string, kind_count, numbers_of_side, pair_places, pair_fields};
 ghost use Rattle.base_lists.specs.Seqs.{tabulate};
@@ -14,7 +14,7 @@ ghost use Rattle.text_scan.specs.declared.Literal.TheVariants.{Int};
 ghost use Rattle.pair_row.specs.Row.{cell_bytes, field_of};
 ghost use Rattle.pair_table.specs.Notes.{part_of, is_field, terms_in, classed, celled, same_constant, code_in, joined_member};
 ghost use Rattle.pair_table.specs.Notes.{constant_noted, literal_noted, side_of, indexed, topped, variable_noted, more, shape_noted};
-ghost use Rattle.pair_table.specs.Notes.{note_by};
+ghost use Rattle.pair_table.specs.Notes.{note_by, Kept};
 ghost use Rattle.pair_table.specs.Notes.{note_lexeme};
 
 use math_types::Kind;
@@ -28,6 +28,13 @@ const NUMBERS_OF_SIDE: u32 = base_limits::NUMBERS_OF_SIDE as u32;
 // What a field's number among the pair's is above its number on the right side, counted from 1.
 const RIGHT_FIELDS: usize = base_limits::MOST_FIELDS - 1;
 
+// The row of a pair's tables, and the bytes of its constants.
+#[derive(Drop)]
+struct Tables<'a> {
+    row: &'a mut [u8],
+    texts: &'a mut [u8],
+}
+
 // ---- constants
 
 // The bytes of a text from a place on, n of them, in the cell of place p behind the first k of its bytes.
@@ -36,11 +43,8 @@ fn put_bytes(texts: &mut [u8], p: u8, k: usize, text: &[u8], from: usize, n: usi
     ensures { texts.new ≡ sets texts.old (cell_bytes * p + k) (part_of text.now from n) }
 {
     let at = pair_row::CELL_BYTES * p as usize + k;
-    let mut i: usize = 0;
-    while i < n {
-        let b = byte_at(text, from + i);
-        put_at(texts, at + i, b);
-        i += 1;
+    for i in 0..n {
+        put_at(texts, at + i, byte_at(text, from + i));
     }
 }
 
@@ -60,50 +64,12 @@ fn put_cell(texts: &mut [u8], p: u8, minus: bool, text: &[u8], from: usize, n: u
     put_bytes(texts, p, 1, text, from, n);
 }
 
-// Whether the constants at two places are one: their types and all their bytes.
-fn same_constant(row: &[u8], texts: &[u8], p: u8, q: u8) -> bool
-    ensures { result ≡ same_constant row.now texts.now p q }
-{
-    if byte_at(row, pair_row::KINDS_AT + p as usize)
-        != byte_at(row, pair_row::KINDS_AT + q as usize)
-    {
-        return false;
-    }
-    let a = pair_row::CELL_BYTES * p as usize;
-    let b = pair_row::CELL_BYTES * q as usize;
-    let n = byte_at(texts, a) as usize;
-    let mut i: usize = 0;
-    while i <= n {
-        if byte_at(texts, a + i) != byte_at(texts, b + i) {
-            return false;
-        }
-        i += 1;
-    }
-    true
-}
-
-// The code of the constant at place p: the place of the member that it is, else its own.
-fn code_of(row: &[u8], texts: &[u8], p: u8) -> u8
-    ensures { result ≡ code_in row.now texts.now p }
-{
-    let n = byte_at(row, pair_row::COUNT_AT) as usize;
-    let mut k: usize = 0;
-    while k < n {
-        let q = byte_at(row, pair_row::MEMBERS_AT + k);
-        if same_constant(row, texts, p, q) {
-            return q;
-        }
-        k += 1;
-    }
-    p
-}
-
 // The type's rank of the term at place p, and whether it is a variable.
-fn put_class(row: &mut [u8], p: u8, rank: u8, variable: u8)
-    ensures { row.new ≡ classed p rank variable row.old }
+fn put_class(row: &mut [u8], p: u8, rank: u8, variable: bool)
+    ensures { row.new ≡ classed p rank (cond variable 1 0) row.old }
 {
     put_at(row, pair_row::KINDS_AT + p as usize, rank);
-    put_at(row, pair_row::VARIABLES_AT + p as usize, variable);
+    put_at(row, pair_row::VARIABLES_AT + p as usize, u8::from(variable));
 }
 
 // The constant at place p is one more member. (There are no more than places.)
@@ -118,31 +84,6 @@ fn join_member(row: &mut [u8], p: u8)
     put_at(row, pair_row::COUNT_AT, k + 1);
 }
 
-// A constant stands at place p; its bytes are n of the text from a place on, behind a minus or not.
-fn note_constant(
-    row: &mut [u8],
-    texts: &mut [u8],
-    p: u8,
-    rank: u8,
-    minus: bool,
-    text: &[u8],
-    from: usize,
-    n: usize,
-)
-    requires { (n ≤ longest_string) × (from ≤ length text.now) }
-    ensures texts_after { texts.new ≡ celled p (signed minus (part_of text.now from n)) texts.old }
-    ensures row_after { row.new ≡ constant_noted p rank
-        (celled p (signed minus (part_of text.now from n)) texts.old) row.old }
-{
-    put_cell(texts, p, minus, text, from, n);
-    put_class(row, p, rank, 0);
-    let c = code_of(row, texts, p);
-    put_at(row, p as usize, c);
-    if c == p {
-        join_member(row, p);
-    }
-}
-
 // Where the plain text of an integer of n digits begins: its leading zeros are skipped, but for the last digit.
 fn leading_zeros(text: &[u8], at: usize, n: usize) -> usize
     requires { (n ≤ longest_string) × (at ≤ length text.now) }
@@ -150,65 +91,110 @@ fn leading_zeros(text: &[u8], at: usize, n: usize) -> usize
     ensures upper_bound { result ≤ n }
     ensures result_in_bounds { at + result ≤ length text.now }
 {
-    let mut i: usize = 0;
-    while i + 1 < n {
+    let last = n.saturating_sub(1);
+    for i in 0..last {
         if byte_at(text, at + i) != b'0' {
             return i;
         }
-        i += 1;
     }
-    i
+    last
 }
 
-// The integer that is written at a place of the text, with a minus or not and n digits of value v, stands at place p.
-fn note_integer(
-    row: &mut [u8],
-    texts: &mut [u8],
-    p: u8,
-    text: &[u8],
-    at: usize,
-    minus: bool,
-    n: usize,
-    v: u32,
-)
-    requires { (n ≤ longest_string) × (at < length text.now) }
-    ensures row_after { row.new
-        ≡ (literal_noted text.now at p (Int minus) n v row.old texts.old).0 }
-    ensures texts_after { texts.new
-        ≡ (literal_noted text.now at p (Int minus) n v row.old texts.old).1 }
-{
-    let from = at + text_grammar::sign_size(minus);
-    let z = leading_zeros(text, from, n);
-    note_constant(
-        row,
-        texts,
-        p,
-        0,
-        text_grammar::sign_of(minus, v),
-        text,
-        from + z,
-        n - z,
-    );
-}
+impl Tables<'_> {
+    // Whether the constants at two places are one: their types and all their bytes.
+    fn same_constant(&self, p: u8, q: u8) -> bool
+        ensures { result ≡ same_constant self.now.row.now self.now.texts.now p q }
+    {
+        if byte_at(self.row, pair_row::KINDS_AT + p as usize)
+            != byte_at(self.row, pair_row::KINDS_AT + q as usize)
+        {
+            return false;
+        }
+        let a = pair_row::CELL_BYTES * p as usize;
+        let b = pair_row::CELL_BYTES * q as usize;
+        let n = byte_at(self.texts, a) as usize;
+        (0..n + 1).all(|i| byte_at(self.texts, a + i) == byte_at(self.texts, b + i))
+    }
 
-// The constant that is written at a place of the text as l, with n digits of value v, or n bytes, stands at place p.
-fn note_literal(
-    row: &mut [u8],
-    texts: &mut [u8],
-    p: u8,
-    text: &[u8],
-    at: usize,
-    l: Literal,
-    n: usize,
-    v: u32,
-)
-    requires { (n ≤ longest_string) × (at < length text.now) }
-    ensures row_after { row.new ≡ (literal_noted text.now at p l n v row.old texts.old).0 }
-    ensures texts_after { texts.new ≡ (literal_noted text.now at p l n v row.old texts.old).1 }
-{
-    match l {
-        Literal::Int(minus) => note_integer(row, texts, p, text, at, minus, n, v),
-        Literal::Str => note_constant(row, texts, p, 1, false, text, at + 1, n),
+    // The code of the constant at place p: the place of the member that it is, else its own.
+    fn code_of(&self, p: u8) -> u8
+        ensures { result ≡ code_in self.now.row.now self.now.texts.now p }
+    {
+        let n = byte_at(self.row, pair_row::COUNT_AT) as usize;
+        for k in 0..n {
+            let q = byte_at(self.row, pair_row::MEMBERS_AT + k);
+            if self.same_constant(p, q) {
+                return q;
+            }
+        }
+        p
+    }
+
+    // A constant stands at place p; its bytes are n of the text from a place on, behind a minus or not.
+    fn note_constant(&mut self, p: u8, rank: u8, minus: bool, text: &[u8], from: usize, n: usize)
+        requires { (n ≤ longest_string) × (from ≤ length text.now) }
+        ensures kept { Kept self.old self.new }
+        ensures texts_after { self.new.texts.now ≡ celled p (signed minus (part_of text.now from n)) self.old.texts.now }
+        ensures row_after { self.new.row.now ≡ constant_noted p rank
+            (celled p (signed minus (part_of text.now from n)) self.old.texts.now) self.old.row.now }
+    {
+        put_cell(self.texts, p, minus, text, from, n);
+        put_class(self.row, p, rank, false);
+        let c = self.code_of(p);
+        put_at(self.row, p as usize, c);
+        if c == p {
+            join_member(self.row, p);
+        }
+    }
+
+    // The integer that is written at a place of the text, with a minus or not and n digits of value v, stands at place p.
+    fn note_integer(&mut self, p: u8, text: &[u8], at: usize, minus: bool, n: usize, v: u32)
+        requires { (n ≤ longest_string) × (at < length text.now) }
+        ensures kept { Kept self.old self.new }
+        ensures row_after { self.new.row.now
+            ≡ (literal_noted text.now at p (Int minus) n v self.old.row.now self.old.texts.now).0 }
+        ensures texts_after { self.new.texts.now
+            ≡ (literal_noted text.now at p (Int minus) n v self.old.row.now self.old.texts.now).1 }
+    {
+        let from = at + text_grammar::sign_size(minus);
+        let z = leading_zeros(text, from, n);
+        self.note_constant(p, 0, text_grammar::sign_of(minus, v), text, from + z, n - z);
+    }
+
+    // The constant that is written at a place of the text as l, with n digits of value v, or n bytes, stands at place p.
+    fn note_literal(&mut self, p: u8, text: &[u8], at: usize, l: Literal, n: usize, v: u32)
+        requires { (n ≤ longest_string) × (at < length text.now) }
+        ensures kept { Kept self.old self.new }
+        ensures row_after { self.new.row.now ≡ (literal_noted text.now at p l n v self.old.row.now self.old.texts.now).0 }
+        ensures texts_after { self.new.texts.now ≡ (literal_noted text.now at p l n v self.old.row.now self.old.texts.now).1 }
+    {
+        match l {
+            Literal::Int(minus) => self.note_integer(p, text, at, minus, n, v),
+            Literal::Str => self.note_constant(p, 1, false, text, at + 1, n),
+        }
+    }
+
+    // The term t is the one at place p, which is a place of field f.
+    fn note_term(&mut self, right: bool, text: &[u8], at: usize, f: usize, p: u8, t: Lexeme)
+        requires { (at < length text.now) × (f < pair_fields) × (p < pair_places) × (t.size ≤ longest_string) }
+        ensures kept { Kept self.old self.new }
+        ensures row_after { self.new.row.now
+            ≡ (note_by right text.now at f p t.what t.size t.value self.old.row.now self.old.texts.now).0 }
+        ensures texts_after { self.new.texts.now
+            ≡ (note_by right text.now at f p t.what t.size t.value self.old.row.now self.old.texts.now).1 }
+    {
+        match t.what {
+            Spelled::Con(l) => {
+                note_shape(self.row, f, false, 0);
+                self.note_literal(p, text, at, l, t.size, t.value);
+            }
+            Spelled::Var(k) => {
+                let n = (t.value % NUMBERS_OF_SIDE) as u8;
+                note_shape(self.row, f, math_types::is_list(k), n);
+                note_variable(self.row, p, right, rank_of(k), n);
+            }
+            Spelled::Empty => {}
+        }
     }
 }
 
@@ -242,7 +228,7 @@ fn side_of(right: bool) -> usize
     ensures value { result ≡ side_of right }
     ensures upper_bound { result ≤ 1 }
 {
-    if right { 1 } else { 0 }
+    usize::from(right)
 }
 
 // A rule's variable stands at place p.
@@ -251,7 +237,7 @@ fn note_variable(row: &mut [u8], p: u8, right: bool, rank: u8, n: u8)
     ensures { row.new ≡ variable_noted p right rank n row.old }
 {
     let side = side_of(right);
-    put_class(row, p, rank, 1);
+    put_class(row, p, rank, true);
     put_index(
         row,
         pair_row::INDEXES_AT
@@ -307,10 +293,7 @@ fn rank_of(k: Kind) -> u8
 fn is_field(field: usize) -> bool
     ensures { result ≡ is_field field }
 {
-    if field < 1 {
-        return false;
-    }
-    field <= base_limits::MOST_FIELDS
+    (1..=base_limits::MOST_FIELDS).contains(&field)
 }
 
 // How many terms of field f are noted.
@@ -320,10 +303,7 @@ fn terms_in(row: &[u8], f: usize) -> usize
 {
     let k = pair_row::SHAPES_AT + pair_row::SHAPE_BYTES * f;
     let n = byte_at(row, k) as usize + byte_at(row, k + 1) as usize;
-    if byte_at(row, k + 3) != 0 {
-        return n + 1;
-    }
-    n
+    n + usize::from(byte_at(row, k + 3) != 0)
 }
 
 // The number of a rule's field among the pair's eight.
@@ -336,38 +316,6 @@ fn field_among(right: bool, field: usize) -> usize
         field + RIGHT_FIELDS
     } else {
         field - 1
-    }
-}
-
-// The term t is the one at place p, which is a place of field f.
-fn note_term(
-    row: &mut [u8],
-    texts: &mut [u8],
-    right: bool,
-    text: &[u8],
-    at: usize,
-    f: usize,
-    p: u8,
-    t: Lexeme,
-)
-    requires { (at < length text.now) × (f < pair_fields) × (p < pair_places) × (t.size ≤ longest_string) }
-    ensures row_after { row.new
-        ≡ (note_by right text.now at f p t.what t.size t.value row.old texts.old).0 }
-    ensures texts_after { texts.new
-        ≡ (note_by right text.now at f p t.what t.size t.value row.old texts.old).1 }
-{
-    let what = t.what;
-    match what {
-        Spelled::Con(l) => {
-            note_shape(row, f, false, 0);
-            note_literal(row, texts, p, text, at, l, t.size, t.value);
-        }
-        Spelled::Var(k) => {
-            let n = (t.value % NUMBERS_OF_SIDE) as u8;
-            note_shape(row, f, math_types::is_list(k), n);
-            note_variable(row, p, right, rank_of(k), n);
-        }
-        Spelled::Empty => {}
     }
 }
 
@@ -400,5 +348,5 @@ pub fn note(
         return;
     }
     let p = (base_limits::FIELD_PLACES * f + k) as u8;
-    note_term(row, texts, right, text, at, f, p, t);
+    Tables { row, texts }.note_term(right, text, at, f, p, t);
 }

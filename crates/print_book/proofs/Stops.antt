@@ -17,15 +17,6 @@ use Rattle.book_rules.specs.declared.texts.Added.{Added}
 use Rattle.book_rules.specs.declared.texts.Added.TheVariants.{Taken, Refused, Full}
 use Rattle.print_book.specs.Book.{stop_text, added_text, longest_stop}
 
--- ---- pieces
-
-pub stop_placed : (k n p : ℕ) (l : List ℕ) {q₁ q₂ q₃ q₄ q₅ : ℕ} {m₁ m₂ m₃ m₄ m₅ : List ℕ}
-    → Placed (ascii "refused ") 0 l q₁ m₁ → Placed (digits_of k) q₁ m₁ q₂ m₂ → Placed (ascii " ") q₂ m₂ q₃ m₃
-    → Placed (number_at n p) q₃ m₃ q₄ m₄ → Placed newline q₄ m₄ q₅ m₅ → Placed (stop_text k n p) 0 l q₅ m₅
-stop_placed k n p l a b c d e =
-    placed_three (ascii "refused " ++ digits_of k ++ ascii " ") (number_at n p) newline 0 l
-    (placed_three (ascii "refused ") (digits_of k) (ascii " ") 0 l a b c) d e
-
 pub stop_short : (k n p : ℕ) → k < 18446744073709551616 → n < 18446744073709551616 → p < 18446744073709551616 → length (stop_text k n p) ≤ longest_stop
 stop_short k n p h i j =
     omega (

@@ -30,8 +30,7 @@ use Rattle.text_grammar.specs.rules.Read.{OurRule, read_rule}
 use Rattle.text_grammar.proofs.rules.Accepted.{rule_read_lem}
 use Rattle.text_grammar.specs.constants.Matching.{constants, matcher, compared}
 use Rattle.text_values.specs.declared.Term.{Term}
-use Rattle.text_values.specs.declared.Field.{Field}
-use Rattle.text_values.specs.declared.SlipField.{SlipField}
+use Rattle.text_values.specs.Values.{Field, SlipField}
 use Rattle.text_values.specs.Values.{view_term, encode_field, encode_slip_field}
 use Rattle.text_values.proofs.canonical.Terms.{view_encode_term}
 use Rattle.match_fields.specs.declared.bindings.Filling.{Filling as FillingValue}

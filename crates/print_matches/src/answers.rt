@@ -9,16 +9,16 @@ ghost use Rattle.text_values.specs.Values.{blank_slip_field, view_term, view_fie
 ghost use Rattle.match_fields.specs.bindings.Values.{slot};
 ghost use Rattle.overlap_spec.specs.Variables.{is_variable, in_field, occurs};
 ghost use Rattle.match_rules.specs.Answers.{comparison_on};
-ghost use Rattle.text_write.specs.pieces.Placed.{Placed};
+ghost use Rattle.text_write.specs.pieces.Placed.{PlacedOn};
 ghost use Rattle.text_passes.specs.Fields.{field_count};
 ghost use Rattle.match_rules.specs.texts.Texts.{side_fields, slip_fields};
 ghost use Rattle.print_matches.specs.answers.Values.{items_from, run_text, atom_text, list_text, name_text, said_values};
 ghost use Rattle.print_matches.specs.answers.Values.{said_match, Noted, noted_text};
 
-use base_numbers::at_most;
 use match_fields::bindings::{Filling, Run, Values};
 use math_types::Kind;
 use text_values::{Field, Form, SlipField, Term};
+use text_write::pieces::Page;
 
 // The same as a variable's number.
 const NUMBERS_OF_SIDE: u8 = base_limits::NUMBERS_OF_SIDE as u8;
@@ -53,12 +53,10 @@ fn note_term(v: Variables, t: Term) -> Variables
 fn note_field(v: Variables, f: Field) -> Variables
     ensures { Noted result.has (λ k n. in_field k n (view_field f) || get_or v.has (slot k n) false) }
 {
-    let terms = at_most(f.n, base_limits::MOST_TERMS);
+    let terms = f.n.min(base_limits::MOST_TERMS);
     let mut w = v;
-    let mut i: usize = 0;
-    while i < terms {
-        w = note_term(w, f.terms[i]);
-        i += 1;
+    for t in &f.terms[..terms] {
+        w = note_term(w, *t);
     }
     w
 }
@@ -66,38 +64,32 @@ fn note_field(v: Variables, f: Field) -> Variables
 fn variables_in(rule: &[u8]) -> Variables
     ensures { Noted result.has (λ k n. occurs k n (map view_field (side_fields rule.now))) }
 {
-    let fields = text_passes::field_count(rule);
     let mut v = Variables {
         has: [false; base_limits::VARIABLE_PLACES],
     };
-    let mut j: usize = 0;
-    while j < fields {
-        v = note_field(v, text_passes::side_field(rule, j));
-        j += 1;
+    for j in 0..text_passes::field_count(rule) {
+        v = note_field(v, text_passes::field_in(rule, j));
     }
     v
 }
 
-// ---- values: each piece is put at a place, and returns the place behind it
+// ---- values: pieces of a page
 
 // So many items of a field from one on, with a `:` between them; no items are `empty`.
-fn put_items(f: SlipField, start: usize, count: usize, out: &mut [u8], at: usize) -> usize
-    ensures { Placed (field_text (map view_term (items_from f start count))) at out.old result out.new }
+fn put_items(page: &mut Page, f: SlipField, start: usize, count: usize)
+    ensures { PlacedOn (field_text (map view_term (items_from f start count))) page.old page.new }
 {
-    let n = at_most(f.n, base_limits::MOST_ITEMS);
-    let from = at_most(start, n);
-    let end = from + at_most(count, n - from);
+    let n = f.n.min(base_limits::MOST_ITEMS);
+    let from = start.min(n);
+    let end = from + count.min(n - from);
     if end == from {
-        return text_write::pieces::put_bytes(b"empty", out, at);
+        return page.put_bytes(b"empty");
     }
-    let mut p = text_write::pieces::put_term(f.terms[from], out, at);
-    let mut i = from + 1;
-    while i < end {
-        let a = text_write::pieces::put_bytes(b":", out, p);
-        p = text_write::pieces::put_term(f.terms[i], out, a);
-        i += 1;
+    page.put_term(f.terms[from]);
+    for i in from + 1..end {
+        page.put_bytes(b":");
+        page.put_term(f.terms[i]);
     }
-    p
 }
 
 // The field of a slip with so many fields; there is none behind them.
@@ -106,101 +98,84 @@ fn field_at(slip: &[u8], fields: usize, j: usize) -> SlipField
     ensures { result ≡ get_or (slip_fields slip.now) j blank_slip_field }
 {
     if fields <= j {
-        return text_values::blank_slip_field();
+        return text_values::no_terms();
     }
-    text_passes::slip_field(slip, j)
+    text_passes::field_in(slip, j)
 }
 
-fn put_run(slip: &[u8], fields: usize, r: Run, out: &mut [u8], at: usize) -> usize
+fn put_run(page: &mut Page, slip: &[u8], fields: usize, r: Run)
     requires { fields ≡ field_count slip.now }
-    ensures { Placed (run_text (slip_fields slip.now) r) at out.old result out.new }
+    ensures { PlacedOn (run_text (slip_fields slip.now) r) page.old page.new }
 {
     let f = field_at(slip, fields, r.field);
-    let start = r.start;
-    let count = r.count;
-    put_items(f, start, count, out, at)
+    put_items(page, f, r.start, r.count);
 }
 
 // A blank, the variable's name and `=`.
-fn put_name(k: Kind, n: u8, out: &mut [u8], at: usize) -> usize
-    ensures { Placed (name_text (kind_of k) n) at out.old result out.new }
+fn put_name(page: &mut Page, k: Kind, n: u8)
+    ensures { PlacedOn (name_text (kind_of k) n) page.old page.new }
 {
     let name = Term {
         form: Form::Var(k, n),
         text: [0; base_limits::LONGEST_STRING],
     };
-    let a = text_write::pieces::put_bytes(b" ", out, at);
-    let b = text_write::pieces::put_term(name, out, a);
-    text_write::pieces::put_bytes(b"=", out, b)
+    page.put_bytes(b" ");
+    page.put_term(name);
+    page.put_bytes(b"=");
 }
 
 // The rule's variables of one type, by number, each with its value. A list variable has no place among the values.
-fn put_atoms(k: Kind, rule: Variables, v: Values, out: &mut [u8], at: usize) -> usize
+fn put_atoms(page: &mut Page, k: Kind, rule: Variables, v: Values)
     requires { rank (kind_of k) ≤ 2 }
-    ensures { Placed (noted_text rule.has (kind_of k) (atom_text v (kind_of k))) at out.old result out.new }
+    ensures { PlacedOn (noted_text rule.has (kind_of k) (atom_text v (kind_of k))) page.old page.new }
 {
     let first = match_fields::bindings::slot(k, 0);
-    let mut p = at;
-    let mut n: u8 = 0;
-    while n < NUMBERS_OF_SIDE {
+    for n in 0..NUMBERS_OF_SIDE {
         let i = first + n as usize;
         if rule.has[i] {
-            let a = put_name(k, n, out, p);
-            p = text_write::pieces::put_term(v.terms[i], out, a);
+            put_name(page, k, n);
+            page.put_term(v.terms[i]);
         }
-        n += 1;
     }
-    p
 }
 
-fn put_lists(rule: Variables, slip: &[u8], x: Filling, out: &mut [u8], at: usize) -> usize
-    ensures { Placed (noted_text rule.has list (list_text (slip_fields slip.now) x))
-        at out.old result out.new }
+fn put_lists(page: &mut Page, rule: Variables, slip: &[u8], x: Filling)
+    ensures { PlacedOn (noted_text rule.has list (list_text (slip_fields slip.now) x)) page.old page.new }
 {
     let fields = text_passes::field_count(slip);
-    let mut p = at;
-    let mut n: u8 = 0;
-    while n < NUMBERS_OF_SIDE {
+    for n in 0..NUMBERS_OF_SIDE {
         let i = n as usize;
         if rule.has[base_limits::ATOM_PLACES + i] {
-            let a = put_name(Kind::List, n, out, p);
-            p = put_run(slip, fields, x.runs[i], out, a);
+            put_name(page, Kind::List, n);
+            put_run(page, slip, fields, x.runs[i]);
         }
-        n += 1;
     }
-    p
 }
 
-fn put_values(rule: &[u8], slip: &[u8], x: Filling, out: &mut [u8], at: usize) -> usize
-    ensures { Placed (said_values (side_fields rule.now) (slip_fields slip.now) x)
-        at out.old result out.new }
+fn put_values(page: &mut Page, rule: &[u8], slip: &[u8], x: Filling)
+    ensures { PlacedOn (said_values (side_fields rule.now) (slip_fields slip.now) x) page.old page.new }
 {
     let r = variables_in(rule);
     let v = x.values;
-    // the types below list have the ranks below list's
-    let n = math_types::rank(Kind::List);
-    let mut p = at;
-    let mut i: usize = 0;
-    while i < n {
-        p = put_atoms(math_types::kind_at(i), r, v, out, p);
-        i += 1;
+    for k in [Kind::Integer, Kind::String, Kind::Atom] {
+        put_atoms(page, k, r, v);
     }
-    put_lists(r, slip, x, out, p)
+    put_lists(page, r, slip, x);
 }
 
 // `no` or `yes`, how many items were compared, and with `yes` the values.
-pub(crate) fn put_match(rule: &[u8], slip: &[u8], out: &mut [u8], at: usize) -> usize
-    ensures { Placed (said_match (side_fields rule.now) (slip_fields slip.now)
-        (comparison_on (side_fields rule.now) (slip_fields slip.now))) at out.old result out.new }
+pub(crate) fn put_match(page: &mut Page, rule: &[u8], slip: &[u8])
+    ensures { PlacedOn (said_match (side_fields rule.now) (slip_fields slip.now)
+        (comparison_on (side_fields rule.now) (slip_fields slip.now))) page.old page.new }
 {
     let c = match_rules::texts::compare_texts(rule, slip);
     let m = c.found;
     let n = c.compared as u64;
     if !m.yes {
-        let a = text_write::pieces::put_bytes(b"no ", out, at);
-        return text_write::pieces::put_number(n, out, a);
+        page.put_bytes(b"no ");
+        return page.put_number(n);
     }
-    let a = text_write::pieces::put_bytes(b"yes ", out, at);
-    let b = text_write::pieces::put_number(n, out, a);
-    put_values(rule, slip, m.filling, out, b)
+    page.put_bytes(b"yes ");
+    page.put_number(n);
+    put_values(page, rule, slip, m.filling);
 }

@@ -3,41 +3,42 @@
 // given whole or not at all.
 #![tactic(auto)]
 
-ghost use Rattle.std.specs.Prelude.{◌≡◌, ◌+◌, ◌≤◌, length};
+ghost use Rattle.std.specs.Prelude.{◌+◌, ◌≤◌, length};
 ghost use Rattle.base_limits.specs.Limits.{most_list_bytes};
 ghost use Rattle.text_write.specs.Answers.{Writes};
-ghost use Rattle.text_write.specs.pieces.Placed.{Placed};
+ghost use Rattle.text_write.specs.pieces.Placed.{PlacedOn};
 ghost use Rattle.print_pairs.specs.Pairs.{line_text, longest_answer, pair_answer};
 
 mod overlaps; // the text of what is said of two rules
 
-use text_write::Written;
+use text_write::TooSmall;
+use text_write::pieces::Page;
 
-// ---- pieces: each is put at a place of the room, and returns the place behind it
+// ---- pieces of a page
 
 // What is said of a line.
-fn put_line(line: &[u8], out: &mut [u8], at: usize) -> usize
-    requires { at + most_list_bytes ≤ length out.old }
-    ensures placed { Placed (line_text line.now) at out.old result out.new }
+fn put_line(page: &mut Page, line: &[u8])
+    requires { page.old.at + most_list_bytes ≤ length page.old.bytes.now }
+    ensures placed { PlacedOn (line_text line.now) page.old page.new }
     ensures line_len_bound { length (line_text line.now) ≤ most_list_bytes }
 {
     let n = line.len();
     if base_limits::PAIR_LINE < n {
-        return text_write::pieces::put_bytes(b"line too long\n", out, at);
+        return page.put_bytes(b"line too long\n");
     }
     let tab = text_write::pieces::tab_place(line);
     let rest = print_parts::behind(tab, n);
-    crate::overlaps::put_texts(&line[..tab], &line[rest..], out, at)
+    crate::overlaps::put_texts(page, &line[..tab], &line[rest..]);
 }
 
 // The title and what is said of the line.
-fn put_answer(k: u64, line: &[u8], out: &mut [u8]) -> usize
-    requires { longest_answer ≤ length out.old }
-    ensures placed { Placed (pair_answer k line.now) 0 out.old result out.new }
+fn put_answer(page: &mut Page, k: u64, line: &[u8])
+    requires { page.old.at + longest_answer ≤ length page.old.bytes.now }
+    ensures placed { PlacedOn (pair_answer k line.now) page.old page.new }
     ensures line_len_bound { length (pair_answer k line.now) ≤ longest_answer }
 {
-    let a = print_parts::put_title(b"pair ", k, out, 0);
-    put_line(line, out, a)
+    print_parts::put_title(page, b"pair ", k);
+    put_line(page, line);
 }
 
 // A title: `pair `, the line's number and its end.
@@ -45,22 +46,21 @@ const LONGEST_TITLE: usize = 5 + text_write::LONGEST_NUMBER + 1;
 // No answer has more: a title, and behind it a list.
 pub const LONGEST_ANSWER: usize = LONGEST_TITLE + base_limits::MOST_LIST_BYTES;
 
-// Bytes for any answer.
-fn longest() -> [u8; LONGEST_ANSWER]
-    ensures { length result ≡ longest_answer }
-{
-    [0; LONGEST_ANSWER]
-}
-
 // The lines that `pairs` prints for line number k.
-pub fn pair_answer(k: u64, line: &[u8], out: &mut [u8]) -> Written
+pub fn pair_answer(k: u64, line: &[u8], out: &mut [u8]) -> Result<usize, TooSmall>
     ensures writes { Writes (pair_answer k line.now) out.old result out.new }
     ensures line_len_bound { length (pair_answer k line.now) ≤ longest_answer }
 {
     if LONGEST_ANSWER <= out.len() {
-        return Written::Bytes(put_answer(k, line, out));
+        let mut page = Page { bytes: out, at: 0 };
+        put_answer(&mut page, k, line);
+        return Ok(page.at);
     }
-    let mut text = longest();
-    let n = put_answer(k, line, &mut text);
-    text_write::pieces::give(&text[..n], out)
+    let mut text: [u8; LONGEST_ANSWER] = print_parts::room();
+    let mut page = Page {
+        bytes: &mut text,
+        at: 0,
+    };
+    put_answer(&mut page, k, line);
+    page.give(out)
 }

@@ -9,7 +9,7 @@ use Rattle.text_grammar.specs.Read.{OutcomeOf, refused, accepted}
 use Rattle.text_grammar.specs.Limits.{IsLeft}
 use Rattle.text_grammar.specs.rules.Read.{OurRule, read_rule}
 use Rattle.text_grammar.proofs.rules.Accepted.{rule_read_lem}
-use Rattle.text_values.specs.declared.Field.{Field}
+use Rattle.text_values.specs.Values.{Field}
 use Rattle.text_values.specs.Values.{encode_side}
 use Rattle.text_accepted.specs.Accepted.{counted_left, counted_field}
 use Rattle.text_accepted.proofs.Accepted.{view_encode_rule, encode_accepted_rule}

@@ -1,3 +1,4 @@
+pub mod Pieces
 pub mod Fields
 pub mod Said
 pub mod Lengths

@@ -1,7 +1,6 @@
 -- What `solve` prints for one line, which has two field texts, a row and a room with tabs between them:
 -- the lines of the search for the two fields.
-use Rattle.std.specs.Prelude.{Bool, cond, List, [], ◌∷◌, ◌++◌, ℕ, suc, ◌+◌, ltb, length, take, drop}
-use Rattle.std.proofs.Math.Option.{Option, none, some}
+use Rattle.std.specs.Prelude.{Bool, cond, List, [], ◌∷◌, ◌++◌, ℕ, suc, ◌+◌, ltb, length, take, drop, Option, Some, None}
 use Rattle.base_bytes.specs.Bytes.{index_of}
 use Rattle.base_limits.specs.Limits.{pair_line}
 use Rattle.text_grammar.specs.Ascii.{ascii, newline}
@@ -66,9 +65,9 @@ field_in (accepted w) = one_field w.0 w.1
 
 -- of two fields, a row and a room: a bad row is told before a bad room
 abbrev pub search_text : OurFields → OurFields → Option ℕ → Option ℕ → List ℕ
-search_text left right none room = ascii "bad row" ++ newline
-search_text left right (some row) none = ascii "bad room" ++ newline
-search_text left right (some row) (some room) = found_text room (lines_for row left right)
+search_text left right None room = ascii "bad row" ++ newline
+search_text left right (Some row) None = ascii "bad room" ++ newline
+search_text left right (Some row) (Some room) = found_text room (lines_for row left right)
 
 -- a line over its limit is too long whatever it holds; then more than three tabs are told
 unfoldable pub line_text : List ℕ → List ℕ

@@ -1,11 +1,10 @@
 -- The same texts, from values: of fields as reading gives them, and of what stands behind the parts that were read.
-use Rattle.std.specs.Prelude.{cond, List, ◌++◌, ℕ}
-use Rattle.std.proofs.Math.Option.{some}
+use Rattle.std.specs.Prelude.{cond, List, ◌++◌, ℕ, Some}
 use Rattle.search_row.specs.own.Sizes.{most_records}
 use Rattle.text_grammar.specs.Ascii.{ascii, newline}
 use Rattle.text_grammar.specs.Terms.{OurFields}
 use Rattle.text_grammar.specs.rules.Read.{read_rule}
-use Rattle.text_values.specs.declared.Field.{Field}
+use Rattle.text_values.specs.Values.{Field}
 use Rattle.text_accepted.specs.Accepted.{counted_field}
 use Rattle.print_parts.specs.sizes.Sizes.{size_of}
 use Rattle.print_solve.specs.search.Found.{most_bytes}
@@ -13,7 +12,7 @@ use Rattle.print_solve.specs.Solve.{has_tab, part, behind, field_in, search_text
 
 -- two fields with a row, and the part that says the room
 abbrev pub said_room : Field → Field → ℕ → List ℕ → List ℕ
-said_room left right row room = search_text (counted_field left) (counted_field right) (some row) (size_of most_bytes room)
+said_room left right row room = search_text (counted_field left) (counted_field right) (Some row) (size_of most_bytes room)
 
 -- with the parts that say both
 abbrev pub said_row : Field → Field → List ℕ → List ℕ → List ℕ

@@ -1,28 +1,28 @@
 // The text of a search's answer: a line with its refusal and its counts, and behind it the lines that it found.
-ghost use Rattle.std.specs.Prelude.{◌≡◌, ◌++◌, ◌≤◌, length};
+ghost use Rattle.std.specs.Prelude.{◌++◌, ◌≤◌, length};
 ghost use Rattle.text_grammar.specs.Numbers.{digits_of};
-ghost use Rattle.text_write.specs.pieces.Placed.{Placed};
-ghost use Rattle.print_solve.specs.search.Found.{most_bytes, counts_text, longest_body};
+ghost use Rattle.text_write.specs.pieces.Placed.{PlacedOn};
+ghost use Rattle.print_solve.specs.search.Found.{counts_text, longest_body};
 ghost use Rattle.print_solve.specs.search.Values.{searched_text};
 
-use base_numbers::at_most;
-use search_row::Searched;
+use search_row::SearchRefusal;
 use text_values::Field;
+use text_write::pieces::Page;
 
-fn put_count(words: &[u8], n: u64, out: &mut [u8], at: usize) -> usize
-    ensures { Placed (words.now ++ digits_of n) at out.old result out.new }
+fn put_count(page: &mut Page, words: &[u8], n: u64)
+    ensures { PlacedOn (words.now ++ digits_of n) page.old page.new }
 {
-    let a = text_write::pieces::put_bytes(words, out, at);
-    text_write::pieces::put_number(n, out, a)
+    page.put_bytes(words);
+    page.put_number(n);
 }
 
-fn put_counts(refusal: u64, lines: u64, bytes: u64, out: &mut [u8], at: usize) -> usize
-    ensures { Placed (counts_text refusal lines bytes) at out.old result out.new }
+fn put_counts(page: &mut Page, refusal: u64, lines: u64, bytes: u64)
+    ensures { PlacedOn (counts_text refusal lines bytes) page.old page.new }
 {
-    let a = put_count(b"refusal ", refusal, out, at);
-    let b = put_count(b" lines ", lines, out, a);
-    let c = put_count(b" bytes ", bytes, out, b);
-    text_write::pieces::put_bytes(b"\n", out, c)
+    put_count(page, b"refusal ", refusal);
+    put_count(page, b" lines ", lines);
+    put_count(page, b" bytes ", bytes);
+    page.put_bytes(b"\n");
 }
 
 // As many bytes as the lines of a search may have.
@@ -36,34 +36,22 @@ const LONGEST_COUNTS: usize = 8
 // No text of a search has more.
 pub const LONGEST_BODY: usize = LONGEST_COUNTS + MOST_BYTES;
 
-// Room for the lines that the search finds.
-fn lines_room() -> [u8; MOST_BYTES]
-    ensures { length result ≡ most_bytes }
-{
-    [0; MOST_BYTES]
-}
-
 // The search in a row of its own. It is lent as many bytes as are asked for, as far as there are so many,
 // so that the search itself tells when they are too few.
-pub(crate) fn put_search(
-    left: Field,
-    right: Field,
-    row: usize,
-    room: usize,
-    out: &mut [u8],
-    at: usize,
-) -> usize
-    ensures placed { Placed (searched_text left right row room) at out.old result out.new }
+pub(crate) fn put_search(page: &mut Page, left: Field, right: Field, row: usize, room: usize)
+    ensures placed { PlacedOn (searched_text left right row room) page.old page.new }
     ensures room_len_bound { length (searched_text left right row room) ≤ longest_body }
 {
-    let mut text = lines_room();
-    let lent = at_most(room, MOST_BYTES);
+    let mut text: [u8; MOST_BYTES] = print_parts::room();
+    let lent = room.min(MOST_BYTES);
     match search_row::own::search_in(left, right, row, &mut text[..lent]) {
-        Searched::Lines(lines, bytes) => {
-            let a = put_counts(0, lines as u64, bytes as u64, out, at);
-            text_write::pieces::put_bytes(&text[..bytes], out, a)
+        Ok(found) => {
+            put_counts(page, 0, found.lines as u64, found.bytes as u64);
+            page.put_bytes(&text[..found.bytes]);
         }
-        Searched::TooSmall(lines, bytes) => put_counts(8, lines as u64, bytes as u64, out, at),
-        Searched::Full => put_counts(9, 0, 0, out, at),
+        Err(SearchRefusal::TooSmall(found)) => {
+            put_counts(page, 8, found.lines as u64, found.bytes as u64)
+        }
+        Err(SearchRefusal::Full) => put_counts(page, 9, 0, 0),
     }
 }

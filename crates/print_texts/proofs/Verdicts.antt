@@ -9,8 +9,7 @@ use Rattle.text_grammar.specs.rules.Plain.{plain_both}
 use Rattle.text_grammar.proofs.rules.Accepted.{rule_read_lem}
 use Rattle.text_accepted.proofs.rules.Rules.{view_encode_rule}
 use Rattle.text_refusals.specs.declared.verdicts.Reason.{Reason}
-use Rattle.text_refusals.specs.declared.verdicts.Verdict.{Verdict}
-use Rattle.text_refusals.specs.declared.verdicts.Verdict.TheVariants.{Accepted, Refused}
+use Rattle.text_refusals.specs.verdicts.Verdicts.{Verdict, Accepted, Refused}
 use Rattle.text_read.specs.declared.RuleRead.{RuleRead}
 use Rattle.text_read.specs.declared.SlipRead.{SlipRead}
 use Rattle.text_refusals.specs.verdicts.Verdicts.{reason_from}

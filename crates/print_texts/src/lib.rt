@@ -5,93 +5,78 @@
 ghost use Rattle.std.specs.Prelude.{◌≡◌, length};
 ghost use Rattle.text_write.specs.Answers.{Writes};
 ghost use Rattle.text_grammar.specs.Ascii.{ascii, newline};
-ghost use Rattle.text_write.specs.pieces.Placed.{Placed};
-ghost use Rattle.print_texts.specs.Texts.{rule_answer, slip_answer, texts_answer, longest_answer};
+ghost use Rattle.text_write.specs.pieces.Placed.{PlacedOn};
+ghost use Rattle.print_texts.specs.Texts.{rule_answer, slip_answer, texts_answer};
 ghost use Rattle.print_texts.specs.Verdicts.{verdict_text, rule_said};
 
 use text_read::RuleRead;
-use text_refusals::verdicts::Verdict;
-use text_write::Written;
+use text_refusals::verdicts::{Refusal, Verdict};
+use text_write::TooSmall;
+use text_write::pieces::Page;
 
-// ---- pieces: each is put at a place of the room, and returns the place behind it
+// ---- pieces of a page
 
-fn put_newline(out: &mut [u8], at: usize) -> usize
-    ensures { Placed newline at out.old result out.new }
+fn put_newline(page: &mut Page)
+    ensures { PlacedOn newline page.old page.new }
 {
-    text_write::pieces::put_bytes(b"\n", out, at)
+    page.put_bytes(b"\n");
 }
 
-// ---- `texts`
-
-fn put_rule_read(read: RuleRead, out: &mut [u8], at: usize) -> usize
-    ensures { Placed (rule_said read) at out.old result out.new }
+fn put_rule_read(page: &mut Page, read: RuleRead)
+    ensures { PlacedOn (rule_said read) page.old page.new }
 {
-    let verdict = read.verdict;
-    let rule = read.rule;
-    match verdict {
-        Verdict::Accepted => text_plain::rules::put_rule(rule, out, at),
-        Verdict::Refused(reason, place) => print_parts::put_refusal(
-            b"refused ",
-            reason,
-            place,
-            out,
-            at,
-        ),
+    match read.verdict {
+        Ok(()) => text_plain::rules::put_rule(page, read.rule),
+        Err(Refusal { reason, place }) => {
+            print_parts::put_refusal(page, b"refused ", reason, place)
+        }
     }
 }
 
 // A slip that is read is not shown: it can be of four times as many terms as a rule.
-fn put_slip_verdict(verdict: Verdict, out: &mut [u8], at: usize) -> usize
-    ensures { Placed (verdict_text verdict (ascii "read")) at out.old result out.new }
+fn put_slip_verdict(page: &mut Page, verdict: Verdict)
+    ensures { PlacedOn (verdict_text verdict (ascii "read")) page.old page.new }
 {
     match verdict {
-        Verdict::Accepted => text_write::pieces::put_bytes(b"read", out, at),
-        Verdict::Refused(reason, place) => print_parts::put_refusal(
-            b"refused ",
-            reason,
-            place,
-            out,
-            at,
-        ),
+        Ok(()) => page.put_bytes(b"read"),
+        Err(Refusal { reason, place }) => {
+            print_parts::put_refusal(page, b"refused ", reason, place)
+        }
     }
 }
 
-fn put_rule_answer(line: &[u8], out: &mut [u8], at: usize) -> usize
-    ensures { Placed (rule_answer line.now) at out.old result out.new }
+fn put_rule_answer(page: &mut Page, line: &[u8])
+    ensures { PlacedOn (rule_answer line.now) page.old page.new }
 {
     let read = text_read::read_rule(line);
-    let a = text_write::pieces::put_bytes(b"rule ", out, at);
-    let b = put_rule_read(read, out, a);
-    put_newline(out, b)
+    page.put_bytes(b"rule ");
+    put_rule_read(page, read);
+    put_newline(page);
 }
 
-fn put_slip_answer(line: &[u8], out: &mut [u8], at: usize) -> usize
-    ensures { Placed (slip_answer line.now) at out.old result out.new }
+fn put_slip_answer(page: &mut Page, line: &[u8])
+    ensures { PlacedOn (slip_answer line.now) page.old page.new }
 {
     let read = text_read::read_slip(line);
-    let verdict = read.verdict;
-    let a = text_write::pieces::put_bytes(b"slip ", out, at);
-    let b = put_slip_verdict(verdict, out, a);
-    put_newline(out, b)
+    page.put_bytes(b"slip ");
+    put_slip_verdict(page, read.verdict);
+    put_newline(page);
 }
 
 // The longest answer: `rule ` and a rule, and `slip ` and a refusal, which is `refused `, a number of two digits, ` at ` and a place of
 // four; each with the line's end.
 const LONGEST_ANSWER: usize = 5 + base_limits::LONGEST_RULE + 1 + 5 + (8 + 2 + 4 + 4) + 1;
 
-// Room for any answer of `texts`.
-fn room() -> [u8; LONGEST_ANSWER]
-    ensures { length result ≡ longest_answer }
-{
-    [0; LONGEST_ANSWER]
-}
-
 // The two lines that `texts` prints for a line.
-pub fn texts_answer(line: &[u8], out: &mut [u8]) -> Written
+pub fn texts_answer(line: &[u8], out: &mut [u8]) -> Result<usize, TooSmall>
     ensures { Writes (texts_answer line.now) out.old result out.new }
 {
-    let mut text = room();
-    let a = put_rule_answer(line, &mut text, 0);
-    let b = put_slip_answer(line, &mut text, a);
-    text_write::pieces::give(&text[..b], out)
+    let mut text: [u8; LONGEST_ANSWER] = print_parts::room();
+    let mut page = Page {
+        bytes: &mut text,
+        at: 0,
+    };
+    put_rule_answer(&mut page, line);
+    put_slip_answer(&mut page, line);
+    page.give(out)
 }

@@ -1,11 +1,10 @@
 -- The value of a list of codes: its places, and that the codes in use are the list. Assumes nothing.
 use mathlib.Core.Path.{◌≡◌, refl, sym, ap, ap₂, ◌∙◌}
 use mathlib.Core.List.{List, [], ◌∷◌, ◌++◌, foldl, append-nil, append_assoc}
-use Prim.Native.Nat.{ℕ, suc, ◌+◌, ◌-◌, ◌<◌, ◌≤◌, min}
+use Prim.Native.Nat.{ℕ, suc, ◌+◌, ◌-◌, ◌<◌, ◌≤◌}
 use native.Mathlib.Omega.{arith}
-use native.Mathlib.Decide.{dec_le}
-use lib.ListN.{length, set, take, drop, replicate, length-append, length-take, length-drop}
-use lib.Seq.{set-append_seam, take_at, take_all}
+use lib.ListN.{length, set, replicate, length-append}
+use lib.Seq.{set-append_seam, take_at}
 use borrow.Author.Tests.{lt-leb}
 use Rattle.search_items.specs.declared.Items.{Items}
 use Rattle.search_items.specs.Items.{most_codes, items_of, pushed, collect}
@@ -47,18 +46,3 @@ collect_filled ts h = fold_filled ts [] (omega arith)
 
 pub items_collect : (ts : List ℕ) → length ts ≤ most_codes → items_of (collect ts) ≡ ts
 items_collect ts h = ap items_of (collect_filled ts h) ∙ take_at ts (replicate (most_codes - length ts) 0) (length ts) refl
-
--- of any value
-pub items_few : (w : Items) → length w.codes ≡ most_codes → length (items_of w) ≤ most_codes
-items_few w e = omega (arith, length-take w.n w.codes)
-
-pub items_rest : (w : Items) → length w.codes ≡ most_codes → items_of (collect (drop 1 (items_of w))) ≡ drop 1 (items_of w)
-items_rest w e = items_collect (drop 1 (items_of w)) (omega (arith, items_few w e, length-drop 1 (items_of w)))
-
--- as many as code takes for used
-pub used_items : (w : Items) → length w.codes ≡ most_codes → take (min w.n most_codes) w.codes ≡ items_of w
-used_items w e = go (dec_le w.n most_codes)
-  where
-    go : Dec (w.n ≤ most_codes) → take (min w.n most_codes) w.codes ≡ take w.n w.codes
-    go (yes h) = ap (λ (k : ℕ). take k w.codes) (let q : min w.n most_codes ≡ w.n = omega arith in q)
-    go (no h) = take_all (min w.n most_codes) w.codes (omega (arith, e)) ∙ sym (take_all w.n w.codes (omega (arith, e)))

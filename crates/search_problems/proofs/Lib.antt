@@ -1,5 +1,3 @@
-pub mod Two
-pub mod Cases
 pub mod Holds
 pub mod Own
 pub mod Known

@@ -31,7 +31,7 @@ use Rattle.search_spec.specs.Answers.{setting}
 use Rattle.search_items.specs.codes.Codes.{code_tm, On}
 use Rattle.search_items.specs.declared.Items.{Items}
 use Rattle.search_items.specs.Values.{items_value}
-use Rattle.search_rules.specs.Values.{brings_in, move_code}
+use Rattle.search_rules.specs.Values.{brings_in, made_move}
 use Rattle.search_problems.specs.declared.Problem.{Problem}
 use Rattle.search_problems.specs.Applied.{put_items, applied_value}
 use Rattle.search_problems.proofs.Holds.{Equation, value_in, Holds}
@@ -132,7 +132,7 @@ module _ (t : List (Option OurAtom)) (long : length t ≡ pair_places) where
       -- ---- the child
 
       applied_by : (r : Rule) (m : Move setting) → rule setting r L M (lowest u) ≡ some m → Met setting A B (apply setting σ u m)
-          → Holds t A B (applied_value p (move_code t (some m)) (lowest u)) (apply setting σ u m)
+          → Holds t A B (applied_value p (made_move t m) (lowest u)) (apply setting σ u m)
       applied_by r (keep solved) e c =
           record {
             met = c;
@@ -191,7 +191,7 @@ module _ (t : List (Option OurAtom)) (long : length t ≡ pair_places) where
 
       -- THE CHILD that a rule gives, where no failure rule applies
       pub applied_holds : fails setting L M ≡ false → (r : Rule) (m : Move setting) → rule setting r L M (lowest u) ≡ some m
-          → Holds t A B (applied_value p (move_code t (some m)) (fresh_value p.used)) (apply setting σ u m)
+          → Holds t A B (applied_value p (made_move t m) (fresh_value p.used)) (apply setting σ u m)
       applied_holds nf r m e =
-          subst (λ (f : ℕ). Holds t A B (applied_value p (move_code t (some m)) f) (apply setting σ u m)) (sym (fresh_holds p (problem (equation L M) σ u) h))
+          subst (λ (f : ℕ). Holds t A B (applied_value p (made_move t m) f) (apply setting σ u m)) (sym (fresh_holds p (problem (equation L M) σ u) h))
           (applied_by r m e (step h.met (r, apply setting σ u m) (rule_child setting L M σ u r m nf e)))

@@ -11,7 +11,7 @@ ghost use Rattle.pair_row.specs.Row.{table_in};
 ghost use Rattle.search_items.specs.Items.{pushed};
 ghost use Rattle.search_problems.specs.Values.{blank_problem};
 ghost use Rattle.search_problems.specs.Applied.{bound_atoms, bound_to, left_by, applied_value};
-ghost use Rattle.search_problems.specs.Steps.{fails_of, no_child, makes, child_of, gives_by, next_rule};
+ghost use Rattle.search_problems.specs.Steps.{fails_of, none_left, makes, child_of, gives_by, next_rule};
 ghost use Rattle.search_problems.specs.Roots.{codes_at, list_number, side_items, own_items, with_own, root_value};
 
 mod variables; // the set of list variables
@@ -24,6 +24,7 @@ use search_rules::{Head, Move};
 // A problem. `open`: an equation left = right is left to solve; else it is solved.
 // `atoms`: what each atom of the two fields stands for, by place. `lists`: what the left field's list variable stands for, and the right
 // field's; blank where the field has none. `used`: the list variables of the problem and its bindings, bound ones too.
+// `open` stays a flag beside the sides: document 01's blank record has every number in it zero.
 #[derive(Clone, Copy)]
 pub struct Problem {
     pub open: bool,
@@ -39,59 +40,132 @@ const DIGITS: u32 = crate::variables::DIGITS as u32;
 // How much a right-side list variable counts above its number.
 const NUMBERS_OF_SIDE: u8 = base_limits::NUMBERS_OF_SIDE as u8;
 
-// The blank record.
-pub fn blank_problem() -> Problem
-    ensures { result ≡ blank_problem }
-{
-    let w = search_items::blank_items();
-    Problem {
-        open: false,
-        left: w,
-        right: w,
-        atoms: State {
-            atoms: [0; base_limits::PAIR_PLACES],
-        },
-        lists: [w; 2],
-        used: 0,
+impl Problem {
+    // The blank record.
+    pub fn blank() -> Problem
+        ensures { result ≡ blank_problem }
+    {
+        let w = Items::blank();
+        Problem {
+            open: false,
+            left: w,
+            right: w,
+            atoms: State {
+                atoms: [0; base_limits::PAIR_PLACES],
+            },
+            lists: [w; 2],
+            used: 0,
+        }
+    }
+
+    // How many list variables the problem and its bindings have.
+    fn list_variables(&self) -> u32
+        ensures { result ≡ list_variables self.now.used }
+    {
+        crate::variables::list_variables(self.used)
+    }
+
+    // Whether all list variables are used. Document 01: "ones count variables of a problem". No problem that is met comes to it.
+    fn none_left(&self) -> bool
+        ensures { result ≡ none_left self.now }
+    {
+        DIGITS <= self.list_variables()
+    }
+
+    // ---- what a move makes of a record
+
+    // Binds x to s.
+    fn bind(&mut self, x: u8, s: &Items)
+        ensures { self.new ≡ bound_to x s.now self.old }
+    {
+        self.atoms = bound_atoms(x, s, self.atoms);
+        self.lists = self.lists.map(|w| Items::put_in(x, s.used(), w.used()));
+    }
+
+    // What the move leaves of the equation, the bindings as they were.
+    fn left_by(&self, m: &Move, fresh: u8) -> Problem
+        ensures { result ≡ left_by m.now fresh self.now }
+    {
+        Problem {
+            open: m.open,
+            left: m.left,
+            right: m.right,
+            used: used_by(m.fresh, self.used, fresh),
+            ..*self
+        }
+    }
+
+    // The problem that a move makes.
+    fn applied(&self, m: &Move, fresh: u8) -> Problem
+        ensures { result ≡ applied_value self.now m.now fresh }
+    {
+        let mut q = self.left_by(m, fresh);
+        if m.binds {
+            q.bind(m.variable, &m.value);
+        }
+        q
+    }
+
+    // ---- a step
+
+    // Whether a failure rule applies to the equation that is left.
+    pub fn fails(&self, row: &[u8]) -> bool
+        ensures { result ≡ fails_of (table_in row.now) self.now }
+    {
+        search_rules::fails(&self.left, &self.right, row)
+    }
+
+    // Whether a move gives a child.
+    fn makes(&self, m: &Move) -> bool
+        ensures { result ≡ makes self.now m.now }
+    {
+        !(m.fresh && self.none_left())
+    }
+
+    // The child that the rule of this number gives, if it gives one.
+    pub fn child_of(&self, rule: usize, row: &[u8]) -> Option<Problem>
+        ensures { result ≡ child_of (table_in row.now) self.now rule }
+    {
+        let fresh = crate::variables::fresh(self.used);
+        let m = search_rules::move_of(rule, &self.left, &self.right, fresh, row)?;
+        if self.makes(&m) {
+            Some(self.applied(&m, fresh))
+        } else {
+            None
+        }
+    }
+
+    // Whether the rule of this number gives a child; a and b are the heads of the sides. Nothing of the child is made.
+    fn gives_by(&self, a: Head, b: Head, rule: usize) -> bool
+        ensures { result ≡ gives_by self.now a b rule }
+    {
+        search_rules::applies(rule, &self.left, &self.right, a, b)
+            && !(search_rules::brings(rule) & self.none_left())
+    }
+
+    // The first rule from k on that gives a child, by its number; RULES where none does.
+    pub fn next_rule(&self, k: usize, row: &[u8]) -> usize
+        ensures { result ≡ next_rule (table_in row.now) self.now k }
+    {
+        let a = search_rules::head_of(&self.left, row);
+        let b = search_rules::head_of(&self.right, row);
+        for i in k..search_rules::RULES {
+            if self.gives_by(a, b, i) {
+                return i;
+            }
+        }
+        search_rules::RULES
     }
 }
 
-// How many list variables the problem and its bindings have.
-pub(crate) fn list_variables(p: Problem) -> u32
-    ensures { result ≡ list_variables p.used }
-{
-    crate::variables::list_variables(p.used)
-}
-
-// ---- what a move makes of a record
-
 // An atom variable's value is one atom; a list variable changes no atom.
-fn bound_atoms(x: u8, s: Items, st: State) -> State
-    ensures { result ≡ bound_atoms x s st }
+fn bound_atoms(x: u8, s: &Items, st: State) -> State
+    ensures { result ≡ bound_atoms x s.now st }
 {
     if pair_row::LISTS <= x {
         return st;
     }
-    st.replace(x, search_items::first(s))
-}
-
-// The bindings with x bound to s.
-fn bound_to(x: u8, s: Items, p: Problem) -> Problem
-    ensures { result ≡ bound_to x s p }
-{
-    let left = p.left;
-    let right = p.right;
-    let st = p.atoms;
-    let l = p.lists[0];
-    let r = p.lists[1];
-    Problem {
-        open: p.open,
-        left: left,
-        right: right,
-        atoms: bound_atoms(x, s, st),
-        lists: [search_items::put_in(x, s, l), search_items::put_in(x, s, r)],
-        used: p.used,
-    }
+    st.replace(x, s.first())
 }
 
 // The list variables used, with the fresh one where it is brought in.
@@ -104,141 +178,15 @@ fn used_by(brings: bool, used: u64, fresh: u8) -> u64
     crate::variables::with_name(used, fresh)
 }
 
-// What the move leaves of the equation, the bindings as they were.
-fn left_by(m: Move, fresh: u8, p: Problem) -> Problem
-    ensures { result ≡ left_by m fresh p }
-{
-    let left = m.left;
-    let right = m.right;
-    let atoms = p.atoms;
-    let lists = p.lists;
-    Problem {
-        open: m.open,
-        left: left,
-        right: right,
-        atoms: atoms,
-        lists: lists,
-        used: used_by(m.fresh, p.used, fresh),
-    }
-}
-
-// The problem that a move makes of p.
-fn applied(p: Problem, m: Move, fresh: u8) -> Problem
-    ensures { result ≡ applied_value p m fresh }
-{
-    let q = left_by(m, fresh, p);
-    if !m.binds {
-        return q;
-    }
-    let x = m.variable;
-    let s = m.value;
-    bound_to(x, s, q)
-}
-
-// ---- a step
-
-// The child that a rule gives, or that it gives none, with the blank record.
-#[derive(Clone, Copy)]
-pub struct Child {
-    pub ok: bool,
-    pub problem: Problem,
-}
-
-// Whether a failure rule applies to the equation that is left.
-pub fn fails(p: Problem, row: &[u8]) -> bool
-    ensures { result ≡ fails_of (table_in row.now) p }
-{
-    let left = p.left;
-    let right = p.right;
-    search_rules::fails(left, right, row)
-}
-
-fn no_child() -> Child
-    ensures { result ≡ no_child }
-{
-    Child {
-        ok: false,
-        problem: blank_problem(),
-    }
-}
-
-// Whether a move gives a child.
-fn is_made(p: Problem, m: Move) -> bool
-    ensures { result ≡ makes p m }
-{
-    if !m.applies {
-        return false;
-    }
-    // Document 01: "ones count variables of a problem". Where all are used there is no fresh one, which no problem that is met comes to.
-    if m.fresh {
-        return list_variables(p) < DIGITS;
-    }
-    true
-}
-
-// The child by the rule of this number.
-pub fn child_of(p: Problem, rule: usize, row: &[u8]) -> Child
-    ensures { result ≡ child_of (table_in row.now) p rule }
-{
-    let left = p.left;
-    let right = p.right;
-    let fresh = crate::variables::fresh(p.used);
-    let m = search_rules::move_of(rule, left, right, fresh, row);
-    if is_made(p, m) {
-        return Child {
-            ok: true,
-            problem: applied(p, m, fresh),
-        };
-    }
-    no_child()
-}
-
-// Whether the rule of this number gives a child; a and b are the heads of the sides. Nothing of the child is made.
-fn gives_by(p: Problem, a: Head, b: Head, rule: usize) -> bool
-    ensures { result ≡ gives_by p a b rule }
-{
-    let left = p.left;
-    let right = p.right;
-    if !search_rules::applies(rule, left, right, a, b) {
-        return false;
-    }
-    if search_rules::brings(rule) {
-        return list_variables(p) < DIGITS;
-    }
-    true
-}
-
-// The first rule from k on that gives a child, by its number; RULES where none does.
-pub fn next_rule(p: Problem, k: usize, row: &[u8]) -> usize
-    ensures { result ≡ next_rule (table_in row.now) p k }
-{
-    let left = p.left;
-    let right = p.right;
-    let a = search_rules::head_of(left, row);
-    let b = search_rules::head_of(right, row);
-    let mut i = k;
-    while i < search_rules::RULES {
-        if gives_by(p, a, b, i) {
-            return i;
-        }
-        i += 1;
-    }
-    search_rules::RULES
-}
-
 // ---- the root
 
-// The codes at the places from b up to e, behind those of y.
-fn push_codes(y: Items, b: usize, e: usize, row: &[u8]) -> Items
-    ensures { result ≡ foldl pushed y (codes_at row.now b (e - b)) }
+// Puts the codes at the places from b up to e behind those of y.
+fn push_codes(y: &mut Items, b: usize, e: usize, row: &[u8])
+    ensures { y.new ≡ foldl pushed y.old (codes_at row.now b (e - b)) }
 {
-    let mut z = y;
-    let mut i = b;
-    while i < e {
-        z = search_items::push(z, pair_row::byte_at(row, i));
-        i += 1;
+    for i in b..e {
+        y.push(pair_row::byte_at(row, i));
     }
-    z
 }
 
 // "a right-side variable counting 16 above its number". (A number over its limit, which no table has, counts by its remainder.)
@@ -258,13 +206,13 @@ fn side_items(right: bool, s: Shape, row: &[u8]) -> Items
 {
     let b = s.base as usize;
     let e = b + s.head as usize;
-    let y = push_codes(search_items::blank_items(), b, e, row);
-    if !s.gapped {
-        return y;
+    let mut y = Items::blank();
+    push_codes(&mut y, b, e, row);
+    if s.gapped {
+        y.push(pair_row::LISTS + list_number(right, s.list));
+        push_codes(&mut y, e + 1, e + 1 + s.tail as usize, row);
     }
-    let n = list_number(right, s.list);
-    let z = search_items::push(y, pair_row::LISTS + n);
-    push_codes(z, e + 1, e + 1 + s.tail as usize, row)
+    y
 }
 
 // A field's list variable, if it has one.
@@ -272,10 +220,10 @@ fn own_items(right: bool, s: Shape) -> Items
     ensures { result ≡ own_items right s }
 {
     if !s.gapped {
-        return search_items::blank_items();
+        return Items::blank();
     }
     let n = list_number(right, s.list);
-    search_items::one(pair_row::LISTS + n)
+    Items::of(&[pair_row::LISTS + n])
 }
 
 // The set with the number of a field's list variable.
@@ -296,12 +244,11 @@ pub fn root(row: &[u8]) -> Problem
     let b = pair_row::shape_at(row, true, 0);
     let left = side_items(false, a, row);
     let right = side_items(true, b, row);
-    let st = pair_state::start(row);
     Problem {
         open: true,
-        left: left,
-        right: right,
-        atoms: st,
+        left,
+        right,
+        atoms: pair_state::start(row),
         lists: [own_items(false, a), own_items(true, b)],
         used: with_own(with_own(0, true, b), false, a),
     }

@@ -27,7 +27,8 @@ use Rattle.pair_table.specs.Pairs.{PairIn}
 use Rattle.pair_lines.specs.Lines.{line_bound}
 use Rattle.search_rules.specs.Values.{number}
 use Rattle.search_problems.specs.declared.Problem.{Problem}
-use Rattle.search_problems.specs.declared.Child.{Child}
+use Rattle.std.specs.Prelude as std
+use Rattle.std.specs.Prelude.{is_some}
 use Rattle.search_problems.specs.Steps.{child_of}
 use Rattle.search_problems.proofs.Holds.{Equation, is_open, Holds}
 use Rattle.search_problems.specs.Roots.{root_value}
@@ -84,7 +85,7 @@ module _ (f g : List OurTerm) (is_f : IsLeft (f ∷ [])) (is-g : IsLeft (g ∷ [
   module _ (p : Problem) (σ : Bindings setting) (u : List ℕ) where
     child_same : (r : Rule) (o : Option (Move setting)) → steps.ChildIs pair_table A B σ u (child_of (table_in tables) p (number r)) o
         → worklist.ChildIs setting all Held p (number r) σ u o
-    child_same r none h = sym (steps.gives_is (table_in tables) p (number r)) ∙ ap (λ (c : Child). c.ok) h
+    child_same r none h = sym (steps.gives_is (table_in tables) p (number r)) ∙ ap (λ (c : std.Option Problem). is_some c) h
     child_same r (some m) h = (sym (steps.gives_is (table_in tables) p (number r)) ∙ h.0, h.1)
 
   module _ (p : Problem) (σ : Bindings setting) (u : List ℕ) (h : Held p (problem solved σ u)) where

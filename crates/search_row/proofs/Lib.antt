@@ -1,7 +1,7 @@
 pub mod Left
 pub mod Solved
 pub mod Turns
-pub mod Found
+pub mod Finding
 pub mod Twice
 pub mod Lines
 pub mod Agreed

@@ -12,7 +12,7 @@ use Rattle.base_limits.specs.Limits.{most_terms}
 use Rattle.math_types.specs.Types.{basics}
 use Rattle.text_grammar.specs.Terms.{OurTerm}
 use Rattle.text_grammar.specs.Limits.{IsLeft}
-use Rattle.text_values.specs.declared.Field.{Field}
+use Rattle.text_values.specs.Values.{Field}
 use Rattle.text_accepted.specs.Accepted.{accepted_field}
 use Rattle.text_grammar.specs.constants.Constants.{consts}
 use Rattle.math_overlaps.specs.Shapes.{left, right}

@@ -12,7 +12,7 @@ use lib.Dec.{leb}
 use lib.ListN.{length}
 use Rattle.text_grammar.specs.Terms.{OurTerm, OurFields}
 use Rattle.text_grammar.specs.Limits.{IsLeft}
-use Rattle.text_values.specs.declared.Field.{Field}
+use Rattle.text_values.specs.Values.{Field}
 use Rattle.text_values.specs.Values.{view_field, encode_field}
 use Rattle.text_accepted.specs.Accepted.{accepted_field, counted_field}
 use Rattle.text_accepted.proofs.Accepted.{encode_accepted_field, accepted_field_lem}
@@ -21,37 +21,35 @@ use Rattle.search_problems.specs.declared.Problem.{Problem}
 use Rattle.pair_lines.specs.Lines.{line_bound}
 use Rattle.search_rules.specs.Values.{number}
 use Rattle.text_write.specs.pieces.Stored as stored
-use Rattle.search_spec.specs.Answers.{Lines as Found, lines, nine, lines_of, lines_for, bytes_of}
+use Rattle.search_spec.specs.Answers.{Lines, lines, nine, lines_of, lines_for, bytes_of}
 use Rattle.search_steps.specs.declared.turns.State.{State}
-use Rattle.search_row.specs.declared.Searched.{Searched}
-use Rattle.search_row.specs.declared.Searched.TheVariants.{Lines, TooSmall, Full}
 use Rattle.search_steps.specs.Machine as machine
 use Rattle.search_steps.specs.Machine.{Config, Reaches}
-use Rattle.search_row.specs.Answers.{told, searched_of, Searches, reported, counting, writing, Halts, Enough, Done}
+use Rattle.search_row.specs.Answers.{Searched, fitting, too_small, row_full, told, searched_of, Searches, reported, counting, writing, Halts, Enough, Done}
 use Rattle.search_row.proofs.Left.{longer}
-use Rattle.search_row.proofs.Found.{reaches_once}
+use Rattle.search_row.proofs.Finding.{reaches_once}
 use Rattle.search_row.proofs.Twice.{Answered, counting_ends_none, writing_ends_none, twice_none}
 use Rattle.search_row.proofs.Lines.{is_nine, shown_lines, counting_ends, writing_ends, twice_lines}
 use Rattle.search_row.proofs.Agreed.{Held, agreed, line_short, root_held}
 
 -- ---- a state that says what the lines are
 
-bytes_same : (L : Found) → stored.bytes_of (shown_lines L) ≡ bytes_of L
+bytes_same : (L : Lines) → stored.bytes_of (shown_lines L) ≡ bytes_of L
 bytes_same (lines ls) = refl
 bytes_same nine = refl
 
 reported_as : (e₉ : Bool) (n b room : ℕ) (t : State) → t.refused ≡ e₉ → t.lines ≡ n
-    → t.bytes ≡ b → reported t room ≡ cond e₉ Full (cond (leb b room) (Lines n b) (TooSmall n b))
+    → t.bytes ≡ b → reported t room ≡ cond e₉ row_full (cond (leb b room) (fitting n b) (too_small n b))
 reported_as e₉ n b room t e f g =
-    ap (λ (c : Bool). cond c Full (cond (leb t.bytes room) (Lines t.lines t.bytes) (TooSmall t.lines t.bytes))) e
-    ∙ ap₂ (λ (n b : ℕ). cond e₉ Full (cond (leb b room) (Lines n b) (TooSmall n b))) f g
+    ap (λ (c : Bool). cond c row_full (cond (leb t.bytes room) (fitting t.lines t.bytes) (too_small t.lines t.bytes))) e
+    ∙ ap₂ (λ (n b : ℕ). cond e₉ row_full (cond (leb b room) (fitting n b) (too_small n b))) f g
 
 -- the number and the values of lines that have room, or have none
-told_by : (n b : ℕ) (c : Bool) → told (cond c (Lines n b) (TooSmall n b)) ≡ record { number = cond c none (some 8); values = n ∷ (b ∷ []) }
+told_by : (n b : ℕ) (c : Bool) → told (cond c (fitting n b) (too_small n b)) ≡ record { number = cond c none (some 8); values = n ∷ (b ∷ []) }
 told_by n b true = refl
 told_by n b false = refl
 
-said : (L : Found) (room : ℕ) (t : State) → t.refused ≡ is_nine L → t.lines ≡ length (shown_lines L) → t.bytes ≡ length (stored.bytes_of (shown_lines L))
+said : (L : Lines) (room : ℕ) (t : State) → t.refused ≡ is_nine L → t.lines ≡ length (shown_lines L) → t.bytes ≡ length (stored.bytes_of (shown_lines L))
     → told (reported t room) ≡ searched_of L room
 said (lines ls) room t e f g =
     ap told (reported_as false (length ls) (length (stored.bytes_of ls)) room t e f g)
@@ -61,10 +59,10 @@ said nine room t e f g = ap told (reported_as true 0 0 room t e f g)
 -- ---- what is promised
 
 -- the answer and the output of the lines L
-abbrev Leaves : Found → List ℕ → Searched → List ℕ → Type 0
+abbrev Leaves : Lines → List ℕ → Searched → List ℕ → Type 0
 Leaves L out r out' = (told r ≡ searched_of L (length out)) × (out' ≡ after (bytes_of L) out)
 
-leaves : (F G : Field) (row : List Problem) (out : List ℕ) (r : Searched) (row' : List Problem) (out' : List ℕ) (L : Found) (d : Done F G row out r row' out')
+leaves : (F G : Field) (row : List Problem) (out : List ℕ) (r : Searched) (row' : List Problem) (out' : List ℕ) (L : Lines) (d : Done F G row out r row' out')
     → Answered F G row out (is_nine L) (shown_lines L) d.counted d.written → Leaves L out r out'
 leaves F G row out r row' out' L d a = (
   ap told d.answer ∙ said L (length out) d.counted.state a.refused_is a.lines_is a.bytes_is,
@@ -138,9 +136,9 @@ module _ (F G : Field) (row : List Problem) (out : List ℕ) where
     left_none : (accepted_field F && accepted_field G) ≡ false → Leaves (lines []) out r out'
     left_none z = leaves F G row out r row' out' (lines []) d (twice_none F G row out z d.counted d.written d.counts d.writes)
 
-    of : (L : Found) → lines_for (length row) (counted_field F) (counted_field G) ≡ L → Leaves L out r out'
+    of : (L : Lines) → lines_for (length row) (counted_field F) (counted_field G) ≡ L → Leaves L out r out'
         → Leaves (lines_for (length row) (counted_field F) (counted_field G)) out r out'
-    of L e h = subst (λ (M : Found). Leaves M out r out') (sym e) h
+    of L e h = subst (λ (M : Lines). Leaves M out r out') (sym e) h
 
     leaves_by : (a b : Bool) → accepted_field F ≡ a → accepted_field G ≡ b → Leaves (lines_for (length row) (counted_field F) (counted_field G)) out r out'
     leaves_by true true p q =

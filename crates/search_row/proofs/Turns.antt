@@ -13,11 +13,10 @@ use borrow.Author.Tests.{ltb-true, ne_eqb}
 use Rattle.math_search.specs.Rules.{rule_count}
 use Rattle.search_problems.specs.declared.Problem.{Problem}
 use Rattle.search_problems.specs.Values.{blank_problem}
-use Rattle.search_problems.specs.Steps.{fails_of, child_of, gives, next_rule}
+use Rattle.search_problems.specs.Steps.{fails_of, child_record, gives, next_rule}
 use Rattle.text_write.specs.pieces.Stored.{store_line}
 use Rattle.search_steps.specs.declared.turns.State.{State}
-use Rattle.search_steps.specs.declared.turns.Turn.{Turn}
-use Rattle.search_steps.specs.turns.Turns.{trying, aim, first_rule, stopped, taken, joined, full, rule_turn}
+use Rattle.search_steps.specs.turns.Turns.{Turn, trying, aim, first_rule, stopped, taken, joined, full, rule_turn}
 use Rattle.pair_row.specs.Row.{table_in}
 use Rattle.search_steps.specs.Machine.{line_in, line_of, moved, wrote, Config, conf, next, after, after_next, after_none}
 use Rattle.math_search.specs.worklist.Machine as list
@@ -38,8 +37,8 @@ module _ (s : State) (row : List Problem) (out : List ℕ) where
   back t = ap (λ (r : List Problem). conf t r out) (set-get_or row s.at blank_problem)
 
   next_joined : trying s.rule ≡ true → ltb s.count s.cap ≡ true
-      → next (conf s row out) ≡ conf (joined s) (set row s.at (child_of (table_in s.row) s.held s.rule).problem) out
-  next_joined t l = by_turn (record { problem = (child_of (table_in s.row) s.held s.rule).problem; state = joined s }) out (rw (t, l) refl) (rw t refl)
+      → next (conf s row out) ≡ conf (joined s) (set row s.at (child_record (table_in s.row) s.held s.rule)) out
+  next_joined t l = by_turn (record { problem = (child_record (table_in s.row) s.held s.rule); state = joined s }) out (rw (t, l) refl) (rw t refl)
 
   next_full : trying s.rule ≡ true → ltb s.count s.cap ≡ false → next (conf s row out) ≡ conf (full s) row out
   next_full t l = by_turn (record { problem = there; state = full s }) out (rw (t, l) refl) (rw t refl) ∙ back (full s)
@@ -79,7 +78,7 @@ records tables texts = record {
   is_open = λ p. p.«open»;
   fails = fails_of (table_in tables);
   ok = gives (table_in tables);
-  child = λ p r. (child_of (table_in tables) p r).problem;
+  child = λ p r. (child_record (table_in tables) p r);
   line = line_in tables texts;
   store = store_line;
 }
@@ -120,7 +119,7 @@ module _ (tables texts : List ℕ) (writing : Bool) (cap : ℕ) where
     shows_full t l = (head, row, next_full s row w.out t l, r)
 
     shows_joined : ltb w.rule rule_count ≡ true → ltb (length w.waiting) cap ≡ true
-        → Shows (next (config w head row)) (list.joined (records tables texts) writing cap w (child_of (table_in tables) w.held w.rule).problem)
+        → Shows (next (config w head row)) (list.joined (records tables texts) writing cap w (child_record (table_in tables) w.held w.rule))
     shows_joined t l = (
       head,
       set row (place head (length w.waiting) cap) q,
@@ -131,16 +130,16 @@ module _ (tables texts : List ℕ) (writing : Bool) (cap : ℕ) where
     )
       where
         q : Problem
-        q = (child_of (table_in tables) w.held w.rule).problem
+        q = (child_record (table_in tables) w.held w.rule)
 
         few : length w.waiting < cap
         few = ltb-true (length w.waiting) cap l
 
-        one_more : length w.waiting + 1 ≡ length (w.waiting ++ (child_of (table_in tables) w.held w.rule).problem ∷ [])
+        one_more : length w.waiting + 1 ≡ length (w.waiting ++ (child_record (table_in tables) w.held w.rule) ∷ [])
         one_more = sym (length-append w.waiting (q ∷ []))
 
         behind : next_place (place head (length w.waiting) cap) cap
-            ≡ place head (length (w.waiting ++ (child_of (table_in tables) w.held w.rule).problem ∷ [])) cap
+            ≡ place head (length (w.waiting ++ (child_record (table_in tables) w.held w.rule) ∷ [])) cap
         behind = place_next head (length w.waiting) cap r.inside few ∙ ap (λ (n : ℕ). place head n cap) one_more
 
         aimed : aim w.rule head (place head (length w.waiting) cap) ≡ place head (length w.waiting) cap
@@ -165,7 +164,7 @@ module _ (tables texts : List ℕ) (writing : Bool) (cap : ℕ) where
               row = tables;
               texts = texts;
             })
-            (set row at (child_of (table_in tables) w.held w.rule).problem) w.out
+            (set row at (child_record (table_in tables) w.held w.rule)) w.out
 
     module _ (t : ltb w.rule rule_count ≡ false) where
       shows_stopped : w.waiting ≡ [] → Shows (next (config w head row)) (list.stopped (records tables texts) writing cap w)
@@ -246,7 +245,7 @@ module _ (tables texts : List ℕ) (writing : Bool) (cap : ℕ) where
       where
         by : (c : Bool) → ltb (length w.waiting) cap ≡ c
             → Shows (next (config w head row))
-            (cond c (list.joined (records tables texts) writing cap w (child_of (table_in tables) w.held w.rule).problem)
+            (cond c (list.joined (records tables texts) writing cap w (child_record (table_in tables) w.held w.rule))
             (list.full (records tables texts) writing cap w))
         by true l = shows_joined t l
         by false l = shows_full t l

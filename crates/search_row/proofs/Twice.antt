@@ -13,7 +13,7 @@ use lib.Dec.{leb, ltb, eqb}
 use lib.ListN.{length, length-map, length-set, drop}
 use borrow.Author.Tests.{leb-true, leb-false, le-leb, lt-ltb, ne_eqb}
 use Rattle.base_limits.specs.Limits.{most_terms}
-use Rattle.text_values.specs.declared.Field.{Field}
+use Rattle.text_values.specs.Values.{Field}
 use Rattle.text_accepted.specs.Accepted.{accepted_field}
 use Rattle.text_write.specs.Answers as lent
 use Rattle.search_problems.specs.declared.Problem.{Problem}
@@ -34,7 +34,7 @@ use Rattle.math_search.proofs.Seqs.{one_or_none}
 use Rattle.math_search.proofs.Queue.{given}
 use Rattle.math_search.specs.worklist.Agreement.{Agrees}
 use Rattle.search_row.proofs.Turns.{records}
-use Rattle.search_row.proofs.Found.{reaches_once, reaches_ends, starts, Final, machine_finds}
+use Rattle.search_row.proofs.Finding.{reaches_once, reaches_ends, starts, Final, machine_finds}
 
 -- the search is refused (`unfinished` never comes)
 abbrev pub is_refused : (E : Setting) → Result E → Bool

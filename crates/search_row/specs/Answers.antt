@@ -1,35 +1,50 @@
 -- What searching answers, of the lines of the search; and what it comes to by the machine of crate `search_steps`.
-use Rattle.std.specs.Prelude.{◌≡◌, false, cond, List, [], ◌∷◌, ℕ, leb, length}
+use Rattle.std.specs.Prelude.{◌≡◌, false, cond, List, [], ◌∷◌, ℕ, Result, Ok, Err, leb, length}
 use Rattle.std.proofs.Math.Option.{none, some}
 use Rattle.text_grammar.specs.Told.{Told, by_room}
-use Rattle.text_values.specs.declared.Field.{Field}
+use Rattle.text_values.specs.Values.{Field}
 use Rattle.text_accepted.specs.Accepted.{counted_field}
 use Rattle.text_write.specs.Answers.{after}
-use Rattle.search_spec.specs.Answers.{Lines as Found, lines, nine, lines_for, bytes_of}
+use Rattle.search_spec.specs.Answers.{Lines, lines, nine, lines_for, bytes_of}
 use Rattle.search_problems.specs.declared.Problem.{Problem}
 use Rattle.search_steps.specs.declared.turns.State.{State}
 use Rattle.search_steps.specs.Row.{blanks}
 use Rattle.search_steps.specs.starts.Starts.{begun, again}
 use Rattle.search_steps.specs.Machine as machine
 use Rattle.search_steps.specs.Machine.{Config, conf, Ends, Reaches, from_root}
-use Rattle.search_row.specs.declared.Searched.{Searched}
-use Rattle.search_row.specs.declared.Searched.TheVariants.{Lines, TooSmall, Full}
+use Rattle.search_row.specs.declared.Found.{Found}
+use Rattle.search_row.specs.declared.SearchRefusal.{SearchRefusal}
+use Rattle.search_row.specs.declared.SearchRefusal.TheVariants.{TooSmall, Full}
+
+-- what a search answers
+abbrev pub Searched : Type 0
+Searched = Result Found SearchRefusal
+
+-- n lines of b bytes were written; they would need more room than there is, and none was written; the row has too few records
+abbrev pub fitting : ℕ → ℕ → Searched
+fitting n b = Ok (record { lines = n; bytes = b })
+
+abbrev pub too_small : ℕ → ℕ → Searched
+too_small n b = Err (TooSmall (record { lines = n; bytes = b }))
+
+abbrev pub row_full : Searched
+row_full = Err Full
 
 -- document 01's number and values of each answer: "Line and byte counts are returned"; "9: .. both counts are 0. 8: .. the line count and
 -- the needed byte count are returned."
 abbrev pub told : Searched → Told
-told (Lines n b) = record { number = none; values = n ∷ (b ∷ []) }
-told (TooSmall n b) = record { number = some 8; values = n ∷ (b ∷ []) }
-told Full = record { number = some 9; values = 0 ∷ (0 ∷ []) }
+told (Ok f) = record { number = none; values = f.lines ∷ (f.bytes ∷ []) }
+told (Err (TooSmall f)) = record { number = some 8; values = f.lines ∷ (f.bytes ∷ []) }
+told (Err Full) = record { number = some 9; values = 0 ∷ (0 ∷ []) }
 
 -- THE ANSWER, of the lines and the room of the lent buffer: "8: the lines need more bytes than the output buffer has"; "9 is tried before
 -- 8"
-abbrev pub searched_of : Found → ℕ → Told
+abbrev pub searched_of : Lines → ℕ → Told
 searched_of (lines ls) room = by_room (length (bytes_of (lines ls))) room (length ls ∷ (length (bytes_of (lines ls)) ∷ []))
 searched_of nine room = record { number = some 9; values = 0 ∷ (0 ∷ []) }
 
 -- the lines of two field values over a row of so many records; one that no reading can return counts as no field
-abbrev pub found_in : ℕ → Field → Field → Found
+abbrev pub found_in : ℕ → Field → Field → Lines
 found_in room f g = lines_for room (counted_field f) (counted_field g)
 
 -- WHAT A SEARCH PROMISES of two field values, the lent records and the lent bytes `old`: its answer, what the bytes are afterwards, and
@@ -44,7 +59,7 @@ pub record Searches (f g : Field) (records : List Problem) (old : List ℕ) (r :
 
 -- the answer, of the state that counting ended in and the room of the output. Document 01: "9 is tried before 8"
 abbrev pub reported : State → ℕ → Searched
-reported t room = cond t.refused Full (cond (leb t.bytes room) (Lines t.lines t.bytes) (TooSmall t.lines t.bytes))
+reported t room = cond t.refused row_full (cond (leb t.bytes room) (fitting t.lines t.bytes) (too_small t.lines t.bytes))
 
 module _ (f g : Field) (row : List Problem) (out : List ℕ) where
   -- where counting starts, and where writing starts after the count ended in c

@@ -13,16 +13,24 @@ use search_problems::Problem;
 use search_steps::turns::State;
 use text_values::Field;
 
-// The answer of a search: the line count and the byte count. `told` of specs/Answers has document 01's number and values of each.
+// How many lines were found, and how many bytes they have.
 #[derive(Clone, Copy)]
-pub enum Searched {
-    // the lines were written
-    Lines(usize, usize),
-    // they would need so many bytes, and none was written
-    TooSmall(usize, usize),
+pub struct Found {
+    pub lines: usize,
+    pub bytes: usize,
+}
+
+// Why no line was written.
+#[derive(Clone, Copy)]
+pub enum SearchRefusal {
+    // the output has fewer bytes than the lines that were found
+    TooSmall(Found),
     // the row has too few records
     Full,
 }
+
+// The answer of a search. `told` of specs/Answers has document 01's number and values of each.
+pub type Searched = Result<Found, SearchRefusal>;
 
 // ---- the row
 
@@ -36,79 +44,72 @@ fn put(row: &mut [Problem], i: usize, p: Problem)
 }
 
 // The problem in a place of the row; the blank where it has no such place.
-fn take(row: &mut [Problem], i: usize) -> Problem
-    ensures { (result ≡ get_or row.old i blank_problem) × (row.new ≡ row.old) }
+fn take(row: &[Problem], i: usize) -> Problem
+    ensures { result ≡ get_or row.now i blank_problem }
 {
-    let mut p = search_problems::blank_problem();
-    if i < row.len() {
-        p = row[i];
+    match row.get(i) {
+        Some(p) => *p,
+        None => Problem::blank(),
     }
-    p
 }
 
 // Every record is made blank.
 fn blank(row: &mut [Problem])
     ensures { row.new ≡ blanks (length row.old) }
 {
-    let b = search_problems::blank_problem();
-    let mut i = 0;
-    while i < row.len() {
-        put(row, i, b);
-        i += 1;
-    }
+    row.fill(Problem::blank());
 }
 
 // One turn: a record is read, and written.
-fn step(row: &mut [Problem], out: &mut [u8], s: State) -> State
-    ensures { conf result row.new out.new ≡ next (conf s row.old out.old) }
+fn step(row: &mut [Problem], out: &mut [u8], s: &mut State)
+    ensures { conf s.new row.new out.new ≡ next (conf s.old row.old out.old) }
 {
     let at = s.at;
     let p = take(row, at);
-    let m = search_steps::advance(s, p, out);
-    let q = m.problem;
+    let q = search_steps::advance(s, &p, out);
     put(row, at, q);
-    m.state
 }
 
 // Turns until the machine is not busy, for which `turns` turns are enough.
-fn run(row: &mut [Problem], out: &mut [u8], s: State) -> State
+fn run(row: &mut [Problem], out: &mut [u8], s: &mut State)
     ghost turns: { ℕ }
-    requires { (after turns (conf s row.old out.old)).state.busy ≡ false }
-    ensures { Reaches (conf s row.old out.old) (conf result row.new out.new) }
+    requires { (after turns (conf s.old row.old out.old)).state.busy ≡ false }
+    ensures { Reaches (conf s.old row.old out.old) (conf s.new row.new out.new) }
 {
-    let mut t = s;
-    while t.busy {
-        let u = step(row, out, t);
-        t = u;
+    // Stays a `while`: it counts no index, a turn tells whether another one follows.
+    while s.busy {
+        step(row, out, s);
     }
-    t
 }
 
 // The search from the problem that the state holds, which is put into the first place: `turns` turns are enough for it.
-fn from_root(row: &mut [Problem], out: &mut [u8], s: State) -> State
+fn from_root(row: &mut [Problem], out: &mut [u8], s: &mut State)
     ghost turns: { ℕ }
-    requires { (after turns (from_root (conf s row.old out.old))).state.busy ≡ false }
-    ensures { Reaches (from_root (conf s row.old out.old)) (conf result row.new out.new) }
+    requires { (after turns (from_root (conf s.old row.old out.old))).state.busy ≡ false }
+    ensures { Reaches (from_root (conf s.old row.old out.old)) (conf s.new row.new out.new) }
 {
-    let p = s.held;
-    put(row, 0, p);
-    let t = run(row, out, s);
-    t
+    put(row, 0, s.held);
+    run(row, out, s);
 }
 
 // ---- the search
 
 // The answer, of the state that counting ended in and the room of the output.
-fn report(t: State, room: usize) -> Searched
-    ensures { result ≡ reported t room }
+fn report(t: &State, room: usize) -> Searched
+    ensures { result ≡ reported t.now room }
 {
     if t.refused {
-        return Searched::Full;
+        return Err(SearchRefusal::Full);
     }
+    let found = Found {
+        lines: t.lines,
+        bytes: t.bytes,
+    };
     if t.bytes <= room {
-        return Searched::Lines(t.lines, t.bytes);
+        Ok(found)
+    } else {
+        Err(SearchRefusal::TooSmall(found))
     }
-    Searched::TooSmall(t.lines, t.bytes)
 }
 
 // The two runs of the search, for each of which `turns` turns are enough, and the row made blank.
@@ -117,14 +118,14 @@ fn run_twice(left: Field, right: Field, row: &mut [Problem], out: &mut [u8]) -> 
     requires { Enough left right row.old out.old turns }
     ensures { Done left right row.old out.old result row.new out.new }
 {
-    let cap = row.len();
     let room = out.len();
-    let s = search_steps::starts::begin(left, right, cap);
-    let t = from_root(row, out, s);
-    let u = search_steps::starts::again(s, t, room);
-    let v = from_root(row, out, u);
+    let s = search_steps::starts::begin(left, right, row.len());
+    let mut t = s;
+    from_root(row, out, &mut t);
+    let mut v = search_steps::starts::again(&s, &t, room);
+    from_root(row, out, &mut v);
     blank(row);
-    report(t, room)
+    report(&t, room)
 }
 
 // THE SEARCH for one field pair: once to count its lines, and once more to write them where the output has room.

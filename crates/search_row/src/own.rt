@@ -5,7 +5,7 @@ ghost use Rattle.search_steps.specs.Row.{blanks};
 ghost use Rattle.search_row.specs.Answers.{Searches};
 
 use crate::Searched;
-use base_numbers::at_most;
+use search_problems::Problem;
 use text_values::Field;
 
 // How many records the row has.
@@ -16,8 +16,7 @@ pub fn search_in(left: Field, right: Field, room: usize, out: &mut [u8]) -> Sear
     ensures { Searches left right (blanks (min room most_records)) out.old result (blanks (min room most_records))
         out.new }
 {
-    let b = search_problems::blank_problem();
-    let mut row = [b; MOST_RECORDS];
-    let n = at_most(room, MOST_RECORDS);
+    let mut row = [Problem::blank(); MOST_RECORDS];
+    let n = room.min(MOST_RECORDS);
     crate::search(left, right, &mut row[..n], out)
 }

@@ -1,4 +1,3 @@
-pub mod Sides
 pub mod Numbers
 pub mod Heads
 pub mod Failing

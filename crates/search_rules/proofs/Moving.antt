@@ -38,6 +38,8 @@ use Rattle.search_rules.specs.Heads.{head_of}
 use Rattle.search_rules.specs.Tests.{strictly, list_end, fresh_code}
 use Rattle.search_rules.specs.Moves as values
 use Rattle.search_rules.specs.Moves.{no_move, solved_move, solved_by, kept, bound, tests_by, made_by, move_by, move_value}
+use Rattle.std.specs.Prelude as std
+use Rattle.std.specs.Prelude.{Some}
 use Rattle.search_rules.specs.Values.{number, move_code}
 use Rattle.search_rules.proofs.Heads.{lists_behind, head_tm, head_agrees, whole_is}
 
@@ -100,8 +102,11 @@ module _ (t : List (Option OurAtom)) (long : length t ≡ pair_places) where
   -- ---- the rules
 
   -- what a rule makes, where its test comes out so
-  abbrev tried : Bool → Move → Move
-  tried b m = cond b m no_move
+  abbrev tried_any : Bool → std.Option Move → std.Option Move
+  tried_any b m = cond b m no_move
+
+  abbrev tried : Bool → Move → std.Option Move
+  tried b m = tried_any b (Some m)
 
   module _ (f : ℕ) where
     remove_agrees : (L M : Field setting) → All (On t) L → All (On t) M
@@ -129,7 +134,7 @@ module _ (t : List (Option OurAtom)) (long : length t ≡ pair_places) where
         let X = atomic (free x) in
         let p = not (eqb (code_tm t (atomic a)) (code_tm t X)) in
         let q = entry (rank (term_type setting (atomic a))) (rank (basic (kind_in x))) in
-        ap₂ (λ (l m : Items). cond (p && q) (bound false (code_tm t X) (items_value t (atomic a ∷ [])) l m) no_move)
+        ap₂ (λ (l m : Items). cond (p && q) (Some (bound false (code_tm t X) (items_value t (atomic a ∷ [])) l m)) no_move)
         (put_in_agree t long X (atomic a ∷ []) (w ∷ L) h.0 h.1) (put_in_agree t long X (atomic a ∷ []) M h.0 k.1)
         ∙ bind_atom_lem x a (equation (put_in setting X (atomic a ∷ []) (w ∷ L)) (put_in setting X (atomic a ∷ []) M)) h.0 k.0
     decomp1'_agrees (atomic (free x) ∷ (w ∷ L)) (listvar y ∷ M) h k = refl
@@ -232,7 +237,7 @@ module _ (t : List (Option OurAtom)) (long : length t ≡ pair_places) where
     orient1_agrees (listvar x ∷ L) M = refl
 
     -- turned round, where a test of the types comes out so
-    abbrev turned_if : Field setting → Field setting → Bool → Move
+    abbrev turned_if : Field setting → Field setting → Bool → std.Option Move
     turned_if L M b = cond b (move_code t (some (keep (equation M L)))) no_move
 
     orient2_agrees : (L M : Field setting)
@@ -288,7 +293,7 @@ module _ (t : List (Option OurAtom)) (long : length t ≡ pair_places) where
 
     -- of the heads
     rule_agrees : (r : Rule) (L M : Field setting) → All (On t) L → All (On t) M
-        → tried (get_or (tests_by (head_tm t L) (head_tm t M) (ends_tm M) (codes_of t L) (codes_of t M)) (number r) false)
+        → tried_any (get_or (tests_by (head_tm t L) (head_tm t M) (ends_tm M) (codes_of t L) (codes_of t M)) (number r) false)
         (get_or (made_by (head_tm t L).first (head_tm t M).first (items_value t L) (items_value t M) (codes_of t L) (codes_of t M) (pair_places + f)) (number r)
         no_move)
         ≡ move_code t (rule setting r L M f)
@@ -321,6 +326,6 @@ module _ (t : List (Option OurAtom)) (long : length t ≡ pair_places) where
       ap₂ (λ (s w : List ℕ). move_by (head_of T s) (head_of T w) l m s w (fresh_code f) (number r)) (items_of_lem t L p) (items_of_lem t M q)
       ∙ ap (λ (n : ℕ). move_by (head_of T ls) (head_of T ms) l m ls ms (pair_places + n) (number r)) (mod-eq_of_lt small)
       ∙ ap₂ (λ (a b : Head). move_by a b l m ls ms (pair_places + f) (number r)) (head_agrees t long T made z L h) (head_agrees t long T made z M k)
-      ∙ ap (λ (e : Bool). tried (get_or (tests_by (head_tm t L) (head_tm t M) e ls ms) (number r) false)
+      ∙ ap (λ (e : Bool). tried_any (get_or (tests_by (head_tm t L) (head_tm t M) e ls ms) (number r) false)
       (get_or (made_by (head_tm t L).first (head_tm t M).first l m ls ms (pair_places + f)) (number r) no_move)) (list_end_lem M k)
       ∙ rule_agrees f r L M h k

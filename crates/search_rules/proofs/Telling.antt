@@ -3,6 +3,7 @@ use mathlib.Core.Path.{◌≡◌, refl}
 use mathlib.Core.Bool.{Bool, true, false, cond, ◌&&◌}
 use mathlib.Core.List.{List, [], ◌∷◌}
 use Prim.Native.Nat.{ℕ, zero, suc}
+use Rattle.std.specs.Prelude.{Option, Some, None, is_some}
 use lib.ListN.{get_or}
 use Rattle.math_codes.specs.Tables.{Table}
 use Rattle.search_items.specs.declared.Items.{Items}
@@ -12,12 +13,17 @@ use Rattle.search_rules.specs.Heads.{head_of}
 use Rattle.search_rules.specs.Tests.{list_end, fresh_code}
 use Rattle.search_rules.specs.Moves.{no_move, tests_by, made_by, fresh_rules, applies_value, move_value}
 
+-- a move is made, and brings the fresh list variable in
+abbrev pub brings : Option Move → Bool
+brings None = false
+brings (Some m) = m.fresh
+
 -- a move that is made, with the fresh list variable or without
-abbrev Told : Move → Bool → Type 0
-Told m f = (m.applies ≡ true) × (m.fresh ≡ f)
+abbrev Told : Option Move → Bool → Type 0
+Told m f = (is_some m ≡ true) × (brings m ≡ f)
 
 -- each of a list with its test
-abbrev AllTold : List Bool → List Move → List Bool → Type 0
+abbrev AllTold : List Bool → List (Option Move) → List Bool → Type 0
 AllTold [] [] [] = Unit {0}
 AllTold [] [] (f ∷ fs) = ⊥
 AllTold [] (m ∷ ms) fs = ⊥
@@ -26,10 +32,10 @@ AllTold (b ∷ bs) (m ∷ ms) [] = ⊥
 AllTold (b ∷ bs) (m ∷ ms) (f ∷ fs) = Told m f × AllTold bs ms fs
 
 -- what is told of the rule r
-abbrev Tells : Move → Bool → Bool → Type 0
-Tells m b f = (m.applies ≡ b) × (m.fresh ≡ b && f)
+abbrev Tells : Option Move → Bool → Bool → Type 0
+Tells m b f = (is_some m ≡ b) × (brings m ≡ b && f)
 
-tell : (bs : List Bool) (ms : List Move) (fs : List Bool) → AllTold bs ms fs → (r : ℕ)
+tell : (bs : List Bool) (ms : List (Option Move)) (fs : List Bool) → AllTold bs ms fs → (r : ℕ)
     → Tells (cond (get_or bs r false) (get_or ms r no_move) no_move) (get_or bs r false) (get_or fs r false)
 tell [] [] [] h r = (refl, refl)
 tell [] [] (f ∷ fs) h r = absurd h
@@ -71,8 +77,8 @@ module _ (T : Table) (r : ℕ) (l m : Items) (f : ℕ) where
       )
       r
 
-  pub applies_is : (move_value T r l m f).applies ≡ applies_value T r l m
+  pub applies_is : is_some (move_value T r l m f) ≡ applies_value T r l m
   applies_is = told.0
 
-  pub fresh_is : (move_value T r l m f).fresh ≡ applies_value T r l m && get_or fresh_rules r false
+  pub fresh_is : brings (move_value T r l m f) ≡ applies_value T r l m && get_or fresh_rules r false
   fresh_is = told.1

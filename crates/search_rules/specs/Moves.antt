@@ -3,7 +3,7 @@
 -- code n.
 -- `move_agrees` of proofs/Moving says that on the values of the search's fields they are the rules of document 001 as document 01 amends
 -- them.
-use Rattle.std.specs.Prelude.{Bool, true, false, cond, ◌&&◌, not, List, [], ◌∷◌, ℕ, eqb, get_or, drop}
+use Rattle.std.specs.Prelude.{Bool, true, false, cond, ◌&&◌, not, List, [], ◌∷◌, ℕ, Option, Some, None, eqb, get_or, drop}
 use Rattle.math_types.specs.Types.{entry}
 use Rattle.math_terms.specs.Seqs.{concat_map}
 use Rattle.math_codes.specs.Tables.{Table}
@@ -18,21 +18,11 @@ use Rattle.search_rules.specs.Tests.{replaces, strictly, list_end, fresh_code}
 -- ---- what a rule leaves
 
 abbrev pub moved : Bool → Bool → Bool → ℕ → Items → Items → Items → Move
-moved o b f x s l m = record { applies = true; «open» = o; binds = b; fresh = f; variable = x; value = s; left = l; right = m }
+moved o b f x s l m = record { «open» = o; binds = b; fresh = f; variable = x; value = s; left = l; right = m }
 
 -- the rule does not apply
-abbrev pub no_move : Move
-no_move =
-    record {
-      applies = false;
-      «open» = false;
-      binds = false;
-      fresh = false;
-      variable = 0;
-      value = blank_items;
-      left = blank_items;
-      right = blank_items;
-    }
+abbrev pub no_move : Option Move
+no_move = None
 
 abbrev pub solved_move : Move
 solved_move = moved false false false 0 blank_items blank_items blank_items
@@ -121,10 +111,11 @@ tests_by a b e ls ms =
     same_codes ls ms ∷ (decomp1? a b ∷ (decomp1'? a b ∷ (decomp2? a b ∷ (decomp2? a b ∷ (decomp3? a b ∷ (decomp4? a b e ∷ (subst1? a b ms
     ∷ (subst2? a ∷ (subst3? a b ∷ (orient1? a b ∷ (orient2? a b ∷ (orient3? a b ∷ (orient4? a b ∷ [])))))))))))))
 
-abbrev pub made_by : ℕ → ℕ → Items → Items → List ℕ → List ℕ → ℕ → List Move
+abbrev pub made_by : ℕ → ℕ → Items → Items → List ℕ → List ℕ → ℕ → List (Option Move)
 made_by x y l m ls ms n =
-    solved_move ∷ (decomp1 x y ls ms ∷ (decomp1' x y ls ms ∷ (decomp2 x y ls ms n ∷ (decomp2' x y ls ms n ∷ (decomp3 ls ms ∷ (decomp4 x y ms
-    ∷ (solved_by x m ∷ (subst2 x m ls ∷ (decomp2 x y ls ms n ∷ (kept m l ∷ (kept m l ∷ (kept m l ∷ (kept m l ∷ [])))))))))))))
+    Some solved_move ∷ (Some (decomp1 x y ls ms) ∷ (Some (decomp1' x y ls ms) ∷ (Some (decomp2 x y ls ms n) ∷ (Some (decomp2' x y ls ms n)
+    ∷ (Some (decomp3 ls ms) ∷ (Some (decomp4 x y ms) ∷ (Some (solved_by x m) ∷ (Some (subst2 x m ls) ∷ (Some (decomp2 x y ls ms n)
+    ∷ (Some (kept m l) ∷ (Some (kept m l) ∷ (Some (kept m l) ∷ (Some (kept m l) ∷ [])))))))))))))
 
 -- which of them bring in the fresh list variable
 abbrev pub fresh_rules : List Bool
@@ -137,12 +128,12 @@ abbrev pub applies_by : Head → Head → List ℕ → List ℕ → ℕ → Bool
 applies_by a b ls ms r = get_or (tests_by a b (list_end ms) ls ms) r false
 
 -- and makes the equation this
-abbrev pub move_by : Head → Head → Items → Items → List ℕ → List ℕ → ℕ → ℕ → Move
+abbrev pub move_by : Head → Head → Items → Items → List ℕ → List ℕ → ℕ → ℕ → Option Move
 move_by a b l m ls ms n r = cond (applies_by a b ls ms r) (get_or (made_by a.first b.first l m ls ms n) r no_move) no_move
 
 module _ (T : Table) where
   abbrev pub applies_value : ℕ → Items → Items → Bool
   applies_value r l m = applies_by (head_of T (items_of l)) (head_of T (items_of m)) (items_of l) (items_of m) r
 
-  abbrev pub move_value : ℕ → Items → Items → ℕ → Move
+  abbrev pub move_value : ℕ → Items → Items → ℕ → Option Move
   move_value r l m f = move_by (head_of T (items_of l)) (head_of T (items_of m)) l m (items_of l) (items_of m) (fresh_code f) r

@@ -1,5 +1,6 @@
 -- The values of the search's moves over the pair's table, and the rules' numbers.
-use Rattle.std.specs.Prelude.{Bool, true, false, List, [], ◌∷◌, ℕ}
+use Rattle.std.specs.Prelude as std
+use Rattle.std.specs.Prelude.{Some, Bool, true, false, List, [], ◌∷◌, ℕ}
 use Rattle.std.proofs.Math.Option.{Option, none, some}
 use Rattle.math_search.specs.Problems.{solved, equation}
 use Rattle.math_search.specs.Rules.{Rule, keep, bind}
@@ -36,9 +37,13 @@ brings_in [] = false
 brings_in (n ∷ u) = true
 
 -- THE VALUE of what a rule makes of an equation. No rule that solves a problem brings in a list variable.
-abbrev pub move_code : List (Option OurAtom) → Option (rules.Move setting) → Move
+abbrev pub made_move : List (Option OurAtom) → rules.Move setting → Move
+made_move t (keep solved) = solved_move
+made_move t (keep (equation L M)) = kept (items_value t L) (items_value t M)
+made_move t (bind x s u solved) = solved_by (code_tm t x) (items_value t s)
+made_move t (bind x s u (equation L M)) = bound (brings_in u) (code_tm t x) (items_value t s) (items_value t L) (items_value t M)
+
+-- where it applies
+abbrev pub move_code : List (Option OurAtom) → Option (rules.Move setting) → std.Option Move
 move_code t none = no_move
-move_code t (some (keep solved)) = solved_move
-move_code t (some (keep (equation L M))) = kept (items_value t L) (items_value t M)
-move_code t (some (bind x s u solved)) = solved_by (code_tm t x) (items_value t s)
-move_code t (some (bind x s u (equation L M))) = bound (brings_in u) (code_tm t x) (items_value t s) (items_value t L) (items_value t M)
+move_code t (some m) = Some (made_move t m)

@@ -1,8 +1,7 @@
 -- Laws of a turn. Assumes nothing.
---     place-fits, line-part    an answer's line in the part of the output that is lent to the line writer
---     noted, not_noted         what an answer leaves in the output, and what is none
---     turn_is                  a turn where a line's size counts only for an answer
-use Rattle.std.proofs.Common.{◌≡◌, ℕ, ◌-◌, ◌≤◌, min, Bool, true, false, cond, not, eqb, List, ◌++◌, length, get_or, take, drop, sym, refl, ap, ◌∙◌, subst₂, arith}
+--     line_part    an answer's line in the part of the output that is lent to the line writer
+--     turn_is      a turn where a line's size counts only for an answer
+use Rattle.std.proofs.Common.{◌≡◌, ℕ, ◌-◌, min, Bool, true, false, cond, not, eqb, List, ◌++◌, length, get_or, take, drop, refl, ap, ◌∙◌, subst₂, arith}
 use lib.Seq.{sets}
 use Rattle.search_problems.specs.declared.Problem.{Problem}
 use Rattle.search_problems.specs.Values.{blank_problem}
@@ -15,18 +14,10 @@ use Rattle.search_items.specs.declared.Items.{Items}
 use Rattle.search_items.specs.Items.{items_of, blank_items}
 use Rattle.base_lists.specs.Arrays.{entry_any}
 use Rattle.search_steps.specs.declared.turns.State.{State}
-use Rattle.search_steps.specs.declared.turns.Turn.{Turn}
-use Rattle.search_steps.specs.turns.Turns.{trying, next_place, aim, plus, first_rule, stopped, rule_turn, decided}
-use Rattle.search_steps.specs.Machine.{answers, line_place, line_of, wrote}
+use Rattle.search_steps.specs.turns.Turns.{Turn, trying, next_place, aim, plus, first_rule, stopped, rule_turn, decided}
+use Rattle.search_steps.specs.Machine.{answers, line_place, line_of}
 
 -- ---- where an answer's line goes
-
-fits_by : (w : Bool) (k n : ℕ) → cond w (min k n) n ≤ n
-fits_by true k n = omega arith
-fits_by false k n = omega arith
-
-pub place_fits : (s : State) (n : ℕ) → line_place s n ≤ n
-place_fits s n = fits_by s.writing s.bytes n
 
 module _ (l old : List ℕ) (k at : ℕ) {m : List ℕ} (e : m ≡ sets (take (length old - at) (drop at old)) 0 l) where
   part_by : (w : Bool) → at ≡ cond w (min k (length old)) (length old)
@@ -54,22 +45,6 @@ line_by_lem s p out {n} {o} v e h =
     let b = ap items_of (entry_any p.lists 1 v blank_items (omega (arith, e))) in
     let k = put_as s.row s.texts p.atoms.atoms out {n = n} {o = o} a b h in
     (omega (arith, k.0), k.1)
-
--- ---- an answer's line, where there is an answer
-
-module _ (s : State) (p : Problem) (old : List ℕ) where
-  pub noted : {n : ℕ} {l : List ℕ} → answers s p ≡ true → n ≡ length (line_of s p) → l ≡ cond s.writing (store_line (line_of s p) s.bytes old) old
-      → (n ≡ cond (answers s p) (length (line_of s p)) 0) × (l ≡ wrote s p old)
-  noted on e w = (
-    e ∙ sym (ap (λ (b : Bool). cond b (length (line_of s p)) 0) on),
-    w ∙ sym (ap (λ (b : Bool). cond b (cond s.writing (store_line (line_of s p) s.bytes old) old) old) on),
-  )
-
-  pub not_noted : answers s p ≡ false → (0 ≡ cond (answers s p) (length (line_of s p)) 0) × (old ≡ wrote s p old)
-  not_noted off = (
-    sym (ap (λ (b : Bool). cond b (length (line_of s p)) 0) off),
-    sym (ap (λ (b : Bool). cond b (cond s.writing (store_line (line_of s p) s.bytes old) old) old) off),
-  )
 
 -- ---- what is not an answer has no line to count
 

@@ -13,8 +13,7 @@ use Rattle.search_items.specs.Items.{items_of, blank_items}
 use Rattle.pair_lines.specs.Answers.{answer_in}
 use Rattle.text_write.specs.pieces.Stored.{store_line}
 use Rattle.search_steps.specs.declared.turns.State.{State}
-use Rattle.search_steps.specs.declared.turns.Turn.{Turn}
-use Rattle.search_steps.specs.turns.Turns.{trying, decided}
+use Rattle.search_steps.specs.turns.Turns.{Turn, trying, decided}
 
 -- ---- a turn
 

@@ -1,9 +1,10 @@
 // What a turn of the search makes of its state and of the record that it reads. The row is a ring of records.
-ghost use Rattle.std.specs.Prelude.{◌≡◌, ◌-◌, ◌<◌, if◌then◌else◌};
+ghost use Rattle.std.specs.Prelude.{◌≡◌, ◌<◌};
 ghost use Rattle.math_search.specs.Rules.{rule_count};
 ghost use Rattle.pair_row.specs.Row.{table_in};
+ghost use Rattle.search_problems.specs.Steps.{child_record};
 ghost use Rattle.search_steps.specs.turns.Turns.{next_place, aim, worked, first_rule, stopped, taken, head_turn};
-ghost use Rattle.search_steps.specs.turns.Turns.{joined, full, child_turn, rule_turn, decided};
+ghost use Rattle.search_steps.specs.turns.Turns.{joined, full, rule_turn, decided};
 
 use search_problems::Problem;
 
@@ -26,33 +27,13 @@ pub struct State {
     pub texts: [u8; pair_row::TEXTS_BYTES],
 }
 
-// What a turn makes of the record that it reads, and the state after it.
-#[derive(Clone, Copy)]
-pub struct Turn {
-    pub problem: Problem,
-    pub state: State,
-}
-
-// ---- places and counts
-
-fn choose(on: bool, a: usize, b: usize) -> usize
-    ensures { result ≡ (if on then a else b) }
-{
-    if on { a } else { b }
-}
-
-fn down(x: usize) -> usize
-    ensures { result ≡ x - 1 }
-{
-    if x > 0 { x - 1 } else { 0 }
-}
+// ---- places
 
 // The next place, round the end.
-fn next_place(i: usize, cap: usize) -> usize
+pub(crate) fn next_place(i: usize, cap: usize) -> usize
     ensures { result ≡ next_place i cap }
 {
-    let last = down(cap);
-    if i < last { i + 1 } else { 0 }
+    if i < cap.saturating_sub(1) { i + 1 } else { 0 }
 }
 
 // The place that the next turn reads.
@@ -66,136 +47,122 @@ fn aim(rule: usize, head: usize, tail: usize) -> usize
     }
 }
 
-// ---- turns where no problem is held
+// ---- a problem that leaves the row
 
-// Whether a problem's children are to be put in.
-fn is_worked(p: Problem, row: &[u8]) -> bool
-    ensures { result ≡ worked (table_in row.now) p }
+// Whether its children are to be put in.
+fn is_worked(p: &Problem, row: &[u8]) -> bool
+    ensures { result ≡ worked (table_in row.now) p.now }
 {
-    if !p.open {
-        return false;
-    }
-    !search_problems::fails(p, row)
+    p.open && !p.fails(row)
 }
 
-// The first rule that gives a problem a child.
-fn first_rule(p: Problem, row: &[u8]) -> usize
-    ensures { result ≡ first_rule (table_in row.now) p }
+// The first rule that gives it a child.
+fn first_rule(p: &Problem, row: &[u8]) -> usize
+    ensures { result ≡ first_rule (table_in row.now) p.now }
 {
     if is_worked(p, row) {
-        return search_problems::next_rule(p, 0, row);
+        return p.next_rule(0, row);
     }
     search_rules::RULES
 }
 
-fn stop(s: State) -> State
-    ensures { result ≡ stopped s }
-{
-    let mut t = s;
-    t.busy = false;
-    t
-}
+impl State {
+    // ---- turns where no problem is held
 
-// The problem leaves the row. An answer's line has n bytes.
-fn leave(s: State, p: Problem, n: usize) -> State
-    ensures { result ≡ taken s p n }
-{
-    let rule = first_rule(p, &s.row);
-    let open = p.open;
-    let head = next_place(s.head, s.cap);
-    let mut t = s;
-    t.busy = true;
-    t.rule = rule;
-    t.at = aim(rule, head, s.tail);
-    t.head = head;
-    t.count = down(s.count);
-    t.lines = choose(open, s.lines, std::num::wrapping_add_usize(s.lines, 1));
-    t.bytes = choose(open, s.bytes, std::num::wrapping_add_usize(s.bytes, n));
-    t.held = p;
-    t
-}
-
-fn take_head(s: State, p: Problem, n: usize) -> Turn
-    ensures { result ≡ head_turn s p n }
-{
-    if s.count == 0 {
-        return Turn {
-            problem: p,
-            state: stop(s),
-        };
+    fn stop(&mut self)
+        ensures { self.new ≡ stopped self.old }
+    {
+        self.busy = false;
     }
-    Turn {
-        problem: search_problems::blank_problem(),
-        state: leave(s, p, n),
+
+    // The problem leaves the row. An answer's line has n bytes.
+    fn leave(&mut self, p: &Problem, n: usize)
+        ensures { self.new ≡ taken self.old p.now n }
+    {
+        self.busy = true;
+        self.rule = first_rule(p, &self.row);
+        self.head = next_place(self.head, self.cap);
+        self.at = aim(self.rule, self.head, self.tail);
+        self.count = self.count.saturating_sub(1);
+        if !p.open {
+            self.lines = self.lines.wrapping_add(1);
+            self.bytes = self.bytes.wrapping_add(n);
+        }
+        self.held = *p;
     }
-}
 
-// ---- turns where a problem is held
-
-// A child was put at the tail.
-fn join(s: State) -> State
-    requires { (s.rule < rule_count) × (s.count < s.cap) }
-    ensures { result ≡ joined s }
-{
-    let h = s.held;
-    let rule = search_problems::next_rule(h, s.rule + 1, &s.row);
-    let tail = next_place(s.tail, s.cap);
-    let mut t = s;
-    t.busy = true;
-    t.rule = rule;
-    t.at = aim(rule, s.head, tail);
-    t.tail = tail;
-    t.count = s.count + 1;
-    t
-}
-
-// The row has no room for a child.
-fn refuse(s: State) -> State
-    ensures { result ≡ full s }
-{
-    let mut t = s;
-    t.busy = false;
-    t.refused = true;
-    t.lines = 0;
-    t.bytes = 0;
-    t
-}
-
-fn put_child(s: State, p: Problem, q: Problem) -> Turn
-    requires { s.rule < rule_count }
-    ensures { result ≡ child_turn s p q }
-{
-    if s.count < s.cap {
-        return Turn {
-            problem: q,
-            state: join(s),
-        };
+    // Returns the record to be written.
+    fn take_head(&mut self, p: &Problem, n: usize) -> Problem
+        ensures problem { result ≡ (head_turn self.old p.now n).problem }
+        ensures state { self.new ≡ (head_turn self.old p.now n).state }
+    {
+        if self.count == 0 {
+            self.stop();
+            return *p;
+        }
+        self.leave(p, n);
+        Problem::blank()
     }
-    Turn {
-        problem: p,
-        state: refuse(s),
+
+    // ---- turns where a problem is held
+
+    // The child by the next rule, which gives one; else the blank record.
+    fn child(&self) -> Problem
+        ensures { result ≡ child_record (table_in self.now.row) self.now.held self.now.rule }
+    {
+        match self.held.child_of(self.rule, &self.row) {
+            Some(q) => q,
+            None => Problem::blank(),
+        }
     }
-}
 
-// The child by the next rule is put in.
-fn try_rule(s: State, p: Problem) -> Turn
-    requires { s.rule < rule_count }
-    ensures { result ≡ rule_turn s p }
-{
-    let h = s.held;
-    let c = search_problems::child_of(h, s.rule, &s.row);
-    let q = c.problem;
-    put_child(s, p, q)
-}
-
-// ---- a turn
-
-// All that a turn decides. An answer's line has n bytes.
-pub(crate) fn decide(s: State, p: Problem, n: usize) -> Turn
-    ensures { result ≡ decided s p n }
-{
-    if s.rule < search_rules::RULES {
-        return try_rule(s, p);
+    // A child was put at the tail.
+    fn join(&mut self)
+        requires { (self.old.rule < rule_count) × (self.old.count < self.old.cap) }
+        ensures { self.new ≡ joined self.old }
+    {
+        self.busy = true;
+        self.rule = self.held.next_rule(self.rule + 1, &self.row);
+        self.tail = next_place(self.tail, self.cap);
+        self.at = aim(self.rule, self.head, self.tail);
+        self.count += 1;
     }
-    take_head(s, p, n)
+
+    // The row has no room for a child.
+    fn refuse(&mut self)
+        ensures { self.new ≡ full self.old }
+    {
+        self.busy = false;
+        self.refused = true;
+        self.lines = 0;
+        self.bytes = 0;
+    }
+
+    // The child by the next rule is put in. Returns the record to be written.
+    fn try_rule(&mut self, p: &Problem) -> Problem
+        requires { self.old.rule < rule_count }
+        ensures problem { result ≡ (rule_turn self.old p.now).problem }
+        ensures state { self.new ≡ (rule_turn self.old p.now).state }
+    {
+        if self.count < self.cap {
+            let q = self.child();
+            self.join();
+            return q;
+        }
+        self.refuse();
+        *p
+    }
+
+    // ---- a turn
+
+    // All that a turn decides. An answer's line has n bytes. Returns the record to be written.
+    pub(crate) fn decide(&mut self, p: &Problem, n: usize) -> Problem
+        ensures problem { result ≡ (decided self.old p.now n).problem }
+        ensures state { self.new ≡ (decided self.old p.now n).state }
+    {
+        if self.rule < search_rules::RULES {
+            return self.try_rule(p);
+        }
+        self.take_head(p, n)
+    }
 }

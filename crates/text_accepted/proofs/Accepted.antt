@@ -17,8 +17,9 @@ use Rattle.text_grammar.specs.Read.{rule, OutcomeOf, accepted, read_side}
 use Rattle.text_grammar.specs.Limits.{TermIn, Within, Linear, IsLeft}
 use Rattle.text_grammar.proofs.Accepted.{rule_iff}
 use Rattle.text_values.specs.declared.Term.{Term}
-use Rattle.text_values.specs.declared.Field.{Field}
-use Rattle.text_values.specs.declared.RuleSide.{RuleSide}
+use Rattle.text_values.specs.declared.Terms.{Terms}
+use Rattle.text_values.specs.declared.Fields.{Fields}
+use Rattle.text_values.specs.Values.{Field, RuleSide}
 use Rattle.text_accepted.specs.linearity.Lists.{linear}
 use Rattle.text_values.specs.Values.{view_field, view_side, blank_field, blank_side, encode_field, encode_side, one_field}
 use Rattle.text_accepted.specs.Accepted.{field_ok, field_blank, accepted_right, accepted_left, accepted_field}
@@ -27,9 +28,9 @@ use Rattle.text_accepted.proofs.linearity.Linear.{linear_is, linear_field}
 use Rattle.text_values.proofs.canonical.Arrays.{Stands, encode_one, Counted, counted}
 use Rattle.text_values.proofs.canonical.Terms.{term_stands}
 
--- ---- fields and sides: a count and an array
-abbrev field_parts : Counted Term Field
-field_parts =
+-- ---- fields, and sides and slips: a count and an array
+abbrev pub terms_parts : {w : ℕ} → Counted Term (Terms w)
+terms_parts =
     record {
       count = λ f. f.n;
       places = λ f. f.terms;
@@ -39,8 +40,8 @@ field_parts =
       places_make = λ n ts. refl;
     }
 
-abbrev side_parts : Counted Field RuleSide
-side_parts =
+abbrev pub fields_parts : {w : ℕ} → Counted (Terms w) (Fields w)
+fields_parts =
     record {
       count = λ r. r.n;
       places = λ r. r.fields;
@@ -58,10 +59,10 @@ abbrev pub SideIn : OurFields → Type 0
 SideIn r = (length r ≤ most_fields) × All FieldIn r
 
 pub field_stands : Stands view_field encode_field field_ok field_blank blank_field FieldIn
-field_stands = counted field_parts rule.width term_stands
+field_stands = counted terms_parts rule.width term_stands
 
 pub side_stands : Stands view_side encode_side accepted_right (λ r. eqb r.n 0 && accepted_right r) blank_side SideIn
-side_stands = counted side_parts most_fields field_stands
+side_stands = counted fields_parts most_fields field_stands
 
 -- ---- the limits of document 01
 module _ {A : Type 0} where

@@ -1,4 +1,3 @@
 pub mod Known
-pub mod Loops
+pub mod Members
 pub mod Rules
-pub mod Tests

@@ -33,30 +33,21 @@ impl Lists {
     fn stays_ok(self, v: usize) -> bool
         ensures { result ≡ still_ok self v }
     {
-        if !self.ok {
-            return false;
-        }
-        if self.here {
-            return false;
-        }
-        if base_limits::NUMBERS_OF_SIDE <= v {
-            return true;
-        }
-        !self.seen[v]
+        self.ok && !self.here && (base_limits::NUMBERS_OF_SIDE <= v || !self.seen[v])
     }
 
     // The list variable of number v stands here. A number over the limit has no place in the array; refusal 5 meets it before 6.
     pub fn add(self, v: usize) -> Lists
         ensures { result ≡ add_list self v }
     {
-        let ok = self.stays_ok(v);
-        let mut l = self;
-        l.ok = ok;
-        l.here = true;
-        if base_limits::NUMBERS_OF_SIDE <= v {
-            return l;
+        let mut seen = self.seen;
+        if v < base_limits::NUMBERS_OF_SIDE {
+            seen[v] = true;
         }
-        l.seen[v] = true;
-        l
+        Lists {
+            ok: self.stays_ok(v),
+            here: true,
+            seen,
+        }
     }
 }

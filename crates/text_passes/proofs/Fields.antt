@@ -2,7 +2,7 @@
 use mathlib.Core.Path.{◌≡◌, refl, sym, ◌∙◌, ap, subst}
 use mathlib.Core.Logic.{◌≢◌}
 use mathlib.Core.Bool.{Bool, cond}
-use mathlib.Core.List.{List, [], ◌∷◌, ◌++◌, map, foldl, foldl-append}
+use mathlib.Core.List.{List, [], ◌∷◌, map, foldl, foldl-append}
 use Prim.Native.Nat.{ℕ, zero, suc, ◌+◌, ◌<◌, ◌≤◌, min}
 use native.Mathlib.Omega.{arith}
 use native.Mathlib.Decide.{dec_lt}
@@ -12,7 +12,7 @@ use Rattle.base_limits.specs.Limits.{most_fields}
 use Rattle.base_lists.specs.Seqs.{All}
 use Rattle.text_grammar.specs.Grammar.{Raw, spell, spell_f, FieldOk, Says}
 use Rattle.text_grammar.specs.Tokens.{tokens, tokens_f, tokens_t, Over, FifthField, TooMany, TokenOver}
-use Rattle.text_grammar.specs.Terms.{OurTerm, OurFields, term_of, field_of, fields_of}
+use Rattle.text_grammar.specs.Terms.{OurFields, field_of, fields_of}
 use Rattle.text_grammar.specs.Walk.{walked}
 use Rattle.text_grammar.specs.Read.{fields, terms, limits, Sort, rule, slip, said, accepted, read_side, read_slip}
 use Rattle.text_grammar.proofs.Walk.{walk_says}
@@ -20,10 +20,11 @@ use Rattle.text_grammar.proofs.Leftmost.{none_all}
 use Rattle.text_grammar.proofs.Fields.{few_to, width_to, each}
 use Rattle.text_grammar.proofs.Read.{read_accepted}
 use Rattle.text_grammar.proofs.Accepted.{Base, in_grammar, said_is, clean_to}
-use Rattle.text_values.specs.Values.{blank_field, blank_slip_field, encode_field, encode_slip_field}
-use Rattle.text_passes.specs.Build.{add_raw, add_item}
-use Rattle.text_passes.specs.Fields.{last_field, field_count, add_to, pick_field, side_field, slip_field}
-use Rattle.text_passes.proofs.Build.{adds, add_rule, add_slip, Fits}
+use Rattle.text_values.specs.declared.Terms.{Terms}
+use Rattle.text_values.specs.Values.{no_terms, blank_field, blank_slip_field, encode_to, encode_field, encode_slip_field}
+use Rattle.text_passes.specs.Build.{add_raw}
+use Rattle.text_passes.specs.Fields.{last_field, field_count, add_to, field_in, side_field, slip_field}
+use Rattle.text_passes.proofs.Build.{adds_all, Fits}
 use Rattle.text_passes.proofs.Passes.{is_short}
 
 -- ---- how many
@@ -44,56 +45,54 @@ last_is ((r ∷ rs) ∷ fs) p n g =
     ∙ last_is fs q (suc n) g.1
     ∙ e
 
--- ---- one of them, over any fields F
+-- ---- one of them, of up to w terms
 
-module _ {F : Type 0} (encF : List OurTerm → F) (blank : F) (add : F → Raw → F) (w : ℕ) (blank_is : encF [] ≡ blank)
-    (add_is : (ts : List OurTerm) (r : Raw) → (Over r → ⊥) → length ts < w → add (encF ts) r ≡ encF (ts ++ term_of r)) where
+module _ (w : ℕ) where
   -- the terms of field n change no other field, and are the terms of their own
-  others : (j : ℕ) (rs : List Raw) (p n i : ℕ) (f : F) → n ≢ j + 1 → foldl (add_to j add) f (tokens_f p n i rs) ≡ f
+  others : (j : ℕ) (rs : List Raw) (p n i : ℕ) (f : Terms w) → n ≢ j + 1 → foldl (add_to j) f (tokens_f p n i rs) ≡ f
   others j [] p n i f h = refl
   others j (r ∷ rs) p n i f h =
       let q = suc (p + length (spell r)) in
-      ap (λ (c : Bool). foldl (add_to j add) (cond c (add f r) f) (tokens_f q n (suc i) rs)) (ne_eqb n (j + 1) h) ∙ others j rs q n (suc i) f h
+      ap (λ (c : Bool). foldl (add_to j) (cond c (add_raw f r) f) (tokens_f q n (suc i) rs)) (ne_eqb n (j + 1) h) ∙ others j rs q n (suc i) f h
 
-  own : (j : ℕ) (rs : List Raw) (p n i : ℕ) (f : F) → n ≡ j + 1 → foldl (add_to j add) f (tokens_f p n i rs) ≡ foldl add f rs
+  own : (j : ℕ) (rs : List Raw) (p n i : ℕ) (f : Terms w) → n ≡ j + 1 → foldl (add_to j) f (tokens_f p n i rs) ≡ foldl add_raw f rs
   own j [] p n i f h = refl
   own j (r ∷ rs) p n i f h =
       let q = suc (p + length (spell r)) in
-      ap (λ (c : Bool). foldl (add_to j add) (cond c (add f r) f) (tokens_f q n (suc i) rs)) (eq-eqb n (j + 1) h) ∙ own j rs q n (suc i) (add f r) h
+      ap (λ (c : Bool). foldl (add_to j) (cond c (add_raw f r) f) (tokens_f q n (suc i) rs)) (eq-eqb n (j + 1) h) ∙ own j rs q n (suc i) (add_raw f r) h
 
   -- the fields behind field j
-  later : (j : ℕ) (x : List (List Raw)) (p n : ℕ) (f : F) → j + 1 < n → foldl (add_to j add) f (tokens_t p n x) ≡ f
+  later : (j : ℕ) (x : List (List Raw)) (p n : ℕ) (f : Terms w) → j + 1 < n → foldl (add_to j) f (tokens_t p n x) ≡ f
   later j [] p n f h = refl
   later j (g ∷ gs) p n f h =
       let q = suc (p + length (spell_f g)) in
-      foldl-append (add_to j add) f (tokens_f p n 1 g) (tokens_t q (suc n) gs)
-      ∙ ap (λ (y : F). foldl (add_to j add) y (tokens_t q (suc n) gs)) (others j g p n 1 f (λ e. omega arith))
+      foldl-append (add_to j) f (tokens_f p n 1 g) (tokens_t q (suc n) gs)
+      ∙ ap (λ (y : Terms w). foldl (add_to j) y (tokens_t q (suc n) gs)) (others j g p n 1 f (λ e. omega arith))
       ∙ later j gs q (suc n) f (omega arith)
 
   -- field k of those behind n others
   picked : (x : List (List Raw)) (p n k : ℕ) → All (λ rs. All (λ r. Over r → ⊥) rs × (length rs ≤ w)) x
-      → foldl (add_to (n + k) add) blank (tokens_t p (suc n) x) ≡ get_or (map encF (fields_of x)) k blank
+      → foldl (add_to (n + k)) (no_terms w) (tokens_t p (suc n) x) ≡ get_or (map (encode_to w) (fields_of x)) k (no_terms w)
   picked [] p n k o = refl
   picked (f ∷ fs) p n zero o =
       let q = suc (p + length (spell_f f)) in
       let j = n + 0 in
-      foldl-append (add_to j add) blank (tokens_f p (suc n) 1 f) (tokens_t q (suc (suc n)) fs)
-      ∙ ap (λ (y : F). foldl (add_to j add) y (tokens_t q (suc (suc n)) fs)) (own j f p (suc n) 1 blank (omega arith))
-      ∙ later j fs q (suc (suc n)) (foldl add blank f) (omega arith)
-      ∙ ap (λ (y : F). foldl add y f) (sym blank_is)
-      ∙ adds encF add w add_is f [] o.0.0 (omega (arith, o.0.1))
+      foldl-append (add_to j) (no_terms w) (tokens_f p (suc n) 1 f) (tokens_t q (suc (suc n)) fs)
+      ∙ ap (λ (y : Terms w). foldl (add_to j) y (tokens_t q (suc (suc n)) fs)) (own j f p (suc n) 1 (no_terms w) (omega arith))
+      ∙ later j fs q (suc (suc n)) (foldl add_raw (no_terms w) f) (omega arith)
+      ∙ adds_all w f o.0.0 o.0.1
   picked (f ∷ fs) p n (suc k) o =
       let q = suc (p + length (spell_f f)) in
       let j = n + suc k in
       let e : n + suc k ≡ suc n + k = omega arith in
-      foldl-append (add_to j add) blank (tokens_f p (suc n) 1 f) (tokens_t q (suc (suc n)) fs)
-      ∙ ap (λ (y : F). foldl (add_to j add) y (tokens_t q (suc (suc n)) fs)) (others j f p (suc n) 1 blank (λ i. omega arith))
-      ∙ ap (λ (i : ℕ). foldl (add_to i add) blank (tokens_t q (suc (suc n)) fs)) e
+      foldl-append (add_to j) (no_terms w) (tokens_f p (suc n) 1 f) (tokens_t q (suc (suc n)) fs)
+      ∙ ap (λ (y : Terms w). foldl (add_to j) y (tokens_t q (suc (suc n)) fs)) (others j f p (suc n) 1 (no_terms w) (λ i. omega arith))
+      ∙ ap (λ (i : ℕ). foldl (add_to i) (no_terms w) (tokens_t q (suc (suc n)) fs)) e
       ∙ picked fs q (suc n) k o.1
 
   -- BOTH, of a text that says fields that fit
   abbrev Are : List ℕ → OurFields → Type 0
-  Are t x = (field_count t ≡ length x) × ((j : ℕ) → pick_field add blank t j ≡ get_or (map encF x) j blank)
+  Are t x = (field_count t ≡ length x) × ((j : ℕ) → field_in w t j ≡ get_or (map (encode_to w) x) j (no_terms w))
 
   fields_are : (t : List ℕ) (y : List (List Raw)) → length t ≤ slip.bytes → Says t y → Fits w y → Are t (fields_of y)
   fields_are t y short s fit = (count, λ j. field j (dec_lt j most_fields))
@@ -109,14 +108,16 @@ module _ {F : Type 0} (encF : List OurTerm → F) (blank : F) (add : F → Raw �
           let few : min (length (fields_of y)) most_fields ≡ length (fields_of y) = omega (arith, many, fit.1) in
           all ∙ ap (λ (n : ℕ). min n most_fields) last ∙ few
 
-      field : (j : ℕ) → Dec (j < most_fields) → pick_field add blank t j ≡ get_or (map encF (fields_of y)) j blank
+      field : (j : ℕ) → Dec (j < most_fields) → field_in w t j ≡ get_or (map (encode_to w) (fields_of y)) j (no_terms w)
       field j (yes h) =
-          let all : pick_field add blank t j ≡ foldl (add_to j add) blank (walked t) = rw (is_short t short, lt-ltb j most_fields h) in
+          let all : field_in w t j ≡ foldl (add_to j) (no_terms w) (walked t) = rw (is_short t short, lt-ltb j most_fields h) in
           let zero_more : j ≡ 0 + j = omega arith in
-          all ∙ ap (foldl (add_to j add) blank) (walk_says t y s) ∙ ap (λ (i : ℕ). foldl (add_to i add) blank (tokens y)) zero_more ∙ picked y 0 0 j fit.0
+          all ∙ ap (foldl (add_to j) (no_terms w)) (walk_says t y s) ∙ ap (λ (i : ℕ). foldl (add_to i) (no_terms w) (tokens y)) zero_more
+          ∙ picked y 0 0 j fit.0
       field j (no h) =
-          let none : pick_field add blank t j ≡ blank = rw (is_short t short, le-ltb j most_fields (omega arith)) in
-          none ∙ sym (get_or-eq_default (map encF (fields_of y)) blank {n = j} (omega (arith, length-map (fields_of y) encF, many, fit.1)))
+          let none : field_in w t j ≡ no_terms w = rw (is_short t short, le-ltb j most_fields (omega arith)) in
+          let behind : length (map (encode_to w) (fields_of y)) ≤ j = omega (arith, length-map (fields_of y) (encode_to w), many, fit.1) in
+          none ∙ sym (get_or-eq_default (map (encode_to w) (fields_of y)) (no_terms w) {n = j} behind)
 
 -- ---- a text that is refused for none of 1 to 5
 
@@ -135,13 +136,12 @@ fits S t h x s =
     both [] p q = tt
     both (f ∷ y) p q = ((p.0, q.0), both y p.1 q.1)
 
-module _ (S : Sort) (small : S.bytes ≤ slip.bytes) {F : Type 0} (encF : List OurTerm → F) (blank : F) (add : F → Raw → F) (blank_is : encF [] ≡ blank)
-    (add_is : (ts : List OurTerm) (r : Raw) → (Over r → ⊥) → length ts < S.width → add (encF ts) r ≡ encF (ts ++ term_of r)) where
-  base_are : (t : List ℕ) → Base S t → Are encF blank add S.width blank_is add_is t (fields_of (said t))
+module _ (S : Sort) (small : S.bytes ≤ slip.bytes) where
+  base_are : (t : List ℕ) → Base S t → Are S.width t (fields_of (said t))
   base_are t base =
       let g = in_grammar t base.1 in
-      subst (λ (y : List (List Raw)). Are encF blank add S.width blank_is add_is t (fields_of y)) (sym (said_is t g.0 g.1))
-      (fields_are encF blank add S.width blank_is add_is t g.0 (short (dec_lt S.bytes (length t))) g.1 (fits S t base g.0 g.1))
+      subst (λ (y : List (List Raw)). Are S.width t (fields_of y)) (sym (said_is t g.0 g.1))
+      (fields_are S.width t g.0 (short (dec_lt S.bytes (length t))) g.1 (fits S t base g.0 g.1))
     where
       short : Dec (S.bytes < length t) → length t ≤ slip.bytes
       short (yes h) = absurd (base.0 S.bytes (h, refl))
@@ -149,11 +149,11 @@ module _ (S : Sort) (small : S.bytes ≤ slip.bytes) {F : Type 0} (encF : List O
 
 pub base_side : (t : List ℕ) → Base rule t
     → (field_count t ≡ length (fields_of (said t))) × ((j : ℕ) → side_field t j ≡ get_or (map encode_field (fields_of (said t))) j blank_field)
-base_side = base_are rule (omega arith) encode_field blank_field add_raw refl add_rule
+base_side = base_are rule (omega arith)
 
 pub base_slip : (t : List ℕ) → Base slip t
     → (field_count t ≡ length (fields_of (said t))) × ((j : ℕ) → slip_field t j ≡ get_or (map encode_slip_field (fields_of (said t))) j blank_slip_field)
-base_slip = base_are slip (omega arith) encode_slip_field blank_slip_field add_item refl add_slip
+base_slip = base_are slip (omega arith)
 
 -- ---- A TEXT THAT IS ACCEPTED
 

@@ -2,7 +2,6 @@ pub mod Places
 pub mod Build
 pub mod Unknown
 pub mod Loops
-pub mod Terms
 pub mod Passes
 pub mod Picking
 pub mod Fields

@@ -18,13 +18,9 @@ use Rattle.text_grammar.specs.constants.Constants.{raw_int, raw_str}
 use Rattle.text_grammar.specs.Tokens.{Token}
 use Rattle.text_grammar.specs.Walk.{digits1, leading_digits, quote1, until_quote, front_b, front, walk_on, walk}
 use Rattle.text_grammar.proofs.Walk.{walk_step}
-use Rattle.text_scan.specs.declared.Lexeme.{Lexeme}
-use Rattle.text_scan.specs.declared.Spelled.{Spelled}
-use Rattle.text_scan.specs.declared.Literal.TheVariants.{Int, Str}
-use Rattle.text_scan.specs.declared.Spelled.TheVariants.{Con, Var, Empty}
 use Rattle.text_scan.specs.Lexemes.{lexeme_of}
 use Rattle.text_refusals.specs.declared.At.{At}
-use Rattle.text_passes.specs.Places.{spelled_by, spelled, colon_at, behind, token_at, term_at, tokens_from}
+use Rattle.text_passes.specs.Places.{spelled, behind, token_at, term_at, tokens_from}
 
 -- the length of a written term, from its lexeme
 pub spelled_is : (r : Raw) → spelled (lexeme_of r) ≡ length (spell r)
@@ -33,34 +29,6 @@ spelled_is (raw_con (raw_int false ds)) = omega arith
 spelled_is (raw_con (raw_str s)) = let e = length-append s (34 ∷ []) in omega arith
 spelled_is (raw_var k ds) = omega arith
 spelled_is raw_empty = refl
-
-pub spelled_small : (p : Lexeme) → spelled p ≤ p.size + 5
-spelled_small p = go p.what p.size
-  where
-    go : (w : Spelled) (n : ℕ) → spelled_by w n ≤ n + 5
-    go (Con (Int true)) n = omega arith
-    go (Con (Int false)) n = omega arith
-    go (Con Str) n = omega arith
-    go (Var k) n = omega arith
-    go Empty n = omega arith
-
--- the two ways behind a term, as code takes them: n is its length, b says whether a `:` follows
-behind_by : (t : List ℕ) (a : At) (n m : ℕ) (b c : Bool) → n ≡ m → b ≡ colon_at t (a.place + n) → b ≡ c
-    → cond c (record { place = a.place + n + 1; field = a.field; index = a.index + 1 })
-    (record { place = a.place + n + 1; field = a.field + 1; index = 1 })
-    ≡ behind t a (a.place + m)
-behind_by t a n m b c e q r =
-    ap (λ (d : Bool). cond d (record { place = a.place + n + 1; field = a.field; index = a.index + 1 })
-    (record { place = a.place + n + 1; field = a.field + 1; index = 1 })) (sym r ∙ q)
-    ∙ ap (λ (k : ℕ). behind t a (a.place + k)) e
-
-pub behind_yes : (t : List ℕ) (a : At) (n m : ℕ) (b : Bool) → n ≡ m → b ≡ colon_at t (a.place + n) → b ≡ true
-    → record { place = a.place + n + 1; field = a.field; index = a.index + 1 } ≡ behind t a (a.place + m)
-behind_yes t a n m b = behind_by t a n m b true
-
-pub behind_no : (t : List ℕ) (a : At) (n m : ℕ) (b : Bool) → n ≡ m → b ≡ colon_at t (a.place + n) → b ≡ false
-    → record { place = a.place + n + 1; field = a.field + 1; index = 1 } ≡ behind t a (a.place + m)
-behind_no t a n m b = behind_by t a n m b false
 
 -- a lexeme is no longer than the text it stands in
 digits_fit : (z : List ℕ) → length (leading_digits z) ≤ length z

@@ -1,6 +1,6 @@
 pub mod Places
+pub mod Reader
 pub mod Build
 pub mod Passes
-pub mod Unknown
 pub mod Fields
 pub mod Notes

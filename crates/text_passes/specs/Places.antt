@@ -9,9 +9,7 @@ use Rattle.text_scan.specs.declared.Spelled.{Spelled}
 use Rattle.text_scan.specs.declared.Literal.{Literal}
 use Rattle.text_scan.specs.declared.Literal.TheVariants.{Int, Str}
 use Rattle.text_scan.specs.declared.Spelled.TheVariants.{Con, Var, Empty}
-use Rattle.std.specs.Borrow.{Bor}
 use Rattle.text_refusals.specs.declared.At.{At}
-use Rattle.text_passes.specs.declared.Reader.{Reader}
 
 -- the first term
 abbrev pub first : At
@@ -50,11 +48,3 @@ term_at t a = front (drop a.place t)
 -- the terms from there on
 abbrev pub tokens_from : List ℕ → At → List Token
 tokens_from t a = walk (length t - a.place) (drop a.place t) a.place a.field a.index
-
--- a text at its first term
-abbrev pub started : Bor (List ℕ) → Reader
-started t = record { text = t; at = first }
-
--- the reader behind the term p, which stands at its place
-abbrev pub passed : Reader → Lexeme → Reader
-passed r p = record { text = r.text; at = behind r.text.now r.at (r.at.place + spelled p) }

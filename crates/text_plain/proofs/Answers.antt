@@ -1,22 +1,23 @@
 -- What writing a value answers, by whether a reading can return it. Assumes nothing.
+use Rattle.std.specs.Prelude.{Result, Ok}
 use mathlib.Core.Path.{◌≡◌, refl}
 use mathlib.Core.Bool.{true, false}
 use mathlib.Core.List.{List, []}
 use Prim.Native.Nat.{ℕ}
 use native.Mathlib.Omega.{arith}
 use Rattle.text_grammar.specs.Plain.{plain}
-use Rattle.text_values.specs.declared.RuleSide.{RuleSide}
+use Rattle.text_values.specs.Values.{RuleSide}
 use Rattle.text_values.specs.Values.{view_side}
 use Rattle.text_accepted.specs.Accepted.{accepted_left, counted_left}
-use Rattle.text_write.specs.declared.Written.{Written}
-use Rattle.text_write.specs.declared.Written.TheVariants.{Bytes}
+use Rattle.text_write.specs.declared.TooSmall.{TooSmall}
 use Rattle.text_write.specs.Answers.{Writes}
 use Rattle.text_write.proofs.Answers.{wrote}
 
 module _ (r : RuleSide) where
   -- a value that no reading returns has no bytes, and is never refused
-  pub of_none : (l : List ℕ) → accepted_left r ≡ false → Writes (plain (counted_left r)) l (Bytes 0) l
+  pub of_none : (l : List ℕ) → accepted_left r ≡ false → Writes (plain (counted_left r)) l (Ok 0) l
   of_none l e = rw e (wrote [] l (omega arith) refl refl)
 
-  pub of_side : (l : List ℕ) {w : Written} {m : List ℕ} → accepted_left r ≡ true → Writes (plain (view_side r)) l w m → Writes (plain (counted_left r)) l w m
+  pub of_side : (l : List ℕ) {w : Result ℕ TooSmall} {m : List ℕ} → accepted_left r ≡ true → Writes (plain (view_side r)) l w m
+      → Writes (plain (counted_left r)) l w m
   of_side l e h = rw e h

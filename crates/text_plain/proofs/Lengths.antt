@@ -8,7 +8,7 @@ use lib.ListN.{length}
 use Rattle.base_limits.specs.Limits.{longest_side}
 use Rattle.text_grammar.specs.Plain.{plain}
 use Rattle.text_grammar.proofs.Accepted.{rule_length}
-use Rattle.text_values.specs.declared.RuleSide.{RuleSide}
+use Rattle.text_values.specs.Values.{RuleSide}
 use Rattle.text_values.specs.Values.{view_side}
 use Rattle.text_accepted.specs.Accepted.{accepted_left, counted_left}
 use Rattle.text_accepted.proofs.Accepted.{accepted_rule_lem}

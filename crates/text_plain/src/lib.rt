@@ -3,77 +3,65 @@
 // The text is put together in room that is known to be enough, piece behind piece, and then given whole or not at all (refusal 8).
 #![tactic(auto)]
 
-ghost use Rattle.std.specs.Prelude.{◌≡◌, length};
-ghost use Rattle.base_limits.specs.Limits.{longest_side};
+ghost use Rattle.std.specs.Prelude.{◌≡◌};
 ghost use Rattle.text_grammar.specs.Plain.{field_text, plain};
 ghost use Rattle.text_values.specs.Values.{view_field, view_side};
 ghost use Rattle.text_accepted.specs.Accepted.{counted_left};
 ghost use Rattle.text_write.specs.Answers.{Writes};
-ghost use Rattle.text_write.specs.pieces.Placed.{Placed};
+ghost use Rattle.text_write.specs.pieces.Placed.{PlacedOn};
 
 pub mod rules; // rules with both sides
 pub mod slips; // slips
 
-use base_numbers::at_most;
-use text_values::{Field, RuleSide};
-use text_write::Written;
+use text_values::{Fields, RuleSide, Terms};
+use text_write::TooSmall;
+use text_write::pieces::Page;
 
-// ---- pieces: each is put at a place, and returns the place behind it
+// ---- pieces of a page
 
 // The terms with a `:` between them, or `empty`.
-fn put_field(f: Field, out: &mut [u8], at: usize) -> usize
-    ensures { Placed (field_text (view_field f)) at out.old result out.new }
+fn put_field<const PLACES: usize>(page: &mut Page, f: &Terms<PLACES>)
+    ensures { PlacedOn (field_text (view_field f.now)) page.old page.new }
 {
-    let n = at_most(f.n, base_limits::MOST_TERMS);
-    if n == 0 {
-        return text_write::pieces::put_bytes(b"empty", out, at);
+    let Some((first, others)) = f.used().split_first() else {
+        return page.put_bytes(b"empty");
+    };
+    page.put_term(*first);
+    for t in others {
+        page.put_bytes(b":");
+        page.put_term(*t);
     }
-    let mut p = text_write::pieces::put_term(f.terms[0], out, at);
-    let mut i: usize = 1;
-    while i < n {
-        let a = text_write::pieces::put_bytes(b":", out, p);
-        p = text_write::pieces::put_term(f.terms[i], out, a);
-        i += 1;
-    }
-    p
 }
 
 // The fields with a `|` between them, of any value.
-pub(crate) fn put_side(r: RuleSide, out: &mut [u8], at: usize) -> usize
-    ensures { Placed (plain (view_side r)) at out.old result out.new }
+pub(crate) fn put_fields<const PLACES: usize>(page: &mut Page, r: &Fields<PLACES>)
+    ensures { PlacedOn (plain (view_side r.now)) page.old page.new }
 {
-    let n = at_most(r.n, base_limits::MOST_FIELDS);
-    if n == 0 {
-        return at;
+    let Some((first, others)) = r.used().split_first() else {
+        return;
+    };
+    put_field(page, first);
+    for f in others {
+        page.put_bytes(b"|");
+        put_field(page, f);
     }
-    let mut p = put_field(r.fields[0], out, at);
-    let mut i: usize = 1;
-    while i < n {
-        let a = text_write::pieces::put_bytes(b"|", out, p);
-        p = put_field(r.fields[i], out, a);
-        i += 1;
-    }
-    p
 }
 
 // ---- a left side
 
-// Room for any side's plain text.
-fn room() -> [u8; base_limits::LONGEST_SIDE]
-    ensures { length result ≡ longest_side }
-{
-    [0; base_limits::LONGEST_SIDE]
-}
-
 // A left side's plain text. Document 01: a value that no reading can return "counts there as one with no fields; writing such a
 // rule gives no bytes".
-pub fn write_side(r: RuleSide, out: &mut [u8]) -> Written
+pub fn write_side(r: RuleSide, out: &mut [u8]) -> Result<usize, TooSmall>
     ensures { Writes (plain (counted_left r)) out.old result out.new }
 {
     if !text_accepted::is_left(r) {
-        return Written::Bytes(0);
+        return Ok(0);
     }
-    let mut text = room();
-    let n = put_side(r, &mut text, 0);
-    text_write::pieces::give(&text[..n], out)
+    let mut text = [0; base_limits::LONGEST_SIDE];
+    let mut page = Page {
+        bytes: &mut text,
+        at: 0,
+    };
+    put_fields(&mut page, &r);
+    page.give(out)
 }

@@ -10,8 +10,8 @@ use Rattle.text_grammar.specs.Read.{Reason, number, OutcomeOf, Outcome, refused,
 use Rattle.text_grammar.specs.rules.Read.{OurRule, read_rule}
 use Rattle.text_grammar.proofs.rules.Accepted.{rule_read_lem}
 use Rattle.text_refusals.specs.declared.verdicts.Reason as values
-use Rattle.text_refusals.specs.declared.verdicts.Verdict.{Verdict}
-use Rattle.text_refusals.specs.declared.verdicts.Verdict.TheVariants.{Accepted, Refused}
+use Rattle.text_refusals.specs.declared.verdicts.Refusal.{Refusal}
+use Rattle.text_refusals.specs.verdicts.Verdicts.{Verdict, Accepted, Refused}
 use Rattle.text_refusals.specs.verdicts.Verdicts.{reason_from, number_of, verdict_of}
 use Rattle.text_refusals.proofs.verdicts.Verdicts.{number_is}
 use Rattle.text_read.specs.declared.LeftJudged.{LeftJudged}
@@ -28,9 +28,8 @@ module _ {X : Type 0} where
       → (s : Reason) × (o ≡ refused s p) × (number_of q ≡ number s)
   refused_of (refused s k) v q p e h =
       let both : Refused q p ≡ Refused (reason_from s) k = sym h ∙ e in
-      let same_reason : q ≡ reason_from s = cc in
-      let same_place : k ≡ p = cc in
-      (s, ap (refused s) same_place, ap number_of same_reason ∙ number_is s)
+      let same : record { reason = reason_from s; place = k } ≡ record { reason = q; place = p } = cc in
+      (s, ap (λ (x : Refusal). refused s x.place) same, ap (λ (x : Refusal). number_of x.reason) (sym same) ∙ number_is s)
   refused_of (accepted x) v q p e h = let z : ◌≡◌ {A = ℕ} 0 1 = cc in absurd (omega arith)
 
 -- ---- rules

@@ -15,7 +15,7 @@ use Rattle.math_terms.specs.Terms.{con, var}
 use Rattle.math_terms.specs.Fillings.{Occurs}
 use Rattle.text_grammar.specs.Terms.{OurTerm, OurFields, fields_of}
 use Rattle.text_grammar.specs.Limits.{TermIn, IsLeft}
-use Rattle.text_grammar.specs.Read.{Reason, long, grammar, fields, terms, limits, linear, variable, unknown, number, rule, slip, said}
+use Rattle.text_grammar.specs.Read.{long, grammar, fields, terms, limits, linear, variable, unknown, number, rule, slip, said}
 use Rattle.text_grammar.specs.Read.{OutcomeOf, Outcome, refused, accepted, tell, read_side}
 use Rattle.text_grammar.specs.Grammar.{Raw, Says}
 use Rattle.text_grammar.specs.Walk.{walked}
@@ -29,22 +29,21 @@ use Rattle.text_grammar.specs.rules.Judge.{as_rule, right_told, lower, lacking_a
 use Rattle.text_grammar.proofs.rules.Judge.{judge_is}
 use Rattle.text_grammar.proofs.rules.Read.{long_rule}
 use Rattle.text_grammar.proofs.rules.Sharp as rules
-use Rattle.text_scan.specs.declared.Found.{Found}
+use Rattle.std.specs.Prelude as found
 use Rattle.text_scan.specs.Places.{found_of}
 use Rattle.text_scan.specs.declared.split.Split.TheVariants as split
 use Rattle.text_scan.specs.split.Splits.{split_of}
 use lib.Seq.{length-take-le, take_all}
 use Rattle.text_scan.proofs.split.Splits.{stops_place, one_cut, TwoSides, two_sides}
-use Rattle.text_refusals.specs.declared.verdicts.Reason as values
-use Rattle.text_refusals.specs.declared.verdicts.Reason.TheVariants.{Long, Grammar, Fields, Terms, Limits, Linear, Variable, Unknown}
-use Rattle.text_refusals.specs.declared.verdicts.Verdict.{Verdict}
-use Rattle.text_refusals.specs.declared.verdicts.Verdict.TheVariants.{Accepted, Refused}
+use Rattle.std.specs.Prelude.{Ok, Err}
+use Rattle.text_refusals.specs.verdicts.Verdicts.{Verdict, Accepted, Refused}
 use Rattle.text_refusals.specs.verdicts.Verdicts.{reason_from, number_of, verdict_of, first_of}
 use Rattle.text_refusals.proofs.verdicts.Verdicts.{number_is}
-use Rattle.text_values.specs.declared.RuleSide.{RuleSide}
+use Rattle.text_values.specs.Values.{RuleSide}
 use Rattle.text_values.specs.Values.{view_side, encode_side}
 use Rattle.text_accepted.proofs.Accepted.{view_encode_rule}
 use Rattle.text_refusals.proofs.unknown.Unknown.{NumbersIn}
+use Rattle.text_refusals.specs.declared.Sort.TheVariants as kind
 use Rattle.text_refusals.specs.declared.Survey.{Survey}
 use Rattle.text_passes.specs.Build.{built_side}
 use Rattle.text_passes.specs.Passes.{survey_in, side_in, unknown_in}
@@ -75,8 +74,8 @@ as_rule_lem (accepted x) = refl
 
 -- a refusal, or else what v says
 abbrev pub or_else : Verdict → Verdict → Verdict
-or_else Accepted v = v
-or_else (Refused r p) v = Refused r p
+or_else (Ok u) v = v
+or_else (Err e) v = Err e
 
 lower_verdict : (a b : Outcome) (o : OutcomeOf OurRule) → verdict_of (lower a b o) ≡ or_else (first_of (verdict_of a) (verdict_of b)) (verdict_of o)
 lower_verdict (refused r p) (refused q k) o =
@@ -121,11 +120,11 @@ module _ (t : List ℕ) where
 -- ---- what the sides say
 
 first_accepted : (v w : Verdict) → first_of v w ≡ Accepted → (v ≡ Accepted) × (w ≡ Accepted)
-first_accepted Accepted w e = (refl, e)
-first_accepted (Refused r p) Accepted e = let z : ◌≡◌ {A = ℕ} 0 1 = cc in absurd (omega arith)
-first_accepted (Refused r p) (Refused q k) e = absurd (go (ltb (number_of q) (number_of r)) e)
+first_accepted (Ok u) w e = (refl, e)
+first_accepted (Err x) (Ok u) e = let z : ◌≡◌ {A = ℕ} 0 1 = cc in absurd (omega arith)
+first_accepted (Err x) (Err y) e = absurd (go (ltb (number_of y.reason) (number_of x.reason)) e)
   where
-    go : (c : Bool) → cond c (Refused q k) (Refused r p) ≡ Accepted → ⊥
+    go : (c : Bool) → cond c (Err y) (Err x) ≡ Accepted → ⊥
     go true e = let z : ◌≡◌ {A = ℕ} 0 1 = cc in omega arith
     go false e = let z : ◌≡◌ {A = ℕ} 0 1 = cc in omega arith
 
@@ -264,11 +263,11 @@ module _ (t : List ℕ) (short : length t ≤ rule.bytes) (p : ℕ) (e : split_o
   right_short : length u ≤ rule.bytes
   right_short = omega (arith, short, length-drop (p + 2) t)
 
-  pub left_surveyed : (y : Survey) → y ≡ survey_in false a → y.verdict ≡ verdict_of (read_side a)
-  left_surveyed y is_y = ap (λ (x : Survey). x.verdict) is_y ∙ surveyed_is false a left_short sides.left
+  pub left_surveyed : (y : Survey) → y ≡ survey_in kind.Rule a → y.verdict ≡ verdict_of (read_side a)
+  left_surveyed y is_y = ap (λ (x : Survey). x.verdict) is_y ∙ surveyed_is kind.Rule a left_short sides.left
 
-  pub right_surveyed : (y : Survey) → y ≡ survey_in false slice → y.verdict ≡ verdict_of (read_side u)
-  right_surveyed y is_y = ap (λ (x : Survey). x.verdict) (is_y ∙ ap (survey_in false) slice_is) ∙ surveyed_is false u right_short sides.right
+  pub right_surveyed : (y : Survey) → y ≡ survey_in kind.Rule slice → y.verdict ≡ verdict_of (read_side u)
+  right_surveyed y is_y = ap (λ (x : Survey). x.verdict) (is_y ∙ ap (survey_in kind.Rule) slice_is) ∙ surveyed_is kind.Rule u right_short sides.right
 
   pub right_placed : (v : Verdict) → v ≡ verdict_of (read_side u) → PlacedIn slip.bytes v
   right_placed v e = subst (PlacedIn slip.bytes) (sym e) (go (read_side u) refl)
@@ -278,7 +277,7 @@ module _ (t : List ℕ) (short : length t ≤ rule.bytes) (p : ℕ) (e : split_o
       go (accepted x) q = tt
 
   -- so the first refusal of both, as the code has it
-  pub first_found : (x y : Survey) (w f : Verdict) → x ≡ survey_in false a → y ≡ survey_in false slice → w ≡ right_of (p + 2) y.verdict
+  pub first_found : (x y : Survey) (w f : Verdict) → x ≡ survey_in kind.Rule a → y ≡ survey_in kind.Rule slice → w ≡ right_of (p + 2) y.verdict
       → f ≡ first_of x.verdict w → f ≡ first
   first_found x y w f is_x is_y is-w is_f =
       is_f ∙ ap₂ first_of (left_surveyed x is_x) (is-w ∙ ap (right_of (p + 2)) (right_surveyed y is_y))
@@ -298,7 +297,7 @@ module _ (t : List ℕ) (short : length t ≤ rule.bytes) (p : ℕ) (e : split_o
     is_left = rule_read_lem a (fields_of (said a)) left_accepted
 
     -- 10 as the pass finds it
-    pub unknown_found : (s : RuleSide) (f : Found) → s ≡ side_in a → f ≡ unknown_in (view_side s) slice → f ≡ found_of (lacking_at (fields_of (said a)) (said u))
+    pub unknown_found : (s : RuleSide) (f : found.Option ℕ) → s ≡ side_in a → f ≡ unknown_in (view_side s) slice → f ≡ found_of (lacking_at (fields_of (said a)) (said u))
     unknown_found s f is-s is_f =
         let g = base_says u right_fine in
         let view : view_side s ≡ fields_of (said a) = ap view_side (is-s ∙ side_built a left_base) ∙ view_encode_rule (fields_of (said a)) is_left in
@@ -306,7 +305,7 @@ module _ (t : List ℕ) (short : length t ≤ rule.bytes) (p : ℕ) (e : split_o
         let numbers = numbers_in (fields_of (said a)) is_left.0.3 in
         is_f ∙ ap₂ unknown_in view slice_is ∙ unknown_says (fields_of (said a)) u (said u) numbers says (let h = right_short in omega arith)
 
-    pub unknown_placed : (f : Found) → f ≡ found_of (lacking_at (fields_of (said a)) (said u)) → FoundIn slip.bytes f
+    pub unknown_placed : (f : found.Option ℕ) → f ≡ found_of (lacking_at (fields_of (said a)) (said u)) → FoundIn slip.bytes f
     unknown_placed f is_f = subst (FoundIn slip.bytes) (sym is_f) (go (lacking_at (fields_of (said a)) (said u)) refl)
       where
         go : (o : Option ℕ) → lacking_at (fields_of (said a)) (said u) ≡ o → FoundIn slip.bytes (found_of o)
@@ -321,32 +320,3 @@ module _ (t : List ℕ) (short : length t ≤ rule.bytes) (p : ℕ) (e : split_o
                 two_is
                 ∙ both_fine (p + 2) (read_side a) (read_side u) (known (p + 2) (said a) (said u)) fine
                 ∙ ap (λ (o : Option ℕ). tell unknown (map (λ i. p + 2 + i) o) (accepted (fields_of (said a), fields_of (said u)))) q
-
--- ---- the right side's verdict, step by step
-
-module _ (d : ℕ) (v : Verdict) (r : values.Reason) (p n : ℕ) (is-v : v ≡ Refused r p) (is_n : n ≡ number_of r) where
-  pub right_six : n ≡ 6 → Accepted ≡ right_of d v
-  right_six e = go r (sym is_n ∙ e) ∙ ap (right_of d) (sym is-v)
-    where
-      go : (r : values.Reason) → number_of r ≡ 6 → Accepted ≡ right_of d (Refused r p)
-      go Long h = absurd (omega (arith, h))
-      go Grammar h = absurd (omega (arith, h))
-      go Fields h = absurd (omega (arith, h))
-      go Terms h = absurd (omega (arith, h))
-      go Limits h = absurd (omega (arith, h))
-      go Linear h = refl
-      go Variable h = absurd (omega (arith, h))
-      go Unknown h = absurd (omega (arith, h))
-
-  pub right_other : (n ≡ 6 → ⊥) → Refused r (d + p) ≡ right_of d v
-  right_other m = go r (λ h. m (is_n ∙ h)) ∙ ap (right_of d) (sym is-v)
-    where
-      go : (r : values.Reason) → (number_of r ≡ 6 → ⊥) → Refused r (d + p) ≡ right_of d (Refused r p)
-      go Long h = refl
-      go Grammar h = refl
-      go Fields h = refl
-      go Terms h = refl
-      go Limits h = refl
-      go Linear h = absurd (h refl)
-      go Variable h = refl
-      go Unknown h = refl

@@ -11,14 +11,14 @@ use Rattle.text_grammar.specs.Terms.{OurFields, fields_of}
 use Rattle.text_grammar.specs.Read.{rule, said, unknown, OutcomeOf, refused, accepted, tell, read_side}
 use Rattle.text_grammar.specs.rules.Read.{OurRule, read_rule}
 use Rattle.text_grammar.specs.rules.Judge.{as_rule, lacking_at, known}
-use Rattle.text_values.specs.declared.RuleSide.{RuleSide}
+use Rattle.text_values.specs.Values.{RuleSide}
 use Rattle.text_values.specs.declared.Rule.{Rule}
 use Rattle.text_values.specs.Values.{blank_side, blank_rule}
 use Rattle.text_scan.specs.declared.split.Split.{Split}
 use Rattle.text_scan.specs.declared.split.Split.TheVariants as split
 use Rattle.text_scan.specs.split.Splits.{split_of}
-use Rattle.text_refusals.specs.declared.verdicts.Verdict.{Verdict}
-use Rattle.text_refusals.specs.declared.verdicts.Verdict.TheVariants.{Accepted, Refused}
+use Rattle.std.specs.Prelude.{Ok, Err}
+use Rattle.text_refusals.specs.verdicts.Verdicts.{Verdict, Accepted, Refused}
 use Rattle.text_refusals.specs.verdicts.Verdicts.{verdict_of}
 use Rattle.text_passes.specs.Passes.{side_in}
 use Rattle.text_read.specs.Sides.{end_of}
@@ -64,8 +64,8 @@ module _ (t : List ℕ) (fine : verdict_of (read_rule t) ≡ Accepted) where
     both = go (first t short p e) _ (sym (two_verdict t short p e) ∙ fine)
       where
         go : (v w : Verdict) → or_else v w ≡ Accepted → v ≡ Accepted
-        go Accepted w h = refl
-        go (Refused r k) w h = h
+        go (Ok u) w h = refl
+        go (Err x) w h = h
 
     two_says : read_rule t ≡ accepted (fields_of (said a), fields_of (said u))
     two_says = known_is ∙ go (lacking_at (fields_of (said a)) (said u)) (sym (ap verdict_of known_is) ∙ fine)

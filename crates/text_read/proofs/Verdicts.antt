@@ -1,9 +1,8 @@
 -- What the code does case by case is reading.
 use mathlib.Core.Path.{◌≡◌, refl, sym, ◌∙◌, ap, ap₂}
 use mathlib.Core.Logic.{if_pos, if_neg}
-use mathlib.Core.Bool.{Bool, true, false}
 use mathlib.Core.Option.{Option, none, some}
-use mathlib.Core.List.{List, [], ◌∷◌, foldl}
+use mathlib.Core.List.{List, ◌∷◌, foldl}
 use Prim.Native.Nat.{ℕ, ◌<◌, ◌≤◌}
 use native.Mathlib.Omega.{arith}
 use native.Mathlib.Decide.{dec_lt}
@@ -18,14 +17,14 @@ use Rattle.text_grammar.proofs.Place.{place2_none}
 use Rattle.text_grammar.proofs.Walk.{walk_says}
 use Rattle.text_grammar.proofs.Read.{read_accepted}
 use Rattle.text_grammar.proofs.Accepted.{Base, in_grammar, said_is}
-use Rattle.text_values.specs.declared.Slip.{Slip}
+use Rattle.text_values.specs.Values.{Slip}
 use Rattle.text_values.specs.Values.{blank_slip}
-use Rattle.text_scan.specs.declared.Found.{Found}
-use Rattle.text_scan.specs.declared.Found.TheVariants as found
+use Rattle.std.specs.Prelude as found
 use Rattle.text_scan.specs.Places.{found_of}
 use Rattle.text_scan.proofs.split.Splits.{found_at, found_none}
-use Rattle.text_refusals.specs.declared.verdicts.Verdict.{Verdict}
-use Rattle.text_refusals.specs.declared.verdicts.Verdict.TheVariants.{Accepted, Refused}
+use Rattle.text_refusals.specs.verdicts.Verdicts.{Verdict, Accepted, Refused}
+use Rattle.text_refusals.specs.declared.Sort as kind
+use Rattle.text_refusals.specs.declared.Sort.TheVariants as kinds
 use Rattle.text_refusals.specs.declared.Survey.{Survey}
 use Rattle.text_passes.specs.Build.{built_slip}
 use Rattle.text_passes.specs.Passes.{survey_in, slip_in}
@@ -40,11 +39,11 @@ use Rattle.text_passes.proofs.Passes.{is_short}
 -- ---- the verdict, refusal by refusal
 
 -- both sorts try the reasons of the survey behind 1 and 2
-order_is : (s : Bool) → (sort_of s).order ≡ long ∷ grammar ∷ reasons s
-order_is true = refl
-order_is false = refl
+order_is : (s : kind.Sort) → (sort_of s).order ≡ long ∷ grammar ∷ reasons s
+order_is kinds.Slip = refl
+order_is kinds.Rule = refl
 
-module _ (s : Bool) (t : List ℕ) where
+module _ (s : kind.Sort) (t : List ℕ) where
   abbrev S : Sort
   S = sort_of s
 
@@ -75,11 +74,11 @@ module _ (s : Bool) (t : List ℕ) where
       ∙ ap (λ (y : List (List Raw)). verdict_of (chain (λ (r : Reason). first_bad S.width r y) (reasons s) (fields_of (said t)))) (sym (said_is t x g.1))
       ∙ ap verdict_of (sym (short h ∙ ap (λ (q : Option ℕ). tell grammar q rest) e ∙ chained s))
     where
-      chained : (s : Bool)
+      chained : (s : kind.Sort)
           → chain (place_of (sort_of s) t) (reasons s) (fields_of (said t))
           ≡ chain (λ (r : Reason). first_bad (sort_of s).width r (said t)) (reasons s) (fields_of (said t))
-      chained true = refl
-      chained false = refl
+      chained kinds.Slip = refl
+      chained kinds.Rule = refl
 
 -- ---- from outcomes to answers
 
@@ -107,32 +106,32 @@ slip_accepted t e =
 -- ---- the steps of the code
 
 -- a text of the grammar, in one pass
-pub surveyed_is : (s : Bool) (t : List ℕ) → length t ≤ (sort_of s).bytes → place2 t ≡ none → (survey_in s t).verdict ≡ verdict_of (read (sort_of s) t)
+pub surveyed_is : (s : kind.Sort) (t : List ℕ) → length t ≤ (sort_of s).bytes → place2 t ≡ none → (survey_in s t).verdict ≡ verdict_of (read (sort_of s) t)
 surveyed_is s t h e =
     let whole : survey_in s t ≡ foldl (survey_token s (sort_of s).width) nothing_yet (walked t) = rw (is_short t (bytes_small s h)) in
     ap (λ (x : Survey). x.verdict) whole ∙ read_survey s t h e
   where
-    bytes_small : (s : Bool) → length t ≤ (sort_of s).bytes → length t ≤ slip.bytes
-    bytes_small true h = h
-    bytes_small false h = omega arith
+    bytes_small : (s : kind.Sort) → length t ≤ (sort_of s).bytes → length t ≤ slip.bytes
+    bytes_small kinds.Slip h = h
+    bytes_small kinds.Rule h = omega arith
 
 module _ (t : List ℕ) where
   pub slip_long : slip.bytes < length t → Refused (reason_from long) slip.bytes ≡ verdict_of (read_slip t)
-  slip_long h = ap verdict_of (sym (read_long true t h))
+  slip_long h = ap verdict_of (sym (read_long kinds.Slip t h))
 
-  pub slip_grammar : (f : Found) (p : ℕ) → length t ≤ slip.bytes → f ≡ found_of (place2 t) → f ≡ found.At p
+  pub slip_grammar : (f : found.Option ℕ) (p : ℕ) → length t ≤ slip.bytes → f ≡ found_of (place2 t) → f ≡ found.Some p
       → Refused (reason_from grammar) p ≡ verdict_of (read_slip t)
-  slip_grammar f p h e q = ap verdict_of (sym (read_grammar true t p h (found_at (place2 t) f p e q)))
+  slip_grammar f p h e q = ap verdict_of (sym (read_grammar kinds.Slip t p h (found_at (place2 t) f p e q)))
 
-  pub slip_survey : (f : Found) (y : Survey) → length t ≤ slip.bytes → f ≡ found_of (place2 t) → f ≡ found.Nothing → y ≡ survey_in true t
+  pub slip_survey : (f : found.Option ℕ) (y : Survey) → length t ≤ slip.bytes → f ≡ found_of (place2 t) → f ≡ found.None → y ≡ survey_in kinds.Slip t
       → y.verdict ≡ verdict_of (read_slip t)
-  slip_survey f y h e q is_y = ap (λ (x : Survey). x.verdict) is_y ∙ surveyed_is true t h (found_none (place2 t) f e q)
+  slip_survey f y h e q is_y = ap (λ (x : Survey). x.verdict) is_y ∙ surveyed_is kinds.Slip t h (found_none (place2 t) f e q)
 
   slip_short : (v : Verdict) → v ≡ verdict_of (read_slip t) → v ≡ Accepted → length t ≤ slip.bytes
   slip_short v e q = go (dec_lt slip.bytes (length t))
     where
       go : Dec (slip.bytes < length t) → length t ≤ slip.bytes
-      go (yes h) = let z = e ∙ ap verdict_of (read_long true t h) in let o : ◌≡◌ {A = ℕ} 0 1 = cc in absurd (omega arith)
+      go (yes h) = let z = e ∙ ap verdict_of (read_long kinds.Slip t h) in let o : ◌≡◌ {A = ℕ} 0 1 = cc in absurd (omega arith)
       go (no n) = omega arith
 
   -- the answers

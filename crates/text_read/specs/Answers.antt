@@ -1,12 +1,11 @@
 -- What the reading functions answer, in the documents' numbers and values.
-use Rattle.std.specs.Prelude.{◌≡◌, List, [], ℕ, ◌≤◌, length, take}
+use Rattle.std.specs.Prelude.{◌≡◌, List, [], ℕ, ◌≤◌, length, take, Ok, Err}
 use Rattle.text_grammar.specs.Terms.{OurFields}
 use Rattle.text_grammar.specs.Read.{OutcomeOf, Outcome, refused, accepted, read_side, read_slip}
 use Rattle.text_grammar.specs.rules.Read.{OurRule, read_rule}
 use Rattle.text_values.specs.Values.{blank_rule, blank_slip, encode_rule, encode_slip}
 use Rattle.text_scan.specs.split.Splits.{split_of}
-use Rattle.text_refusals.specs.declared.verdicts.Verdict.{Verdict}
-use Rattle.text_refusals.specs.declared.verdicts.Verdict.TheVariants.{Accepted, Refused}
+use Rattle.text_refusals.specs.verdicts.Verdicts.{Verdict, Accepted, Refused}
 use Rattle.text_refusals.specs.verdicts.Verdicts.{reason_from, verdict_of}
 use Rattle.text_read.specs.declared.RuleRead.{RuleRead}
 use Rattle.text_read.specs.declared.SlipRead.{SlipRead}
@@ -44,8 +43,8 @@ left_said (accepted w) = w.0
 
 -- how many bytes of a text are its left side's: those before the arrow, all of them without one; none of a text that is refused
 abbrev pub left_end : Verdict → List ℕ → ℕ
-left_end Accepted t = end_of (length t) (split_of t)
-left_end (Refused r p) t = 0
+left_end (Ok u) t = end_of (length t) (split_of t)
+left_end (Err e) t = 0
 
 -- how the whole text is read, and where its left side's text ends: what stands before that says the left side's fields
 pub record JudgesLeft (t : List ℕ) (r : LeftJudged) : Type 0 where

@@ -6,18 +6,18 @@ ghost use Rattle.std.specs.Prelude.{◌≡◌, ◌≤◌, length};
 ghost use Rattle.base_limits.specs.Limits.{most_rule_bytes, most_slip_bytes};
 ghost use Rattle.text_grammar.specs.Read.{read_slip};
 ghost use Rattle.text_grammar.specs.rules.Read.{read_rule};
-ghost use Rattle.text_refusals.specs.verdicts.Verdicts.{verdict_of};
+ghost use Rattle.text_refusals.specs.verdicts.Verdicts.{verdict_of, Accepted};
 ghost use Rattle.text_scan.specs.split.Splits.{split_of};
 ghost use Rattle.text_scan.specs.declared.split.Split.TheVariants.{Two};
-ghost use Rattle.text_refusals.specs.declared.verdicts.Verdict.TheVariants.{Accepted};
 ghost use Rattle.text_read.specs.Answers.{rule_read, ReadsRule, ReadsSlip, JudgesLeft};
 ghost use Rattle.text_read.specs.Sides.{right_of, unknown_of, PlacedIn, FoundIn, end_of};
 
-use text_refusals::verdicts::{Reason, Verdict};
-use text_scan::Found;
+use text_refusals::Sort;
+use text_refusals::verdicts::{Reason, Refusal, Verdict};
 use text_scan::split::Split;
 use text_values::{Rule, Slip};
 
+// Document 01: "A refusal returns its number, its place and the rule with no fields", so the rule stands beside what is said of the text.
 #[derive(Clone, Copy)]
 pub struct RuleRead {
     pub verdict: Verdict,
@@ -30,7 +30,8 @@ pub struct SlipRead {
     pub slip: Slip,
 }
 
-// How a rule text is read, and how many bytes its left side has.
+// How a rule text is read, and how many bytes its left side has. No `Result` of these bytes: overlap_list notes the left side of a text
+// that is refused too, as one of no bytes.
 #[derive(Clone, Copy)]
 pub struct LeftJudged {
     pub verdict: Verdict,
@@ -44,11 +45,17 @@ pub fn judge_slip(text: &[u8]) -> Verdict
     ensures { result ≡ verdict_of (read_slip text.now) }
 {
     if base_limits::MOST_SLIP_BYTES < text.len() {
-        return Verdict::Refused(Reason::Long, base_limits::MOST_SLIP_BYTES);
+        return Err(Refusal {
+            reason: Reason::Long,
+            place: base_limits::MOST_SLIP_BYTES,
+        });
     }
     match text_scan::grammar_place(text) {
-        Found::At(p) => Verdict::Refused(Reason::Grammar, p),
-        Found::Nothing => text_passes::survey(text, true).verdict,
+        Some(place) => Err(Refusal {
+            reason: Reason::Grammar,
+            place,
+        }),
+        None => text_passes::survey(text, Sort::Slip).verdict,
     }
 }
 
@@ -58,13 +65,13 @@ pub fn read_slip(text: &[u8]) -> SlipRead
 {
     let verdict = judge_slip(text);
     match verdict {
-        Verdict::Accepted => SlipRead {
-            verdict: verdict,
-            slip: text_passes::slip_in(text),
+        Ok(()) => SlipRead {
+            verdict,
+            slip: text_passes::fields_in(text),
         },
-        Verdict::Refused(_, _) => SlipRead {
-            verdict: verdict,
-            slip: text_values::blank_slip(),
+        Err(_) => SlipRead {
+            verdict,
+            slip: text_values::no_fields(),
         },
     }
 }
@@ -77,24 +84,25 @@ fn right_verdict(v: Verdict, d: usize) -> Verdict
     ensures { result ≡ right_of d v }
 {
     match v {
-        Verdict::Accepted => Verdict::Accepted,
-        Verdict::Refused(r, p) => {
-            if text_refusals::verdicts::number(r) == 6 {
-                return Verdict::Accepted;
-            }
-            Verdict::Refused(r, d + p)
-        }
+        Err(x) if x.reason != Reason::Linear => Err(Refusal {
+            reason: x.reason,
+            place: d + x.place,
+        }),
+        _ => Ok(()),
     }
 }
 
 // Refusal 10: the first variable of the right side, which begins at place d, that the left side lacks.
-fn unknown_verdict(f: Found, d: usize) -> Verdict
+fn unknown_verdict(f: Option<usize>, d: usize) -> Verdict
     requires { (d ≤ most_slip_bytes) × FoundIn most_slip_bytes f }
     ensures { result ≡ unknown_of d f }
 {
     match f {
-        Found::At(q) => Verdict::Refused(Reason::Unknown, d + q),
-        Found::Nothing => Verdict::Accepted,
+        Some(q) => Err(Refusal {
+            reason: Reason::Unknown,
+            place: d + q,
+        }),
+        None => Ok(()),
     }
 }
 
@@ -104,18 +112,11 @@ fn judge_two(text: &[u8], p: usize) -> Verdict
     ensures { result ≡ verdict_of (read_rule text.now) }
 {
     let d = p + 2;
-    let l = text_passes::survey(&text[..p], false);
-    let r = text_passes::survey(&text[d..], false);
-    let left = l.verdict;
-    let right = r.verdict;
-    let both = text_refusals::verdicts::first(left, right_verdict(right, d));
-    match both {
-        Verdict::Accepted => {
-            let side = text_passes::side_in(&text[..p]);
-            unknown_verdict(text_passes::unknown_in(&text[d..], side), d)
-        }
-        Verdict::Refused(_, _) => both,
-    }
+    let l = text_passes::survey(&text[..p], Sort::Rule);
+    let r = text_passes::survey(&text[d..], Sort::Rule);
+    text_refusals::verdicts::first(l.verdict, right_verdict(r.verdict, d))?;
+    let side = text_passes::fields_in(&text[..p]);
+    unknown_verdict(text_passes::unknown_in(&text[d..], side), d)
 }
 
 // The documents' refusals of a rule, in their order.
@@ -124,11 +125,17 @@ fn judge_rule(text: &[u8], split: Split) -> Verdict
     ensures { result ≡ verdict_of (read_rule text.now) }
 {
     if base_limits::MOST_RULE_BYTES < text.len() {
-        return Verdict::Refused(Reason::Long, base_limits::MOST_RULE_BYTES);
+        return Err(Refusal {
+            reason: Reason::Long,
+            place: base_limits::MOST_RULE_BYTES,
+        });
     }
     match split {
-        Split::Stops(p) => Verdict::Refused(Reason::Grammar, p),
-        Split::One => text_passes::survey(text, false).verdict,
+        Split::Stops(p) => Err(Refusal {
+            reason: Reason::Grammar,
+            place: p,
+        }),
+        Split::One => text_passes::survey(text, Sort::Rule).verdict,
         Split::Two(p) => judge_two(text, p),
     }
 }
@@ -138,8 +145,8 @@ fn two_sides(text: &[u8], p: usize) -> Rule
     requires { (split_of text.now ≡ Two p) × (verdict_of (read_rule text.now) ≡ Accepted) }
     ensures { result ≡ (rule_read (read_rule text.now)).rule }
 {
-    let left = text_passes::side_in(&text[..p]);
-    let right = text_passes::side_in(&text[p + 2..]);
+    let left = text_passes::fields_in(&text[..p]);
+    let right = text_passes::fields_in(&text[p + 2..]);
     Rule { left, right }
 }
 
@@ -151,8 +158,8 @@ fn rule_of(text: &[u8], split: Split) -> Rule
     match split {
         Split::Stops(_) => text_values::blank_rule(),
         Split::One => Rule {
-            left: text_passes::side_in(text),
-            right: text_values::blank_side(),
+            left: text_passes::fields_in(text),
+            right: text_values::no_fields(),
         },
         Split::Two(p) => two_sides(text, p),
     }
@@ -165,12 +172,12 @@ pub fn read_rule(text: &[u8]) -> RuleRead
     let split = text_scan::split::split_of(text);
     let verdict = judge_rule(text, split);
     match verdict {
-        Verdict::Accepted => RuleRead {
-            verdict: verdict,
+        Ok(()) => RuleRead {
+            verdict,
             rule: rule_of(text, split),
         },
-        Verdict::Refused(_, _) => RuleRead {
-            verdict: verdict,
+        Err(_) => RuleRead {
+            verdict,
             rule: text_values::blank_rule(),
         },
     }
@@ -194,13 +201,10 @@ pub fn judge_left(text: &[u8]) -> LeftJudged
     let split = text_scan::split::split_of(text);
     let verdict = judge_rule(text, split);
     match verdict {
-        Verdict::Accepted => LeftJudged {
-            verdict: verdict,
+        Ok(()) => LeftJudged {
+            verdict,
             end: left_end(text, split),
         },
-        Verdict::Refused(_, _) => LeftJudged {
-            verdict: verdict,
-            end: 0,
-        },
+        Err(_) => LeftJudged { verdict, end: 0 },
     }
 }

@@ -30,11 +30,13 @@ use Rattle.text_accepted.proofs.linearity.Linear.{Tracks, tracks_none, tracks_ne
 use Rattle.text_scan.specs.Lexemes.{capped, literal_of, literal_size, literal_value, lexeme_of}
 use Rattle.text_refusals.specs.declared.verdicts.Reason as values
 use Rattle.text_refusals.specs.declared.verdicts.Reason.TheVariants.{Fields, Terms, Limits, Linear, Variable}
-use Rattle.text_refusals.specs.declared.verdicts.Verdict.{Verdict}
-use Rattle.text_refusals.specs.declared.verdicts.Verdict.TheVariants.{Accepted, Refused}
+use Rattle.std.specs.Prelude.{Ok, Err}
+use Rattle.text_refusals.specs.verdicts.Verdicts.{Verdict, Accepted, Refused}
 use Rattle.text_refusals.specs.verdicts.Verdicts.{number_of, reason_from, verdict_of, first_of}
 use Rattle.text_refusals.proofs.verdicts.Verdicts.{first_former, first_latter, first_none, first_assoc, first_keeps, first_takes}
 use Rattle.text_refusals.proofs.verdicts.Verdicts.{refused_by, verdict_by, verdict_chain, Behind, behind_less, Rising, verdict_behind}
+use Rattle.text_refusals.specs.declared.Sort.{Sort}
+use Rattle.text_refusals.specs.declared.Sort.TheVariants.{Rule, Slip}
 use Rattle.text_refusals.specs.declared.Survey.{Survey}
 use Rattle.text_refusals.specs.Refusals.{over_literal, over_lexeme, clash_by, variable_by, last_bad, last_reason, met, add_by, lists_at, at_of, survey_token}
 use Rattle.text_refusals.specs.Refusals.{nothing_yet}
@@ -79,13 +81,13 @@ over_cond raw_empty (no n) x y = refl
 -- ---- several reasons, each at its leftmost place, met in one pass
 
 -- the reasons from 3 on, in their order
-abbrev pub reasons : Bool → List Reason
-reasons true = fields ∷ terms ∷ limits ∷ variable ∷ []
-reasons false = fields ∷ terms ∷ limits ∷ linear ∷ []
+abbrev pub reasons : Sort → List Reason
+reasons Slip = fields ∷ terms ∷ limits ∷ variable ∷ []
+reasons Rule = fields ∷ terms ∷ limits ∷ linear ∷ []
 
-rising : (slip : Bool) → Rising 2 (reasons slip)
-rising true = (omega arith, (omega arith, (omega arith, (omega arith, tt))))
-rising false = (omega arith, (omega arith, (omega arith, (omega arith, tt))))
+rising : (s : Sort) → Rising 2 (reasons s)
+rising Slip = (omega arith, (omega arith, (omega arith, (omega arith, tt))))
+rising Rule = (omega arith, (omega arith, (omega arith, (omega arith, tt))))
 
 module _ (w : ℕ) where
   -- where a reason applies first, behind the tokens b
@@ -131,46 +133,46 @@ list_kind k = ap is_list (kind_of_from k)
 
 -- a refusal that is tried no later than 6, so that a later term's 6 does not count any more
 abbrev Late : Verdict → Type 0
-Late Accepted = ⊥
-Late (Refused r p) = number_of r ≤ 6
+Late (Ok u) = ⊥
+Late (Err x) = number_of x.reason ≤ 6
 
 late_first : (v u : Verdict) → Late v → Late (first_of v u)
-late_first Accepted u h = absurd h
-late_first (Refused r p) Accepted h = h
-late_first (Refused r p) (Refused q k) h = go (dec_lt (number_of q) (number_of r))
+late_first (Ok t) u h = absurd h
+late_first (Err x) (Ok t) h = h
+late_first (Err x) (Err y) h = go (dec_lt (number_of y.reason) (number_of x.reason))
   where
-    go : Dec (number_of q < number_of r) → Late (first_of (Refused r p) (Refused q k))
-    go (yes g) = rw (first_latter r q p k g) (omega arith)
-    go (no g) = rw (first_former r q p k (omega arith)) h
+    go : Dec (number_of y.reason < number_of x.reason) → Late (first_of (Err x) (Err y))
+    go (yes g) = rw (first_latter x.reason y.reason x.place y.place g) (omega arith)
+    go (no g) = rw (first_former x.reason y.reason x.place y.place (omega arith)) h
 
 late_met : (v : Verdict) (r : values.Reason) (p : ℕ) → number_of r ≤ 6 → Late (first_of v (Refused r p))
-late_met Accepted r p h = h
-late_met (Refused q k) r p h = go (dec_lt (number_of r) (number_of q))
+late_met (Ok t) r p h = h
+late_met (Err y) r p h = go (dec_lt (number_of r) (number_of y.reason))
   where
-    go : Dec (number_of r < number_of q) → Late (first_of (Refused q k) (Refused r p))
-    go (yes g) = rw (first_latter q r k p g) h
-    go (no g) = rw (first_former q r k p (omega arith)) (omega arith)
+    go : Dec (number_of r < number_of y.reason) → Late (first_of (Err y) (Refused r p))
+    go (yes g) = rw (first_latter y.reason r y.place p g) h
+    go (no g) = rw (first_former y.reason r y.place p (omega arith)) (omega arith)
 
 late_same : (v : Verdict) (p : ℕ) {P : Type 0} (c : Bool) (d : Dec P) → Late v
     → first_of v (cond c (Refused Linear p) Accepted) ≡ first_of v (ite d (Refused Linear p) Accepted)
-late_same Accepted p c d h = absurd h
-late_same (Refused r q) p c d h = cond_is c ∙ sym (ite_is d)
+late_same (Ok t) p c d h = absurd h
+late_same (Err x) p c d h = cond_is c ∙ sym (ite_is d)
   where
-    stays : first_of (Refused r q) (Refused Linear p) ≡ Refused r q
-    stays = first_former r Linear q p h
+    stays : first_of (Err x) (Refused Linear p) ≡ Err x
+    stays = first_former x.reason Linear x.place p h
 
-    cond_is : (c : Bool) → first_of (Refused r q) (cond c (Refused Linear p) Accepted) ≡ Refused r q
+    cond_is : (c : Bool) → first_of (Err x) (cond c (Refused Linear p) Accepted) ≡ Err x
     cond_is true = stays
     cond_is false = refl
 
-    ite_is : {P : Type 0} (d : Dec P) → first_of (Refused r q) (ite d (Refused Linear p) Accepted) ≡ Refused r q
+    ite_is : {P : Type 0} (d : Dec P) → first_of (Err x) (ite d (Refused Linear p) Accepted) ≡ Err x
     ite_is (yes x) = stays
     ite_is (no x) = refl
 
--- what is known of the list variables before a term of field n: nothing is needed of a slip, nor where 6 does not count any more
-abbrev Valid : Bool → List Token → ℕ → Lists → Verdict → Type 0
-Valid true b n l v = Unit {0}
-Valid false b n l v = Late v ⊎ (Tracks (occs b) n l × (l.ok ≡ true))
+-- what is known of the list variables before a term of field n: nothing is needed of a sort, nor where 6 does not count any more
+abbrev Valid : Sort → List Token → ℕ → Lists → Verdict → Type 0
+Valid Slip b n l v = Unit {0}
+Valid Rule b n l v = Late v ⊎ (Tracks (occs b) n l × (l.ok ≡ true))
 
 module _ (w : ℕ) where
   variable_last : {A : Type 0} (r : Raw) (d : Dec (IsVar r)) (x y : A) → cond (variable_by (lexeme_of r).what) x y ≡ ite d x y
@@ -205,34 +207,34 @@ module _ (w : ℕ) where
   linear_last b n l raw_empty (no h) x y t o v = refl
 
   -- the last reason, as the code finds it
-  abbrev last_met : Bool → Token → Lists → Verdict
-  last_met slip m l = cond (last_bad slip (lexeme_of m.raw) l) (Refused (last_reason slip) m.place) Accepted
+  abbrev last_met : Sort → Token → Lists → Verdict
+  last_met sort m l = cond (last_bad sort (lexeme_of m.raw) l) (Refused (last_reason sort) m.place) Accepted
 
   -- a term that is not refused before: the last reason
-  last_is : (slip : Bool) (b : List Token) (m : Token) (l : Lists) (v : Verdict) → Valid slip b m.in_field l v → (Over m.raw → ⊥)
-      → first_of v (last_met slip m l) ≡ first_of v (met_by w b m (drop 3 (reasons slip)))
-  last_is true b m l v a o = ap (first_of v) (variable_last m.raw (is_var? m.raw) (Refused Variable m.place) Accepted)
-  last_is false b m l v (inl h) o = late_same v m.place (last_bad false (lexeme_of m.raw) l) (clash_of? (occs b) m.in_field (list_no m.raw)) h
-  last_is false b m l v (inr h) o =
+  last_is : (sort : Sort) (b : List Token) (m : Token) (l : Lists) (v : Verdict) → Valid sort b m.in_field l v → (Over m.raw → ⊥)
+      → first_of v (last_met sort m l) ≡ first_of v (met_by w b m (drop 3 (reasons sort)))
+  last_is Slip b m l v a o = ap (first_of v) (variable_last m.raw (is_var? m.raw) (Refused Variable m.place) Accepted)
+  last_is Rule b m l v (inl h) o = late_same v m.place (last_bad Rule (lexeme_of m.raw) l) (clash_of? (occs b) m.in_field (list_no m.raw)) h
+  last_is Rule b m l v (inr h) o =
       let d = clash_of? (occs b) m.in_field (list_no m.raw) in
       ap (first_of v) (linear_last (occs b) m.in_field l m.raw d (Refused Linear m.place) Accepted h.0 h.1 o)
 
-  reasons_are : (slip : Bool) (b : List Token) (m : Token)
-      → met_by w b m (reasons slip)
+  reasons_are : (sort : Sort) (b : List Token) (m : Token)
+      → met_by w b m (reasons sort)
       ≡ ite (fifth? b m) (Refused Fields m.place)
-      (ite (many? w b m) (Refused Terms m.place) (ite (over? m.raw) (Refused Limits m.place) (met_by w b m (drop 3 (reasons slip)))))
-  reasons_are true b m = refl
-  reasons_are false b m = refl
+      (ite (many? w b m) (Refused Terms m.place) (ite (over? m.raw) (Refused Limits m.place) (met_by w b m (drop 3 (reasons sort)))))
+  reasons_are Slip b m = refl
+  reasons_are Rule b m = refl
 
   -- the code finds the first reason that a token is bad for, or another that does not count
-  close : (slip : Bool) (b : List Token) (m : Token) (l : Lists) (v : Verdict) → Valid slip b m.in_field l v
-      → first_of v (met slip w (at_of m) (lexeme_of m.raw) l) ≡ first_of v (met_by w b m (reasons slip))
-  close slip b m l v a =
+  close : (sort : Sort) (b : List Token) (m : Token) (l : Lists) (v : Verdict) → Valid sort b m.in_field l v
+      → first_of v (met sort w (at_of m) (lexeme_of m.raw) l) ≡ first_of v (met_by w b m (reasons sort))
+  close sort b m l v a =
       ap (first_of v) (lt_cond most_fields m.in_field (fifth? b m) (Refused Fields m.place) _
       ∙ ap (ite (fifth? b m) (Refused Fields m.place)) (lt_cond w m.index (many? w b m) (Refused Terms m.place) _
-      ∙ ap (ite (many? w b m) (Refused Terms m.place)) (over_cond m.raw (over? m.raw) (Refused Limits m.place) (last_met slip m l))))
-      ∙ go (fifth? b m) (many? w b m) (over? m.raw) (last_met slip m l) (met_by w b m (drop 3 (reasons slip))) (last_is slip b m l v a)
-      ∙ ap (first_of v) (sym (reasons_are slip b m))
+      ∙ ap (ite (many? w b m) (Refused Terms m.place)) (over_cond m.raw (over? m.raw) (Refused Limits m.place) (last_met sort m l))))
+      ∙ go (fifth? b m) (many? w b m) (over? m.raw) (last_met sort m l) (met_by w b m (drop 3 (reasons sort))) (last_is sort b m l v a)
+      ∙ ap (first_of v) (sym (reasons_are sort b m))
     where
       go : (d3 : Dec (FifthField m)) (d4 : Dec (TooMany w m)) (d5 : Dec (Over m.raw)) (x y : Verdict) → ((Over m.raw → ⊥) → first_of v x ≡ first_of v y)
           → first_of v (ite d3 (Refused Fields m.place) (ite d4 (Refused Terms m.place) (ite d5 (Refused Limits m.place) x)))
@@ -267,13 +269,13 @@ occs_one : (b : List Token) (m : Token) → occs (b ++ m ∷ []) ≡ occs b ++ o
 occs_one b m = occs_append b (m ∷ []) ∙ ap (λ (l : List Occ). occs b ++ l) (append-nil (occ m.in_field (list_no m.raw)))
 
 -- where a field begins
-entered : (slip : Bool) (b : List Token) (n : ℕ) (m : Token) (l : Lists) (v : Verdict) → Onward n m → Valid slip b n l v
-    → Valid slip b m.in_field (lists_at (at_of m) l) v
-entered true b n m l v s a = tt
-entered false b n m l v s (inl h) = inl h
-entered false b n m l v (inl s) (inr a) =
+entered : (sort : Sort) (b : List Token) (n : ℕ) (m : Token) (l : Lists) (v : Verdict) → Onward n m → Valid sort b n l v
+    → Valid sort b m.in_field (lists_at (at_of m) l) v
+entered Slip b n m l v s a = tt
+entered Rule b n m l v s (inl h) = inl h
+entered Rule b n m l v (inl s) (inr a) =
     inr (rw (eq-eqb m.index 1 s.0) (subst (λ (k : ℕ). Tracks (occs b) k (next_field l)) (sym s.1) (tracks_next a.0), a.1))
-entered false b n m l v (inr s) (inr a) =
+entered Rule b n m l v (inr s) (inr a) =
     inr (rw (ne_eqb m.index 1 s.0) (subst (λ (k : ℕ). Tracks (occs b) k l) (sym s.1) a.0, a.1))
 
 -- the list variables with a term
@@ -308,7 +310,7 @@ module _ (w : ℕ) where
     here r = Refused r m.place
 
     -- where it is refused, 6 does not count any more
-    follows : Late (first_of v (met_by w b m (reasons false))) ⊎ Follows m.raw
+    follows : Late (first_of v (met_by w b m (reasons Rule))) ⊎ Follows m.raw
     follows = go (fifth? b m) (many? w b m) (over? m.raw) (clash_of? (occs b) m.in_field (list_no m.raw))
       where
         go : (d3 : Dec (FifthField m)) (d4 : Dec (TooMany w m)) (d5 : Dec (Over m.raw)) (d6 : Dec (ClashOf (occs b) m.in_field (list_no m.raw)))
@@ -319,45 +321,45 @@ module _ (w : ℕ) where
         go (no n) (no k) (no u) (yes x) = inl (late_met v Linear m.place (omega arith))
         go (no n) (no k) (no u) (no x) = inr (added m.raw u x)
 
-  behind : (slip : Bool) (b : List Token) (m : Token) (l : Lists) (v : Verdict) → Valid slip b m.in_field l v
-      → Valid slip (b ++ m ∷ []) m.in_field (add_raw m.raw l) (first_of v (met_by w b m (reasons slip)))
-  behind true b m l v a = tt
-  behind false b m l v (inl h) = inl (late_first v (met_by w b m (reasons false)) h)
-  behind false b m l v (inr a) =
+  behind : (sort : Sort) (b : List Token) (m : Token) (l : Lists) (v : Verdict) → Valid sort b m.in_field l v
+      → Valid sort (b ++ m ∷ []) m.in_field (add_raw m.raw l) (first_of v (met_by w b m (reasons sort)))
+  behind Slip b m l v a = tt
+  behind Rule b m l v (inl h) = inl (late_first v (met_by w b m (reasons Rule)) h)
+  behind Rule b m l v (inr a) =
       subst
-      (λ (z : List Occ). Late (first_of v (met_by w b m (reasons false))) ⊎ (Tracks z m.in_field (add_raw m.raw l) × ((add_raw m.raw l).ok ≡ true)))
+      (λ (z : List Occ). Late (first_of v (met_by w b m (reasons Rule))) ⊎ (Tracks z m.in_field (add_raw m.raw l) × ((add_raw m.raw l).ok ≡ true)))
       (sym (occs_one b m)) (follows b m l v a.0 a.1)
 
-module _ (slip : Bool) (w : ℕ) where
-  survey_from : (ms b : List Token) (n : ℕ) (s : Survey) → Steps n ms → Valid slip b n s.lists s.verdict
-      → (foldl (survey_token slip w) s ms).verdict ≡ first_of s.verdict (verdict_by (places w b ms) (reasons slip))
-  survey_from [] b n s h a = none_left slip
+module _ (sort : Sort) (w : ℕ) where
+  survey_from : (ms b : List Token) (n : ℕ) (s : Survey) → Steps n ms → Valid sort b n s.lists s.verdict
+      → (foldl (survey_token sort w) s ms).verdict ≡ first_of s.verdict (verdict_by (places w b ms) (reasons sort))
+  survey_from [] b n s h a = none_left sort
     where
-      none_left : (slip : Bool) → s.verdict ≡ first_of s.verdict (verdict_by (places w b []) (reasons slip))
-      none_left true = sym (first_none s.verdict)
-      none_left false = sym (first_none s.verdict)
+      none_left : (sort : Sort) → s.verdict ≡ first_of s.verdict (verdict_by (places w b []) (reasons sort))
+      none_left Slip = sym (first_none s.verdict)
+      none_left Rule = sym (first_none s.verdict)
   survey_from (m ∷ ms) b n s h a =
       let v = s.verdict in
       let l = lists_at (at_of m) s.lists in
-      let here = met_by w b m (reasons slip) in
-      let at = entered slip b n m s.lists v h.0 a in
-      let e = close w slip b m l v at in
-      survey_from ms (b ++ m ∷ []) m.in_field (survey_token slip w s m) h.1
-      (subst (Valid slip (b ++ m ∷ []) m.in_field (add_raw m.raw l)) (sym e) (behind w slip b m l v at))
-      ∙ ap (λ (z : Verdict). first_of z (verdict_by (places w (b ++ m ∷ []) ms) (reasons slip))) e
-      ∙ first_assoc v here (verdict_by (places w (b ++ m ∷ []) ms) (reasons slip))
-      ∙ ap (first_of v) (sym (met_step w 2 b m ms (reasons slip) (rising slip)))
+      let here = met_by w b m (reasons sort) in
+      let at = entered sort b n m s.lists v h.0 a in
+      let e = close w sort b m l v at in
+      survey_from ms (b ++ m ∷ []) m.in_field (survey_token sort w s m) h.1
+      (subst (Valid sort (b ++ m ∷ []) m.in_field (add_raw m.raw l)) (sym e) (behind w sort b m l v at))
+      ∙ ap (λ (z : Verdict). first_of z (verdict_by (places w (b ++ m ∷ []) ms) (reasons sort))) e
+      ∙ first_assoc v here (verdict_by (places w (b ++ m ∷ []) ms) (reasons sort))
+      ∙ ap (first_of v) (sym (met_step w 2 b m ms (reasons sort) (rising sort)))
 
   -- THE SURVEY of a text's tokens: the first refusal from 3 on that applies, at its leftmost place
   pub survey_by : (x : List (List Raw)) → All FieldOk x
-      → (foldl (survey_token slip w) nothing_yet (tokens x)).verdict ≡ verdict_by (λ (r : Reason). first_bad w r x) (reasons slip)
-  survey_by x g = survey_from (tokens x) [] 0 nothing_yet (steps_text x 0 0 g) (start slip)
+      → (foldl (survey_token sort w) nothing_yet (tokens x)).verdict ≡ verdict_by (λ (r : Reason). first_bad w r x) (reasons sort)
+  survey_by x g = survey_from (tokens x) [] 0 nothing_yet (steps_text x 0 0 g) (start sort)
     where
-      start : (slip : Bool) → Valid slip [] 0 no_lists Accepted
-      start true = tt
-      start false = inr (tracks_none 0, refl)
+      start : (sort : Sort) → Valid sort [] 0 no_lists Accepted
+      start Slip = tt
+      start Rule = inr (tracks_none 0, refl)
 
   -- whatever is accepted otherwise
   pub survey_is : {X : Type 0} (x : List (List Raw)) (y : X) → All FieldOk x
-      → (foldl (survey_token slip w) nothing_yet (tokens x)).verdict ≡ verdict_of (chain (λ (r : Reason). first_bad w r x) (reasons slip) y)
-  survey_is x y g = survey_by x g ∙ sym (verdict_chain (λ (r : Reason). first_bad w r x) (reasons slip) y)
+      → (foldl (survey_token sort w) nothing_yet (tokens x)).verdict ≡ verdict_of (chain (λ (r : Reason). first_bad w r x) (reasons sort) y)
+  survey_is x y g = survey_by x g ∙ sym (verdict_chain (λ (r : Reason). first_bad w r x) (reasons sort) y)

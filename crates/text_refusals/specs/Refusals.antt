@@ -16,9 +16,10 @@ use Rattle.text_scan.specs.declared.Spelled.TheVariants.{Con, Var, Empty}
 use Rattle.text_scan.specs.Lexemes.{lexeme_of}
 use Rattle.text_refusals.specs.declared.verdicts.Reason.{Reason}
 use Rattle.text_refusals.specs.declared.verdicts.Reason.TheVariants.{Fields, Terms, Limits, Linear, Variable}
-use Rattle.text_refusals.specs.declared.verdicts.Verdict.{Verdict}
-use Rattle.text_refusals.specs.declared.verdicts.Verdict.TheVariants.{Accepted, Refused}
+use Rattle.text_refusals.specs.verdicts.Verdicts.{Verdict, Accepted, Refused}
 use Rattle.text_refusals.specs.verdicts.Verdicts.{first_of}
+use Rattle.text_refusals.specs.declared.Sort.{Sort}
+use Rattle.text_refusals.specs.declared.Sort.TheVariants.{Rule, Slip}
 use Rattle.text_refusals.specs.declared.At.{At}
 use Rattle.text_refusals.specs.declared.Survey.{Survey}
 
@@ -48,20 +49,20 @@ variable_by (Var k) = true
 variable_by Empty = false
 
 -- the refusal that is tried last: of a slip 7, of a rule 6
-abbrev pub last_bad : Bool → Lexeme → Lists → Bool
-last_bad true p l = variable_by p.what
-last_bad false p l = clash_by p.what p.value l
+abbrev pub last_bad : Sort → Lexeme → Lists → Bool
+last_bad Slip p l = variable_by p.what
+last_bad Rule p l = clash_by p.what p.value l
 
-abbrev pub last_reason : Bool → Reason
-last_reason true = Variable
-last_reason false = Linear
+abbrev pub last_reason : Sort → Reason
+last_reason Slip = Variable
+last_reason Rule = Linear
 
 -- the first refusal that a term meets, at its place
-abbrev pub met : Bool → ℕ → At → Lexeme → Lists → Verdict
-met slip w a p l =
+abbrev pub met : Sort → ℕ → At → Lexeme → Lists → Verdict
+met s w a p l =
     cond (ltb most_fields a.field) (Refused Fields a.place)
     (cond (ltb w a.index) (Refused Terms a.place)
-    (cond (over_lexeme p) (Refused Limits a.place) (cond (last_bad slip p l) (Refused (last_reason slip) a.place) Accepted)))
+    (cond (over_lexeme p) (Refused Limits a.place) (cond (last_bad s p l) (Refused (last_reason s) a.place) Accepted)))
 
 -- the list variables with this term
 abbrev pub add_by : Spelled → ℕ → Lists → Lists
@@ -74,16 +75,16 @@ abbrev pub lists_at : At → Lists → Lists
 lists_at a l = cond (eqb a.index 1) (next_field l) l
 
 -- the survey with one term more
-abbrev pub surveyed : Bool → ℕ → Survey → At → Lexeme → Survey
-surveyed slip w s a p =
+abbrev pub surveyed : Sort → ℕ → Survey → At → Lexeme → Survey
+surveyed sort w s a p =
     let l = lists_at a s.lists in
-    record { verdict = first_of s.verdict (met slip w a p l); lists = add_by p.what p.value l }
+    record { verdict = first_of s.verdict (met sort w a p l); lists = add_by p.what p.value l }
 
 abbrev pub at_of : Token → At
 at_of m = record { place = m.place; field = m.in_field; index = m.index }
 
-abbrev pub survey_token : Bool → ℕ → Survey → Token → Survey
-survey_token slip w s m = surveyed slip w s (at_of m) (lexeme_of m.raw)
+abbrev pub survey_token : Sort → ℕ → Survey → Token → Survey
+survey_token sort w s m = surveyed sort w s (at_of m) (lexeme_of m.raw)
 
 -- before the first term
 abbrev pub nothing_yet : Survey

@@ -10,7 +10,7 @@ ghost use Rattle.text_refusals.specs.Refusals.{surveyed};
 pub mod unknown; // refusal 10
 pub mod verdicts; // what is said of a text
 
-use crate::verdicts::{Reason, Verdict};
+use crate::verdicts::{Reason, Refusal, Verdict};
 use text_accepted::linearity::Lists;
 use text_scan::{Lexeme, Literal, Spelled};
 
@@ -29,6 +29,44 @@ pub struct Survey {
     pub lists: Lists,
 }
 
+// What is read: a rule, of which one side at a time, or a slip.
+#[derive(Clone, Copy)]
+pub enum Sort {
+    Rule,
+    Slip,
+}
+
+impl Sort {
+    // How many terms a field may have.
+    fn width(self) -> usize
+        ensures { result ≡ (sort_of self).width }
+    {
+        match self {
+            Sort::Rule => base_limits::MOST_TERMS,
+            Sort::Slip => base_limits::MOST_ITEMS,
+        }
+    }
+
+    // Whether a term meets the refusal that is tried last: of a slip 7, of a rule 6.
+    fn is_last(self, p: Lexeme, l: Lists) -> bool
+        ensures { result ≡ last_bad self p l }
+    {
+        match self {
+            Sort::Rule => is_clash(p, l),
+            Sort::Slip => is_variable(p),
+        }
+    }
+
+    fn last_reason(self) -> Reason
+        ensures { result ≡ last_reason self }
+    {
+        match self {
+            Sort::Rule => Reason::Linear,
+            Sort::Slip => Reason::Variable,
+        }
+    }
+}
+
 // The largest number as a lexeme's value.
 const LARGEST_NUMBER: u32 = base_limits::LARGEST_NUMBER as u32;
 
@@ -37,12 +75,7 @@ fn is_literal_over(l: Literal, n: usize, v: u32) -> bool
     ensures { result ≡ over_literal l n v }
 {
     match l {
-        Literal::Int(minus) => {
-            if base_limits::MOST_DIGITS < n {
-                return true;
-            }
-            text_grammar::limit(minus) < v
-        }
+        Literal::Int(minus) => base_limits::MOST_DIGITS < n || text_grammar::limit(minus) < v,
         Literal::Str => base_limits::LONGEST_STRING < n,
     }
 }
@@ -51,12 +84,9 @@ fn is_literal_over(l: Literal, n: usize, v: u32) -> bool
 fn is_over(p: Lexeme) -> bool
     ensures { result ≡ over_lexeme p }
 {
-    let what = p.what;
-    let n = p.size;
-    let v = p.value;
-    match what {
-        Spelled::Con(l) => is_literal_over(l, n, v),
-        Spelled::Var(_) => LARGEST_NUMBER < v,
+    match p.what {
+        Spelled::Con(l) => is_literal_over(l, p.size, p.value),
+        Spelled::Var(_) => LARGEST_NUMBER < p.value,
         Spelled::Empty => false,
     }
 }
@@ -65,17 +95,9 @@ fn is_over(p: Lexeme) -> bool
 fn is_clash(p: Lexeme, l: Lists) -> bool
     ensures { result ≡ clash_by p.what p.value l }
 {
-    let what = p.what;
-    let v = p.value;
-    match what {
-        Spelled::Con(_) => false,
-        Spelled::Var(k) => {
-            if !math_types::is_list(k) {
-                return false;
-            }
-            !l.add(v as usize).ok
-        }
-        Spelled::Empty => false,
+    match p.what {
+        Spelled::Var(k) => math_types::is_list(k) && !l.add(p.value as usize).ok,
+        Spelled::Con(_) | Spelled::Empty => false,
     }
 }
 
@@ -83,103 +105,52 @@ fn is_clash(p: Lexeme, l: Lists) -> bool
 fn is_variable(p: Lexeme) -> bool
     ensures { result ≡ variable_by p.what }
 {
-    let what = p.what;
-    match what {
-        Spelled::Con(_) => false,
-        Spelled::Var(_) => true,
-        Spelled::Empty => false,
-    }
-}
-
-// Whether a term meets the refusal that is tried last: of a slip 7, of a rule 6.
-fn is_last(slip: bool, p: Lexeme, l: Lists) -> bool
-    ensures { result ≡ last_bad slip p l }
-{
-    if slip {
-        return is_variable(p);
-    }
-    is_clash(p, l)
-}
-
-fn last_reason(slip: bool) -> Reason
-    ensures { result ≡ last_reason slip }
-{
-    if slip {
-        Reason::Variable
-    } else {
-        Reason::Linear
-    }
+    matches!(p.what, Spelled::Var(_))
 }
 
 // The first refusal from 3 on that a term meets, at its place.
-fn met(slip: bool, width: usize, a: At, p: Lexeme, l: Lists) -> Verdict
-    ensures { result ≡ met slip width a p l }
+fn met(sort: Sort, a: At, p: Lexeme, l: Lists) -> Verdict
+    ensures { result ≡ met sort (sort_of sort).width a p l }
 {
-    if base_limits::MOST_FIELDS < a.field {
-        return Verdict::Refused(Reason::Fields, a.place);
-    }
-    if width < a.index {
-        return Verdict::Refused(Reason::Terms, a.place);
-    }
-    if is_over(p) {
-        return Verdict::Refused(Reason::Limits, a.place);
-    }
-    if is_last(slip, p, l) {
-        return Verdict::Refused(last_reason(slip), a.place);
-    }
-    Verdict::Accepted
+    let reason = if base_limits::MOST_FIELDS < a.field {
+        Reason::Fields
+    } else if sort.width() < a.index {
+        Reason::Terms
+    } else if is_over(p) {
+        Reason::Limits
+    } else if sort.is_last(p, l) {
+        sort.last_reason()
+    } else {
+        return Ok(());
+    };
+    Err(Refusal {
+        reason,
+        place: a.place,
+    })
 }
 
 fn add_lexeme(l: Lists, p: Lexeme) -> Lists
     ensures { result ≡ add_by p.what p.value l }
 {
-    let what = p.what;
-    let v = p.value;
-    match what {
-        Spelled::Con(_) => l,
-        Spelled::Var(k) => {
-            if math_types::is_list(k) {
-                return l.add(v as usize);
-            }
-            l
-        }
-        Spelled::Empty => l,
+    match p.what {
+        Spelled::Var(k) if math_types::is_list(k) => l.add(p.value as usize),
+        _ => l,
     }
 }
 
 fn lists_at(a: At, l: Lists) -> Lists
     ensures { result ≡ lists_at a l }
 {
-    if a.index == 1 {
-        return l.next_field();
-    }
-    l
-}
-
-// How many terms a field may have.
-fn width_of(slip: bool) -> usize
-    ensures { result ≡ (sort_of slip).width }
-{
-    if slip {
-        base_limits::MOST_ITEMS
-    } else {
-        base_limits::MOST_TERMS
-    }
+    if a.index == 1 { l.next_field() } else { l }
 }
 
 // The survey with the term p, which stands at a.
-pub fn note(s: Survey, slip: bool, a: At, p: Lexeme) -> Survey
-    ensures { result ≡ surveyed slip (sort_of slip).width s a p }
+pub fn note(s: Survey, sort: Sort, a: At, p: Lexeme) -> Survey
+    ensures { result ≡ surveyed sort (sort_of sort).width s a p }
 {
-    let before = s.lists;
-    let lists = lists_at(a, before);
-    let width = width_of(slip);
-    let here = met(slip, width, a, p, lists);
-    let so_far = s.verdict;
-    let verdict = crate::verdicts::first(so_far, here);
-    let after = add_lexeme(lists, p);
+    let lists = lists_at(a, s.lists);
     Survey {
-        verdict,
-        lists: after,
+        verdict: crate::verdicts::first(s.verdict, met(sort, a, p, lists)),
+        lists: add_lexeme(lists, p),
     }
 }

@@ -1,10 +1,9 @@
 -- A term as it is written, as the code answers it: what it is, how long its digits or its bytes are, and their value.
 -- The bytes themselves stay in the text.
-use Rattle.std.specs.Prelude.{Bool, true, false, List, ℕ, suc, min, length}
-use Rattle.std.proofs.Math.Bool.{decide}
+use Rattle.std.specs.Prelude.{true, false, List, ℕ, suc, min, length}
 use Rattle.base_limits.specs.Limits.{lowest_integer}
 use Rattle.math_types.specs.Values.{kind_from}
-use Rattle.text_grammar.specs.Bytes.{digit?, Begins, b_digit, b_minus, b_quote, b_letter, b_e, b_none}
+use Rattle.text_grammar.specs.Bytes.{Begins, b_digit, b_minus, b_quote, b_letter, b_e, b_none}
 use Rattle.text_grammar.specs.Grammar.{Raw, raw_var, raw_empty, raw_con}
 use Rattle.text_grammar.specs.constants.Constants.{sign_size, raw_int, raw_str, RawCon}
 use Rattle.text_grammar.specs.Numbers.{value}
@@ -63,6 +62,3 @@ begun (b_quote h) = Con Str
 begun (b_letter k h) = Var (kind_from k)
 begun (b_e h) = Empty
 begun (b_none d m q l e) = Empty
-
-abbrev pub is_digit : ℕ → Bool
-is_digit b = decide (digit? b)

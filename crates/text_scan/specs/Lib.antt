@@ -4,5 +4,6 @@ pub mod Classes
 pub mod Lexemes
 pub mod Places
 pub mod Steps
+pub mod Tables
 pub mod split
 pub mod terms

@@ -1,9 +1,7 @@
--- The place of refusal 2 as the code answers it.
-use Rattle.std.proofs.Math.Option.{Option, none, some}
-use Rattle.std.specs.Prelude.{ℕ}
-use Rattle.text_scan.specs.declared.Found.{Found}
-use Rattle.text_scan.specs.declared.Found.TheVariants.{At, Nothing}
+-- The place of refusal 2 as the code answers it: the specification's option as the code's.
+use Rattle.std.proofs.Math.Option as maybe
+use Rattle.std.specs.Prelude.{ℕ, Option, Some, None}
 
-abbrev pub found_of : Option ℕ → Found
-found_of (some p) = At p
-found_of none = Nothing
+abbrev pub found_of : maybe.Option ℕ → Option ℕ
+found_of (maybe.some p) = Some p
+found_of maybe.none = None

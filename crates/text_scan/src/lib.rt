@@ -7,7 +7,8 @@ ghost use Rattle.text_grammar.specs.Bytes.{begins};
 ghost use Rattle.text_grammar.specs.Machine.{place2};
 ghost use Rattle.text_grammar.specs.Walk.{leading_digits, until_quote, front};
 ghost use Rattle.text_scan.specs.Classes.{fine_of};
-ghost use Rattle.text_scan.specs.Lexemes.{capped, counted, with_digits, part_of, lexeme_of, begun, is_digit};
+ghost use Rattle.text_scan.specs.Tables.{class_number};
+ghost use Rattle.text_scan.specs.Lexemes.{counted, with_digits, part_of, lexeme_of, begun};
 ghost use Rattle.text_scan.specs.Places.{found_of};
 ghost use Rattle.text_scan.specs.Steps.{next};
 
@@ -16,14 +17,7 @@ pub mod terms; // the value of the term at a place
 mod tables;
 
 use math_types::Kind;
-use tables::{BEFORE, BEHIND, CLASSES, IN_DIGITS, REFUSED, STEPS, WIDTH};
-
-// Document 01's place of refusal 2, where there is one.
-#[derive(Clone, Copy)]
-pub enum Found {
-    At(usize),
-    Nothing,
-}
+use tables::{ByteClass, CLASSES, Reading, STEPS};
 
 // What a constant is written as.
 #[derive(Clone, Copy)]
@@ -58,68 +52,52 @@ struct Digits {
 }
 
 // A byte's class: one of the finer ones, since the five of document 01 do not decide the next state.
-pub fn class_of(b: u8) -> u8
-    ensures { result ≡ fine_of b }
+pub fn class_of(b: u8) -> ByteClass
+    ensures { class_number result ≡ fine_of b }
 {
     CLASSES[b as usize]
 }
 
-// The place of refusal 2. Document 01: "the first byte that no text of the grammar could have there,
+// The place of refusal 2, where there is one. Document 01: "the first byte that no text of the grammar could have there,
 // or the length where the text stops early".
-pub fn grammar_place(text: &[u8]) -> Found
+pub fn grammar_place(text: &[u8]) -> Option<usize>
     ensures { result ≡ found_of (place2 text.now) }
 {
-    let classes = CLASSES;
-    let steps = STEPS;
-    let mut state = BEFORE;
-    let mut i = 0;
-    while i < text.len() {
-        let class = classes[text[i] as usize];
-        state = steps[(state as usize) * WIDTH + class as usize];
-        if state == REFUSED {
-            return Found::At(i);
+    let mut state = Reading::Before;
+    for (i, b) in text.iter().enumerate() {
+        let class = CLASSES[*b as usize];
+        state = STEPS[state as usize][class as usize];
+        if state == Reading::Refused {
+            return Some(i);
         }
-        i += 1;
     }
     match state {
-        IN_DIGITS | BEHIND => Found::Nothing,
-        _ => Found::At(i),
+        Reading::InDigits | Reading::Behind => None,
+        _ => Some(text.len()),
     }
-}
-
-// Whether a byte is a digit.
-fn is_digit(b: u8) -> bool
-    ensures { result ≡ is_digit b }
-{
-    if b < b'0' {
-        return false;
-    }
-    b <= b'9'
 }
 
 // One above the magnitude of the lowest integer, which is the largest of any.
 const TOO_LARGE: u64 = base_limits::LOWEST_INTEGER as u64 + 1;
 
-// All values past the largest magnitude count as the same, so that no run of digits overflows.
-fn cap(v: u64) -> u64
-    ensures { result ≡ capped v }
-{
-    if v < TOO_LARGE { v } else { TOO_LARGE }
-}
-
-// The digits from a place on. Capping at each digit gives what capping at the end would, for more digits make no value smaller.
+// The digits from a place on. All values past the largest magnitude count as the same, so that no run of digits overflows.
+// Capping at each digit gives what capping at the end would, for more digits make no value smaller.
 fn digits_from(text: &[u8], at: usize) -> Digits
     requires { at ≤ length text.now }
     ensures { result ≡ counted (leading_digits (drop at text.now)) }
 {
-    let mut i = at;
     let mut v: u64 = 0;
-    while i < text.len() && is_digit(text[i]) {
-        v = cap(v * 10 + (text[i] - b'0') as u64);
-        i += 1;
+    for (i, b) in text[at..].iter().enumerate() {
+        if !b.is_ascii_digit() {
+            return Digits {
+                count: i,
+                value: v as u32,
+            };
+        }
+        v = (v * 10 + (*b - b'0') as u64).min(TOO_LARGE);
     }
     Digits {
-        count: i - at,
+        count: text.len() - at,
         value: v as u32,
     }
 }
@@ -129,21 +107,15 @@ fn quoted_from(text: &[u8], at: usize) -> usize
     requires { at ≤ length text.now }
     ensures { result ≡ length (until_quote (drop at text.now)) }
 {
-    let mut i = at;
-    while i < text.len() && text[i] != b'"' {
-        i += 1;
-    }
-    i - at
+    text[at..].iter().take_while(|b| **b != b'"').count()
 }
 
 // What a byte begins. By comparisons: a function that reads the table for one byte would first have to build all of it.
 fn begun_by(b: u8) -> Spelled
     ensures { result ≡ begun (begins b) }
 {
-    if is_digit(b) {
-        return Spelled::Con(Literal::Int(false));
-    }
     match b {
+        b'0'..=b'9' => Spelled::Con(Literal::Int(false)),
         b'-' => Spelled::Con(Literal::Int(true)),
         b'"' => Spelled::Con(Literal::Str),
         b'i' => Spelled::Var(Kind::Integer),
@@ -176,10 +148,8 @@ fn part_of(what: Spelled) -> Part
     ensures { result ≡ part_of what }
 {
     match what {
-        Spelled::Con(l) => match l {
-            Literal::Int(minus) => Part::Numeral(text_grammar::sign_size(minus)),
-            Literal::Str => Part::Text,
-        },
+        Spelled::Con(Literal::Int(minus)) => Part::Numeral(text_grammar::sign_size(minus)),
+        Spelled::Con(Literal::Str) => Part::Text,
         Spelled::Var(_) => Part::Numeral(1),
         Spelled::Empty => Part::Word,
     }
@@ -197,8 +167,7 @@ pub fn lexeme_at(text: &[u8], at: usize) -> Lexeme
         };
     }
     let what = begun_by(text[at]);
-    let part = part_of(what);
-    match part {
+    match part_of(what) {
         Part::Numeral(k) => with_digits(what, digits_from(text, at + k)),
         Part::Text => Lexeme {
             what,

@@ -5,8 +5,6 @@ ghost use Rattle.std.proofs.Math.Option.{none, some};
 ghost use Rattle.text_grammar.specs.Machine.{place2};
 ghost use Rattle.text_scan.specs.split.Splits.{split_of};
 
-use crate::Found;
-
 #[derive(Clone, Copy)]
 pub enum Split {
     // one side
@@ -23,15 +21,12 @@ fn behind_equal(text: &[u8], p: usize) -> Split
     requires p_value { (get_or text.now p 0 ≡ 61) × (place2 (take p text.now) ≡ none) }
     ensures { result ≡ split_of text.now }
 {
-    if text.len() <= p + 1 {
-        return Split::Stops(p + 1);
-    }
-    if text[p + 1] != b'>' {
+    if text.len() <= p + 1 || text[p + 1] != b'>' {
         return Split::Stops(p + 1);
     }
     match crate::grammar_place(&text[p + 2..]) {
-        Found::At(q) => Split::Stops(p + 2 + q),
-        Found::Nothing => Split::Two(p),
+        Some(q) => Split::Stops(p + 2 + q),
+        None => Split::Two(p),
     }
 }
 
@@ -40,15 +35,12 @@ fn stopped_at(text: &[u8], p: usize) -> Split
     requires { place2 text.now ≡ some p }
     ensures { result ≡ split_of text.now }
 {
-    if text.len() <= p {
-        return Split::Stops(p);
-    }
-    if text[p] != b'=' {
+    if text.len() <= p || text[p] != b'=' {
         return Split::Stops(p);
     }
     match crate::grammar_place(&text[..p]) {
-        Found::At(_) => Split::Stops(p),
-        Found::Nothing => behind_equal(text, p),
+        Some(_) => Split::Stops(p),
+        None => behind_equal(text, p),
     }
 }
 
@@ -56,7 +48,7 @@ pub fn split_of(text: &[u8]) -> Split
     ensures { result ≡ split_of text.now }
 {
     match crate::grammar_place(text) {
-        Found::At(p) => stopped_at(text, p),
-        Found::Nothing => Split::One,
+        Some(p) => stopped_at(text, p),
+        None => Split::One,
     }
 }

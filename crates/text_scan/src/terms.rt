@@ -8,7 +8,6 @@ ghost use Rattle.text_scan.specs.Lexemes.{lexeme_of};
 ghost use Rattle.text_scan.specs.terms.Terms.{term_from};
 
 use crate::{Lexeme, Literal, Spelled};
-use base_numbers::at_most;
 use text_values::constants::Constant;
 use text_values::{Form, Term};
 
@@ -18,14 +17,8 @@ fn string_at(text: &[u8], from: usize, n: usize) -> [u8; base_limits::LONGEST_ST
     ensures { result ≡ pad longest_string 0 (take n (drop from text.now)) }
 {
     let mut bytes = [0u8; base_limits::LONGEST_STRING];
-    let mut i: usize = 0;
-    while i < n {
-        if text.len() - from <= i {
-            return bytes;
-        }
-        bytes[i] = text[from + i];
-        i += 1;
-    }
+    let there = n.min(text.len() - from);
+    bytes[..there].copy_from_slice(&text[from..from + there]);
     bytes
 }
 
@@ -40,7 +33,7 @@ fn constant_at(text: &[u8], place: usize, p: Lexeme, l: Literal) -> Term
             text: [0; base_limits::LONGEST_STRING],
         },
         Literal::Str => {
-            let n = at_most(p.size, base_limits::LONGEST_STRING);
+            let n = p.size.min(base_limits::LONGEST_STRING);
             let bytes = string_at(text, place + 1, n);
             Term {
                 form: Form::Con(Constant::Str(n as u8)),
@@ -58,8 +51,7 @@ pub fn term_at(text: &[u8], place: usize) -> Term
         return text_values::blank_term();
     }
     let p = crate::lexeme_at(text, place);
-    let what = p.what;
-    match what {
+    match p.what {
         Spelled::Con(l) => constant_at(text, place, p, l),
         Spelled::Var(k) => Term {
             form: Form::Var(k, (p.value % 256) as u8),

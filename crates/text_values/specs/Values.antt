@@ -8,13 +8,25 @@ use Rattle.text_grammar.specs.Read.{rule, slip}
 use Rattle.text_values.specs.declared.Form.{Form}
 use Rattle.text_values.specs.declared.Form.TheVariants.{Con, Var}
 use Rattle.text_values.specs.declared.Term.{Term}
-use Rattle.text_values.specs.declared.Field.{Field}
-use Rattle.text_values.specs.declared.RuleSide.{RuleSide}
+use Rattle.text_values.specs.declared.Terms.{Terms}
+use Rattle.text_values.specs.declared.Fields.{Fields}
 use Rattle.text_values.specs.declared.Rule.{Rule}
-use Rattle.text_values.specs.declared.SlipField.{SlipField}
-use Rattle.text_values.specs.declared.Slip.{Slip}
 use Rattle.text_values.specs.canonical.Filled.{pad}
 use Rattle.text_values.specs.constants.Constants.{view_constant, encode_constant, blank_constant}
+
+-- ---- the sizes of fields, sides and slips
+
+abbrev pub Field : Type 0
+Field = Terms rule.width
+
+abbrev pub RuleSide : Type 0
+RuleSide = Fields rule.width
+
+abbrev pub SlipField : Type 0
+SlipField = Terms slip.width
+
+abbrev pub Slip : Type 0
+Slip = Fields slip.width
 
 -- ---- what a value stands for
 
@@ -28,10 +40,10 @@ view_term t = view_form t.form t.text
 abbrev pub view_terms : ℕ → List Term → List OurTerm
 view_terms n ts = map view_term (take n ts)
 
-abbrev pub view_field : Field → OurField
+abbrev pub view_field : {w : ℕ} → Terms w → OurField
 view_field f = view_terms f.n f.terms
 
-abbrev pub view_side : RuleSide → OurFields
+abbrev pub view_side : {w : ℕ} → Fields w → OurFields
 view_side r = map view_field (take r.n r.fields)
 
 -- both sides; a right side with no fields is none
@@ -39,10 +51,10 @@ abbrev pub view_rule : Rule → OurFields × OurFields
 view_rule r = (view_side r.left, view_side r.right)
 
 abbrev pub view_slip_field : SlipField → OurField
-view_slip_field f = view_terms f.n f.terms
+view_slip_field = view_field
 
 abbrev pub view_slip : Slip → OurFields
-view_slip s = map view_slip_field (take s.n s.fields)
+view_slip = view_side
 
 -- ---- the one value for each
 
@@ -50,20 +62,26 @@ view_slip s = map view_slip_field (take s.n s.fields)
 abbrev pub blank_term : Term
 blank_term = record { form = Con blank_constant; text = replicate longest_string 0 }
 
+abbrev pub no_terms : (w : ℕ) → Terms w
+no_terms w = record { n = 0; terms = replicate w blank_term }
+
+abbrev pub no_fields : (w : ℕ) → Fields w
+no_fields w = record { n = 0; fields = replicate most_fields (no_terms w) }
+
 abbrev pub blank_field : Field
-blank_field = record { n = 0; terms = replicate rule.width blank_term }
+blank_field = no_terms rule.width
 
 abbrev pub blank_side : RuleSide
-blank_side = record { n = 0; fields = replicate most_fields blank_field }
+blank_side = no_fields rule.width
 
 abbrev pub blank_rule : Rule
 blank_rule = record { left = blank_side; right = blank_side }
 
 abbrev pub blank_slip_field : SlipField
-blank_slip_field = record { n = 0; terms = replicate slip.width blank_term }
+blank_slip_field = no_terms slip.width
 
 abbrev pub blank_slip : Slip
-blank_slip = record { n = 0; fields = replicate most_fields blank_slip_field }
+blank_slip = no_fields slip.width
 
 abbrev pub encode_term : OurTerm → Term
 encode_term (con c) = record { form = Con (encode_constant c).0; text = (encode_constant c).1 }
@@ -72,20 +90,26 @@ encode_term (var k n) = record { form = Var (kind_from k) n; text = replicate lo
 abbrev pub encode_terms : ℕ → List OurTerm → List Term
 encode_terms w ts = pad w blank_term (map encode_term ts)
 
+abbrev pub encode_to : (w : ℕ) → OurField → Terms w
+encode_to w ts = record { n = length ts; terms = encode_terms w ts }
+
+abbrev pub encode_all : (w : ℕ) → OurFields → Fields w
+encode_all w r = record { n = length r; fields = pad most_fields (no_terms w) (map (encode_to w) r) }
+
 abbrev pub encode_field : OurField → Field
-encode_field ts = record { n = length ts; terms = encode_terms rule.width ts }
+encode_field = encode_to rule.width
 
 abbrev pub encode_side : OurFields → RuleSide
-encode_side r = record { n = length r; fields = pad most_fields blank_field (map encode_field r) }
+encode_side = encode_all rule.width
 
 abbrev pub encode_rule : OurFields × OurFields → Rule
 encode_rule r = record { left = encode_side r.0; right = encode_side r.1 }
 
 abbrev pub encode_slip_field : OurField → SlipField
-encode_slip_field ts = record { n = length ts; terms = encode_terms slip.width ts }
+encode_slip_field = encode_to slip.width
 
 abbrev pub encode_slip : OurFields → Slip
-encode_slip s = record { n = length s; fields = pad most_fields blank_slip_field (map encode_slip_field s) }
+encode_slip = encode_all slip.width
 
 -- the rule with one field
 abbrev pub one_field : Field → RuleSide

@@ -1,13 +1,14 @@
 // Terms, fields, rules and slips as values. A value's unused places are blank (every number zero), so that there is one value for one rule.
 #![tactic(auto)]
 
-ghost use Rattle.std.specs.Prelude.{◌≡◌};
-ghost use Rattle.text_values.specs.Values.{blank_term, blank_field, blank_side, blank_rule, blank_slip_field, blank_slip, one_field};
+ghost use Rattle.std.specs.Prelude.{◌≡◌, take};
+ghost use Rattle.text_values.specs.Values.{blank_term, no_terms, no_fields, blank_rule, one_field};
 
 pub mod canonical; // which terms reading can return, and the blank of unused places
 pub mod constants; // what a constant is
 
 use crate::constants::Constant;
+use base_limits::{MOST_FIELDS, MOST_ITEMS, MOST_TERMS};
 use math_types::Kind;
 
 // What a term is: a constant, or a variable's type and number.
@@ -23,36 +24,50 @@ pub struct Term {
     pub text: [u8; base_limits::LONGEST_STRING],
 }
 
+// Up to PLACES terms: those of a field of a rule, or of a slip. A public value may count more, and functions answer for it too.
 #[derive(Clone, Copy)]
-pub struct Field {
+pub struct Terms<const PLACES: usize> {
     pub n: usize,
-    pub terms: [Term; base_limits::MOST_TERMS],
+    pub terms: [Term; PLACES],
 }
 
-// One side of a rule.
-#[derive(Clone, Copy)]
-pub struct RuleSide {
-    pub n: usize,
-    pub fields: [Field; base_limits::MOST_FIELDS],
+impl<const PLACES: usize> Terms<PLACES> {
+    // Those that are there, without the unused places.
+    pub fn used(&self) -> &[Term]
+        ensures { result.now ≡ take self.now.n self.now.terms }
+    {
+        self.terms.get(..self.n).unwrap_or(&self.terms)
+    }
 }
+
+// The fields of one side of a rule, or of a slip.
+#[derive(Clone, Copy)]
+pub struct Fields<const PLACES: usize> {
+    pub n: usize,
+    pub fields: [Terms<PLACES>; MOST_FIELDS],
+}
+
+impl<const PLACES: usize> Fields<PLACES> {
+    pub fn used(&self) -> &[Terms<PLACES>]
+        ensures { result.now ≡ take self.now.n self.now.fields }
+    {
+        self.fields.get(..self.n).unwrap_or(&self.fields)
+    }
+}
+
+pub type Field = Terms<MOST_TERMS>;
+
+pub type RuleSide = Fields<MOST_TERMS>;
+
+pub type SlipField = Terms<MOST_ITEMS>;
+
+pub type Slip = Fields<MOST_ITEMS>;
 
 // A rule. A right side with no fields is none: a right side has one field at least.
 #[derive(Clone, Copy)]
 pub struct Rule {
     pub left: RuleSide,
     pub right: RuleSide,
-}
-
-#[derive(Clone, Copy)]
-pub struct SlipField {
-    pub n: usize,
-    pub terms: [Term; base_limits::MOST_ITEMS],
-}
-
-#[derive(Clone, Copy)]
-pub struct Slip {
-    pub n: usize,
-    pub fields: [SlipField; base_limits::MOST_FIELDS],
 }
 
 pub fn blank_term() -> Term
@@ -65,24 +80,24 @@ pub fn blank_term() -> Term
 }
 
 // The field with no terms.
-pub fn blank_field() -> Field
-    ensures { result ≡ blank_field }
+pub fn no_terms<const PLACES: usize>() -> Terms<PLACES>
+    ensures { result ≡ no_terms PLACES }
 {
     let t = blank_term();
-    Field {
+    Terms {
         n: 0,
-        terms: [t; base_limits::MOST_TERMS],
+        terms: [t; PLACES],
     }
 }
 
-// The side with no fields.
-pub fn blank_side() -> RuleSide
-    ensures { result ≡ blank_side }
+// The side, or the slip, with no fields.
+pub fn no_fields<const PLACES: usize>() -> Fields<PLACES>
+    ensures { result ≡ no_fields PLACES }
 {
-    let f = blank_field();
-    RuleSide {
+    let f = no_terms();
+    Fields {
         n: 0,
-        fields: [f; base_limits::MOST_FIELDS],
+        fields: [f; MOST_FIELDS],
     }
 }
 
@@ -90,36 +105,15 @@ pub fn blank_side() -> RuleSide
 pub fn blank_rule() -> Rule
     ensures { result ≡ blank_rule }
 {
-    let s = blank_side();
+    let s = no_fields();
     Rule { left: s, right: s }
-}
-
-pub fn blank_slip_field() -> SlipField
-    ensures { result ≡ blank_slip_field }
-{
-    let t = blank_term();
-    SlipField {
-        n: 0,
-        terms: [t; base_limits::MOST_ITEMS],
-    }
-}
-
-// The slip with no fields.
-pub fn blank_slip() -> Slip
-    ensures { result ≡ blank_slip }
-{
-    let f = blank_slip_field();
-    Slip {
-        n: 0,
-        fields: [f; base_limits::MOST_FIELDS],
-    }
 }
 
 // The side with this one field.
 pub fn one_field(f: Field) -> RuleSide
     ensures { result ≡ one_field f }
 {
-    let b = blank_field();
+    let b = no_terms();
     RuleSide {
         n: 1,
         fields: [f, b, b, b],

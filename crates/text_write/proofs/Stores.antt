@@ -1,11 +1,11 @@
 -- Laws of stores: a text behind another is both written in one. Assumes nothing.
 use mathlib.Core.Path.{◌≡◌, sym, ap, ap₂, ◌∙◌}
 use mathlib.Core.List.{List, ◌∷◌, ◌++◌}
-use Prim.Native.Nat.{ℕ, suc, ◌+◌, ◌<◌}
+use Prim.Native.Nat.{ℕ, ◌+◌}
 use native.Mathlib.Numerals.{add-one}
 use native.Mathlib.Omega.{arith}
-use lib.ListN.{length, drop, get_or, set, length-append}
-use lib.Seq.{sets, drop-cons}
+use lib.ListN.{length, set, length-append}
+use lib.Seq.{sets}
 use Rattle.base_lists.specs.Arrays.{sets_append}
 use Rattle.text_write.specs.Room.{Put}
 
@@ -24,9 +24,3 @@ put_cons b a l at = ap (λ (k : ℕ). sets (set l at b) k a) (add-one at)
 -- what is written of one text is written of another that is the same
 pub put_as : {a b : List ℕ} (l : List ℕ) (at : ℕ) {l' : List ℕ} {r : ℕ} → b ≡ a → Put a at l r l' → Put b at l r l'
 put_as l at e h = (h.0 ∙ ap (λ (s : List ℕ). at + length s) (sym e), h.1 ∙ ap (sets l at) (sym e))
-
--- a byte of s in its place, and then those behind it
-pub byte_next : (l s : List ℕ) (at i : ℕ) → i < length s → sets (set l (at + i) (get_or s i 0)) (at + (i + 1)) (drop (i + 1) s) ≡ sets l (at + i) (drop i s)
-byte_next l s at i h =
-    let e : at + (i + 1) ≡ suc (at + i) = omega arith in
-    rw (drop-cons s i 0 h, e, add-one i)

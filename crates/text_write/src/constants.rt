@@ -8,7 +8,6 @@ ghost use Rattle.text_grammar.specs.Plain.{term_text};
 ghost use Rattle.text_values.specs.constants.Constants.{view_constant};
 ghost use Rattle.text_write.specs.Room.{Room, Put};
 
-use base_numbers::at_most;
 use text_values::constants::Constant;
 
 // The same for any bytes that stand beside the constant.
@@ -17,7 +16,7 @@ pub(crate) fn size(c: Constant) -> usize
 {
     match c {
         Constant::Int(minus, n) => text_grammar::sign_size(minus) + crate::digits_size(n as u64),
-        Constant::Str(k) => at_most(k as usize, base_limits::LONGEST_STRING) + 2,
+        Constant::Str(k) => (k as usize).min(base_limits::LONGEST_STRING) + 2,
     }
 }
 
@@ -38,9 +37,9 @@ fn put_string(text: [u8; base_limits::LONGEST_STRING], k: u8, out: &mut [u8], at
     requires { Room (spell_con (raw_str (take k text))) at out.old }
     ensures { Put (spell_con (raw_str (take k text))) at out.old result out.new }
 {
-    let n = at_most(k as usize, base_limits::LONGEST_STRING);
+    let n = (k as usize).min(base_limits::LONGEST_STRING);
     out[at] = b'"';
-    let p = crate::put_bytes(&text[..n], out, at + 1);
+    let p = crate::pieces::put_bytes(&text[..n], out, at + 1);
     out[p] = b'"';
     p + 1
 }

@@ -20,13 +20,12 @@ pub mod pieces; // pieces of a text, one behind the other
 use math_types::Kind;
 use text_values::{Form, Term};
 
-// The answer of a writer. `refusal` of specs/Answers has document 01's number of each.
-#[derive(Clone, Copy)]
-pub enum Written {
-    // so many bytes were written
-    Bytes(usize),
-    // so many would be needed, and none was written
-    TooSmall(usize),
+// A writer answers how many bytes it wrote, or this where the lent bytes are too few, and then it writes none.
+// `told` of specs/Answers has document 01's number of each.
+#[derive(Clone, Copy, PartialEq, Eq)]
+pub struct TooSmall {
+    // how many bytes would be needed
+    pub needed: usize,
 }
 
 // The digits of the largest number of 64 bits.
@@ -40,6 +39,7 @@ fn digits_size(n: u64) -> usize
 {
     let mut size: usize = 1;
     let mut m = n;
+    // Stays a `while`: it divides until one digit is left, and has no index.
     while 9 < m {
         m = m / 10;
         size += 1;
@@ -72,18 +72,6 @@ fn put_digits(n: u64, out: &mut [u8], at: usize) -> usize
     p + 1
 }
 
-fn put_bytes(bytes: &[u8], out: &mut [u8], at: usize) -> usize
-    requires { Room bytes.now at out.old }
-    ensures { Put bytes.now at out.old result out.new }
-{
-    let mut i: usize = 0;
-    while i < bytes.len() {
-        out[at + i] = bytes[i];
-        i += 1;
-    }
-    at + i
-}
-
 // A type's letter.
 fn letter(k: Kind) -> u8
     ensures { result ≡ letter (kind_of k) }
@@ -111,24 +99,24 @@ fn put_term(t: Term, out: &mut [u8], at: usize) -> usize
 // ---- the public functions
 
 // A term's text.
-pub(crate) fn write_term(t: Term, out: &mut [u8]) -> Written
+pub(crate) fn write_term(t: Term, out: &mut [u8]) -> Result<usize, TooSmall>
     ensures writes { Writes (term_text (view_term t)) out.old result out.new }
     ensures t_len_bound { length (term_text (view_term t)) ≤ longest_term }
 {
     let long = term_size(t);
     if out.len() < long {
-        return Written::TooSmall(long);
+        return Err(TooSmall { needed: long });
     }
-    Written::Bytes(put_term(t, out, 0))
+    Ok(put_term(t, out, 0))
 }
 
 // A number's digits, without leading zeros.
-pub(crate) fn write_number(n: u64, out: &mut [u8]) -> Written
+pub(crate) fn write_number(n: u64, out: &mut [u8]) -> Result<usize, TooSmall>
     ensures { Writes (digits_of n) out.old result out.new }
 {
     let size = digits_size(n);
     if out.len() < size {
-        return Written::TooSmall(size);
+        return Err(TooSmall { needed: size });
     }
-    Written::Bytes(put_digits(n, out, 0))
+    Ok(put_digits(n, out, 0))
 }

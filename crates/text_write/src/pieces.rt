@@ -1,5 +1,5 @@
 // Pieces of a text, put one behind the other into lent bytes as far as there is room; and the whole text, given or not at all.
-ghost use Rattle.std.specs.Prelude.{◌≡◌, ◌≤◌, length};
+ghost use Rattle.std.specs.Prelude.{◌≡◌, ◌≤◌, length, take};
 ghost use Rattle.text_grammar.specs.Numbers.{digits_of};
 ghost use Rattle.text_grammar.specs.Plain.{term_text};
 ghost use Rattle.text_values.specs.Values.{view_term};
@@ -7,62 +7,79 @@ ghost use Rattle.text_write.specs.Answers.{Writes};
 ghost use Rattle.base_bytes.specs.Bytes.{index_of};
 ghost use Rattle.text_write.specs.pieces.Refusals.{number_at};
 ghost use Rattle.text_write.specs.pieces.Sizes.{size_of};
-ghost use Rattle.text_write.specs.pieces.Placed.{Placed};
+ghost use Rattle.text_write.specs.pieces.Placed.{Placed, PlacedOn};
 
-use crate::Written;
+use crate::TooSmall;
 use text_values::Term;
 
 // How many bytes a writer's answer speaks of.
-pub fn size_of(w: Written) -> usize
+pub fn size_of(w: Result<usize, TooSmall>) -> usize
     ensures { result ≡ size_of w }
 {
     match w {
-        Written::Bytes(n) => n,
-        Written::TooSmall(n) => n,
+        Ok(n) => n,
+        Err(e) => e.needed,
     }
 }
 
-// ---- pieces: each is put at a place, and returns the place behind it
+// ---- pieces
 
-pub fn put_bytes(text: &[u8], out: &mut [u8], at: usize) -> usize
+// The text at a place, as far as there is room, and the place behind it.
+pub(crate) fn put_bytes(text: &[u8], out: &mut [u8], at: usize) -> usize
     ensures { Placed text.now at out.old result out.new }
 {
-    let end = out.len();
-    let mut i: usize = 0;
-    let mut p = at;
-    while i < text.len() && p < end {
-        out[p] = text[i];
-        i += 1;
-        p += 1;
+    let from = at.min(out.len());
+    at + base_bytes::copy(text, &mut out[from..])
+}
+
+// Lent bytes that pieces of a text are put into, one behind the other as far as there is room, and the place that is reached.
+#[derive(Drop)]
+pub struct Page<'a> {
+    pub bytes: &'a mut [u8],
+    pub at: usize,
+}
+
+impl<'a> Page<'a> {
+    pub fn put_bytes(&mut self, text: &[u8])
+        ensures { PlacedOn text.now self.old self.new }
+    {
+        self.at = put_bytes(text, self.bytes, self.at);
     }
-    p
-}
 
-// A number's digits.
-pub fn put_number(n: u64, out: &mut [u8], at: usize) -> usize
-    ensures { Placed (digits_of n) at out.old result out.new }
-{
-    let mut digits = [0u8; crate::LONGEST_NUMBER];
-    let size = size_of(crate::write_number(n, &mut digits));
-    put_bytes(&digits[..size], out, at)
-}
+    // A number's digits.
+    pub fn put_number(&mut self, n: u64)
+        ensures { PlacedOn (digits_of n) self.old self.new }
+    {
+        let mut digits = [0u8; crate::LONGEST_NUMBER];
+        let size = size_of(crate::write_number(n, &mut digits));
+        self.put_bytes(&digits[..size]);
+    }
 
-// A term's text.
-pub fn put_term(t: Term, out: &mut [u8], at: usize) -> usize
-    ensures { Placed (term_text (view_term t)) at out.old result out.new }
-{
-    let mut text = [0u8; base_limits::LONGEST_TERM];
-    let size = size_of(crate::write_term(t, &mut text));
-    put_bytes(&text[..size], out, at)
-}
+    // A term's text.
+    pub fn put_term(&mut self, t: Term)
+        ensures { PlacedOn (term_text (view_term t)) self.old self.new }
+    {
+        let mut text = [0u8; base_limits::LONGEST_TERM];
+        let size = size_of(crate::write_term(t, &mut text));
+        self.put_bytes(&text[..size]);
+    }
 
-// A refusal's number and its place.
-pub fn put_number_at(n: u64, place: u64, out: &mut [u8], at: usize) -> usize
-    ensures { Placed (number_at n place) at out.old result out.new }
-{
-    let a = put_number(n, out, at);
-    let b = put_bytes(b" at ", out, a);
-    put_number(place, out, b)
+    // A refusal's number and its place.
+    pub fn put_number_at(&mut self, n: u64, place: u64)
+        ensures { PlacedOn (number_at n place) self.old self.new }
+    {
+        self.put_number(n);
+        self.put_bytes(b" at ");
+        self.put_number(place);
+    }
+
+    // What was put from the front of the bytes on, into the lent bytes, or its size where these are too few.
+    pub fn give(&self, out: &mut [u8]) -> Result<usize, TooSmall>
+        ensures { Writes (take self.now.at self.now.bytes.now) out.old result out.new }
+    {
+        let n = self.at.min(self.bytes.len());
+        give(&self.bytes[..n], out)
+    }
 }
 
 // ---- lines
@@ -75,11 +92,11 @@ pub fn tab_place(line: &[u8]) -> usize
 }
 
 // The text into the lent bytes, or its size where they are too few.
-pub fn give(text: &[u8], out: &mut [u8]) -> Written
+pub fn give(text: &[u8], out: &mut [u8]) -> Result<usize, TooSmall>
     ensures { Writes text.now out.old result out.new }
 {
     if out.len() < text.len() {
-        return Written::TooSmall(text.len());
+        return Err(TooSmall { needed: text.len() });
     }
-    Written::Bytes(base_bytes::copy(text, out))
+    Ok(base_bytes::copy(text, out))
 }

@@ -1,4 +1,5 @@
 -- What is said of the values that reading, carrying out and writing return is what is said of the texts. Assumes nothing.
+use Rattle.std.specs.Prelude.{Result, Ok, Err}
 use mathlib.Core.Path.{◌≡◌, refl, sym, ap, ap₂, ◌∙◌, subst}
 use mathlib.Core.List.{List, [], ◌∷◌, map}
 use Prim.Native.Nat.{ℕ}
@@ -17,7 +18,7 @@ use Rattle.apply_spec.specs.Carrying.{Carried, result, unmatched, too_long}
 use Rattle.apply_spec.specs.Rules.{carried}
 use Rattle.apply_spec.proofs.Carrying.{unmatched≢result}
 use Rattle.apply_spec.proofs.Rules.{no_slip}
-use Rattle.text_values.specs.declared.Slip.{Slip}
+use Rattle.text_values.specs.Values.{Slip}
 use Rattle.text_accepted.specs.rules.Rules.{counted_rule}
 use Rattle.text_accepted.proofs.rules.Rules.{counted_encode}
 use Rattle.text_accepted.specs.slips.Slips.{counted_slip}
@@ -30,8 +31,7 @@ use Rattle.text_read.specs.declared.SlipRead.{SlipRead}
 use Rattle.text_read.specs.Answers.{rule_read, slip_read, side_said}
 use Rattle.text_read.proofs.Values.{rule_verdict}
 use Rattle.text_refusals.specs.verdicts.Verdicts.{verdict_of}
-use Rattle.text_write.specs.declared.Written.{Written}
-use Rattle.text_write.specs.declared.Written.TheVariants.{Bytes, TooSmall}
+use Rattle.text_write.specs.declared.TooSmall.{TooSmall}
 use Rattle.text_write.specs.Answers.{told, Writes}
 use Rattle.yopobrush.specs.declared.Reading.{Reading}
 use Rattle.yopobrush.specs.declared.Carrying.{Carrying}
@@ -107,15 +107,15 @@ module _ (a b : Reading) (n needed lent : ℕ) where
   abbrev counted : Told
   counted = by_room needed lent (needed ∷ [])
 
-  told_roomed : (w : Written) (m : ℕ) → told w ≡ counted → (told w).values ≡ m ∷ [] → roomed a b n (told w) m ≡ roomed a b n counted needed
+  told_roomed : (w : Result ℕ TooSmall) (m : ℕ) → told w ≡ counted → (told w).values ≡ m ∷ [] → roomed a b n (told w) m ≡ roomed a b n counted needed
   told_roomed w m h k =
       let values : m ∷ [] ≡ needed ∷ [] = sym k ∙ ap (λ (v : Told). v.values) h in
       let is : m ≡ needed = cc in
       ap (roomed a b n (told w)) is ∙ ap (λ (v : Told). roomed a b n v needed) h
 
-  written_said : (w : Written) → told w ≡ counted → carrying_by a b n w ≡ roomed a b n counted needed
-  written_said (Bytes m) h = told_roomed (Bytes m) m h refl
-  written_said (TooSmall m) h = told_roomed (TooSmall m) m h refl
+  written_said : (w : Result ℕ TooSmall) → told w ≡ counted → carrying_by a b n w ≡ roomed a b n counted needed
+  written_said (Ok m) h = told_roomed (Ok m) m h refl
+  written_said (Err e) h = told_roomed (Err e) e.needed h refl
 
 -- ---- all of it
 
@@ -139,7 +139,7 @@ module _ (t u : List ℕ) (r : RuleRead) (s : SlipRead) (c : CarriedValue) (is-r
   slip_is : reading_by s.verdict ≡ reading_of (read_slip u)
   slip_is = ap (λ (x : SlipRead). reading_by x.verdict) is-s ∙ ap reading_by (slip_verdict (read_slip u)) ∙ verdict_said (read_slip u)
 
-  pub texts_carried : (old : List ℕ) {w : Written} {new : List ℕ} (x y : Reading) (n : ℕ) (answer : Carrying)
+  pub texts_carried : (old : List ℕ) {w : Result ℕ TooSmall} {new : List ℕ} (x y : Reading) (n : ℕ) (answer : Carrying)
       → Writes (plain (counted_slip c.slip)) old w new
       → x ≡ reading_by r.verdict
       → y ≡ reading_by s.verdict

@@ -8,15 +8,14 @@ use Rattle.text_grammar.specs.Told.{Told, by_room}
 use Rattle.text_grammar.specs.Read.{OutcomeOf, refused, accepted}
 use Rattle.text_grammar.specs.rules.Read.{OurRule, read_rule}
 use Rattle.text_read.specs.declared.RuleRead.{RuleRead}
-use Rattle.text_refusals.specs.declared.verdicts.Verdict.{Verdict}
+use Rattle.text_refusals.specs.verdicts.Verdicts.{Verdict}
 use Rattle.text_refusals.specs.verdicts.Verdicts.{verdict_of}
 use Rattle.text_read.specs.Answers.{rule_read, left_said}
 use Rattle.text_refusals.proofs.verdicts.Verdicts.{number_is}
 use Rattle.overlap_spec.specs.Overlaps.{lines_of, overlap_text}
-use Rattle.overlap_list.specs.declared.Listed.{Listed}
-use Rattle.overlap_list.specs.declared.Listed.TheVariants.{Lines, TooSmall}
+use Rattle.std.specs.Prelude.{Ok, Err}
 use Rattle.overlap_list.specs.declared.TextsListed.{TextsListed}
-use Rattle.overlap_list.specs.Answers.{told, TextsList}
+use Rattle.overlap_list.specs.Answers.{Listed, told, TextsList}
 use Rattle.overlap_list.specs.declared.shared.TextsOverlap.{TextsOverlap}
 use Rattle.overlap_list.specs.shared.Answers.{TextsMeet}
 use Rattle.yopobrush.specs.declared.Reading.{Reading}
@@ -53,8 +52,8 @@ module _ (l r : Reading) (needed lent n b : ℕ) where
       ap₂ (whole l r (told x)) is_n is_b ∙ ap (λ (a : Told). whole l r a n b) h
 
   listed_said : (x : Listed) → told x ≡ counted → listing_by l r x ≡ whole l r counted n b
-  listed_said (Lines m c) h = told_whole (Lines m c) m c h refl
-  listed_said (TooSmall m c) h = told_whole (TooSmall m c) m c h refl
+  listed_said (Ok c) h = told_whole (Ok c) c.entries c.bytes h refl
+  listed_said (Err s) h = told_whole (Err s) s.counts.entries s.counts.bytes h refl
 
 -- how each text is read, and the list of what they say
 pub texts_said : (t u : List ℕ) {old : List ℕ} {said : TextsListed} {new : List ℕ} (a b : Reading) (answer : Listing)

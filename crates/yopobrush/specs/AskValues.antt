@@ -1,8 +1,7 @@
 -- The same answers, from what asking and committing return: `texts_asked` and `texts_committed` of proofs/Asks say that they are the
 -- same.
 use Rattle.overlap_counts.specs.declared.Counts.{Counts}
-use Rattle.overlap_counts.specs.declared.Committed.{Committed}
-use Rattle.overlap_counts.specs.Answers.{told}
+use Rattle.overlap_counts.specs.Answers.{Committed, told}
 use Rattle.yopobrush.specs.declared.Reading.{Reading}
 use Rattle.yopobrush.specs.declared.Listing.{Listing}
 use Rattle.yopobrush.specs.declared.Asking.{Asking}

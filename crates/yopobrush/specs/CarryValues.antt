@@ -1,11 +1,10 @@
 -- The same answers, from what reading, carrying out and writing return: `texts_carried` of proofs/Carries says that they are the same.
-use Rattle.std.specs.Prelude.{ℕ}
+use Rattle.std.specs.Prelude.{ℕ, Result, Ok, Err}
 use Rattle.text_grammar.specs.Told.{Told}
 use Rattle.apply_rules.specs.declared.Carry.{Carry}
 use Rattle.apply_rules.specs.declared.Carry.TheVariants.{Yes, No, TooLong}
 use Rattle.apply_rules.specs.Answers as carrying
-use Rattle.text_write.specs.declared.Written.{Written}
-use Rattle.text_write.specs.declared.Written.TheVariants.{Bytes, TooSmall}
+use Rattle.text_write.specs.declared.TooSmall.{TooSmall}
 use Rattle.text_write.specs.Answers.{told}
 use Rattle.yopobrush.specs.declared.Reading.{Reading}
 use Rattle.yopobrush.specs.declared.Carrying.{Carrying}
@@ -20,6 +19,6 @@ number_by TooLong = numbered (carrying.told TooLong).number
 abbrev pub roomed : Reading → Reading → ℕ → Told → ℕ → Carrying
 roomed rule slip n a b = record { rule = rule; slip = slip; answer = unless n a.number; bytes = b }
 
-abbrev pub carrying_by : Reading → Reading → ℕ → Written → Carrying
-carrying_by rule slip n (Bytes b) = roomed rule slip n (told (Bytes b)) b
-carrying_by rule slip n (TooSmall b) = roomed rule slip n (told (TooSmall b)) b
+abbrev pub carrying_by : Reading → Reading → ℕ → Result ℕ TooSmall → Carrying
+carrying_by rule slip n (Ok b) = roomed rule slip n (told (Ok b)) b
+carrying_by rule slip n (Err e) = roomed rule slip n (told (Err e)) e.needed

@@ -15,10 +15,9 @@ ghost use Rattle.yopobrush.specs.Carries.{LibraryCarries};
 ghost use Rattle.yopobrush.specs.CarryValues.{number_by, carrying_by};
 
 use apply_rules::Carry;
-use overlap_counts::{Committed, Counts};
-use overlap_list::Listed;
-use text_refusals::verdicts::Verdict;
-use text_write::Written;
+use overlap_counts::{CommitRefusal, Counts, NoRoom};
+use text_refusals::verdicts::{Refusal, Verdict};
+use text_write::TooSmall;
 
 // ---- the version
 
@@ -63,35 +62,30 @@ fn reading_of(v: Verdict) -> Reading
     ensures { result ≡ reading_by v }
 {
     match v {
-        Verdict::Accepted => Reading {
+        Ok(()) => Reading {
             refusal: 0,
             place: 0,
         },
-        Verdict::Refused(reason, place) => Reading {
+        Err(Refusal { reason, place }) => Reading {
             refusal: text_refusals::verdicts::number(reason) as u64,
             place: place as u64,
         },
     }
 }
 
-fn listing_of(left: Reading, right: Reading, listed: Listed) -> Listing
+fn listing_of(left: Reading, right: Reading, listed: Result<Counts, NoRoom>) -> Listing
     ensures { result ≡ listing_by left right listed }
 {
-    match listed {
-        Listed::Lines(entries, bytes) => Listing {
-            left: left,
-            right: right,
-            refusal: 0,
-            entries: entries as u64,
-            bytes: bytes as u64,
-        },
-        Listed::TooSmall(entries, bytes) => Listing {
-            left: left,
-            right: right,
-            refusal: 8,
-            entries: entries as u64,
-            bytes: bytes as u64,
-        },
+    let (refusal, Counts { entries, bytes }) = match listed {
+        Ok(counts) => (0, counts),
+        Err(NoRoom { counts }) => (8, counts),
+    };
+    Listing {
+        left,
+        right,
+        refusal,
+        entries: entries as u64,
+        bytes: bytes as u64,
     }
 }
 
@@ -99,9 +93,7 @@ fn listing_of(left: Reading, right: Reading, listed: Listed) -> Listing
 pub fn yopobrush_read_rule(text: &[u8]) -> Reading
     ensures { result ≡ reading_of (read_rule text.now) }
 {
-    let read = text_read::read_rule(text);
-    let verdict = read.verdict;
-    reading_of(verdict)
+    reading_of(text_read::read_rule(text).verdict)
 }
 
 // Lists the overlaps of two rule texts into the lent bytes. A text that is refused says the rule with no fields, which has no overlaps.
@@ -109,10 +101,7 @@ pub fn yopobrush_list_overlaps(left: &[u8], right: &[u8], out: &mut [u8]) -> Lis
     ensures { LibraryLists left.now right.now out.old result out.new }
 {
     let said = overlap_list::list_texts(left, right, out);
-    let left_verdict = said.left;
-    let right_verdict = said.right;
-    let listed = said.listed;
-    listing_of(reading_of(left_verdict), reading_of(right_verdict), listed)
+    listing_of(reading_of(said.left), reading_of(said.right), said.listed)
 }
 
 // ---- asking first
@@ -131,22 +120,22 @@ fn asking_of(left: Reading, right: Reading, counts: Counts) -> Asking
     ensures { result ≡ asking_by left right counts }
 {
     Asking {
-        left: left,
-        right: right,
+        left,
+        right,
         entries: counts.entries as u64,
         bytes: counts.bytes as u64,
     }
 }
 
-fn committing_of(left: Reading, right: Reading, committed: Committed) -> Listing
+fn committing_of(left: Reading, right: Reading, committed: Result<Counts, CommitRefusal>) -> Listing
     ensures { result ≡ committing_by left right committed }
 {
     match committed {
-        Committed::Lines(n, b) => listing_of(left, right, Listed::Lines(n, b)),
-        Committed::TooSmall(n, b) => listing_of(left, right, Listed::TooSmall(n, b)),
-        Committed::Stale => Listing {
-            left: left,
-            right: right,
+        Ok(counts) => listing_of(left, right, Ok(counts)),
+        Err(CommitRefusal::NoRoom(counts)) => listing_of(left, right, Err(NoRoom { counts })),
+        Err(CommitRefusal::Stale) => Listing {
+            left,
+            right,
             refusal: 13,
             entries: 0,
             bytes: 0,
@@ -160,10 +149,11 @@ pub fn yopobrush_ask_overlaps(left: &[u8], right: &[u8]) -> Asking
     ensures { LibraryAsks left.now right.now result }
 {
     let asked = overlap_list::asking::ask_texts(left, right);
-    let left_verdict = asked.left;
-    let right_verdict = asked.right;
-    let counts = asked.counts;
-    asking_of(reading_of(left_verdict), reading_of(right_verdict), counts)
+    asking_of(
+        reading_of(asked.left),
+        reading_of(asked.right),
+        asked.counts,
+    )
 }
 
 // Lists the overlaps of two rule texts into the lent bytes where the counts are those of their list.
@@ -182,13 +172,10 @@ pub fn yopobrush_commit_overlaps(
         bytes: bytes as usize,
     };
     let made = overlap_list::asking::commit_texts(asked, left, right, out);
-    let left_verdict = made.left;
-    let right_verdict = made.right;
-    let committed = made.committed;
     committing_of(
-        reading_of(left_verdict),
-        reading_of(right_verdict),
-        committed,
+        reading_of(made.left),
+        reading_of(made.right),
+        made.committed,
     )
 }
 
@@ -207,9 +194,9 @@ fn overlapping_of(left: Reading, right: Reading, overlap: bool) -> Overlapping
     ensures { result ≡ overlapping_by left right overlap }
 {
     Overlapping {
-        left: left,
-        right: right,
-        overlap: if overlap { 1 } else { 0 },
+        left,
+        right,
+        overlap: overlap as u64,
     }
 }
 
@@ -219,10 +206,7 @@ pub fn yopobrush_texts_overlap(left: &[u8], right: &[u8]) -> Overlapping
     ensures { LibraryOverlaps left.now right.now result }
 {
     let met = overlap_list::shared::texts_overlap(left, right);
-    let left_verdict = met.left;
-    let right_verdict = met.right;
-    let overlap = met.overlap;
-    overlapping_of(reading_of(left_verdict), reading_of(right_verdict), overlap)
+    overlapping_of(reading_of(met.left), reading_of(met.right), met.overlap)
 }
 
 // ---- carrying out
@@ -248,21 +232,26 @@ fn number_of(answer: Carry) -> u64
     }
 }
 
-fn carrying_of(rule: Reading, slip: Reading, answer: u64, written: Written) -> Carrying
+fn carrying_of(
+    rule: Reading,
+    slip: Reading,
+    answer: u64,
+    written: Result<usize, TooSmall>,
+) -> Carrying
     ensures { result ≡ carrying_by rule slip answer written }
 {
     match written {
-        Written::Bytes(bytes) => Carrying {
+        Ok(bytes) => Carrying {
             rule: rule,
             slip: slip,
             answer: answer,
             bytes: bytes as u64,
         },
-        Written::TooSmall(bytes) => Carrying {
+        Err(e) => Carrying {
             rule: rule,
             slip: slip,
             answer: 8,
-            bytes: bytes as u64,
+            bytes: e.needed as u64,
         },
     }
 }

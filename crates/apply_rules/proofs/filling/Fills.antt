@@ -2,10 +2,11 @@
 -- that of θ. Assumes nothing.
 use mathlib.Core.Path.{◌≡◌, refl, sym, ap, ap₂, ◌∙◌}
 use mathlib.Core.Logic.{inl, inr}
-use mathlib.Core.Bool.{Bool, true, false, ◌&&◌, cond}
+use mathlib.Core.Bool.{Bool, ◌&&◌, cond}
 use mathlib.Core.List.{List, [], ◌∷◌, ◌++◌, map, map-map, map-append}
-use Prim.Native.Nat.{ℕ, ◌-◌}
+use Prim.Native.Nat.{ℕ}
 use lib.Dec.{leb}
+use Rattle.std.specs.Prelude.{Option, Some, None}
 use lib.ListN.{length-map}
 use Rattle.base_limits.specs.Limits.{most_fields, most_terms, most_items}
 use Rattle.base_lists.specs.Seqs.{Any}
@@ -17,14 +18,11 @@ use Rattle.math_terms.specs.Fillings.{Filling, fill, Occurs}
 use Rattle.text_grammar.specs.Terms.{OurTerm, OurFields, SlipFields}
 use Rattle.text_grammar.specs.constants.Constants.{Con}
 use Rattle.text_values.specs.declared.Term.{Term}
-use Rattle.text_values.specs.declared.Field.{Field}
-use Rattle.text_values.specs.declared.SlipField.{SlipField}
-use Rattle.text_values.specs.declared.Slip.{Slip}
+use Rattle.text_values.specs.Values.{Field, SlipField, Slip}
 use Rattle.text_values.specs.canonical.Filled.{pad}
-use Rattle.text_values.specs.Values.{blank_term, blank_field, blank_slip_field, blank_slip, encode_term, encode_field, encode_side, encode_slip_field, encode_slip}
+use Rattle.text_values.specs.Values.{blank_term, blank_field, blank_slip_field, encode_term, encode_field, encode_side, encode_slip_field, encode_slip}
 use Rattle.text_values.proofs.Pads.{unpadded}
 use Rattle.match_fields.specs.declared.bindings.Filling.{Filling as FillingValue}
-use Rattle.apply_rules.specs.declared.filling.Filled.{Filled}
 use Rattle.apply_rules.specs.filling.Filled.{value_items, filled_term, filled_field, all_short, slip_field, slip_of, filled_as, filled_side}
 
 -- the value of a constant
@@ -52,12 +50,12 @@ short_of g [] = refl
 short_of g (v ∷ w) = ap₂ (λ (n : ℕ) (b : Bool). leb n most_items && b) (length-map v g) (short_of g w)
 
 -- the answer of so many constants
-abbrev pub filled_with : SlipFields → Filled
-filled_with w = cond (all_short w) (record { ok = true; slip = encode_slip (map (map con) w) }) (record { ok = false; slip = blank_slip })
+abbrev pub filled_with : SlipFields → Option Slip
+filled_with w = cond (all_short w) (Some (encode_slip (map (map con) w))) None
 
 filled_of : (w : SlipFields) → filled_as (map (map enc) w) ≡ filled_with w
 filled_of w =
-    ap₂ (λ (b : Bool) (s : Slip). cond {A = Filled} b (record { ok = true; slip = s }) (record { ok = false; slip = blank_slip })) (short_of enc w) (slip_of_lem w)
+    ap₂ (λ (b : Bool) (s : Slip). cond {A = Option Slip} b (Some s) None) (short_of enc w) (slip_of_lem w)
 
 -- ---- a side
 
@@ -82,7 +80,7 @@ module _ (x : FillingValue) (s : Slip) (θ : Filling Con Kind ℕ) where
       (ap (concat_map (filled_term x s)) (unpadded most_terms blank_term encode_term f) ∙ field_filled f (λ k n o. g k n (inl o)))
       (fields_filled y (λ k n o. g k n (inr o)))
 
-  -- FILLING IN a side of which x gives every variable θ's items: `ok` exactly where no field has more than 64 items, and then it is the slip of them
+  -- FILLING IN a side of which x gives every variable θ's items: the slip of them, exactly where no field has more than 64 items
   pub fills : (y : OurFields) → ((k : Kind) (n : ℕ) → Any (Occurs k n) y → Gives k n) → filled_side (encode_side y) x s ≡ filled_with (map (fill θ) y)
   fills y g =
       ap (λ (l : List Field). filled_as (map (filled_field x s) l)) (unpadded most_fields blank_field encode_field y)

@@ -9,7 +9,7 @@ use Rattle.math_types.specs.Values.{kind_of}
 use Rattle.math_types.specs.declared.Kind.{Kind as KindValue}
 use Rattle.text_values.specs.declared.Form.TheVariants.{Var}
 use Rattle.text_values.specs.declared.Term.{Term}
-use Rattle.text_values.specs.declared.Slip.{Slip}
+use Rattle.text_values.specs.Values.{Slip}
 use Rattle.match_fields.specs.declared.bindings.Filling.{Filling}
 use Rattle.match_fields.specs.bindings.Values.{atom_of, run_of}
 use Rattle.apply_rules.specs.filling.Filled.{run_items, value_items, filled_form, filled_term}

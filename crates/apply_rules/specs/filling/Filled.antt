@@ -1,6 +1,6 @@
 -- A filling put into a side of a rule, on values. `fills` of proofs/Fills says that it is `fill` of the theory, where the value of each of
 -- the side's variables is the filling's.
-use Rattle.std.specs.Prelude.{Bool, true, false, ◌&&◌, cond, List, [], ◌∷◌, map, ℕ, leb, length, get_or, take, drop}
+use Rattle.std.specs.Prelude.{Bool, true, ◌&&◌, cond, List, [], ◌∷◌, map, ℕ, leb, length, get_or, take, drop, Option, Some, None}
 use Rattle.base_limits.specs.Limits.{most_fields}
 use Rattle.math_types.specs.Order.{basic, list}
 use Rattle.math_types.specs.Types.{Kind}
@@ -10,17 +10,13 @@ use Rattle.text_grammar.specs.Read.{slip}
 use Rattle.text_values.specs.declared.Form.{Form}
 use Rattle.text_values.specs.declared.Form.TheVariants.{Con, Var}
 use Rattle.text_values.specs.declared.Term.{Term}
-use Rattle.text_values.specs.declared.Field.{Field}
-use Rattle.text_values.specs.declared.RuleSide.{RuleSide}
-use Rattle.text_values.specs.declared.SlipField.{SlipField}
-use Rattle.text_values.specs.declared.Slip.{Slip}
+use Rattle.text_values.specs.Values.{Field, RuleSide, SlipField, Slip}
 use Rattle.text_values.specs.canonical.Filled.{pad}
-use Rattle.text_values.specs.Values.{blank_term, blank_slip_field, blank_slip}
+use Rattle.text_values.specs.Values.{blank_term, blank_slip_field}
 use Rattle.match_fields.specs.declared.bindings.Run.{Run}
 use Rattle.match_fields.specs.declared.bindings.Filling.{Filling}
 use Rattle.match_fields.specs.bindings.Values.{atom_of, run_of}
 use Rattle.match_fields.specs.Fields.{terms_of, items_of}
-use Rattle.apply_rules.specs.declared.filling.Filled.{Filled}
 
 -- ---- the terms that a term becomes
 
@@ -62,9 +58,9 @@ slip_field ts = record { n = length ts; terms = pad slip.width blank_term ts }
 abbrev pub slip_of : List (List Term) → Slip
 slip_of fs = record { n = length fs; fields = pad most_fields blank_slip_field (map slip_field fs) }
 
-abbrev pub filled_as : List (List Term) → Filled
-filled_as fs = cond (all_short fs) (record { ok = true; slip = slip_of fs }) (record { ok = false; slip = blank_slip })
+abbrev pub filled_as : List (List Term) → Option Slip
+filled_as fs = cond (all_short fs) (Some (slip_of fs)) None
 
 -- document 02: "the right side with the filling put in"
-abbrev pub filled_side : RuleSide → Filling → Slip → Filled
+abbrev pub filled_side : RuleSide → Filling → Slip → Option Slip
 filled_side r x s = filled_as (filled_fields x s r)

@@ -1,13 +1,6 @@
-use mathlib.Core.Path.{◌≡◌, refl, sym}
-use Prim.Native.Nat.{◌-◌, ◌≤◌}
-use native.Mathlib.Omega.{arith}
-use lib.ListN.{length}
-use Rattle.base_limits.specs.Limits.{most_rules}
-use Rattle.base_lists.specs.Seqs.{long_mapped}
 use Rattle.text_accepted.specs.slips.Slips.{counted_slip}
 use Rattle.book_rules.specs.Books.{counted_book}
-use Rattle.book_rules.proofs.Picks.{counted_long, counted_at, Passed, passed_none, passed_found, passed_next, passed_all, too_many}
-use borrow.Author.Rules.{rules}
+use Rattle.book_rules.proofs.Picks.{counted_at, passed_found, passed_next}
 use Rattle.book_rules.proofs.pick.Goals as goal
 
 pub returns-then-m : goal.returns-then-m

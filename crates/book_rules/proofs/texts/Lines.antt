@@ -10,8 +10,8 @@ use Rattle.text_grammar.specs.Read.{OutcomeOf, refused, accepted}
 use Rattle.text_grammar.specs.rules.Read.{OurRule, read_rule}
 use Rattle.text_grammar.proofs.rules.Accepted.{rule_bytes}
 use Rattle.text_refusals.specs.declared.verdicts.Reason as values
-use Rattle.text_refusals.specs.declared.verdicts.Verdict.{Verdict}
-use Rattle.text_refusals.specs.declared.verdicts.Verdict.TheVariants.{Accepted, Refused}
+use Rattle.std.specs.Prelude.{Ok, Err}
+use Rattle.text_refusals.specs.verdicts.Verdicts.{Verdict, Accepted, Refused}
 use Rattle.text_refusals.specs.verdicts.Verdicts.{verdict_of}
 use Rattle.text_read.specs.declared.LeftJudged.{LeftJudged}
 use Rattle.text_read.specs.Answers.{JudgesLeft}
@@ -23,8 +23,8 @@ use Rattle.book_rules.specs.texts.Keeping.{room_for, Keeps, added_by, added_as, 
 
 -- the verdict of a line, as what is said of it
 abbrev added_at : Verdict → Added
-added_at Accepted = line.Taken
-added_at (Refused r p) = line.Refused r p
+added_at (Ok u) = line.Taken
+added_at (Err e) = line.Refused e.reason e.place
 
 added_is : (o : OutcomeOf OurRule) → added_at (verdict_of o) ≡ added_by o
 added_is (refused r p) = refl

@@ -1,4 +1,3 @@
-use borrow.Author.Rules.{rules}
 use Rattle.demands.specs.Committing.{texts_asking}
 use Rattle.demands.proofs.ask_texts.Goals as goal
 

@@ -1,4 +1,3 @@
-use borrow.Author.Rules.{rules}
 use Rattle.demands.specs.Committing.{ask_commit}
 use Rattle.demands.proofs.ask_then_commit.Goals as goal
 

@@ -1,4 +1,3 @@
-use borrow.Author.Rules.{rules}
 use Rattle.demands.specs.Committing.{commit_demand_3}
 use Rattle.demands.proofs.commit.Goals as goal
 

@@ -1,4 +1,3 @@
-use borrow.Author.Rules.{rules}
 use Rattle.demands.specs.LibraryCommitting.{library_asking}
 use Rattle.demands.proofs.library_ask.Goals as goal
 

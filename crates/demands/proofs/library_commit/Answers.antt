@@ -1,4 +1,3 @@
-use borrow.Author.Rules.{rules}
 use Rattle.demands.specs.LibraryCommitting.{library_committing}
 use Rattle.demands.proofs.library_commit.Goals as goal
 

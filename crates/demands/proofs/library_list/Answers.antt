@@ -1,4 +1,3 @@
-use borrow.Author.Rules.{rules}
 use Rattle.demands.specs.Library.{library_shared}
 use Rattle.demands.proofs.library_list.Goals as goal
 

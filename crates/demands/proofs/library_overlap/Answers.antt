@@ -1,4 +1,3 @@
-use borrow.Author.Rules.{rules}
 use Rattle.demands.specs.Library.{library_meets}
 use Rattle.demands.proofs.library_overlap.Goals as goal
 

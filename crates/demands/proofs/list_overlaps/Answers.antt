@@ -1,4 +1,3 @@
-use borrow.Author.Rules.{rules}
 use Rattle.demands.specs.Overlaps.{lists_shared}
 use Rattle.demands.proofs.list_overlaps.Goals as goal
 

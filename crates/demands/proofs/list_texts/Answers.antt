@@ -1,4 +1,3 @@
-use borrow.Author.Rules.{rules}
 use Rattle.demands.specs.Overlaps.{texts_shared}
 use Rattle.demands.proofs.list_texts.Goals as goal
 

@@ -1,5 +1,4 @@
 use Rattle.demands.specs.Books.{picking}
-use borrow.Author.Rules.{rules}
 use Rattle.demands.proofs.pick.Goals as goal
 
 pub returns : goal.returns

@@ -1,20 +1,15 @@
-use borrow.Author.Rules.{rules}
-use lib.ListN.{length, get_or, take}
-use borrow.Author.Tests.{not-true, not-false}
-use mathlib.Core.Path.{◌≡◌, refl, sym, ◌∙◌}
-use mathlib.Core.Bool.{false}
-use mathlib.Core.Logic.{⊎_elim}
-use native.Mathlib.Omega.{arith}
-use Prim.Native.Nat.{◌+◌, ◌-◌, ◌≤◌, min}
-use Rattle.base_limits.specs.Limits.{most_terms, most_items}
-use Rattle.base_lists.specs.Seqs.{long_mapped}
-use Rattle.match_fields.proofs.Walks.{absent, passed_is, failed_is, Reached, reached_none, reached_list, reached_one, reached_fail}
-use Rattle.match_fields.proofs.Walks.{reached_all, reached_same}
+use Rattle.std.proofs.Common.{◌≡◌, ◌+◌, ◌*◌, ◌≤◌, drop}
+use Rattle.base_limits.specs.Limits.{most_items}
+use Rattle.match_fields.specs.Fields.{walked, walk_compared, terms_of, items_of}
 use Rattle.match_fields.proofs.walk_field.Given as goal
 
-abbrev pub invariant-loop-i : goal.invariant-loop-i
-invariant-loop-i l =
-    (l.gap ≤ most_items) × (l.n ≡ min l.f.n most_terms) × (l.i ≤ l.n) × Reached l.gap (take l.w.n l.w.terms) l.f.n l.f.terms most_terms l.initial.now l.i l.p l.compared l.now
-
-abbrev pub decreases-loop-i : goal.decreases-loop-i
-decreases-loop-i l = l.n - l.i
+-- what is left of the walk, with so many items compared so far, is the whole walk
+abbrev pub invariant-loop-t : goal.invariant-loop-t
+invariant-loop-t l = record {
+  few_items : l.p ≤ most_items * l.t-index;
+  few_compared : l.compared ≤ l.t-index;
+  terms : l.t-items ≡ terms_of l.fn.f;
+  left_tested : walked l.gap (items_of l.w) (terms_of l.fn.f) 0 l.fn.v ≡ walked l.gap (items_of l.w) (drop l.t-index l.t-items) l.p l.now;
+  left_compared : walk_compared l.gap (items_of l.w) (terms_of l.fn.f) 0 l.fn.v
+      ≡ l.compared + walk_compared l.gap (items_of l.w) (drop l.t-index l.t-items) l.p l.now;
+}

@@ -1,5 +1,5 @@
 -- The test of a term against an item on values, as code makes it. `test_agrees` of matching's proofs/Agree says that it is the matcher's.
-use Rattle.std.specs.Prelude.{Bool, true, false, cond, List, ℕ, get_or, set}
+use Rattle.std.specs.Prelude.{Bool, true, false, cond, List, ℕ, get_or, set, Option, Some, None}
 use Rattle.math_types.specs.Order.{basic, list}
 use Rattle.math_types.specs.Types.{Kind, le}
 use Rattle.math_types.specs.Values.{kind_of}
@@ -10,7 +10,6 @@ use Rattle.text_values.specs.constants.Constants.{same_constant, constant_kind}
 use Rattle.text_values.specs.Values.{blank_term}
 use Rattle.match_fields.specs.declared.bindings.Values.{Values}
 use Rattle.match_fields.specs.bindings.Values.{slot}
-use Rattle.match_fields.specs.declared.items.Tested.{Tested}
 
 -- ---- equality of constants: their values have one form each
 
@@ -32,18 +31,18 @@ item_kind (Var k n) = kind_of k
 abbrev pub bound : Values → ℕ → Term → Values
 bound v i t = record { known = set v.known i true; terms = set v.terms i t }
 
-abbrev pub met : Bool → Kind → ℕ → Term → Values → Tested
-met true k i item v = record { ok = same_term (get_or v.terms i blank_term) item; values = v }
-met false k i item v =
-    cond (le (item_kind item.form) k) (record { ok = true; values = bound v i item }) (record { ok = false; values = v })
+abbrev pub met : Bool → Kind → ℕ → Term → Values → Option Values
+met true k i item v = cond (same_term (get_or v.terms i blank_term) item) (Some v) None
+met false k i item v = cond (le (item_kind item.form) k) (Some (bound v i item)) None
 
-abbrev pub test_var : Kind → ℕ → Term → Values → Tested
+abbrev pub test_var : Kind → ℕ → Term → Values → Option Values
 test_var (basic k) n item v = met (get_or v.known (slot (basic k) n) false) (basic k) (slot (basic k) n) item v
-test_var list n item v = record { ok = true; values = v }
+test_var list n item v = Some v
 
-abbrev pub test_by : Form → Term → Term → Values → Tested
-test_by (Con c) t item v = record { ok = same_term t item; values = v }
+abbrev pub test_by : Form → Term → Term → Values → Option Values
+test_by (Con c) t item v = cond (same_term t item) (Some v) None
 test_by (Var k n) t item v = test_var (kind_of k) n item v
 
-abbrev pub tested : Term → Term → Values → Tested
+-- the values behind an item that passes
+abbrev pub tested : Term → Term → Values → Option Values
 tested t item v = test_by t.form t item v

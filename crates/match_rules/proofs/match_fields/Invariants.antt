@@ -1,16 +1,15 @@
-use mathlib.Core.Path.{◌≡◌, refl, sym, ◌∙◌, ap, subst}
-use Prim.Native.Nat.{ℕ, ◌-◌, ◌≤◌}
-use native.Mathlib.Omega.{arith}
-use borrow.Author.Rules.{rules}
-use lib.ListN.{length, take}
-use Rattle.base_lists.specs.Seqs.{long_mapped}
-use Rattle.match_fields.specs.declared.bindings.Values.{Values}
-use Rattle.match_rules.specs.Tests.{fields_progress, no_values}
-use Rattle.match_rules.proofs.Walks.{Passed, passed_none, passed_one, passed_fail, passed_all}
+use Rattle.std.proofs.Common.{◌≡◌, ◌+◌, ◌*◌, ◌≤◌, length, drop}
+use Rattle.base_limits.specs.Limits.{most_terms}
+use Rattle.match_rules.specs.Tests.{fields_tested, fields_compared, no_values}
 use Rattle.match_rules.proofs.match_fields.Given as goal
 
-abbrev pub invariant-loop-i : goal.invariant-loop-i
-invariant-loop-i l = (l.n ≡ l.r.n) × (l.n ≤ 4) × (l.s.n ≡ l.n) × (l.i ≤ l.n) × Passed l.r.fields l.s.fields l.r.n no_values l.i l.compared l.v
-
-abbrev pub decreases-loop-i : goal.decreases-loop-i
-decreases-loop-i l = l.n - l.i
+-- what is left of the fields, with so many items compared so far, is all of them
+abbrev pub invariant-loop-f : goal.invariant-loop-f
+invariant-loop-f l = record {
+  can_next : (goal.iterator-loop-f).can_next l.f-iterator;
+  is_finite : (goal.iterator-loop-f).is_finite l.f-iterator;
+  few : l.compared ≤ most_terms * length l.yielded;
+  left_tested : fields_tested l.fs l.ws no_values ≡ fields_tested (drop (length l.yielded) l.fs) (drop (length l.yielded) l.ws) l.v;
+  left_compared : fields_compared l.fs l.ws no_values
+      ≡ l.compared + fields_compared (drop (length l.yielded) l.fs) (drop (length l.yielded) l.ws) l.v;
+}

@@ -11,6 +11,3 @@ decreases-next_field l = 2 * (l.fields - l.j)
 
 abbrev pub invariant-choose-loop-k : goal.invariant-choose-loop-k
 invariant-choose-loop-k l = Choosing l.row l.texts l.fields l.j l.ch l.st l.initial.u l.initial.out l.s l.k l.u l.out
-
-abbrev pub decreases-choose-loop-k : goal.decreases-choose-loop-k
-decreases-choose-loop-k l = l.k

@@ -7,10 +7,9 @@ use lib.ListN.{length}
 use lib.Seq.{sets}
 use Rattle.text_write.specs.pieces.Stored.{bytes_of}
 use Rattle.overlap_counts.specs.declared.Counts.{Counts}
-use Rattle.overlap_counts.specs.declared.Committed.{Committed}
-use Rattle.overlap_counts.specs.declared.Committed.TheVariants.{Lines, TooSmall, Stale}
-use Rattle.overlap_counts.specs.Answers.{told, commit_told}
-use Rattle.overlap_counts.proofs.Answers.{thirteen_iff, eight_iff, fits_iff, told_fresh, leaves_stale, leaves_fresh, leaves_small}
+use Rattle.std.specs.Prelude.{Ok}
+use Rattle.overlap_counts.specs.Answers.{Committed, told, commit_told}
+use Rattle.overlap_counts.proofs.Answers.{fits_iff, told_fresh, leaves_fresh}
 use Rattle.text_grammar.specs.Told.{Told}
 use Rattle.overlap_counts.specs.Answers.{no_counts}
 use Rattle.overlap_list.specs.Listing.{tallied}
@@ -29,19 +28,9 @@ module _ (ls : List (List ℕ)) (old now : List ℕ) (same : now ≡ old) (asked
   number_is : {r : Committed} → a ≡ r → (commit_told asked (line_counts ls) lent).number ≡ (told r).number
   number_is e = sym (ap (λ (t : Told). t.number) answer_is) ∙ ap (λ (r : Committed). (told r).number) e
 
-  pub stale_kept : a ≡ Stale → CommitsLines asked ls old a now
-  stale_kept e =
-      let other = (thirteen_iff asked (line_counts ls) lent).0 (number_is e) in
-      record { answer = answer_is; bytes = same ∙ sym (leaves_stale asked (line_counts ls) (bytes_of ls) old other) }
-
-  pub small_kept : {n b : ℕ} → a ≡ TooSmall n b → CommitsLines asked ls old a now
-  small_kept e =
-      let h = (eight_iff asked (line_counts ls) lent).0 (number_is e) in
-      record { answer = answer_is; bytes = same ∙ sym (leaves_small asked (line_counts ls) (bytes_of ls) old h.0 h.1) }
-
   -- and they were written
-  pub lines_written : {n b : ℕ} → a ≡ Lines n b → (u : Counts) → u ≡ tallied no_counts ls → {new : List ℕ} → new ≡ sets now 0 (bytes_of ls)
-      → CommitsLines asked ls old (Lines u.entries u.bytes) new
+  pub lines_written : {n : Counts} → a ≡ Ok n → (u : Counts) → u ≡ tallied no_counts ls → {new : List ℕ} → new ≡ sets now 0 (bytes_of ls)
+      → CommitsLines asked ls old (Ok u) new
   lines_written e u is_u is-new =
       let h = (fits_iff asked (line_counts ls) lent).0 (number_is e) in
       let size = ap (λ (x : Counts). x.bytes) (counted_all ls u is_u) in

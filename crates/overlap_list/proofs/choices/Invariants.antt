@@ -3,6 +3,3 @@ use Rattle.overlap_list.proofs.choices.Given as goal
 
 abbrev pub invariant-loop-j : goal.invariant-loop-j
 invariant-loop-j l = Product l.row l.fields l.j l.n
-
-abbrev pub decreases-loop-j : goal.decreases-loop-j
-decreases-loop-j l = l.j

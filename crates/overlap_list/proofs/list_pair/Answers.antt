@@ -13,7 +13,7 @@ pub returns-then-most_lines-out : goal.returns-then-most_lines-out
 returns-then-most_lines-out c =
     let z = c.args in
     let n = c.most_lines in
-    let u = c.all_lines-u in
+    let u = c.all_lines in
     let ls = pair_lines z.pair z.row.now z.texts.now in
     let fits : length (bytes_of ls) ≤ length z.out.now =
     surely_fits n.result (length (bytes_of ls)) (length z.out.now) c.if-most_lines-out.true
@@ -23,10 +23,10 @@ returns-then-most_lines-out c =
 pub returns : goal.returns
 returns c =
     let z = c.args in
-    let t = c.all_lines-t in
-    let u = c.all_lines-u-2 in
+    let t = c.all_lines-counts in
+    let u = c.all_lines-2 in
     let ls = pair_lines z.pair z.row.now z.texts.now in
     let same = measured (bytes_of ls) z.out.now t.ensures.1 in
     let bytes : t.result.bytes ≡ u.result.bytes = ap (λ (x : Counts). x.bytes) (t.ensures.0 ∙ sym u.ensures.0) in
-    room_enough ls z.out.now u.result u.ensures.0 (omega (arith, c.if-out-t.false, ap length same, bytes))
+    room_enough ls z.out.now u.result u.ensures.0 (omega (arith, c.if-out-counts.false, ap length same, bytes))
     (u.ensures.1 ∙ ap (λ (l : List ℕ). sets l 0 (bytes_of ls)) same)

@@ -5,7 +5,7 @@ use Rattle.overlap_list.proofs.put_entry.Goals as goal
 pub returns : goal.returns
 returns c =
     let line = line_in c.args.row.now c.args.texts.now c.args.fields c.args.ch c.args.st.atoms in
-    let a = c.at_most-at in
+    let a = c.min-at in
     let n = c.put_line-n in record {
       stores = (
         tally_one c.args.t line n.result n.ensures.puts.0,

@@ -8,7 +8,7 @@ use Rattle.text_read.specs.Answers.{left_said}
 use Rattle.text_write.specs.pieces.Stored.{bytes_of}
 use Rattle.overlap_spec.specs.Overlaps.{lines_of, overlap_text}
 use Rattle.overlap_counts.specs.declared.Counts.{Counts}
-use Rattle.overlap_counts.specs.declared.Committed.{Committed}
+use Rattle.overlap_counts.specs.Answers.{Committed}
 use Rattle.overlap_counts.specs.Answers as list
 use Rattle.overlap_list.specs.declared.asking.TextsAsked.{TextsAsked}
 use Rattle.overlap_list.specs.declared.asking.TextsCommitted.{TextsCommitted}

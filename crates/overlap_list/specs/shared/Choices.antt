@@ -1,16 +1,14 @@
 -- Whether a choice of one candidate a field is left that nothing kills, as code finds it, on the tables of a pair.
 -- `any_lines` of proofs/ says that it is whether the list on these tables has a line.
-use Rattle.std.specs.Prelude.{Bool, true, false, cond, ◌||◌, List, ℕ, zero, suc, ◌+◌, ◌-◌}
+use Rattle.std.specs.Prelude.{Option, Some, None, Bool, true, false, ◌||◌, List, ℕ, zero, suc, ◌+◌, ◌-◌}
 use Rattle.pair_row.specs.Row.{table_in}
 use Rattle.pair_state.specs.declared.State.{State}
-use Rattle.pair_state.specs.declared.Joined.{Joined}
-use Rattle.overlap_list.specs.declared.Pairing.{Pairing}
-use Rattle.overlap_list.specs.declared.Pairing.TheVariants.{Fields, Apart}
-use Rattle.overlap_list.specs.Listing.{span_at, candidate_of, joins_at}
+use Rattle.overlap_list.specs.Listing.{Pairing, span_at, candidate_of, joins_at}
 
 -- what follows a join, no where it clashes
-abbrev pub if_joined : Joined → (State → Bool) → Bool
-if_joined j next = cond j.ok (next j.next) false
+abbrev pub if_joined : Option State → (State → Bool) → Bool
+if_joined None next = false
+if_joined (Some st) next = next st
 
 -- k candidates are left for field j; `next` says whether a choice follows one
 abbrev pub any_candidate : (State → Bool) → List ℕ → ℕ → ℕ → State → Bool
@@ -29,5 +27,5 @@ any_in row n j st = any_from (n - j) row j st
 
 -- of two rules: each atom stands for itself at first
 abbrev pub any_of : Pairing → List ℕ → Bool
-any_of (Fields n) row = any_from n row 0 (record { atoms = (table_in row).first })
-any_of Apart row = false
+any_of (Some n) row = any_from n row 0 (record { atoms = (table_in row).first })
+any_of None row = false

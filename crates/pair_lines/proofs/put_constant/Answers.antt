@@ -1,19 +1,27 @@
-use mathlib.Core.Path.{◌≡◌, ap, ◌∙◌}
-use Prim.Native.Nat.{ℕ, ◌+◌, ◌-◌, ◌*◌, ◌≤◌, ◌<◌}
-use native.Mathlib.Omega.{arith}
-use lib.ListN.{get_or, take, drop}
-use borrow.Author.Rules.{rules}
+use Rattle.std.proofs.Common.{ℕ, List, ◌≡◌, ◌+◌, ◌-◌, ◌*◌, length, take, drop, min, arith, sym, ap, ap₂, ◌∙◌}
+use Rattle.base_lists.specs.Arrays.{part_of}
 use Rattle.pair_row.specs.Row.{cell_bytes}
-use Rattle.pair_lines.specs.Lines.{Puts}
-use Rattle.pair_lines.proofs.Puts.{puts_none, puts_as, puts_long, bytes_one, bytes_room, bytes_short}
+use Rattle.pair_lines.proofs.Puts.{puts_as}
+use Rattle.pair_lines.proofs.Values.{part_within}
 use Rattle.pair_lines.proofs.put_constant.Goals as goal
 
-pub loop-i-preserved : goal.loop-i-preserved
-loop-i-preserved c =
+-- n bytes from a on, whose ends are brought within the text
+cut : (texts : List ℕ) (a n m x y : ℕ) → n ≡ m → y ≡ min (a + n) (length texts) → x ≡ min a y → take (y - x) (drop x texts) ≡ take m (drop a texts)
+cut texts a n m x y e t f =
+    ap₂ (λ (i j : ℕ). take (j - i) (drop i texts)) (f ∙ ap (min a) t) t
+    ∙ part_within texts a (a + n)
+    ∙ sym (part_of a n texts)
+    ∙ ap (λ (k : ℕ). take k (drop a texts)) e
+
+pub put_bytes-requires : goal.put_bytes-requires
+put_bytes-requires c =
     let z = c.args in
-    let L = c.loop-i in
-    let h = c.loop-i-test.true in (
-      L.invariant.0,
-      omega arith,
-      bytes_one z.texts.now (cell_bytes * z.c + 1) L.i z.at z.out.now c.if-texts-from.false L.invariant.2 c.put_byte-q.ensures,
-    )
+    let e = ap length (cut z.texts.now (cell_bytes * z.c + 1) c.byte_at-n.result _ c.min-from.result c.min-to.result c.byte_at-n.ensures c.min-to.ensures
+    c.min-from.ensures) in
+    omega (arith, e, c.requires)
+
+pub returns : goal.returns
+returns c =
+    let z = c.args in
+    puts_as z.at z.out.now (cut z.texts.now (cell_bytes * z.c + 1) c.byte_at-n.result _ c.min-from.result c.min-to.result c.byte_at-n.ensures c.min-to.ensures
+    c.min-from.ensures) c.put_bytes.ensures

@@ -1,13 +1,10 @@
 use mathlib.Core.Path.{◌≡◌, sym, ap, ◌∙◌}
-use mathlib.Core.Logic.{⊎_elim}
 use mathlib.Core.List.{[], ◌∷◌, ◌++◌}
 use Prim.Native.Nat.{ℕ}
-use native.Mathlib.Omega.{arith}
-use borrow.Author.Rules.{rules}
 use Rattle.text_grammar.specs.Numbers.{digits_of}
 use Rattle.text_grammar.specs.Letters.{letter_at}
 use Rattle.pair_lines.specs.Lines.{tag_of, blank}
-use Rattle.pair_lines.proofs.Puts.{puts_as, puts_next, blank_few, blank_led}
+use Rattle.pair_lines.proofs.Puts.{puts_as, puts_next, blank_led}
 use Rattle.pair_lines.proofs.put_name.Goals as goal
 use Rattle.pair_lines.proofs.put_name.Goals.{else-right, then-right}
 
@@ -21,10 +18,11 @@ returns c =
     let A = c.put_blank-a in
     let B = c.put_byte-b in
     let C = c.put_byte-c in
-    let second = puts_as A.result A.new.out (ap (λ (b : ℕ). b ∷ []) ((let it : c.if-right.put_byte ≡ tag_of c.args.right = (elim c.if-right.branch [
+    let tag : c.if-right.put_byte ≡ m = elim c.if-right.branch [
       | then-right w ↦ w.put_byte-is ∙ ap tag_of (sym w.if-right.true)
       | else-right w ↦ w.put_byte-is ∙ ap tag_of (sym w.if-right.false)
-    ]) in it))) B.ensures in
+    ] in
+    let second = puts_as A.result A.new.out (ap (λ (b : ℕ). b ∷ []) tag) B.ensures in
     let third = puts_as B.result B.new.out (ap (λ (b : ℕ). b ∷ []) c.letter_at.ensures) C.ensures in
     let end = puts_next (digits_of z.n) (61 ∷ []) C.result C.new.out c.put_digits-d.ensures c.put_byte.ensures in
     let named = puts_next (k ∷ []) (digits_of z.n ++ 61 ∷ []) B.result B.new.out third end in

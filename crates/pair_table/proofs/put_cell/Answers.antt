@@ -1,5 +1,4 @@
 use Rattle.pair_table.proofs.Loops.{cell_minus, cell_plain}
-use borrow.Author.Rules.{rules}
 use Rattle.pair_table.proofs.put_cell.Goals as goal
 
 pub returns-then-minus : goal.returns-then-minus

@@ -11,9 +11,9 @@ use Rattle.print_book.proofs.line_answer.Goals as goal
 pub returns : goal.returns
 returns c =
     let z = c.args in
-    let P = c.put_answer-n in
+    let P = c.put_answer in
     let G = c.give in record {
       writes = subst (λ (t : List ℕ). Writes t z.out.now G.result G.new.out)
-          (front_is (added_text z.k z.added) (replicate longest_stop 0) P.ensures.added_len_bound P.ensures.placed) G.ensures;
+          (front_is (added_text z.k z.added) (replicate longest_stop 0) P.ensures.added_len_bound P.ensures.placed.placed) G.ensures;
       added_len_bound = P.ensures.added_len_bound;
     }

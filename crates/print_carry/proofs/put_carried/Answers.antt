@@ -2,7 +2,7 @@ use mathlib.Core.Path.{sym, ap}
 use borrow.Author.Rules.{rules}
 use Rattle.text_grammar.specs.Plain.{plain}
 use Rattle.text_values.specs.Values.{view_slip}
-use Rattle.text_write.proofs.pieces.Pieces.{placed_as, placed_next}
+use Rattle.text_write.proofs.pieces.Pieces.{on_as, on_next}
 use Rattle.print_carry.specs.Values.{said_answer, said_carried}
 use Rattle.print_carry.proofs.put_carried.Goals as goal
 
@@ -10,6 +10,4 @@ pub returns : goal.returns
 returns c =
     let z = c.args in
     let C = c.carry_out-c in
-    placed_as z.at z.out.now (sym (ap said_carried C.ensures))
-    (placed_next (said_answer C.result.answer) (plain (view_slip C.result.slip)) z.at z.out.now
-    c.put_words-a.ensures c.put_slip.ensures)
+    on_as (on_next c.put_words.ensures c.put_slip.ensures) (sym (ap said_carried C.ensures))

@@ -1,6 +1,6 @@
 use mathlib.Core.Path.{sym}
 use lib.Seq.{length-take-le}
-use Rattle.text_write.proofs.pieces.Pieces.{placed_as}
+use Rattle.text_write.proofs.pieces.Pieces.{on_as}
 use Rattle.print_carry.proofs.Said.{line_said}
 use Rattle.print_carry.proofs.Lengths.{line_long}
 use borrow.Author.Rules.{rules}
@@ -9,7 +9,7 @@ use Rattle.print_carry.proofs.put_line.Goals as goal
 pub returns-then-n-gt-SLIP_LINE : goal.returns-then-n-gt-SLIP_LINE
 returns-then-n-gt-SLIP_LINE c =
     let z = c.args in
-    placed_as z.at z.out.now (line_long z.line.now c.if-n-gt-SLIP_LINE.true) c.put_bytes.ensures
+    on_as c.put_bytes.ensures (line_long z.line.now c.if-n-gt-SLIP_LINE.true)
 
 pub returns : goal.returns
 returns c =
@@ -19,6 +19,5 @@ returns c =
     let R = c.read_rule-rule in
     let S = c.read_slip-slip in
     let short = c.if-n-gt-SLIP_LINE.false in
-    placed_as z.at z.out.now
+    on_as c.put_reads.ensures
     (line_said z.line.now T.result D.result T.ensures.0 D.ensures R.result S.result short R.ensures S.ensures)
-    c.put_reads.ensures

@@ -1,14 +1,17 @@
 -- The loops over the items of a run and over the numbers of variables. Assumes nothing.
-use mathlib.Core.Path.{◌≡◌, sym, ap, ◌∙◌, subst}
+use mathlib.Core.Path.{◌≡◌, refl, sym, ap, ◌∙◌, subst}
 use mathlib.Core.Bool.{Bool, true, false, cond}
 use mathlib.Core.List.{List, [], ◌∷◌, ◌++◌, map}
-use Prim.Native.Nat.{ℕ, suc, ◌+◌, ◌-◌, ◌<◌, ◌≤◌, min}
+use Prim.Native.Nat.{ℕ, zero, suc, ◌+◌, ◌-◌, ◌<◌, ◌≤◌, min}
 use native.Mathlib.Numerals.{add-one}
 use native.Mathlib.Omega.{arith}
 use native.Mathlib.Decide.{dec_le}
 use lib.ListN.{length, get_or, take, drop, length-take, length-drop, drop_of_length-le}
 use lib.Seq.{take_all, take-take, drop-cons}
 use Rattle.math_types.specs.Order.{list}
+use Rattle.math_types.specs.declared.Kind.TheVariants.{Integer, String, Atom}
+use Rattle.math_types.specs.declared.Kind.{Kind as KindValue}
+use Rattle.math_types.specs.Values.{kind_of}
 use Rattle.math_types.specs.Types.{Kind, kinds, atom_kinds, rank_kinds, kind_at, basic_at}
 use Rattle.base_limits.specs.Limits.{most_items, numbers_of_side, variable_places}
 use Rattle.base_lists.specs.Arrays.{entry_any, here, part_of}
@@ -16,16 +19,35 @@ use Rattle.math_terms.specs.Seqs.{concat_map}
 use Rattle.text_grammar.specs.Grammar.{colons}
 use Rattle.text_grammar.specs.Plain.{raw_of, term_text, field_text}
 use Rattle.text_values.specs.declared.Term.{Term}
-use Rattle.text_values.specs.declared.SlipField.{SlipField}
+use Rattle.text_values.specs.Values.{SlipField}
 use Rattle.text_values.specs.Values.{blank_term, view_term}
 use Rattle.match_fields.specs.declared.bindings.Filling.{Filling}
 use Rattle.match_fields.specs.declared.bindings.Run.{Run}
 use Rattle.match_fields.specs.declared.bindings.Values.{Values}
 use Rattle.match_fields.specs.bindings.Values.{slot, blank_run}
 use Rattle.overlap_spec.specs.Variables.{numbers_from}
-use Rattle.text_write.specs.pieces.Placed.{Placed}
-use Rattle.text_write.proofs.pieces.Pieces.{Left, all_left, left_next, rest_as, none_left, placed_next, placed_as}
+use Rattle.text_write.specs.declared.pieces.Page.{Page}
+use Rattle.text_write.specs.pieces.Placed.{PlacedOn}
+use Rattle.text_write.proofs.pieces.Pieces.{Left, left_next, rest_as, none_left, on_next, on_as}
 use Rattle.print_matches.specs.answers.Values.{items_from, run_text, atom_text, list_text, said_value, name_text, noted_text}
+
+-- ---- what a loop has left to put on a page
+
+-- the rest, put on the page, makes the whole text put where the page was at `start`
+pub record LeftOn (whole : List ℕ) (start : Page) (rest : List ℕ) (page : Page) : Type 0 where
+  pub same_bytes : page.bytes.ghost_name ≡ start.bytes.ghost_name
+  pub left : Left whole start.at start.bytes.now rest page.at page.bytes.now
+
+module _ {whole : List ℕ} {start page : Page} where
+  pub none_left_on : LeftOn whole start [] page → PlacedOn whole start page
+  none_left_on h = record { same_bytes = h.same_bytes; placed = none_left whole start.at start.bytes.now h.left }
+
+  pub rest_on_as : {a b : List ℕ} → a ≡ b → LeftOn whole start a page → LeftOn whole start b page
+  rest_on_as e h = record { same_bytes = h.same_bytes; left = rest_as whole start.at start.bytes.now page.at page.bytes.now e h.left }
+
+  pub left_on_next : (a b : List ℕ) {q : Page} → LeftOn whole start (a ++ b) page → PlacedOn a page q → LeftOn whole start b q
+  left_on_next a b h k =
+      record { same_bytes = k.same_bytes ∙ h.same_bytes; left = left_next whole start.at start.bytes.now a b h.left k.placed }
 
 -- ---- the items of a run
 
@@ -91,25 +113,22 @@ number_next g n h =
 number_last : (g : ℕ → List ℕ) (n : ℕ) → numbers_of_side ≤ n → concat_map g (numbers_from (numbers_of_side - n) n) ≡ []
 number_last g n h = ap (λ (m : ℕ). concat_map g (numbers_from m n)) (let e : numbers_of_side - n ≡ 0 = omega arith in e)
 
-module _ (v : List Bool) (k : Kind) (value : ℕ → List ℕ) (at : ℕ) (old : List ℕ) where
+module _ (v : List Bool) (k : Kind) (value : ℕ → List ℕ) (start : Page) where
   abbrev one : ℕ → List ℕ
   one n = cond (get_or v (slot k n) false) (name_text k n ++ value n) []
 
-  -- those from number n on are left to put
-  abbrev pub From : ℕ → ℕ → List ℕ → Type 0
-  From n p new = (n ≤ numbers_of_side) × (length v ≡ variable_places)
-      × Left (noted_text v k value) at old (concat_map one (numbers_from (numbers_of_side - n) n)) p new
+  -- those from number n on are left to put on the page, which began at `start`
+  abbrev pub From : ℕ → Page → Type 0
+  From n page = (n ≤ numbers_of_side) × (length v ≡ variable_places)
+      × LeftOn (noted_text v k value) start (concat_map one (numbers_from (numbers_of_side - n) n)) page
 
-  pub from_none : length v ≡ variable_places → From 0 at old
-  from_none e = (omega arith, e, all_left _ _ _)
+  pub from_as : (n : ℕ) {p q : Page} → q ≡ p → From n p → From n q
+  from_as n e f = subst (From n) (sym e) f
 
-  pub from_as : (n : ℕ) {p q : ℕ} {l m : List ℕ} → q ≡ p → m ≡ l → From n p l → From n q m
-  from_as n {p} {q} {l} {m} e i f = subst (λ (a : ℕ). From n a m) (sym e) (subst (λ (t : List ℕ). From n p t) (sym i) f)
+  pub from_all : (n : ℕ) (page : Page) → From n page → numbers_of_side ≤ n → PlacedOn (noted_text v k value) start page
+  from_all n page f h = none_left_on (rest_on_as (number_last one n h) f.2)
 
-  pub from_all : (n p : ℕ) (new : List ℕ) → From n p new → numbers_of_side ≤ n → Placed (noted_text v k value) at old p new
-  from_all n p new f h = none_left _ _ _ (rest_as _ _ _ p new (number_last one n h) f.2)
-
-  module _ (n p : ℕ) (new : List ℕ) (f : From n p new) (h : n < numbers_of_side) (i : ℕ) (is_i : i ≡ slot k n) (d : Bool) where
+  module _ (n : ℕ) (page : Page) (f : From n page) (h : n < numbers_of_side) (i : ℕ) (is_i : i ≡ slot k n) (d : Bool) where
     below : i < length v
     below = omega (arith, is_i, rank_kinds k, f.1)
 
@@ -119,16 +138,15 @@ module _ (v : List Bool) (k : Kind) (value : ℕ → List ℕ) (at : ℕ) (old :
     rest : List ℕ
     rest = concat_map one (numbers_from (numbers_of_side - (n + 1)) (n + 1))
 
-    left_as : (b : Bool) → get_or v i d ≡ b → Left (noted_text v k value) at old (cond b (name_text k n ++ value n) [] ++ rest) p new
+    left_as : (b : Bool) → get_or v i d ≡ b → LeftOn (noted_text v k value) start (cond b (name_text k n ++ value n) [] ++ rest) page
     unfolding rest
-    left_as b e = rest_as _ _ _ p new (number_next one n h ∙ ap (λ (t : List ℕ). t ++ rest) (noted b e)) f.2
+    left_as b e = rest_on_as (number_next one n h ∙ ap (λ (t : List ℕ). t ++ rest) (noted b e)) f.2
 
-    pub from_one : get_or v i d ≡ true → {q r : ℕ} {m l : List ℕ} → Placed (name_text k n) p new q m → Placed (value n) q m r l → From (n + 1) r l
+    pub from_one : get_or v i d ≡ true → {p q : Page} → PlacedOn (name_text k n) page p → PlacedOn (value n) p q → From (n + 1) q
     unfolding rest
-    from_one e a b =
-        (omega arith, f.1, left_next _ _ _ (name_text k n ++ value n) rest (left_as true e) (placed_next (name_text k n) (value n) p new a b))
+    from_one e a b = (omega arith, f.1, left_on_next (name_text k n ++ value n) rest (left_as true e) (on_next a b))
 
-    pub from_other : get_or v i d ≡ false → From (n + 1) p new
+    pub from_other : get_or v i d ≡ false → From (n + 1) page
     unfolding rest
     from_other e = (omega arith, f.1, left_as false e)
 
@@ -139,22 +157,19 @@ module _ (v : List Bool) (ws : List SlipField) (x : Filling) where
   abbrev pub kind_text : Kind → List ℕ
   kind_text k = noted_text v k (λ n. said_value k n ws x)
 
-  module _ (at : ℕ) (old : List ℕ) where
-    -- the types from rank i on are left to put
-    abbrev pub KindsFrom : ℕ → ℕ → List ℕ → Type 0
-    KindsFrom i p new = (i ≤ atom_kinds) × Left (concat_map kind_text kinds) at old (concat_map kind_text (drop i kinds)) p new
+  module _ (start : Page) where
+    -- the types from rank i on are left to put on the page, which began at `start`
+    abbrev pub KindsFrom : ℕ → Page → Type 0
+    KindsFrom i page = (i ≤ atom_kinds) × LeftOn (concat_map kind_text kinds) start (concat_map kind_text (drop i kinds)) page
 
-    pub kinds_none : KindsFrom 0 at old
-    kinds_none = (omega arith, all_left _ _ _)
-
-    module _ (i p : ℕ) (new : List ℕ) (f : KindsFrom i p new) where
+    module _ (i : ℕ) (page : Page) (f : KindsFrom i page) where
       -- one more, which is below list
-      pub kinds_next : i < atom_kinds → (k : Kind) → k ≡ kind_at i → {q : ℕ} {m : List ℕ} → Placed (noted_text v k (atom_text x.values k)) p new q m
-          → KindsFrom (i + 1) q m
+      pub kinds_next : i < atom_kinds → (k : Kind) → k ≡ kind_at i → {q : Page} → PlacedOn (noted_text v k (atom_text x.values k)) page q
+          → KindsFrom (i + 1) q
       kinds_next h k e a = (
         omega arith,
-        left_next _ _ _ (kind_text (kind_at i)) (concat_map kind_text (drop (i + 1) kinds))
-            (rest_as _ _ _ p new (ap (concat_map kind_text) split) f.1) (placed_as p new told a),
+        left_on_next (kind_text (kind_at i)) (concat_map kind_text (drop (i + 1) kinds))
+            (rest_on_as (ap (concat_map kind_text) split) f.1) (on_as a told),
       )
         where
           split : drop i kinds ≡ kind_at i ∷ drop (i + 1) kinds
@@ -166,11 +181,17 @@ module _ (v : List Bool) (ws : List SlipField) (x : Filling) where
               ap kind_text b.1 ∙ ap (λ (j : Kind). noted_text v j (atom_text x.values j)) (sym b.1 ∙ sym e)
 
       -- and list is the last
-      pub kinds_all : atom_kinds ≤ i → {q : ℕ} {m : List ℕ} → Placed (noted_text v list (list_text ws x)) p new q m → Placed (concat_map kind_text kinds) at old q m
+      pub kinds_all : atom_kinds ≤ i → {q : Page} → PlacedOn (noted_text v list (list_text ws x)) page q → PlacedOn (concat_map kind_text kinds) start q
       kinds_all h a =
-          none_left _ _ _
-          (left_next _ _ _ (kind_text list) []
-          (rest_as _ _ _ p new (ap (λ (j : ℕ). concat_map kind_text (drop j kinds)) (let e : i ≡ atom_kinds = omega (arith, f.0) in e)) f.1) a)
+          none_left_on (left_on_next (kind_text list) []
+          (rest_on_as (ap (λ (j : ℕ). concat_map kind_text (drop j kinds)) (let e : i ≡ atom_kinds = omega (arith, f.0) in e)) f.1) a)
+
+-- the types below list, as the code lists them
+pub kinds_listed : (i : ℕ) (d : KindValue) → i < 3 → kind_of (get_or (Integer ∷ (String ∷ (Atom ∷ []))) i d) ≡ kind_at i
+kinds_listed zero d h = refl
+kinds_listed (suc zero) d h = refl
+kinds_listed (suc (suc zero)) d h = refl
+kinds_listed (suc (suc (suc i))) d h = absurd (omega arith)
 
 -- ---- a value, in its place
 

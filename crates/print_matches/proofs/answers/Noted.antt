@@ -21,11 +21,12 @@ use Rattle.text_grammar.specs.constants.Constants.{Con}
 use Rattle.text_values.specs.declared.Form.{Form}
 use Rattle.text_values.specs.declared.Form.TheVariants.{Var}
 use Rattle.text_values.specs.declared.Term.{Term}
-use Rattle.text_values.specs.declared.Field.{Field}
+use Rattle.text_values.specs.Values.{Field}
 use Rattle.text_values.specs.Values.{blank_field, view_form, view_term, view_field}
 use Rattle.match_fields.specs.bindings.Values.{slot}
 use Rattle.overlap_spec.specs.Variables.{is_variable, in_field, occurs}
-use Rattle.text_accepted.proofs.variables.Loops.{some, some_term, some_field}
+use Rattle.std.specs.List.{list_any}
+use Rattle.text_accepted.proofs.variables.Members.{some_term, some_field}
 use Rattle.text_passes.specs.Fields.{field_count, side_field}
 use Rattle.match_rules.specs.texts.Texts.{side_fields}
 use Rattle.print_matches.specs.answers.Values.{Noted}
@@ -87,21 +88,18 @@ swap false b c = refl
 module _ {A : Type 0} (test : Kind → ℕ → A → Bool) (v : List Bool) (all : List A) where
   -- with `rest` noted too, all of them are noted
   abbrev pub Open : List A → List Bool → Type 0
-  Open rest w = (k : Kind) (n : ℕ) → n ≤ largest_number → some (test k n) rest || get_or w (slot k n) false ≡ some (test k n) all || get_or v (slot k n) false
-
-  pub open_all : Open all v
-  open_all k n h = refl
+  Open rest w = (k : Kind) (n : ℕ) → n ≤ largest_number → list_any (test k n) rest || get_or w (slot k n) false ≡ list_any (test k n) all || get_or v (slot k n) false
 
   pub open_next : (a : A) (l rest : List A) (w u : List Bool) → l ≡ a ∷ rest → Open l w
       → Noted u (λ (k : Kind) (n : ℕ). test k n a || get_or w (slot k n) false) → Open rest u
   open_next a l rest w u e o q k n h =
-      ap (λ (b : Bool). some (test k n) rest || b) (q k n h)
-      ∙ swap (test k n a) (some (test k n) rest) (get_or w (slot k n) false)
-      ∙ ap (λ (m : List A). some (test k n) m || get_or w (slot k n) false) (sym e)
+      ap (λ (b : Bool). list_any (test k n) rest || b) (q k n h)
+      ∙ swap (test k n a) (list_any (test k n) rest) (get_or w (slot k n) false)
+      ∙ ap (λ (m : List A). list_any (test k n) m || get_or w (slot k n) false) (sym e)
       ∙ o k n h
 
-  pub open_none : (l : List A) (w : List Bool) → l ≡ [] → Open l w → Noted w (λ (k : Kind) (n : ℕ). some (test k n) all || get_or v (slot k n) false)
-  open_none l w e o k n h = ap (λ (m : List A). some (test k n) m || get_or w (slot k n) false) (sym e) ∙ o k n h
+  pub open_none : (l : List A) (w : List Bool) → l ≡ [] → Open l w → Noted w (λ (k : Kind) (n : ℕ). list_any (test k n) all || get_or v (slot k n) false)
+  open_none l w e o k n h = ap (λ (m : List A). list_any (test k n) m || get_or w (slot k n) false) (sym e) ∙ o k n h
 
 -- the terms of a field
 abbrev pub is_term : Kind → ℕ → Term → Bool
@@ -111,7 +109,7 @@ is_term k n t = is_variable k n (view_term t)
 abbrev pub is_in : Kind → ℕ → Field → Bool
 is_in k n f = in_field k n (view_field f)
 
-pub field_noted : (v w : List Bool) (l : List Term) → Noted w (λ (k : Kind) (n : ℕ). some (is_term k n) l || get_or v (slot k n) false)
+pub field_noted : (v w : List Bool) (l : List Term) → Noted w (λ (k : Kind) (n : ℕ). list_any (is_term k n) l || get_or v (slot k n) false)
     → Noted w (λ (k : Kind) (n : ℕ). in_field k n (map view_term l) || get_or v (slot k n) false)
 field_noted v w l q k n h = q k n h ∙ ap (λ (b : Bool). b || get_or v (slot k n) false) (sym (some_term k n l))
 
@@ -119,12 +117,12 @@ or_false : (b : Bool) → b || false ≡ b
 or_false true = refl
 or_false false = refl
 
-pub side_noted_lem : (w : List Bool) (l : List Field) → Noted w (λ (k : Kind) (n : ℕ). some (is_in k n) l || get_or (replicate variable_places false) (slot k n) false)
+pub side_noted_lem : (w : List Bool) (l : List Field) → Noted w (λ (k : Kind) (n : ℕ). list_any (is_in k n) l || get_or (replicate variable_places false) (slot k n) false)
     → Noted w (λ (k : Kind) (n : ℕ). occurs k n (map view_field l))
 side_noted_lem w l q k n h =
     q k n h
-    ∙ ap (λ (b : Bool). some (is_in k n) l || b) (get_or-replicate variable_places (slot k n) false false (omega (arith, rank_kinds k)))
-    ∙ or_false (some (is_in k n) l)
+    ∙ ap (λ (b : Bool). list_any (is_in k n) l || b) (get_or-replicate variable_places (slot k n) false false (omega (arith, rank_kinds k)))
+    ∙ or_false (list_any (is_in k n) l)
     ∙ sym (some_field k n l)
 
 -- field j of a text, and those behind it

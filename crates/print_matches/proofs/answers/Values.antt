@@ -2,7 +2,7 @@
 use mathlib.Core.Path.{◌≡◌, refl, sym, ap, ap₂, ◌∙◌}
 use mathlib.Core.Bool.{Bool, true, false, cond, not}
 use mathlib.Core.List.{List, [], ◌∷◌, ◌++◌, map}
-use Prim.Native.Nat.{ℕ, zero, suc, ◌+◌, ◌-◌, ◌<◌}
+use Prim.Native.Nat.{ℕ, zero, suc, ◌+◌, ◌<◌}
 use native.Mathlib.Omega.{arith}
 use borrow.Author.Tests.{not-true, not-false}
 use lib.ListN.{get_or}
@@ -17,8 +17,7 @@ use Rattle.text_grammar.specs.Terms.{OurFields}
 use Rattle.text_grammar.specs.Limits.{IsCon, IsLeft}
 use Rattle.text_grammar.specs.constants.Matching.{constants}
 use Rattle.text_values.specs.declared.Term.{Term}
-use Rattle.text_values.specs.declared.Field.{Field}
-use Rattle.text_values.specs.declared.SlipField.{SlipField}
+use Rattle.text_values.specs.Values.{Field, SlipField}
 use Rattle.text_values.specs.Values.{blank_field, view_term, view_field, encode_field, encode_slip_field}
 use Rattle.text_values.proofs.Pads.{unpadded}
 use Rattle.text_accepted.proofs.Accepted.{view_encode_rule}

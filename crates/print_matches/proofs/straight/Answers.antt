@@ -9,4 +9,4 @@ pub returns : goal.returns
 returns c =
     let z = c.args in
     let short = answer_short z.k z.line.now (search rules) in
-    front_written (match_answer z.k z.line.now) z.out.now (omega (arith, short, c.requires)) c.put_answer.ensures
+    front_written (match_answer z.k z.line.now) z.out.now (omega (arith, short, c.requires)) (search rules)

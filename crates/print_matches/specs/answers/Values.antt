@@ -9,8 +9,7 @@ use Rattle.text_grammar.specs.Ascii.{ascii}
 use Rattle.text_grammar.specs.Numbers.{digits_of}
 use Rattle.text_grammar.specs.Plain.{term_text, field_text}
 use Rattle.text_values.specs.declared.Term.{Term}
-use Rattle.text_values.specs.declared.Field.{Field}
-use Rattle.text_values.specs.declared.SlipField.{SlipField}
+use Rattle.text_values.specs.Values.{Field, SlipField}
 use Rattle.text_values.specs.Values.{blank_slip_field, view_term, view_field}
 use Rattle.match_fields.specs.declared.bindings.Filling.{Filling}
 use Rattle.match_fields.specs.declared.bindings.Run.{Run}

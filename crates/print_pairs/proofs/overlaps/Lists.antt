@@ -13,9 +13,9 @@ use Rattle.text_grammar.specs.Numbers.{digits_of}
 use Rattle.text_write.specs.Answers.{after}
 use Rattle.text_write.proofs.Digits.{digits_64}
 use Rattle.overlap_spec.specs.Overlaps.{lines_of, overlap_text}
-use Rattle.overlap_list.specs.declared.Listed.{Listed}
-use Rattle.overlap_list.specs.declared.Listed.TheVariants.{Lines, TooSmall}
-use Rattle.overlap_list.specs.Answers.{Lists}
+use Rattle.std.specs.Prelude.{Ok, Err}
+use Rattle.overlap_counts.specs.declared.Counts.{Counts}
+use Rattle.overlap_list.specs.Answers.{Listed, Lists}
 use Rattle.overlap_list.proofs.Rules.{none_listed}
 use Rattle.overlap_list.proofs.Answers.{written, kept, lines_told, small_told}
 use Rattle.text_write.specs.pieces.Placed.{Placed}
@@ -67,18 +67,18 @@ module _ (x y : OurFields) (old : List ℕ) (at n : ℕ) (is_n : n ≡ most_list
       ∙ ap (λ (l : List ℕ). take at old ++ l) (take-append-drop n (drop at old))
       ∙ take-append-drop at old
 
-  module _ {r : Listed} {m : List ℕ} (is : Lists x y part r m) (e b : ℕ) where
-    lines_fit : r ≡ Lines e b → (b ≡ length text) × (length text ≤ most_list_bytes)
-    lines_fit h = let f = lines_told is e b h in (f.0, omega (arith, f.1, part_long))
+  module _ {r : Listed} {m : List ℕ} (is : Lists x y part r m) (c : Counts) where
+    lines_fit : r ≡ Ok c → (c.bytes ≡ length text) × (length text ≤ most_list_bytes)
+    lines_fit h = let f = lines_told is c h in (f.0, omega (arith, f.1, part_long))
 
-    too_many : r ≡ TooSmall e b → (b ≡ length text) × (most_list_bytes < length text)
-    too_many h = let f = small_told is e b h in (f.0, omega (arith, f.1, part_long))
+    too_many : r ≡ Err (record { counts = c }) → (c.bytes ≡ length text) × (most_list_bytes < length text)
+    too_many h = let f = small_told is c h in (f.0, omega (arith, f.1, part_long))
 
     -- the list was written
-    pub list_in : r ≡ Lines e b → at + b ≤ length old
+    pub list_in : r ≡ Ok c → at + c.bytes ≤ length old
     list_in h = omega (arith, lines_fit h)
 
-    pub list_put : r ≡ Lines e b → Piece most_list_bytes (listed_text text) at old (at + b) (room_with m)
+    pub list_put : r ≡ Ok c → Piece most_list_bytes (listed_text text) at old (at + c.bytes) (room_with m)
     list_put h =
         let f = lines_fit h in
         let whole : listed_text text ≡ text = rw (le-leb (length text) most_list_bytes f.1) in (
@@ -90,20 +90,20 @@ module _ (x y : OurFields) (old : List ℕ) (at n : ℕ) (is_n : n ≡ most_list
         )
 
     -- it has no room there, and the bytes are as they were
-    list_left : r ≡ TooSmall e b → room_with m ≡ old
+    list_left : r ≡ Err (record { counts = c }) → room_with m ≡ old
     list_left h =
         let f = too_many h in
         ap room_with (kept is (omega (arith, f.1, part_long)))
         ∙ ap (λ (l : List ℕ). take at old ++ l) (take-append-drop n (drop at old))
         ∙ take-append-drop at old
 
-    list_long : r ≡ TooSmall e b → listed_text text ≡ ascii "too long " ++ digits_of b ++ newline
+    list_long : r ≡ Err (record { counts = c }) → listed_text text ≡ ascii "too long " ++ digits_of c.bytes ++ newline
     list_long h =
         let f = too_many h in
         rw (lt-leb (length text) most_list_bytes f.1) (ap (λ (k : ℕ). ascii "too long " ++ digits_of k ++ newline) (sym f.0))
 
-    pub list_refused : r ≡ TooSmall e b → b < 18446744073709551616 → {p : ℕ} {new : List ℕ}
-        → Placed (ascii "too long " ++ digits_of b ++ newline) at (room_with m) p new → Piece most_list_bytes (listed_text text) at old p new
+    pub list_refused : r ≡ Err (record { counts = c }) → c.bytes < 18446744073709551616 → {p : ℕ} {new : List ℕ}
+        → Placed (ascii "too long " ++ digits_of c.bytes ++ newline) at (room_with m) p new → Piece most_list_bytes (listed_text text) at old p new
     list_refused h k {p} {new} q =
-        let there = subst (λ (l : List ℕ). Placed (ascii "too long " ++ digits_of b ++ newline) at l p new) (list_left h) q in
-        piece_as most_list_bytes at old (list_long h) (there, long_short b k)
+        let there = subst (λ (l : List ℕ). Placed (ascii "too long " ++ digits_of c.bytes ++ newline) at l p new) (list_left h) q in
+        piece_as most_list_bytes at old (list_long h) (there, long_short c.bytes k)

@@ -9,7 +9,8 @@ use Rattle.text_grammar.specs.Ascii.{ascii, newline}
 use Rattle.text_grammar.specs.Read.{OutcomeOf, refused, accepted}
 use Rattle.text_grammar.specs.rules.Read.{OurRule}
 use Rattle.text_refusals.specs.declared.verdicts.Reason.{Reason}
-use Rattle.text_refusals.specs.declared.verdicts.Verdict.TheVariants.{Accepted, Refused}
+use Rattle.text_refusals.specs.declared.verdicts.Refusal.{Refusal}
+use Rattle.text_refusals.specs.verdicts.Verdicts.{Accepted, Refused}
 use Rattle.text_refusals.specs.verdicts.Verdicts.{reason_from, number_of, verdict_of}
 use Rattle.text_refusals.proofs.verdicts.Verdicts.{number_is}
 use Rattle.overlap_spec.specs.Overlaps.{lines_of, overlap_text}
@@ -31,9 +32,10 @@ module _ (o p : OutcomeOf OurRule) where
     where
       go : (q : OutcomeOf OurRule) → verdict_of q ≡ Refused r i → read_text q p ≡ ascii "refused left " ++ number_at (number_of r) i ++ newline
       go (refused s k) h =
-          let a : reason_from s ≡ r = cc in
-          let b : k ≡ i = cc in
-          ap₂ (λ (m n : ℕ). ascii "refused left " ++ number_at m n ++ newline) (sym (number_is s) ∙ ap number_of a) b
+          let same : record { reason = reason_from s; place = k } ≡ record { reason = r; place = i } = cc in
+          let a = ap (λ (x : Refusal). number_of x.reason) same in
+          let b = ap (λ (x : Refusal). x.place) same in
+          ap₂ (λ (m n : ℕ). ascii "refused left " ++ number_at m n ++ newline) (sym (number_is s) ∙ a) b
       go (accepted x) h = let z : ◌≡◌ {A = ℕ} 0 1 = cc in absurd (omega arith)
 
   pub right_said : (r : Reason) (i : ℕ) → verdict_of o ≡ Accepted → verdict_of p ≡ Refused r i
@@ -45,9 +47,10 @@ module _ (o p : OutcomeOf OurRule) where
       go (refused s k) w g h = let z : ◌≡◌ {A = ℕ} 0 1 = cc in absurd (omega arith)
       go (accepted x) (accepted y) g h = let z : ◌≡◌ {A = ℕ} 0 1 = cc in absurd (omega arith)
       go (accepted x) (refused s k) g h =
-          let a : reason_from s ≡ r = cc in
-          let b : k ≡ i = cc in
-          ap₂ (λ (m n : ℕ). ascii "refused right " ++ number_at m n ++ newline) (sym (number_is s) ∙ ap number_of a) b
+          let same : record { reason = reason_from s; place = k } ≡ record { reason = r; place = i } = cc in
+          let a = ap (λ (x : Refusal). number_of x.reason) same in
+          let b = ap (λ (x : Refusal). x.place) same in
+          ap₂ (λ (m n : ℕ). ascii "refused right " ++ number_at m n ++ newline) (sym (number_is s) ∙ a) b
 
   pub both_said : verdict_of o ≡ Accepted → verdict_of p ≡ Accepted → read_text o p ≡ listed_text (overlap_text (left_said o) (left_said p))
   both_said e f = go o p e f

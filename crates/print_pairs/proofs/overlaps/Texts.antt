@@ -10,10 +10,11 @@ use Rattle.text_grammar.specs.Numbers.{digits_of}
 use Rattle.text_grammar.specs.Read.{OutcomeOf}
 use Rattle.text_grammar.specs.rules.Read.{OurRule, read_rule}
 use Rattle.text_refusals.specs.declared.verdicts.Reason.{Reason}
-use Rattle.text_refusals.specs.declared.verdicts.Verdict.TheVariants.{Accepted, Refused}
+use Rattle.text_refusals.specs.verdicts.Verdicts.{Accepted, Refused}
 use Rattle.text_refusals.specs.verdicts.Verdicts.{number_of}
 use Rattle.text_read.specs.Answers.{left_said}
-use Rattle.overlap_list.specs.declared.Listed.TheVariants.{Lines, TooSmall}
+use Rattle.std.specs.Prelude.{Ok, Err}
+use Rattle.overlap_counts.specs.declared.Counts.{Counts}
 use Rattle.overlap_list.specs.declared.TextsListed.{TextsListed}
 use Rattle.overlap_list.specs.Answers.{TextsList}
 use Rattle.text_write.specs.pieces.Placed.{Placed}
@@ -58,17 +59,17 @@ module _ (s u : List ℕ) (old : List ℕ) (at n : ℕ) (is_n : n ≡ most_list_
           let there = subst (λ (l : List ℕ). Placed text at l e new) untouched q in
           piece_as most_list_bytes at old (right_said o p r i (sym is.left ∙ a) v) (there, refusal_short (ascii "refused right ") r i (omega arith) small)
 
-    pub texts_in_lem : (e b : ℕ) → t.listed ≡ Lines e b → at + b ≤ length old
-    texts_in_lem e b h = list_in (left_said o) (left_said p) old at n is_n room is.listed e b h
+    pub texts_in_lem : (k : Counts) → t.listed ≡ Ok k → at + k.bytes ≤ length old
+    texts_in_lem k h = list_in (left_said o) (left_said p) old at n is_n room is.listed k h
 
-    module _ (a : t.left ≡ Accepted) (c : t.right ≡ Accepted) (e b : ℕ) where
-      pub texts_put : t.listed ≡ Lines e b → Piece most_list_bytes (read_text o p) at old (at + b) (whole m)
+    module _ (a : t.left ≡ Accepted) (c : t.right ≡ Accepted) (k : Counts) where
+      pub texts_put : t.listed ≡ Ok k → Piece most_list_bytes (read_text o p) at old (at + k.bytes) (whole m)
       texts_put h =
           piece_as most_list_bytes at old (both_said o p (sym is.left ∙ a) (sym is.right ∙ c))
-          (list_put (left_said o) (left_said p) old at n is_n room is.listed e b h)
+          (list_put (left_said o) (left_said p) old at n is_n room is.listed k h)
 
-      pub texts_long : t.listed ≡ TooSmall e b → b < 18446744073709551616 → {k : ℕ} {new : List ℕ}
-          → Placed (ascii "too long " ++ digits_of b ++ newline) at (whole m) k new → Piece most_list_bytes (read_text o p) at old k new
+      pub texts_long : t.listed ≡ Err (record { counts = k }) → k.bytes < 18446744073709551616 → {e : ℕ} {new : List ℕ}
+          → Placed (ascii "too long " ++ digits_of k.bytes ++ newline) at (whole m) e new → Piece most_list_bytes (read_text o p) at old e new
       texts_long h small q =
           piece_as most_list_bytes at old (both_said o p (sym is.left ∙ a) (sym is.right ∙ c))
-          (list_refused (left_said o) (left_said p) old at n is_n room is.listed e b h small q)
+          (list_refused (left_said o) (left_said p) old at n is_n room is.listed k h small q)

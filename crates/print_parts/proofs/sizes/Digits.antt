@@ -2,23 +2,22 @@
 use mathlib.Core.Path.{◌≡◌, refl, ap, ◌∙◌}
 use mathlib.Core.Bool.{Bool, true, false, cond, ◌&&◌}
 use mathlib.Core.List.{List, [], ◌∷◌}
-use mathlib.Core.Option.{Option, none, some}
+use Rattle.std.specs.Prelude.{Option, Some, None}
 use Prim.Native.Nat.{ℕ, ◌+◌, ◌-◌, ◌*◌, ◌<◌, ◌≤◌}
 use native.Mathlib.Numerals.{add-one}
 use native.Mathlib.Omega.{arith}
 use borrow.Author.Tests.{le-leb, lt-leb, leb-true}
-use lib.Dec.{eqb, leb}
+use lib.Dec.{leb}
 use lib.ListN.{length, get_or, drop, drop_of_length-le}
 use lib.Seq.{drop-cons}
 use Rattle.text_grammar.specs.Numbers.{val, value}
-use Rattle.print_parts.specs.declared.sizes.Size.TheVariants.{Of, Bad}
-use Rattle.print_parts.specs.sizes.Sizes.{is_digit, are_digits, decimal, is_left_open, size_of, size_value}
+use Rattle.print_parts.specs.sizes.Sizes.{is_digit, are_digits, decimal, is_left_open, size_of}
 
 -- ---- decimal digits
 
 -- digits behind others of value n
 abbrev decimal_from : ℕ → ℕ → List ℕ → Option ℕ
-decimal_from most n s = cond (are_digits s && leb (val n s) most) (some (val n s)) none
+decimal_from most n s = cond (are_digits s && leb (val n s) most) (Some (val n s)) None
 
 pub digit_least : (b : ℕ) → is_digit b ≡ true → (48 ≤ b) × (b ≤ 57)
 digit_least b e = go (leb 48 b) (leb b 57) refl refl e
@@ -33,10 +32,10 @@ val_least : (n : ℕ) (s : List ℕ) → n ≤ val n s
 val_least n [] = omega arith
 val_least n (b ∷ s) = omega (arith, val_least (n * 10 + (b - 48)) s)
 
-over : (most n : ℕ) (s : List ℕ) → most < n → decimal_from most n s ≡ none
+over : (most n : ℕ) (s : List ℕ) → most < n → decimal_from most n s ≡ None
 over most n s h = go (are_digits s)
   where
-    go : (b : Bool) → cond (b && leb (val n s) most) (some (val n s)) none ≡ none
+    go : (b : Bool) → cond (b && leb (val n s) most) (Some (val n s)) None ≡ None
     go true = rw (lt-leb (val n s) most (omega (arith, val_least n s)))
     go false = refl
 
@@ -55,59 +54,29 @@ module _ (most : ℕ) (s : List ℕ) where
     next : is_digit (get_or s i 0) ≡ true → decimal most s ≡ decimal_from most (n * 10 + (get_or s i 0 - 48)) (drop (i + 1) s)
     next e =
         here ∙ ap (λ (x : Bool).
-        cond ((x && are_digits (drop (i + 1) s)) && leb (val n (get_or s i 0 ∷ drop (i + 1) s)) most) (some (val n (get_or s i 0 ∷ drop (i + 1) s))) none) e
+        cond ((x && are_digits (drop (i + 1) s)) && leb (val n (get_or s i 0 ∷ drop (i + 1) s)) most) (Some (val n (get_or s i 0 ∷ drop (i + 1) s))) None) e
 
-    pub no_digit : is_digit (get_or s i 0) ≡ false → decimal most s ≡ none
+    pub no_digit : is_digit (get_or s i 0) ≡ false → decimal most s ≡ None
     no_digit e =
         here ∙ ap (λ (x : Bool).
-        cond ((x && are_digits (drop (i + 1) s)) && leb (val n (get_or s i 0 ∷ drop (i + 1) s)) most) (some (val n (get_or s i 0 ∷ drop (i + 1) s))) none) e
+        cond ((x && are_digits (drop (i + 1) s)) && leb (val n (get_or s i 0 ∷ drop (i + 1) s)) most) (Some (val n (get_or s i 0 ∷ drop (i + 1) s))) None) e
 
     pub digit_read : is_digit (get_or s i 0) ≡ true → n * 10 + (get_or s i 0 - 48) ≤ most → Read (i + 1) (n * 10 + (get_or s i 0 - 48))
     digit_read e k = (k, next e)
 
-    pub digit_over : is_digit (get_or s i 0) ≡ true → most < n * 10 + (get_or s i 0 - 48) → decimal most s ≡ none
+    pub digit_over : is_digit (get_or s i 0) ≡ true → most < n * 10 + (get_or s i 0 - 48) → decimal most s ≡ None
     digit_over e k = next e ∙ over most (n * 10 + (get_or s i 0 - 48)) (drop (i + 1) s) k
 
-  pub all_read : (i n : ℕ) → Read i n → length s ≤ i → decimal most s ≡ some n
+  pub all_read : (i n : ℕ) → Read i n → length s ≤ i → decimal most s ≡ Some n
   all_read i n r h = r.1 ∙ ap (decimal_from most n) (drop_of_length-le s {i = i} h) ∙ rw (le-leb n most r.0)
 
   -- ---- the answer
 
-  pub left_open : is_left_open s ≡ true → size_of most s ≡ some most
-  left_open e = rw e
-
-  pub not_open : is_left_open s ≡ false → size_of most s ≡ decimal most s
-  not_open e = rw e
-
-  pub size_least : (n : ℕ) → size_of most s ≡ some n → n ≤ most
+  pub size_least : (n : ℕ) → size_of most s ≡ Some n → n ≤ most
   size_least n e = go (is_left_open s) (are_digits s) (leb (value s) most) refl e
     where
-      go : (o d x : Bool) → leb (value s) most ≡ x → cond o (some most) (cond (d && x) (some (value s)) none) ≡ some n → n ≤ most
+      go : (o d x : Bool) → leb (value s) most ≡ x → cond o (Some most) (cond (d && x) (Some (value s)) None) ≡ Some n → n ≤ most
       go true d x q e = let k : most ≡ n = cc in omega arith
       go false true true q e = let k : value s ≡ n = cc in omega (arith, leb-true (value s) most q)
       go false true false q e = let k : ◌≡◌ {A = ℕ} 0 1 = cc in absurd (omega arith)
       go false false x q e = let k : ◌≡◌ {A = ℕ} 0 1 = cc in absurd (omega arith)
-
--- what the value of a size tells of it
-pub size_of_lem : (o : Option ℕ) (n : ℕ) → size_value o ≡ Of n → o ≡ some n
-size_of_lem none n e = let k : ◌≡◌ {A = ℕ} 0 1 = cc in absurd (omega arith)
-size_of_lem (some m) n e = let k : m ≡ n = cc in ap some k
-
-pub size_bad : (o : Option ℕ) → size_value o ≡ Bad → o ≡ none
-size_bad none e = refl
-size_bad (some m) e = let k : ◌≡◌ {A = ℕ} 0 1 = cc in absurd (omega arith)
-
--- a part of no bytes, and of more than one
-pub open_none : (s : List ℕ) → length s ≡ 0 → is_left_open s ≡ true
-open_none [] h = refl
-open_none (b ∷ s) h = absurd (omega arith)
-
-pub open_many : (s : List ℕ) → 1 < length s → is_left_open s ≡ false
-open_many [] h = absurd (omega arith)
-open_many (b ∷ []) h = absurd (omega arith)
-open_many (b ∷ (c ∷ s)) h = refl
-
-pub open_one : (s : List ℕ) → length s ≡ 1 → is_left_open s ≡ eqb (get_or s 0 0) 45
-open_one [] h = absurd (omega arith)
-open_one (b ∷ []) h = refl
-open_one (b ∷ (c ∷ s)) h = absurd (omega arith)

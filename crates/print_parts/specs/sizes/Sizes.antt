@@ -1,9 +1,6 @@
 -- How much a part of a line asks for, with at most `most` to have.
-use Rattle.std.specs.Prelude.{Bool, true, false, cond, ◌&&◌, List, [], ◌∷◌, ℕ, eqb, leb}
-use Rattle.std.proofs.Math.Option.{Option, none, some}
+use Rattle.std.specs.Prelude.{Bool, true, false, cond, ◌&&◌, List, [], ◌∷◌, ℕ, eqb, leb, Option, Some, None}
 use Rattle.text_grammar.specs.Numbers.{value}
-use Rattle.print_parts.specs.declared.sizes.Size.{Size}
-use Rattle.print_parts.specs.declared.sizes.Size.TheVariants.{Of, Bad}
 
 abbrev pub is_digit : ℕ → Bool
 is_digit b = leb 48 b && leb b 57
@@ -14,7 +11,7 @@ are_digits (b ∷ s) = is_digit b && are_digits s
 
 -- decimal digits of a value of at most `most`; zeros may lead
 abbrev pub decimal : ℕ → List ℕ → Option ℕ
-decimal most s = cond (are_digits s && leb (value s) most) (some (value s)) none
+decimal most s = cond (are_digits s && leb (value s) most) (Some (value s)) None
 
 -- an empty part and `-`, byte 45
 abbrev pub is_left_open : List ℕ → Bool
@@ -24,9 +21,4 @@ is_left_open (b ∷ (c ∷ s)) = false
 
 -- these stand for as many as there are
 abbrev pub size_of : ℕ → List ℕ → Option ℕ
-size_of most s = cond (is_left_open s) (some most) (decimal most s)
-
--- a size as the code reads it
-abbrev pub size_value : Option ℕ → Size
-size_value none = Bad
-size_value (some n) = Of n
+size_of most s = cond (is_left_open s) (Some most) (decimal most s)

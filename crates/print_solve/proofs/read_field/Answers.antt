@@ -1,6 +1,5 @@
 use mathlib.Core.Path.{sym, ◌∙◌}
 use Rattle.print_solve.proofs.Fields.{one_field_lem, with_right, no_one_field}
-use borrow.Author.Rules.{rules}
 use Rattle.print_solve.proofs.read_field.Goals as goal
 
 pub returns-then-right-ne0 : goal.returns-then-right-ne0

@@ -14,20 +14,19 @@ use Rattle.text_grammar.specs.Numbers.{digits_of}
 use Rattle.text_grammar.proofs.Told.{eight_iff, fits_iff}
 use Rattle.text_grammar.specs.Ascii.{ascii, newline}
 use Rattle.text_grammar.proofs.Numbers.{digits_most}
-use Rattle.text_values.specs.declared.Field.{Field}
+use Rattle.text_values.specs.Values.{Field}
 use Rattle.search_problems.specs.Values.{blank_problem}
 use Rattle.search_steps.specs.Row.{blanks}
 use Rattle.text_write.specs.Answers.{after}
 use Rattle.text_write.proofs.Digits.{digits_64}
 use Rattle.search_spec.specs.Answers as answers
 use Rattle.search_spec.specs.Answers.{bytes_of}
-use Rattle.text_write.specs.pieces.Placed.{Placed}
-use Rattle.text_write.proofs.pieces.Pieces.{placed_next, placed_as}
-use Rattle.text_write.proofs.pieces.Bounds.{Piece, piece_as}
-use Rattle.search_row.specs.declared.Searched.{Searched}
-use Rattle.search_row.specs.declared.Searched.TheVariants.{Lines, TooSmall, Full}
-use Rattle.search_row.specs.Answers.{told, searched_of, found_in, Searches}
-use Rattle.print_solve.specs.search.Found.{most_bytes, count_text, counts_text, found_text, longest_body, longest_counts}
+use Rattle.text_write.specs.declared.pieces.Page.{Page}
+use Rattle.text_write.specs.pieces.Placed.{PlacedOn}
+use Rattle.text_write.proofs.pieces.Pieces.{on_next, on_as}
+use Rattle.print_solve.proofs.Pieces.{Piece, piece_as}
+use Rattle.search_row.specs.Answers.{Searched, fitting, too_small, row_full, told, searched_of, found_in, Searches}
+use Rattle.print_solve.specs.search.Found.{most_bytes, count_text, counts_text, found_text, longest_counts}
 
 -- the line of a refusal and two counts of 64 bits is short
 pub counts_short : (r n b : ℕ) → r < 10 → n < 18446744073709551616 → b < 18446744073709551616 → length (counts_text r n b) ≤ longest_counts
@@ -75,7 +74,7 @@ module _ (n b : ℕ) (needed room : ℕ) (i j : ℕ) where
   counts_are : (k : Option ℕ) → record { number = k; values = n ∷ (b ∷ []) } ≡ counted → (i ≡ n) × (j ≡ b)
   counts_are k e = (sym (ap (λ (t : Told). first_of t.values) e), sym (ap (λ (t : Told). second_of t.values) e))
 
-pub lines_said : (x : answers.Lines) (room n b : ℕ) → told (Lines n b) ≡ searched_of x room → Written x room n b
+pub lines_said : (x : answers.Lines) (room n b : ℕ) → told (fitting n b) ≡ searched_of x room → Written x room n b
 lines_said (answers.lines ls) room n b e =
     let t = bytes_of (answers.lines ls) in
     let c = counts_are n b (length t) room (length ls) (length t) none e in
@@ -86,7 +85,7 @@ lines_said (answers.lines ls) room n b e =
 lines_said answers.nine room n b e = absurd (none-ne-some 9 (ap number_of e))
 
 -- they are more than the room has
-pub few_said : (x : answers.Lines) (room n b : ℕ) → told (TooSmall n b) ≡ searched_of x room → found_text room x ≡ counts_text 8 n b
+pub few_said : (x : answers.Lines) (room n b : ℕ) → told (too_small n b) ≡ searched_of x room → found_text room x ≡ counts_text 8 n b
 few_said (answers.lines ls) room n b e =
     let t = bytes_of (answers.lines ls) in
     let c = counts_are n b (length t) room (length ls) (length t) (some 8) e in
@@ -96,7 +95,7 @@ few_said (answers.lines ls) room n b e =
 few_said answers.nine room n b e = let z = some-injective 8 9 (ap number_of e) in absurd (omega (arith, z))
 
 -- the row had no place
-pub full_said : (x : answers.Lines) (room : ℕ) → told Full ≡ searched_of x room → found_text room x ≡ counts_text 9 0 0
+pub full_said : (x : answers.Lines) (room : ℕ) → told row_full ≡ searched_of x room → found_text room x ≡ counts_text 9 0 0
 full_said (answers.lines ls) room e = absurd (not_nine (leb (length (bytes_of (answers.lines ls))) room) (ap number_of e))
   where
     not_nine : (u : Bool) → ◌≡◌ {A = Option ℕ} (some 9) (cond u none (some 8)) → ⊥
@@ -133,11 +132,11 @@ module _ (f g : Field) (k room lent : ℕ) (T : List ℕ) (is-lent : lent ≡ mi
   said_as e = ap (λ (n : ℕ). found_text n x) (sym is-lent) ∙ e
 
   module _ (n b : ℕ) where
-    written : r ≡ Lines n b → Written x lent n b
+    written : r ≡ fitting n b → Written x lent n b
     written h = lines_said x lent n b (sym (ap told h) ∙ searched)
 
     -- the lines stand at the front
-    lines_there : r ≡ Lines n b → take b (m ++ drop lent T) ≡ bytes_of x
+    lines_there : r ≡ fitting n b → take b (m ++ drop lent T) ≡ bytes_of x
     lines_there h =
         let t = bytes_of x in
         let w = written h in
@@ -147,29 +146,27 @@ module _ (f g : Field) (k room lent : ℕ) (T : List ℕ) (is-lent : lent ≡ mi
         ∙ ap (take b) (append_assoc t (drop (length t) (take lent T)) (drop lent T))
         ∙ take_at t (drop (length t) (take lent T) ++ drop lent T) b (sym w.size)
 
-    pub lines_count : r ≡ Lines n b → b ≡ length (take b (m ++ drop lent T))
+    pub lines_count : r ≡ fitting n b → b ≡ length (take b (m ++ drop lent T))
     lines_count h = (written h).size ∙ ap length (sym (lines_there h))
 
-    pub lines_in_lem : r ≡ Lines n b → b ≤ length (m ++ drop lent T)
+    pub lines_in_lem : r ≡ fitting n b → b ≤ length (m ++ drop lent T)
     lines_in_lem h = omega (arith, lines_count h, length-take b (m ++ drop lent T))
 
-    module _ (n-small : n < 18446744073709551616) (b-small : b < 18446744073709551616) (at : ℕ) (old : List ℕ) {p : ℕ} {l : List ℕ} where
-      pub lines_put : r ≡ Lines n b → {q : ℕ} {k : List ℕ} → Placed (counts_text 0 n b) at old p l → Placed (take b (m ++ drop lent T)) p l q k
-          → Piece longest_body (found_text (min room most_bytes) x) at old q k
+    module _ (n-small : n < 18446744073709551616) (b-small : b < 18446744073709551616) {p q : Page} where
+      pub lines_put : r ≡ fitting n b → {u : Page} → PlacedOn (counts_text 0 n b) p q → PlacedOn (take b (m ++ drop lent T)) q u
+          → Piece (found_text (min room most_bytes) x) p u
       lines_put h c t =
           let w = written h in
-          piece_as longest_body at old (said_as w.said) (
-            placed_next (counts_text 0 n b) (bytes_of x) at old c (placed_as p l (sym (lines_there h)) t),
+          piece_as (said_as w.said) (
+            on_next c (on_as t (sym (lines_there h))),
             omega (arith, length-append (counts_text 0 n b) (bytes_of x), counts_short 0 n b (omega arith) n-small b-small, w.fits, is-lent),
           )
 
-      pub few_put : r ≡ TooSmall n b → Placed (counts_text 8 n b) at old p l → Piece longest_body (found_text (min room most_bytes) x) at old p l
+      pub few_put : r ≡ too_small n b → PlacedOn (counts_text 8 n b) p q → Piece (found_text (min room most_bytes) x) p q
       few_put h c =
-          piece_as longest_body at old (said_as (few_said x lent n b (sym (ap told h) ∙ searched)))
-          (c, omega (arith, counts_short 8 n b (omega arith) n-small b-small))
+          piece_as (said_as (few_said x lent n b (sym (ap told h) ∙ searched))) (c, omega (arith, counts_short 8 n b (omega arith) n-small b-small))
 
-  pub full_put : r ≡ Full → (at : ℕ) (old : List ℕ) {p : ℕ} {l : List ℕ}
-      → Placed (counts_text 9 0 0) at old p l → Piece longest_body (found_text (min room most_bytes) x) at old p l
-  full_put h at old c =
-      piece_as longest_body at old (said_as (full_said x lent (sym (ap told h) ∙ searched)))
+  pub full_put : r ≡ row_full → {p q : Page} → PlacedOn (counts_text 9 0 0) p q → Piece (found_text (min room most_bytes) x) p q
+  full_put h c =
+      piece_as (said_as (full_said x lent (sym (ap told h) ∙ searched)))
       (c, omega (arith, counts_short 9 0 0 (omega arith) (omega arith) (omega arith)))

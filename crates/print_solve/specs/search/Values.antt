@@ -1,7 +1,7 @@
 -- The same, of two fields as values, in a row and a room of no more than there is.
 use Rattle.std.specs.Prelude.{List, ℕ, min}
 use Rattle.search_row.specs.own.Sizes.{most_records}
-use Rattle.text_values.specs.declared.Field.{Field}
+use Rattle.text_values.specs.Values.{Field}
 use Rattle.text_accepted.specs.Accepted.{counted_field}
 use Rattle.search_spec.specs.Answers.{lines_for}
 use Rattle.print_solve.specs.search.Found.{most_bytes, found_text}

@@ -1,6 +1,6 @@
 -- The laws of the search's codes: two terms have one code exactly where they are equal, and a code tells a term's type, whether it is a
 -- variable, and whether it is a list variable. Assumes nothing.
-use mathlib.Core.Path.{◌≡◌, refl, sym, ap, ◌∙◌}
+use mathlib.Core.Path.{◌≡◌, ap}
 use mathlib.Core.Logic.{ite}
 use mathlib.Core.Bool.{Bool, true, false, cond}
 use mathlib.Core.Option.{Option}
@@ -16,7 +16,7 @@ use Rattle.math_types.specs.Order.{list}
 use Rattle.math_types.specs.Types.{basics, rank}
 use Rattle.text_grammar.specs.constants.Constants.{consts}
 use Rattle.math_overlaps.specs.Shapes.{fixed, free}
-use Rattle.math_search.specs.Problems.{atomic, listvar, At, Tm, tm_eq, term_type}
+use Rattle.math_search.specs.Problems.{atomic, listvar, Tm, tm_eq, term_type}
 use Rattle.math_codes.specs.Tables.{Holds, code_of, same, Table, Made}
 use Rattle.math_codes.specs.Lines.{OurAtom, our_vars, our_ranks}
 use Rattle.math_codes.proofs.Tables.{holds_below, code_holds, code_first, code_once}

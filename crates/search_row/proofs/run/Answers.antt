@@ -8,16 +8,16 @@ use Rattle.search_row.proofs.run.Goals as goal
 idle : (n : ℕ) (c d : Config) → after n d ≡ after n c → (after n c).state.busy ≡ false → (after n d).state.busy ≡ false
 idle n c d e h = ap (λ (y : Config). y.state.busy) e ∙ h
 
-pub loop-t-smaller : goal.loop-t-smaller
-loop-t-smaller g c =
-    let d : Config = conf c.loop-t.t c.loop-t.row c.loop-t.out in
-    subst (λ (y : Config). left g.turns y < left g.turns d) (sym c.step-u.ensures)
-    (turn g.turns d (idle g.turns _ d c.loop-t.invariant c.requires) c.loop-t-test.true).1
+pub loop-s-smaller : goal.loop-s-smaller
+loop-s-smaller g c =
+    let d : Config = conf c.loop-s.s c.loop-s.row c.loop-s.out in
+    subst (λ (y : Config). left g.turns y < left g.turns d) (sym c.step.ensures)
+    (turn g.turns d (idle g.turns _ d c.loop-s.invariant c.requires) c.loop-s-test.true).1
 
-pub loop-t-preserved : goal.loop-t-preserved
-loop-t-preserved g c =
-    let d : Config = conf c.loop-t.t c.loop-t.row c.loop-t.out in
-    ap (after g.turns) c.step-u.ensures ∙ (turn g.turns d (idle g.turns _ d c.loop-t.invariant c.requires) c.loop-t-test.true).0 ∙ c.loop-t.invariant
+pub loop-s-preserved : goal.loop-s-preserved
+loop-s-preserved g c =
+    let d : Config = conf c.loop-s.s c.loop-s.row c.loop-s.out in
+    ap (after g.turns) c.step.ensures ∙ (turn g.turns d (idle g.turns _ d c.loop-s.invariant c.requires) c.loop-s-test.true).0 ∙ c.loop-s.invariant
 
 pub returns : goal.returns
-returns g c = (g.turns, sym c.loop-t.invariant ∙ after_idle g.turns (conf c.loop-t.t c.loop-t.row c.loop-t.out) c.loop-t-test.false, c.loop-t-test.false)
+returns g c = (g.turns, sym c.loop-s.invariant ∙ after_idle g.turns (conf c.loop-s.s c.loop-s.row c.loop-s.out) c.loop-s-test.false, c.loop-s-test.false)

@@ -1,17 +1,15 @@
-use Rattle.std.proofs.Common.{◌≡◌, ◌-◌, ◌≤◌, length, take, drop, arith, rules}
-use Rattle.base_lists.specs.Seqs.{long_mapped}
+use Rattle.std.proofs.Common.{◌≡◌, ◌-◌, length, take, drop, rules}
 use Rattle.search_steps.specs.Machine.{line_of}
-use Rattle.search_steps.proofs.Steps.{place_fits, line_part, line_by_lem}
+use Rattle.search_steps.proofs.Steps.{put_as, line_by_lem, line_part}
 use Rattle.search_steps.proofs.put_line.Goals as goal
 
-pub returns : goal.returns
-returns c =
-    let z = c.args in
+pub returns-clause-out_after : goal.returns-clause-out_after
+returns-clause-out_after c =
+    let s = c.args.s.now in
+    let p = c.args.p.now in
+    let old = c.args.out.now in
     let a = c.line_place-at in
-    let n = c.put_values in
-    let e : length z.p.lists ≡ 2 = search long_mapped in
-    let k = line_by_lem z.s z.p (take (length z.out.now - a.result) (drop a.result z.out.now)) _ e n.ensures in
-    record {
-      value = k.0;
-      out_after = line_part z.s (line_of z.s z.p) z.out.now a.result a.ensures k.1;
-    }
+    let part = take (length old - a.result) (drop a.result old) in
+    let two : length p.lists ≡ 2 = search rules in
+    let put = put_as s.row s.texts p.atoms.atoms part c.used.ensures c.used-2.ensures c.put_answer.ensures.puts in
+    line_part s (line_of s p) old a.result a.ensures (line_by_lem s p part _ two put).1

@@ -1,11 +1,11 @@
 -- The tables of two fields that stand on accepted rules' left sides are those of the rules of these fields. Assumes nothing.
-use Rattle.std.proofs.Common.{◌≡◌, ℕ, Bool, true, false, cond, List, [], ◌∷◌, length, sym, ap, ◌∙◌, subst, arith}
+use Rattle.std.proofs.Common.{◌≡◌, ℕ, Bool, true, false, cond, List, [], ◌∷◌, sym, ap, ◌∙◌, subst, arith}
 use Rattle.text_grammar.specs.Terms.{OurTerm, OurFields}
 use Rattle.text_grammar.specs.Plain.{plain}
 use Rattle.text_grammar.specs.Limits.{IsLeft}
 use Rattle.text_grammar.specs.Read.{read_side, accepted}
 use Rattle.text_grammar.proofs.Accepted.{rule_plain}
-use Rattle.text_values.specs.declared.Field.{Field}
+use Rattle.text_values.specs.Values.{Field}
 use Rattle.text_values.specs.Values.{view_side, encode_field, one_field}
 use Rattle.text_accepted.specs.Accepted.{counted_field}
 use Rattle.text_accepted.proofs.Accepted.{encode_accepted_field, view_encode_rule}

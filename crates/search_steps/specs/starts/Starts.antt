@@ -3,7 +3,7 @@
 -- Assumes nothing.
 use Rattle.std.specs.Prelude.{ℕ, true, false, cond, ◌&&◌, ◌==◌, nat_le, nat_lt}
 use Rattle.math_search.specs.Rules.{rule_count}
-use Rattle.text_values.specs.declared.Field.{Field}
+use Rattle.text_values.specs.Values.{Field}
 use Rattle.search_steps.specs.tables.Tables.{rows_in}
 use Rattle.search_problems.specs.Roots.{root_value}
 use Rattle.text_accepted.specs.Accepted.{accepted_field}

@@ -1,7 +1,7 @@
 -- The tables of two fields as code makes them. `tables_hold` of proofs/ says that they are those of the two rules.
 use Rattle.std.specs.Prelude.{ℕ, true, false, List}
 use Rattle.text_grammar.specs.Plain.{plain}
-use Rattle.text_values.specs.declared.Field.{Field}
+use Rattle.text_values.specs.Values.{Field}
 use Rattle.text_accepted.specs.Accepted.{counted_field}
 use Rattle.pair_table.specs.Notes.{blank_rows}
 use Rattle.text_passes.specs.Notes.{noted_in}

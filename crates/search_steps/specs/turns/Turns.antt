@@ -11,9 +11,13 @@ use Rattle.math_codes.specs.Tables.{Table}
 use Rattle.pair_row.specs.Row.{table_in}
 use Rattle.search_problems.specs.declared.Problem.{Problem}
 use Rattle.search_problems.specs.Values.{blank_problem}
-use Rattle.search_problems.specs.Steps.{fails_of, child_of, next_rule}
+use Rattle.search_problems.specs.Steps.{fails_of, child_record, next_rule}
 use Rattle.search_steps.specs.declared.turns.State.{State}
-use Rattle.search_steps.specs.declared.turns.Turn.{Turn}
+
+-- what a turn makes of the record that it reads, and the state after it
+pub record Turn : Type 0 where
+  pub problem : Problem
+  pub state : State
 
 -- ---- what a turn reads off the state
 
@@ -132,7 +136,7 @@ abbrev pub child_turn : State → Problem → Problem → Turn
 child_turn s p q = cond (nat_lt s.count s.cap) (record { problem = q; state = joined s }) (record { problem = p; state = full s })
 
 abbrev pub rule_turn : State → Problem → Turn
-rule_turn s p = child_turn s p (child_of (table_in s.row) s.held s.rule).problem
+rule_turn s p = child_turn s p (child_record (table_in s.row) s.held s.rule)
 
 -- ---- a turn
 

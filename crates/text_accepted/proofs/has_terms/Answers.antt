@@ -1,26 +1,17 @@
-use borrow.Author.Rules.{rules}
-use Prim.Native.Nat.{◌-◌}
-use mathlib.Core.Path.{◌≡◌}
-use lib.ListN.{length}
-use Rattle.base_limits.specs.Limits.{most_terms}
-use Rattle.text_values.specs.canonical.Terms.{term_ok, term_blank}
-use Rattle.base_lists.specs.Seqs.{long_mapped}
-use Rattle.text_values.proofs.canonical.Filled.{Passed, passed_none, passed_one, passed_not, passed_all, passed_over}
+use Rattle.std.proofs.Common.{rules}
+use Rattle.text_values.specs.canonical.Terms.{term_blank}
+use Rattle.text_values.proofs.canonical.Filled.{parted_good, parted_bad, parted_over}
+use Rattle.text_accepted.specs.Accepted.{may_stand}
 use Rattle.text_accepted.proofs.has_terms.Goals as goal
 
-pub returns-then-n-gt-MOST_TERMS : goal.returns-then-n-gt-MOST_TERMS
-returns-then-n-gt-MOST_TERMS c =
-    let h : length c.args.f.terms ≡ most_terms = search long_mapped in
-    passed_over term_ok term_blank most_terms _ c.args.f.terms h c.if-n-gt-MOST_TERMS.true
+pub returns-then-are_terms : goal.returns-then-are_terms
+returns-then-are_terms g c =
+    parted_good (may_stand c.args.variables) term_blank g.row.PLACES c.args.f.now.n c.args.f.now.terms (search rules) c.in-Some.ensures.cases c.are_terms.ensures c.if-are_terms.true
+    c.are_blank.ensures
 
-pub returns-then-not-is_place : goal.returns-then-not-is_place
-returns-then-not-is_place c =
-    passed_not term_ok term_blank most_terms _ c.args.f.terms
-    c.loop-i.i _ c.is_place.result c.loop-i.invariant
-    c.loop-i-test.true c.is_place.ensures c.if-not-is_place.true-raw
+pub returns-else-are_terms : goal.returns-else-are_terms
+returns-else-are_terms g c =
+    parted_bad (may_stand c.args.variables) term_blank g.row.PLACES c.args.f.now.n c.args.f.now.terms (search rules) c.in-Some.ensures.cases c.are_terms.ensures c.if-are_terms.false
 
-pub loop-i-preserved : goal.loop-i-preserved
-loop-i-preserved c =
-    passed_one term_ok term_blank most_terms _ c.args.f.terms
-    c.loop-i.i _ c.is_place.result c.loop-i.invariant
-    c.loop-i-test.true c.is_place.ensures c.if-not-is_place.false-raw
+pub returns-in-None : goal.returns-in-None
+returns-in-None g c = parted_over (may_stand c.args.variables) term_blank g.row.PLACES c.args.f.now.n c.args.f.now.terms (search rules) c.in-None.ensures.cases

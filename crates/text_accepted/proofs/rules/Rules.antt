@@ -16,7 +16,7 @@ use Rattle.text_grammar.specs.Read.{rule, accepted}
 use Rattle.text_grammar.specs.rules.Read.{OurRule, read_rule}
 use Rattle.text_grammar.specs.rules.Limits.{IsRight, IsRule}
 use Rattle.text_grammar.proofs.rules.Accepted.{rule_iff}
-use Rattle.text_values.specs.declared.RuleSide.{RuleSide}
+use Rattle.text_values.specs.Values.{RuleSide}
 use Rattle.text_values.specs.declared.Rule.{Rule}
 use Rattle.text_values.specs.Values.{view_side, view_rule, encode_side, encode_rule, blank_side}
 use Rattle.text_accepted.specs.Accepted.{accepted_left, accepted_right, counted_left}

@@ -15,36 +15,13 @@ use Rattle.text_grammar.specs.Terms.{OurTerm, OurFields}
 use Rattle.text_grammar.specs.Read.{slip, accepted, read_slip}
 use Rattle.text_grammar.specs.Limits.{TermIn, IsCon, IsSlip}
 use Rattle.text_grammar.proofs.Accepted.{slip_iff}
-use Rattle.text_values.specs.declared.Term.{Term}
-use Rattle.text_values.specs.declared.SlipField.{SlipField}
-use Rattle.text_values.specs.declared.Slip.{Slip}
+use Rattle.text_values.specs.Values.{Slip}
 use Rattle.text_values.specs.Values.{view_slip_field, view_slip, blank_slip_field, blank_slip, encode_slip_field, encode_slip}
 use Rattle.text_values.specs.canonical.Filled.{filled_to}
-use Rattle.text_values.proofs.canonical.Arrays.{Stands, encode_one, Counted, counted}
+use Rattle.text_values.proofs.canonical.Arrays.{Stands, encode_one, counted}
 use Rattle.text_values.proofs.canonical.Terms.{item_stands, ItemIn}
-use Rattle.text_accepted.proofs.Accepted.{all_both, within_is, count_is, value_iff}
+use Rattle.text_accepted.proofs.Accepted.{terms_parts, fields_parts, all_both, within_is, count_is, value_iff}
 use Rattle.text_accepted.specs.slips.Slips.{slip_field_ok, slip_field_blank, accepted_slip, counted_slip}
-
--- ---- fields and slips: a count and an array
-abbrev slip_field_parts : Counted Term SlipField
-slip_field_parts = record {
-  count = λ f. f.n;
-  places = λ f. f.terms;
-  make = λ n ts. record { n = n; terms = ts };
-  make_parts = λ f. refl;
-  count_make = λ n ts. refl;
-  places_make = λ n ts. refl;
-}
-
-abbrev slip_parts : Counted SlipField Slip
-slip_parts = record {
-  count = λ s. s.n;
-  places = λ s. s.fields;
-  make = λ n fs. record { n = n; fields = fs };
-  make_parts = λ s. refl;
-  count_make = λ n fs. refl;
-  places_make = λ n fs. refl;
-}
 
 -- a field's terms, a slip's fields: not too many, each within its limits
 abbrev pub SlipFieldIn : List OurTerm → Type 0
@@ -57,10 +34,10 @@ abbrev pub slip_ok : Slip → Bool
 slip_ok s = filled_to most_fields slip_field_ok slip_field_blank s.n s.fields
 
 pub slip_field_stands : Stands view_slip_field encode_slip_field slip_field_ok slip_field_blank blank_slip_field SlipFieldIn
-slip_field_stands = counted slip_field_parts slip.width item_stands
+slip_field_stands = counted terms_parts slip.width item_stands
 
 pub slip_stands : Stands view_slip encode_slip slip_ok (λ s. eqb s.n 0 && slip_ok s) blank_slip SlipIn
-slip_stands = counted slip_parts most_fields slip_field_stands
+slip_stands = counted fields_parts most_fields slip_field_stands
 
 -- ---- the limits of document 01
 slip_fields_are : (r : OurFields) → (All (λ f. (length f ≤ slip.width) × All TermIn f) r × All (All IsCon) r) ↔ All SlipFieldIn r

@@ -5,7 +5,7 @@ use Rattle.math_terms.specs.Terms.{con, var}
 use Rattle.text_grammar.specs.Terms.{OurTerm, OurField, OurFields, terms_of}
 use Rattle.text_grammar.specs.rules.Read.{OurRule}
 use Rattle.overlap_spec.specs.Variables.{occurs}
-use Rattle.text_values.specs.declared.RuleSide.{RuleSide}
+use Rattle.text_values.specs.Values.{RuleSide}
 use Rattle.text_values.specs.declared.Rule.{Rule}
 use Rattle.text_values.specs.Values.{view_side, view_rule, blank_side}
 use Rattle.text_accepted.specs.Accepted.{accepted_left, accepted_right}

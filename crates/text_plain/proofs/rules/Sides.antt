@@ -9,8 +9,9 @@ use Rattle.text_grammar.specs.Terms.{OurFields}
 use Rattle.text_values.specs.declared.Rule.{Rule}
 use Rattle.text_values.specs.Values.{view_field, view_side, view_rule}
 use Rattle.text_grammar.specs.rules.Plain.{plain_sides, plain_both}
-use Rattle.text_write.specs.pieces.Placed.{Placed}
-use Rattle.text_write.proofs.pieces.Pieces.{placed_next, placed_as}
+use Rattle.text_write.specs.pieces.Placed.{PlacedOn}
+use Rattle.text_write.specs.declared.pieces.Page.{Page}
+use Rattle.text_write.proofs.pieces.Pieces.{on_next, on_as}
 
 -- `=>`
 abbrev pub arrow : List ℕ
@@ -32,9 +33,6 @@ module _ (r : Rule) where
       two_fields (view_side r.left) (view_side r.right) (λ e. some (omega (arith, e, length-map used view_field, length-take r.right.n fs)))
 
   -- the left side, the arrow and the right side, put one behind the other
-  pub placed_both : length r.right.fields ≡ 4 → (r.right.n ≡ 0 → ⊥) → (at : ℕ) (l : List ℕ) {a b c : ℕ} {m n o : List ℕ}
-      → Placed (plain (view_side r.left)) at l a m → Placed arrow a m b n → Placed (plain (view_side r.right)) b n c o
-      → Placed (plain_both (view_rule r)) at l c o
-  placed_both long some at l {a} {b} {c} {m} left middle right =
-      let y = plain (view_side r.right) in
-      placed_as at l (two_sides long some) (placed_next (plain (view_side r.left)) (arrow ++ y) at l left (placed_next arrow y a m middle right))
+  pub on_both : length r.right.fields ≡ 4 → (r.right.n ≡ 0 → ⊥) → {p q u v : Page}
+      → PlacedOn (plain (view_side r.left)) p q → PlacedOn arrow q u → PlacedOn (plain (view_side r.right)) u v → PlacedOn (plain_both (view_rule r)) p v
+  on_both long some left middle right = on_as (on_next left (on_next middle right)) (two_sides long some)

@@ -7,7 +7,7 @@ use Rattle.text_grammar.specs.Terms.{OurFields}
 use Rattle.text_grammar.specs.Plain.{plain}
 use Rattle.text_grammar.specs.Read.{Outcome, accepted, read_slip}
 use Rattle.text_grammar.proofs.Accepted.{slip_read_lem, slip_plain}
-use Rattle.text_values.specs.declared.Slip.{Slip}
+use Rattle.text_values.specs.Values.{Slip}
 use Rattle.text_values.specs.Values.{view_slip, encode_slip}
 use Rattle.text_accepted.specs.slips.Slips.{accepted_slip, counted_slip}
 use Rattle.text_accepted.proofs.slips.Slips.{accepted_slip_lem, counted_accepted, counted_slip_lem}

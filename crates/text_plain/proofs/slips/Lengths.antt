@@ -8,7 +8,7 @@ use lib.ListN.{length}
 use Rattle.base_limits.specs.Limits.{longest_slip}
 use Rattle.text_grammar.specs.Plain.{plain}
 use Rattle.text_grammar.proofs.Accepted.{slip_length}
-use Rattle.text_values.specs.declared.Slip.{Slip}
+use Rattle.text_values.specs.Values.{Slip}
 use Rattle.text_values.specs.Values.{view_slip}
 use Rattle.text_accepted.specs.slips.Slips.{accepted_slip, counted_slip}
 use Rattle.text_accepted.proofs.slips.Slips.{accepted_slip_lem}

@@ -1,8 +1,7 @@
-use Rattle.text_read.proofs.Verdicts.{slip_long, slip_grammar, slip_survey}
-use borrow.Author.Rules.{rules}
+use Rattle.text_read.proofs.Verdicts.{slip_survey}
 use Rattle.text_read.proofs.judge_slip.Goals as goal
 
-pub returns-in-Nothing : goal.returns-in-Nothing
-returns-in-Nothing c =
+pub returns-in-None : goal.returns-in-None
+returns-in-None c =
     slip_survey c.args.text.now c.grammar_place.result c.survey.result c.if-text-gt-MOST_SLIP_BYTES.false c.grammar_place.ensures
-    c.in-Nothing.is c.survey.ensures
+    c.in-None.is c.survey.ensures

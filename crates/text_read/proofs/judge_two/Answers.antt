@@ -1,6 +1,5 @@
-use mathlib.Core.Path.{sym, ◌∙◌, ap}
+use mathlib.Core.Path.{◌≡◌, sym, ◌∙◌, ap}
 use native.Mathlib.Omega.{arith}
-use lib.Seq.{length-take-le}
 use Rattle.text_scan.proofs.split.Splits.{two_sides}
 use Rattle.text_read.specs.Sides.{unknown_of}
 use Rattle.text_read.proofs.Rules.{right_surveyed, right_placed, first_found, unknown_found, unknown_placed, judged_first, judged_unknown}
@@ -38,28 +37,29 @@ unknown_verdict-requires c =
     let t = c.args.text.now in
     let p = c.args.p in
     let s = (two_sides t p c.requires.1).inside in
-    let first = first_found t c.requires.0 p c.requires.1 c.survey-l.result c.survey-r.result c.right_verdict.result c.first-both.result
-    c.survey-l.ensures c.survey-r.ensures c.right_verdict.ensures c.first-both.ensures in
-    let fine = sym first ∙ c.in-Accepted.is in (
+    let first = first_found t c.requires.0 p c.requires.1 c.survey-l.result c.survey-r.result c.right_verdict.result c.first.result
+    c.survey-l.ensures c.survey-r.ensures c.right_verdict.ensures c.first.ensures in
+    let fine = sym first ∙ c.in_ok-first.was in (
       omega (arith, c.requires.0),
       unknown_placed t c.requires.0 p c.requires.1 fine c.unknown_in.result
-          (unknown_found t c.requires.0 p c.requires.1 fine c.side_in-side.result c.unknown_in.result c.side_in-side.ensures c.unknown_in.ensures),
+          (unknown_found t c.requires.0 p c.requires.1 fine c.fields_in-side.result c.unknown_in.result c.fields_in-side.ensures c.unknown_in.ensures),
     )
 
-pub returns-in-Accepted : goal.returns-in-Accepted
-returns-in-Accepted c =
+pub returns : goal.returns
+returns c =
     let t = c.args.text.now in
     let p = c.args.p in
-    let first = first_found t c.requires.0 p c.requires.1 c.survey-l.result c.survey-r.result c.right_verdict.result c.first-both.result
-    c.survey-l.ensures c.survey-r.ensures c.right_verdict.ensures c.first-both.ensures in
-    let fine = sym first ∙ c.in-Accepted.is in
-    let found = unknown_found t c.requires.0 p c.requires.1 fine c.side_in-side.result c.unknown_in.result c.side_in-side.ensures c.unknown_in.ensures in
-    c.unknown_verdict.ensures ∙ ap (unknown_of _) found ∙ judged_unknown t c.requires.0 p c.requires.1 c.first-both.result first c.in-Accepted.is
+    let first = first_found t c.requires.0 p c.requires.1 c.survey-l.result c.survey-r.result c.right_verdict.result c.first.result
+    c.survey-l.ensures c.survey-r.ensures c.right_verdict.ensures c.first.ensures in
+    let fine = sym first ∙ c.in_ok-first.was in
+    let found = unknown_found t c.requires.0 p c.requires.1 fine c.fields_in-side.result c.unknown_in.result c.fields_in-side.ensures c.unknown_in.ensures in
+    c.unknown_verdict.ensures ∙ ap (unknown_of _) found ∙ judged_unknown t c.requires.0 p c.requires.1 c.first.result first c.in_ok-first.was
 
-pub returns-in-Refused : goal.returns-in-Refused
-returns-in-Refused c =
+pub returns-in_err-first : goal.returns-in_err-first
+returns-in_err-first c =
     let t = c.args.text.now in
     let p = c.args.p in
-    let first = first_found t c.requires.0 p c.requires.1 c.survey-l.result c.survey-r.result c.right_verdict.result c.first-both.result
-    c.survey-l.ensures c.survey-r.ensures c.right_verdict.ensures c.first-both.ensures in
-    judged_first t c.requires.0 p c.requires.1 c.first-both.result _ _ first c.in-Refused.is
+    let first = first_found t c.requires.0 p c.requires.1 c.survey-l.result c.survey-r.result c.right_verdict.result c.first.result
+    c.survey-l.ensures c.survey-r.ensures c.right_verdict.ensures c.first.ensures in
+    let same : c.from_residual.result ≡ c.first.result = search rules in
+    same ∙ judged_first t c.requires.0 p c.requires.1 c.first.result _ _ first c.in_err-first.was

@@ -11,8 +11,8 @@ use Rattle.text_grammar.specs.Read.{Reason, long, grammar, fields, terms, limits
 use Rattle.text_grammar.specs.Told.{Told}
 use Rattle.text_grammar.proofs.Refused.{number_once}
 use Rattle.text_refusals.specs.declared.verdicts.Reason as values
-use Rattle.text_refusals.specs.declared.verdicts.Verdict.{Verdict}
-use Rattle.text_refusals.specs.declared.verdicts.Verdict.TheVariants.{Accepted, Refused}
+use Rattle.std.specs.Prelude.{Ok, Err}
+use Rattle.text_refusals.specs.verdicts.Verdicts.{Verdict, Accepted, Refused}
 use Rattle.text_refusals.specs.verdicts.Verdicts.{reason_from, number_of, told, refusal, verdict_of, first_of}
 
 -- the value of a reason has the same number
@@ -59,35 +59,28 @@ module _ (r q : values.Reason) (p k : ℕ) where
   pub first_latter : number_of q < number_of r → first_of (Refused r p) (Refused q k) ≡ Refused q k
   first_latter h = rw (lt-ltb (number_of q) (number_of r) h)
 
--- the steps of the code
-module _ (a b : Verdict) (r : values.Reason) (p : ℕ) (is-a : a ≡ Refused r p) where
-  pub first_alone : b ≡ Accepted → Refused r p ≡ first_of a b
-  first_alone e = rw (is-a, e)
-
-  pub first_stays : (q : values.Reason) (k n m : ℕ) → b ≡ Refused q k → n ≡ number_of q → m ≡ number_of r → m ≤ n → Refused r p ≡ first_of a b
-  first_stays q k n m e is_n is_m h = rw (is-a, e) (sym (first_former r q p k (omega arith)))
-
-  pub first_gives : (q : values.Reason) (k n m : ℕ) → b ≡ Refused q k → n ≡ number_of q → m ≡ number_of r → n < m → Refused q k ≡ first_of a b
-  first_gives q k n m e is_n is_m h = rw (is-a, e) (sym (first_latter r q p k (omega arith)))
-
 pub first_none : (v : Verdict) → first_of v Accepted ≡ v
-first_none Accepted = refl
-first_none (Refused r p) = refl
+first_none (Ok u) = refl
+first_none (Err x) = refl
 
 pub first_assoc : (a b c : Verdict) → first_of (first_of a b) c ≡ first_of a (first_of b c)
-first_assoc Accepted b c = refl
-first_assoc (Refused r p) Accepted c = refl
-first_assoc (Refused r p) (Refused q k) Accepted = first_none (first_of (Refused r p) (Refused q k))
-first_assoc (Refused r p) (Refused q k) (Refused s j) = go (dec_lt (number_of q) (number_of r)) (dec_lt (number_of s) (number_of q))
+first_assoc (Ok u) b c = refl
+first_assoc (Err x) (Ok u) c = refl
+first_assoc (Err x) (Err y) (Ok u) = first_none (first_of (Err x) (Err y))
+first_assoc (Err x) (Err y) (Err z) = three x.reason y.reason z.reason x.place y.place z.place
   where
-    go : Dec (number_of q < number_of r) → Dec (number_of s < number_of q)
+    three : (r q s : values.Reason) (p k j : ℕ)
         → first_of (first_of (Refused r p) (Refused q k)) (Refused s j) ≡ first_of (Refused r p) (first_of (Refused q k) (Refused s j))
-    go (yes h) (yes g) = rw (first_latter r q p k h, first_latter q s k j g, first_latter r s p j (omega arith))
-    go (yes h) (no g) = rw (first_latter r q p k h, first_former q s k j (omega arith), first_latter r q p k h)
-    go (no h) (yes g) = rw (first_former r q p k (omega arith), first_latter q s k j g)
-    go (no h) (no g) =
-        let rq = first_former r q p k (omega arith) in
-        rw (rq, first_former q s k j (omega arith), rq, first_former r s p j (omega arith))
+    three r q s p k j = go (dec_lt (number_of q) (number_of r)) (dec_lt (number_of s) (number_of q))
+      where
+        go : Dec (number_of q < number_of r) → Dec (number_of s < number_of q)
+            → first_of (first_of (Refused r p) (Refused q k)) (Refused s j) ≡ first_of (Refused r p) (first_of (Refused q k) (Refused s j))
+        go (yes h) (yes g) = rw (first_latter r q p k h, first_latter q s k j g, first_latter r s p j (omega arith))
+        go (yes h) (no g) = rw (first_latter r q p k h, first_former q s k j (omega arith), first_latter r q p k h)
+        go (no h) (yes g) = rw (first_former r q p k (omega arith), first_latter q s k j g)
+        go (no h) (no g) =
+            let rq = first_former r q p k (omega arith) in
+            rw (rq, first_former q s k j (omega arith), rq, first_former r s p j (omega arith))
 
 -- ---- the refusals in their order
 
@@ -113,20 +106,20 @@ module _ {X : Type 0} where
 
 -- no refusal, or one that is tried behind the number n
 abbrev pub Behind : ℕ → Verdict → Type 0
-Behind n Accepted = Unit {0}
-Behind n (Refused r p) = n < number_of r
+Behind n (Ok u) = Unit {0}
+Behind n (Err x) = n < number_of x.reason
 
 pub behind_less : (n m : ℕ) (v : Verdict) → n < m → Behind m v → Behind n v
-behind_less n m Accepted h b = tt
-behind_less n m (Refused r p) h b = omega arith
+behind_less n m (Ok u) h b = tt
+behind_less n m (Err x) h b = omega arith
 
 pub first_keeps : (r : values.Reason) (p : ℕ) (v : Verdict) → Behind (number_of r) v → first_of (Refused r p) v ≡ Refused r p
-first_keeps r p Accepted b = refl
-first_keeps r p (Refused q k) b = first_former r q p k (omega arith)
+first_keeps r p (Ok u) b = refl
+first_keeps r p (Err y) b = first_former r y.reason p y.place (omega arith)
 
 pub first_takes : (r : values.Reason) (p : ℕ) (v : Verdict) → Behind (number_of r) v → first_of v (Refused r p) ≡ Refused r p
-first_takes r p Accepted b = refl
-first_takes r p (Refused q k) b = first_latter q r k p b
+first_takes r p (Ok u) b = refl
+first_takes r p (Err y) b = first_latter y.reason r y.place p b
 
 -- the numbers rise, and are all above n
 abbrev pub Rising : ℕ → List Reason → Type 0

@@ -1,5 +1,5 @@
 -- Refusal 10 as code finds it. `unknown_is` of proofs/ says that this is the first variable of a text that a side lacks.
-use Rattle.std.specs.Prelude.{Bool, true, false, not, ◌||◌, cond, List, [], ◌∷◌, ℕ, ltb}
+use Rattle.std.specs.Prelude.{Bool, true, false, not, cond, List, [], ◌∷◌, ℕ, ltb}
 use Rattle.std.proofs.Math.Option.{Option, none, some}
 use Rattle.base_limits.specs.Limits.{largest_number}
 use Rattle.math_types.specs.Values.{kind_of}

@@ -1,18 +1,29 @@
 -- What is said of a text, in the documents' numbers.
-use Rattle.std.specs.Prelude.{ℕ, Bool, true, false, cond, ltb, [], ◌∷◌}
+use Rattle.std.specs.Prelude.{ℕ, cond, ltb, [], ◌∷◌, Result, Ok, Err}
 use Rattle.std.proofs.Math.Option.{none, some}
 use Rattle.text_grammar.specs.Told.{Told}
-use Rattle.text_grammar.specs.Read.{Sort, rule, slip, OutcomeOf, refused, accepted}
+use Rattle.text_grammar.specs.Read.{rule, slip, OutcomeOf, refused, accepted}
 use Rattle.text_grammar.specs.Read as read
+use Rattle.text_refusals.specs.declared.Sort.{Sort}
+use Rattle.text_refusals.specs.declared.Sort.TheVariants.{Rule, Slip}
 use Rattle.text_refusals.specs.declared.verdicts.Reason.{Reason}
 use Rattle.text_refusals.specs.declared.verdicts.Reason.TheVariants.{Long, Grammar, Fields, Terms, Limits, Linear, Variable, Unknown}
-use Rattle.text_refusals.specs.declared.verdicts.Verdict.{Verdict}
-use Rattle.text_refusals.specs.declared.verdicts.Verdict.TheVariants.{Accepted, Refused}
+use Rattle.text_refusals.specs.declared.verdicts.Refusal.{Refusal}
+
+-- accepted, or refused for a reason at a place
+abbrev pub Verdict : Type 0
+Verdict = Result (Unit {0}) Refusal
+
+abbrev pub Accepted : Verdict
+Accepted = Ok tt
+
+abbrev pub Refused : Reason → ℕ → Verdict
+Refused r p = Err (record { reason = r; place = p })
 
 -- whether a rule or a slip is read
-abbrev pub sort_of : Bool → Sort
-sort_of true = slip
-sort_of false = rule
+abbrev pub sort_of : Sort → read.Sort
+sort_of Slip = slip
+sort_of Rule = rule
 
 abbrev pub reason_from : read.Reason → Reason
 reason_from read.long = Long
@@ -37,8 +48,8 @@ number_of Unknown = 10
 
 -- what is told of a text, in document 01's number and values. "A refusal returns its number, its place"
 abbrev pub told : Verdict → Told
-told Accepted = record { number = none; values = [] }
-told (Refused r p) = record { number = some (number_of r); values = p ∷ [] }
+told (Ok u) = record { number = none; values = [] }
+told (Err e) = record { number = some (number_of e.reason); values = e.place ∷ [] }
 
 -- refused by the number of r, at p; and not refused
 abbrev pub refusal : read.Reason → ℕ → Told
@@ -53,6 +64,6 @@ verdict_of (accepted x) = Accepted
 
 -- the refusal that is tried first, which is the one of the lower number; the former's where both are for the same reason
 abbrev pub first_of : Verdict → Verdict → Verdict
-first_of Accepted v = v
-first_of (Refused r p) Accepted = Refused r p
-first_of (Refused r p) (Refused q k) = cond (ltb (number_of q) (number_of r)) (Refused q k) (Refused r p)
+first_of (Ok u) v = v
+first_of (Err x) (Ok u) = Err x
+first_of (Err x) (Err y) = cond (ltb (number_of y.reason) (number_of x.reason)) (Err y) (Err x)

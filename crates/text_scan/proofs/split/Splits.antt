@@ -2,11 +2,11 @@
 use mathlib.Core.Path.{◌≡◌, refl, sym, ◌∙◌, ap, ap₂, subst}
 use mathlib.Core.Logic.{◌⊎◌, inl, inr, if_neg}
 use mathlib.Core.Option.{Option, none, some, map, none-ne-some}
-use mathlib.Core.List.{List, [], ◌∷◌}
+use mathlib.Core.List.{List, ◌∷◌}
 use Prim.Native.Nat.{ℕ, suc, ◌+◌, ◌-◌, ◌<◌, ◌≤◌}
 use native.Mathlib.Omega.{arith}
 use native.Mathlib.Decide.{ℕ_discrete}
-use lib.ListN.{length, take, drop, get_or, drop_of_length-le, length-drop}
+use lib.ListN.{length, take, drop, get_or, length-drop}
 use lib.Seq.{drop-cons, drop-drop, length-take-le, take_all}
 use Rattle.text_grammar.specs.Grammar.{Grammar}
 use Rattle.text_grammar.specs.Place.{Answers, Stops, Viable}
@@ -15,8 +15,7 @@ use Rattle.text_grammar.proofs.Place.{place2_is, place2_none}
 use Rattle.text_grammar.specs.rules.Place.{arrow1, arrow2, cut_parts, cut_at, cut, place61, place62, place_at, place_on, place_rule}
 use Rattle.text_grammar.proofs.rules.Place.{place_rule_none}
 use Rattle.text_grammar.proofs.rules.Parse.{cut_none, arrow_behind}
-use Rattle.text_scan.specs.declared.Found.{Found}
-use Rattle.text_scan.specs.declared.Found.TheVariants as found
+use Rattle.std.specs.Prelude as found
 use Rattle.text_scan.specs.Places.{found_of}
 use Rattle.text_scan.specs.declared.split.Split.{Split}
 use Rattle.text_scan.specs.declared.split.Split.TheVariants as split
@@ -24,11 +23,11 @@ use Rattle.text_scan.specs.split.Splits.{split_by, split_of}
 
 -- ---- what was found
 
-pub found_at : (o : Option ℕ) (f : Found) (p : ℕ) → f ≡ found_of o → f ≡ found.At p → o ≡ some p
+pub found_at : (o : Option ℕ) (f : found.Option ℕ) (p : ℕ) → f ≡ found_of o → f ≡ found.Some p → o ≡ some p
 found_at none f p e q = let z : ◌≡◌ {A = ℕ} 0 1 = cc in absurd (omega arith)
 found_at (some n) f p e q = let z : n ≡ p = cc in ap some z
 
-pub found_none : (o : Option ℕ) (f : Found) → f ≡ found_of o → f ≡ found.Nothing → o ≡ none
+pub found_none : (o : Option ℕ) (f : found.Option ℕ) → f ≡ found_of o → f ≡ found.None → o ≡ none
 found_none none f e q = refl
 found_none (some n) f e q = let z : ◌≡◌ {A = ℕ} 0 1 = cc in absurd (omega arith)
 
@@ -57,23 +56,6 @@ module _ (t : List ℕ) (p : ℕ) (stops : place2 t ≡ some p) where
   split_is : split_of t ≡ by before (drop p t)
   split_is = ap (λ (o : Option ℕ). split_by (place_on t o) (cut_at t o)) stops
 
-  by_end : (o : Option ℕ) → by o [] ≡ split.Stops p
-  by_end none = refl
-  by_end (some q) = refl
-
-  -- at the text's end
-  pub stops_end : length t ≤ p → split.Stops p ≡ split_of t
-  stops_end h = sym (split_is ∙ ap (by before) (drop_of_length-le t h) ∙ by_end before)
-
-  by_other : (b : ℕ) (r : List ℕ) (o : Option ℕ) → (b ≡ 61 → ⊥) → by o (b ∷ r) ≡ split.Stops p
-  by_other b r (some q) n = refl
-  by_other b r none n =
-      ap (λ (x : Option ℕ). split_by x (cut_parts (take p t) none (arrow1 (b ∷ r)))) (if_neg (ℕ_discrete b 61) n (place62 (suc p) r) (some p))
-
-  -- on a byte other than `=`
-  pub stops_other : p < length t → (get_or t p 0 ≡ 61 → ⊥) → split.Stops p ≡ split_of t
-  stops_other h n = sym (split_is ∙ ap (by before) (drop-cons t p 0 h) ∙ by_other (get_or t p 0) (drop (suc p) t) before n)
-
   -- behind what is no side
   pub stops_inside : (q : ℕ) → before ≡ some q → split.Stops p ≡ split_of t
   stops_inside q e = sym (split_is ∙ ap (λ (o : Option ℕ). by o (drop p t)) e)
@@ -89,9 +71,6 @@ module _ (t : List ℕ) (p : ℕ) (stops : place2 t ≡ some p) where
     split_then : split_of t ≡ then (drop (suc p) t)
     unfolding ℕ_discrete
     split_then = split_is ∙ ap₂ by side here
-
-    pub equal_end : length t ≤ p + 1 → split.Stops (p + 1) ≡ split_of t
-    equal_end h = let short : length t ≤ suc p = omega arith in sym (split_then ∙ ap then (drop_of_length-le t short) ∙ ap split.Stops (omega arith))
 
     then_other : (b : ℕ) (r : List ℕ) → (b ≡ 62 → ⊥) → then (b ∷ r) ≡ split.Stops (suc p)
     then_other b r n =
@@ -132,11 +111,6 @@ module _ (t : List ℕ) (p : ℕ) (stops : place2 t ≡ some p) where
 
       pub right_in : (q : ℕ) → place2 right ≡ some q → p + 2 + q ≤ length t
       right_in q e = let h = place_in right q e in let l = length-drop (p + 2) t in omega (arith, ap length right_is)
-
-      pub right_side : place2 right ≡ none → split.Two p ≡ split_of t
-      right_side e =
-          sym (split_right ∙ ap (λ (o : Option ℕ). split_by (map (λ i. suc (suc p) + i) o) (some (take p t, right))) e
-          ∙ ap split.Two (length-take-le p t (omega arith)))
 
 -- ---- what a split says
 

@@ -1,20 +1,17 @@
 -- The value of a written term, case by case as code makes it from its lexeme.
 use mathlib.Core.Path.{◌≡◌, refl, sym, ◌∙◌, ap, ap₂}
-use mathlib.Core.Bool.{Bool, true, false}
+use mathlib.Core.Bool.{true, false}
 use mathlib.Core.List.{List, [], ◌∷◌}
-use Prim.Native.Nat.{ℕ, zero, suc, ◌+◌, ◌%◌, ◌<◌, ◌≤◌, min}
+use Prim.Native.Nat.{ℕ, zero, suc, ◌+◌, ◌<◌, ◌≤◌, min}
 use native.Mathlib.Numerals.{add-one}
 use native.Mathlib.Omega.{arith}
 use native.Mathlib.Decide.{ℕ_discrete}
-use lib.ListN.{length, get_or, take, drop, replicate, drop_of_length-le}
+use lib.ListN.{length, get_or, take, drop, drop_of_length-le}
 use lib.Seq.{drop-cons, take_all}
 use Rattle.base_limits.specs.Limits.{longest_string}
-use Rattle.math_types.specs.declared.Kind.{Kind}
-use Rattle.math_types.specs.Values.{kind_from}
 use Rattle.text_grammar.specs.Bytes.{Begins, b_digit, b_minus, b_quote, b_letter, b_e, b_none, begins}
 use Rattle.text_grammar.specs.Grammar.{Raw, raw_var, raw_empty, raw_con}
-use Rattle.text_grammar.specs.constants.Constants.{sign_of, raw_int, raw_str}
-use Rattle.text_grammar.specs.Numbers.{value}
+use Rattle.text_grammar.specs.constants.Constants.{raw_int}
 use Rattle.text_grammar.specs.Walk.{leading_digits, quote1, until_quote, front_b, front}
 use Rattle.text_values.specs.declared.constants.Constant.TheVariants as constant
 use Rattle.text_values.specs.declared.Form.TheVariants as form
@@ -22,9 +19,9 @@ use Rattle.text_values.specs.canonical.Filled.{pad}
 use Rattle.text_values.specs.Values.{blank_term}
 use Rattle.text_scan.specs.declared.Lexeme.{Lexeme}
 use Rattle.text_scan.specs.declared.Spelled.{Spelled}
-use Rattle.text_scan.specs.declared.Literal.TheVariants.{Int, Str}
-use Rattle.text_scan.specs.declared.Spelled.TheVariants.{Con, Var, Empty}
-use Rattle.text_scan.specs.Lexemes.{capped, lexeme_of}
+use Rattle.text_scan.specs.declared.Literal.TheVariants.{Str}
+use Rattle.text_scan.specs.declared.Spelled.TheVariants.{Con}
+use Rattle.text_scan.specs.Lexemes.{lexeme_of}
 use Rattle.text_scan.specs.terms.Terms.{term_from}
 
 never : {A : Type 0} (n : ℕ) → ◌≡◌ {A = ℕ} 0 1 → A
@@ -35,33 +32,6 @@ what_of p r w e h = ap (λ (x : Lexeme). x.what) (sym e) ∙ h
 
 pub term_past : (t : List ℕ) (place : ℕ) → length t ≤ place → blank_term ≡ term_from (front (drop place t))
 term_past t place h = ap (λ (l : List ℕ). term_from (front l)) (sym (drop_of_length-le t {i = place} h))
-
-pub term_int : (p : Lexeme) (r : Raw) (m s : Bool) → p ≡ lexeme_of r → p.what ≡ Con (Int m) → s ≡ sign_of m p.value
-    → record { form = form.Con (constant.Int s p.value); text = replicate longest_string 0 } ≡ term_from r
-term_int p (raw_con (raw_int n ds)) m s e h k =
-    let q = what_of p (raw_con (raw_int n ds)) (Con (Int m)) e h in
-    let w : n ≡ m = cc in
-    let v : p.value ≡ capped (value ds) = ap (λ (x : Lexeme). x.value) e in
-    ap₂ (λ (b : Bool) (j : ℕ). record { form = form.Con (constant.Int b j); text = replicate longest_string 0 }) (k ∙ ap₂ sign_of (sym w) v) v
-term_int p (raw_con (raw_str s)) m b e h k = let q = what_of p (raw_con (raw_str s)) (Con (Int m)) e h in never 0 (cc)
-term_int p (raw_var j ds) m b e h k = let q = what_of p (raw_var j ds) (Con (Int m)) e h in never 0 (cc)
-term_int p raw_empty m b e h k = let q = what_of p raw_empty (Con (Int m)) e h in never 0 (cc)
-
-pub term_var : (p : Lexeme) (r : Raw) (k : Kind) → p ≡ lexeme_of r → p.what ≡ Var k
-    → record { form = form.Var k (p.value % 256); text = replicate longest_string 0 } ≡ term_from r
-term_var p (raw_con (raw_int m ds)) k e h = let q = what_of p (raw_con (raw_int m ds)) (Var k) e h in never 0 (cc)
-term_var p (raw_con (raw_str s)) k e h = let q = what_of p (raw_con (raw_str s)) (Var k) e h in never 0 (cc)
-term_var p (raw_var j ds) k e h =
-    let q = what_of p (raw_var j ds) (Var k) e h in
-    let s : kind_from j ≡ k = cc in
-    ap₂ (λ (x : Kind) (y : Lexeme). record { form = form.Var x (y.value % 256); text = replicate longest_string 0 }) (sym s) e
-term_var p raw_empty k e h = let q = what_of p raw_empty (Var k) e h in never 0 (cc)
-
-pub term_empty : (p : Lexeme) (r : Raw) → p ≡ lexeme_of r → p.what ≡ Empty → blank_term ≡ term_from r
-term_empty p (raw_con (raw_int m ds)) e h = let q = what_of p (raw_con (raw_int m ds)) Empty e h in never 0 (cc)
-term_empty p (raw_con (raw_str s)) e h = let q = what_of p (raw_con (raw_str s)) Empty e h in never 0 (cc)
-term_empty p (raw_var k ds) e h = let q = what_of p (raw_var k ds) Empty e h in never 0 (cc)
-term_empty p raw_empty e h = refl
 
 -- the bytes before a quote stand at the front
 until_take : (z : List ℕ) (n : ℕ) → n ≤ length (until_quote z) → take n z ≡ take n (until_quote z)

@@ -1,25 +1,24 @@
 -- Laws of pieces put one behind the other, and of the front of a buffer. Assumes nothing.
+use Rattle.std.specs.Prelude.{Result, Ok, Err}
 use mathlib.Core.Path.{◌≡◌, refl, sym, ap, ap₂, ◌∙◌, subst}
-use mathlib.Core.Bool.{Bool, true, false}
-use mathlib.Core.List.{List, [], ◌∷◌, ◌++◌}
-use Prim.Native.Nat.{ℕ, suc, ◌+◌, ◌≤◌, ◌<◌}
+use mathlib.Core.List.{List, [], ◌∷◌, ◌++◌, append-nil, append_assoc}
+use Prim.Native.Nat.{ℕ, suc, ◌+◌, ◌-◌, ◌≤◌, min}
 use native.Mathlib.Nat.{zero-add}
-use native.Mathlib.Numerals.{add-one}
 use native.Mathlib.Omega.{arith}
 use native.Mathlib.Decide.{dec_le}
-use lib.Dec.{leb}
-use lib.ListN.{length, take, drop, get_or, set, length-append}
-use lib.Seq.{sets, sets-eq, length-sets, set_out, take_at, take-length, drop-cons}
-use borrow.Author.Tests.{le-leb, leb-true}
+use lib.ListN.{length, take, drop, length-append, length-take, length-drop, take-append-drop, drop_of_length-le}
+use lib.Seq.{sets, sets-eq, length-sets, set_out, take_at, take_all, take-length, length-take-le, drop-drop}
+use borrow.Author.Tests.{le-leb}
 use Rattle.base_lists.specs.Arrays.{sets_append}
 use Rattle.text_grammar.specs.Told.{Told, by_room}
 use Rattle.text_grammar.proofs.Told.{fits_iff}
-use Rattle.text_write.specs.declared.Written.{Written}
-use Rattle.text_write.specs.declared.Written.TheVariants.{Bytes, TooSmall}
+use Rattle.text_write.specs.declared.TooSmall.{TooSmall}
 use Rattle.text_write.specs.Answers.{told, Writes}
 use Rattle.text_write.proofs.Answers.{wrote}
+use Rattle.text_write.specs.declared.pieces.Page.{Page}
 use Rattle.text_write.specs.pieces.Sizes.{size_of}
-use Rattle.text_write.specs.pieces.Placed.{placed, place_behind, Placed}
+use Rattle.text_write.specs.Room.{Room, Put}
+use Rattle.text_write.specs.pieces.Placed.{placed, place_behind, Placed, PlacedOn}
 
 -- nothing is stored beyond the end
 pub sets_out : (t l : List ℕ) (at : ℕ) → length l ≤ at → sets l at t ≡ l
@@ -40,9 +39,6 @@ all_left t at l = record { behind = refl; stored = refl; long = refl }
 module _ (whole : List ℕ) (at : ℕ) (old : List ℕ) where
   pub none_left : {p : ℕ} {new : List ℕ} → Left whole at old [] p new → Placed whole at old p new
   none_left h = (omega (arith, h.behind), h.stored)
-
-  pub no_room_left : (rest : List ℕ) (p : ℕ) (new : List ℕ) → length new ≤ p → Left whole at old rest p new → Placed whole at old p new
-  no_room_left rest p new k h = (omega (arith, h.behind), sym (sets_out rest new p k) ∙ h.stored)
 
 module _ (a b : List ℕ) (at : ℕ) (l : List ℕ) {p : ℕ} {m : List ℕ} (q : Placed a at l p m) where
   same_long : length m ≡ length l
@@ -86,11 +82,92 @@ placed_none at l = (omega arith, refl)
 pub placed_as : {a b : List ℕ} (at : ℕ) (l : List ℕ) {p : ℕ} {m : List ℕ} → b ≡ a → Placed a at l p m → Placed b at l p m
 placed_as at l e q = (q.0 ∙ ap (λ (t : List ℕ). place_behind t at l) (sym e), q.1 ∙ ap (λ (t : List ℕ). placed t at l) (sym e))
 
--- a byte in its place, and then those behind it
-pub byte_left : (s : List ℕ) (at : ℕ) (l : List ℕ) (i p : ℕ) (m : List ℕ) → i < length s → p < length m
-    → Left s at l (drop i s) p m → Left s at l (drop (i + 1) s) (p + 1) (set m p (get_or s i 0))
-byte_left s at l i p m h k q =
-    left_next s at l (get_or s i 0 ∷ []) (drop (i + 1) s) (rest_as s at l p m (drop-cons s i 0 h ∙ rw add-one) q) (omega arith, refl)
+-- ---- the same of pages
+
+module _ {p q : Page} {a : List ℕ} (h : PlacedOn a p q) where
+  pub on_next : {b : List ℕ} {r : Page} → PlacedOn b q r → PlacedOn (a ++ b) p r
+  on_next {b} k = record { same_bytes = k.same_bytes ∙ h.same_bytes; placed = placed_next a b p.at p.bytes.now h.placed k.placed }
+
+  pub on_as : {b : List ℕ} → b ≡ a → PlacedOn b p q
+  on_as e = record { same_bytes = h.same_bytes; placed = placed_as p.at p.bytes.now e h.placed }
+
+pub on_none : (p : Page) → PlacedOn [] p p
+on_none p = record { same_bytes = refl; placed = placed_none p.at p.bytes.now }
+
+pub on_three : {a b c : List ℕ} {p q r o : Page} → PlacedOn a p q → PlacedOn b q r → PlacedOn c r o → PlacedOn (a ++ b ++ c) p o
+on_three h k m = on_next (on_next h k) m
+
+-- ---- a copy into the bytes from a place on
+
+module _ (t l : List ℕ) (at : ℕ) where
+  -- what a copy into r leaves there
+  abbrev copy : List ℕ → List ℕ
+  copy r = take (length r) t ++ drop (length t) r
+
+  abbrev rest : List ℕ
+  rest = drop at l
+
+  abbrev part : List ℕ
+  part = take (length rest) t
+
+  -- what has no room is dropped
+  part_stored : at ≤ length l → sets l at part ≡ sets l at t
+  part_stored h = go (dec_le (length t) (length rest))
+    where
+      go : Dec (length t ≤ length rest) → sets l at part ≡ sets l at t
+      go (yes k) = ap (sets l at) (take_all (length rest) t k)
+      go (no k) =
+          let e : length part ≡ length rest = length-take-le (length rest) t (omega arith) in
+          sym (sets_out (drop (length rest) t) (sets l at part) (at + length part) (omega (arith, e, length-sets l at part, length-drop at l)))
+          ∙ sets_append part (drop (length rest) t) l at
+          ∙ ap (sets l at) (take-append-drop (length rest) t)
+
+  part_behind : at ≤ length l → drop (at + length part) l ≡ drop (length t) rest
+  part_behind h = go (dec_le (length t) (length rest))
+    where
+      go : Dec (length t ≤ length rest) → drop (at + length part) l ≡ drop (length t) rest
+      go (yes k) = ap (λ (p : List ℕ). drop (at + length p) l) (take_all (length rest) t k) ∙ sym (drop-drop (length t) at l)
+      go (no k) =
+          drop_of_length-le l {i = at + length part} (omega (arith, length-take (length rest) t, length-drop at l))
+          ∙ sym (drop_of_length-le rest {i = length t} (omega arith))
+
+  part_copied : at ≤ length l → take at l ++ copy rest ≡ sets l at t
+  part_copied h =
+      ap (λ (r : List ℕ). take at l ++ (part ++ r)) (sym (part_behind h))
+      ∙ sym (append_assoc (take at l) part (drop (at + length part) l))
+      ∙ sym (sets-eq part l at (omega (arith, length-take (length rest) t, length-drop at l)))
+      ∙ part_stored h
+
+  module _ {from : ℕ} (start : from ≡ min at (length l)) where
+    abbrev lent : List ℕ
+    lent = take (length l - from) (drop from l)
+
+    lent_is : lent ≡ drop from l
+    lent_is = take_all (length l - from) (drop from l) (omega (arith, length-drop from l))
+
+    bytes : {m : List ℕ} → m ≡ copy lent → take from l ++ (m ++ drop (length l - from) (drop from l)) ≡ sets l at t
+    bytes {m} e =
+        ap (λ (r : List ℕ). take from l ++ (m ++ r)) (drop_of_length-le (drop from l) {i = length l - from} (omega (arith, length-drop from l)))
+        ∙ ap (λ (r : List ℕ). take from l ++ r) (append-nil m ∙ e ∙ ap copy lent_is)
+        ∙ go (dec_le at (length l))
+      where
+        go : Dec (at ≤ length l) → take from l ++ copy (drop from l) ≡ sets l at t
+        go (yes h) = let k : from ≡ at = omega arith in ap (λ (j : ℕ). take j l ++ copy (drop j l)) k ∙ part_copied h
+        go (no h) =
+            let k : from ≡ length l = omega arith in
+            ap₂ (λ (a r : List ℕ). a ++ copy r)
+            (take_all from l (omega arith)) (drop_of_length-le l {i = from} (omega arith))
+            ∙ ap (λ (r : List ℕ). l ++ r) (drop_of_length-le [] {i = length t} (omega arith))
+            ∙ append-nil l
+            ∙ sym (sets_out t l at (omega arith))
+
+    pub placed_copy : {n : ℕ} {m : List ℕ} → n ≡ min (length t) (length lent) → m ≡ copy lent
+        → Placed t at l (at + n) (take from l ++ (m ++ drop (length l - from) (drop from l)))
+    placed_copy c e = (omega (arith, ap length lent_is, length-drop from l), bytes e)
+
+-- what is put where there is known to be room
+pub placed_room : (t l : List ℕ) (at : ℕ) {p : ℕ} {m : List ℕ} → Room t at l → Placed t at l p m → Put t at l p m
+placed_room t l at h q = (omega (arith, q.0), q.1)
 
 -- ---- the front of a buffer
 
@@ -103,19 +180,19 @@ module _ (t l : List ℕ) (room : length t ≤ length l) {p : ℕ} {m : List ℕ
   front_size = omega (arith, put.0, ap length front_is)
 
   -- so a text put there, with room for all of it, is written
-  pub front_written : Writes t l (Bytes p) m
+  pub front_written : Writes t l (Ok p) m
   front_written = wrote t l room (omega (arith, put.0)) put.1
 
 -- a writer's answer says the text's size either way
-pub size_told : {t l : List ℕ} {w : Written} {m : List ℕ} → Writes t l w m → size_of w ≡ length t
+pub size_told : {t l : List ℕ} {w : Result ℕ TooSmall} {m : List ℕ} → Writes t l w m → size_of w ≡ length t
 size_told {t} {l} {w} {m} put = go w (ap (λ (a : Told). a.values) put.answer)
   where
-    go : (w : Written) → (told w).values ≡ length t ∷ [] → size_of w ≡ length t
-    go (Bytes n) e = cc
-    go (TooSmall n) e = cc
+    go : (w : Result ℕ TooSmall) → (told w).values ≡ length t ∷ [] → size_of w ≡ length t
+    go (Ok n) e = cc
+    go (Err x) e = cc
 
 -- a writer's text
-module _ (t l : List ℕ) (room : length t ≤ length l) {n : ℕ} {w : Written} {m : List ℕ} (size : n ≡ size_of w) (put : Writes t l w m) where
+module _ (t l : List ℕ) (room : length t ≤ length l) {n : ℕ} {w : Result ℕ TooSmall} {m : List ℕ} (size : n ≡ size_of w) (put : Writes t l w m) where
   written_size : n ≡ length t
   written_size = size ∙ size_told put
 
@@ -132,9 +209,9 @@ module _ (t l : List ℕ) (room : length t ≤ length l) {n : ℕ} {w : Written}
   written_count = omega (arith, written_size, ap length written_front)
 
 -- what a writer says that it wrote is in the buffer
-pub written_in : (t l : List ℕ) {n : ℕ} {w : Written} {m : List ℕ} → Writes t l w m → w ≡ Bytes n → n ≤ length l
+pub written_in : (t l : List ℕ) {n : ℕ} {w : Result ℕ TooSmall} {m : List ℕ} → Writes t l w m → w ≡ Ok n → n ≤ length l
 written_in t l {n} {w} put h =
-    let e : told (Bytes n) ≡ by_room (length t) (length l) (length t ∷ []) = ap told (sym h) ∙ put.answer in
+    let e : told (Ok n) ≡ by_room (length t) (length l) (length t ∷ []) = ap told (sym h) ∙ put.answer in
     let room = (fits_iff (length t) (length l) (length t ∷ [])).0 (sym (ap (λ (a : Told). a.number) e)) in
     let size : n ≡ length t = cc (ap (λ (a : Told). a.values) e) in
     omega arith

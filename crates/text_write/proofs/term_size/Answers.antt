@@ -1,10 +1,8 @@
-use mathlib.Core.Path.{◌≡◌, ap}
+use mathlib.Core.Path.{ap}
 use native.Mathlib.Omega.{arith}
 use lib.ListN.{length}
-use borrow.Author.Rules.{rules}
-use Rattle.base_limits.specs.Limits.{longest_string}
 use Rattle.text_write.proofs.Digits.{digits_32}
-use Rattle.text_write.proofs.Terms.{con_text, var_text}
+use Rattle.text_write.proofs.Terms.{var_text}
 use Rattle.text_write.proofs.term_size.Goals as goal
 
 pub returns-in-Var : goal.returns-in-Var

@@ -1,7 +1,6 @@
 use native.Mathlib.Omega.{arith}
-use borrow.Author.Rules.{rules}
 use Rattle.text_grammar.specs.Numbers.{digits_of}
-use Rattle.text_write.proofs.Answers.{wrote, refused}
+use Rattle.text_write.proofs.Answers.{wrote}
 use Rattle.text_write.proofs.write_number.Goals as goal
 
 pub returns : goal.returns

@@ -1,8 +1,7 @@
 use native.Mathlib.Omega.{arith}
-use borrow.Author.Rules.{rules}
 use Rattle.text_grammar.specs.Plain.{term_text}
 use Rattle.text_values.specs.Values.{view_term}
-use Rattle.text_write.proofs.Answers.{wrote, refused}
+use Rattle.text_write.proofs.Answers.{wrote}
 use Rattle.text_write.proofs.write_term.Goals as goal
 
 pub returns : goal.returns

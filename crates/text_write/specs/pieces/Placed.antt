@@ -2,6 +2,7 @@
 -- whatever the room (`placed_next` of proofs/Pieces), and nothing is required of a caller.
 use Rattle.std.specs.Prelude.{◌≡◌, List, ℕ, ◌+◌, ◌-◌, min, length}
 use Rattle.std.proofs.lemmas.List.Edits.{sets}
+use Rattle.text_write.specs.declared.pieces.Page.{Page}
 
 -- the bytes with the text stored from `at` on; what lies beyond the end is dropped
 abbrev pub placed : List ℕ → ℕ → List ℕ → List ℕ
@@ -13,3 +14,8 @@ place_behind text at old = at + min (length text) (length old - at)
 
 abbrev pub Placed : List ℕ → ℕ → List ℕ → ℕ → List ℕ → Type 0
 Placed text at old place new = (place ≡ place_behind text at old) × (new ≡ placed text at old)
+
+-- The same of a page, which holds the bytes and the place; its bytes stay those that were lent.
+pub record PlacedOn (text : List ℕ) (old new : Page) : Type 0 where
+  pub same_bytes : new.bytes.ghost_name ≡ old.bytes.ghost_name
+  pub placed : Placed text old.at old.bytes.now new.at new.bytes.now

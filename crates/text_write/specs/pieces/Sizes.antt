@@ -1,8 +1,7 @@
 -- How many bytes a writer's answer speaks of: written, or needed.
-use Rattle.std.specs.Prelude.{ℕ}
-use Rattle.text_write.specs.declared.Written.{Written}
-use Rattle.text_write.specs.declared.Written.TheVariants.{Bytes, TooSmall}
+use Rattle.std.specs.Prelude.{ℕ, Result, Ok, Err}
+use Rattle.text_write.specs.declared.TooSmall.{TooSmall}
 
-abbrev pub size_of : Written → ℕ
-size_of (Bytes n) = n
-size_of (TooSmall n) = n
+abbrev pub size_of : Result ℕ TooSmall → ℕ
+size_of (Ok n) = n
+size_of (Err e) = e.needed

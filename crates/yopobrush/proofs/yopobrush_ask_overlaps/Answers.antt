@@ -1,4 +1,3 @@
-use borrow.Author.Rules.{rules}
 use Rattle.yopobrush.proofs.Asks.{texts_asked}
 use Rattle.yopobrush.proofs.yopobrush_ask_overlaps.Goals as goal
 

@@ -1,4 +1,3 @@
-use borrow.Author.Rules.{rules}
 use Rattle.yopobrush.proofs.Asks.{texts_committed}
 use Rattle.yopobrush.proofs.yopobrush_commit_overlaps.Goals as goal
 

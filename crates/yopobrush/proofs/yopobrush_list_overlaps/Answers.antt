@@ -1,4 +1,3 @@
-use borrow.Author.Rules.{rules}
 use Rattle.yopobrush.proofs.Said.{texts_said}
 use Rattle.yopobrush.proofs.yopobrush_list_overlaps.Goals as goal
 

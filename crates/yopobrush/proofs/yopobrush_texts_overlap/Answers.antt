@@ -1,4 +1,3 @@
-use borrow.Author.Rules.{rules}
 use Rattle.yopobrush.proofs.Said.{texts_meet}
 use Rattle.yopobrush.proofs.yopobrush_texts_overlap.Goals as goal
 

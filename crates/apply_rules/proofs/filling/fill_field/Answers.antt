@@ -1,22 +1,20 @@
-use mathlib.Core.Path.{◌≡◌, sym, ap}
-use mathlib.Core.List.{foldl}
-use Prim.Native.Nat.{◌-◌, min}
-use native.Mathlib.Omega.{arith}
-use borrow.Author.Rules.{rules}
-use Rattle.base_limits.specs.Limits.{most_terms}
-use Rattle.base_lists.specs.Seqs.{long_mapped}
-use Rattle.text_values.specs.declared.SlipField.{SlipField}
+use Rattle.std.proofs.Common.{sym, ◌∙◌, take}
 use Rattle.apply_rules.specs.filling.Filled.{filled_term, filled_field}
-use Rattle.apply_rules.specs.filling.Pushes.{pushed, collected}
-use Rattle.apply_rules.proofs.filling.Loops.{Pushing, pushing_one, pushing_all}
+use Rattle.apply_rules.specs.filling.Pushes.{collected}
+use Rattle.apply_rules.proofs.filling.Loops.{pushing_one, pushing_none}
 use Rattle.apply_rules.proofs.filling.fill_field.Goals as goal
 
-pub loop-i-preserved : goal.loop-i-preserved
-loop-i-preserved c =
+pub loop-t-preserved : goal.loop-t-preserved
+loop-t-preserved c =
     let z = c.args in
-    let L = c.loop-i in
-    let h = c.loop-i-test.true in
-    let whole = collected (filled_field z.x z.s z.f) in
-    let P = c.push_term-y in
-    let g = filled_term z.x z.s in
-    (L.invariant.0, pushing_one whole g z.f.n z.f.terms L.i L.y P.result _ L.invariant.1 (omega (arith, L.invariant.0)) P.ensures)
+    let L = c.loop-t in
+    pushing_one (filled_term z.x.now z.s.now) (take c.min.result z.f.terms) (collected (filled_field z.x.now z.s.now z.f)) L.t-index L.y _ L.invariant
+    c.loop-t-test.true c.push_term.new.w (rw c.in_ok-push_term.was at c.push_term.ensures)
+
+pub returns-in_err-push_term : goal.returns-in_err-push_term
+returns-in_err-push_term c =
+    let z = c.args in
+    let L = c.loop-t in
+    c.from_residual.ensures
+    ∙ sym (pushing_none (filled_term z.x.now z.s.now) (take c.min.result z.f.terms) (collected (filled_field z.x.now z.s.now z.f)) L.t-index L.y _ L.invariant
+    c.loop-t-test.true (rw c.in_err-push_term.was at c.push_term.ensures))

@@ -1,6 +1,5 @@
-use mathlib.Core.Path.{◌∙◌, ap}
-use native.Mathlib.Omega.{arith}
-use lib.ListN.{length, replicate}
+use mathlib.Core.Path.{◌∙◌}
+use lib.ListN.{replicate}
 use Rattle.base_limits.specs.Limits.{longest_side}
 use Rattle.text_grammar.specs.Plain.{plain}
 use Rattle.text_accepted.specs.Accepted.{counted_left}
@@ -8,7 +7,6 @@ use Rattle.text_write.proofs.pieces.Pieces.{written_long, written_count, written
 use Rattle.text_plain.proofs.Lengths.{plain_short}
 use Rattle.overlap_list.proofs.Texts.{plain_is}
 use Rattle.book_rules.proofs.texts.Books.{keeps_as}
-use borrow.Author.Rules.{rules}
 use Rattle.book_rules.proofs.texts.keep_rule.Goals as goal
 
 pub slice_bounds-text-end : goal.slice_bounds-text-end

@@ -1,4 +1,4 @@
-use mathlib.Core.Path.{◌≡◌, refl, sym, ◌∙◌, ap}
+use mathlib.Core.Path.{refl, sym, ◌∙◌, ap}
 use mathlib.Core.List.{List, ◌++◌}
 use lib.Seq.{take_all, take-length}
 use Prim.Native.Nat.{ℕ, ◌*◌, ◌-◌, ◌≤◌}
@@ -8,7 +8,6 @@ use Rattle.base_limits.specs.Limits.{longest_rule}
 use Rattle.text_write.proofs.pieces.Pieces.{copied}
 use Rattle.text_write.proofs.pieces.Stored.{store_part}
 use Rattle.book_rules.proofs.texts.Keeping.{room_in}
-use borrow.Author.Rules.{rules}
 use Rattle.book_rules.proofs.texts.keep_text.Goals as goal
 
 pub returns : goal.returns

@@ -1,20 +1,17 @@
 use mathlib.Core.Path.{sym}
-use Prim.Native.Nat.{◌-◌}
-use native.Mathlib.Omega.{arith}
 use Rattle.book_rules.specs.texts.Keeping.{book_in}
 use Rattle.book_rules.proofs.texts.Keeping.{book_long}
-use Rattle.book_rules.proofs.texts.Pairs.{BookLeft, book_start, book_row, book_end}
+use Rattle.book_rules.proofs.texts.Pairs.{book_start, book_row}
 use Rattle.book_rules.proofs.texts.put_rows.Goals as goal
 
 pub loop-i-init : goal.loop-i-init
 loop-i-init c =
     let kept = c.args.kept in
     let row = c.args.row.now in
-    book_start (book_in kept row) kept.n c.args.out.now (sym (book_long kept row c.requires))
+    book_start (book_in kept row) kept.n c.args.page.now (sym (book_long kept row c.requires))
 
 pub loop-i-preserved : goal.loop-i-preserved
 loop-i-preserved c =
     let z = c.args in
     let l = c.loop-i in
-    book_row (book_in z.kept z.row.now) z.kept.n z.out.now l.i l.p l.out c.loop-i-test.true l.invariant
-    c.put_row-p.ensures
+    book_row (book_in z.kept z.row.now) z.kept.n z.page.now l.i l.page c.loop-i-test.true l.invariant c.put_row.ensures

@@ -4,12 +4,11 @@ use Prim.Native.Nat.{ℕ, ◌≤◌}
 use native.Mathlib.Omega.{arith}
 use lib.ListN.{length, replicate}
 use Rattle.text_write.specs.Answers.{Writes}
-use Rattle.text_write.proofs.pieces.Pieces.{front_is, front_size}
+use Rattle.text_write.proofs.pieces.Pieces.{front_is}
 use Rattle.book_spec.specs.Books.{book_text, longest_book_text}
 use Rattle.book_rules.specs.texts.Keeping.{room_for, book_in}
-use Rattle.book_rules.proofs.texts.Keeping.{none_in, book_long}
-use Rattle.book_rules.proofs.texts.Pairs.{none_written, lines_fit}
-use borrow.Author.Rules.{rules}
+use Rattle.book_rules.proofs.texts.Keeping.{book_long}
+use Rattle.book_rules.proofs.texts.Pairs.{lines_fit}
 use Rattle.book_rules.proofs.texts.write_pairs.Goals as goal
 
 pub returns : goal.returns
@@ -20,4 +19,4 @@ returns c =
     let book = book_in z.kept z.row.now in
     subst (λ (t : List ℕ). Writes t z.out.now G.result G.new.out)
     (front_is (book_text book) (replicate longest_book_text 0) (lines_fit book z.kept.n (book_long z.kept z.row.now room) (omega (arith, room)))
-    c.put_rows-n.ensures) G.ensures
+    c.put_rows.ensures.placed) G.ensures

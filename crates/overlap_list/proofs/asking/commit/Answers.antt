@@ -20,4 +20,4 @@ returns c =
     values_commit z.left z.right
     (left_front z.left (c.put_left-n.ensures.value, c.put_left-n.ensures.out_after))
     (left_front z.right (c.put_left-m.ensures.value, c.put_left-m.ensures.out_after))
-    c.commit_texts-said.ensures
+    c.commit_texts.ensures

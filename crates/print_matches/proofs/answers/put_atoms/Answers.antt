@@ -1,18 +1,13 @@
 use mathlib.Core.Path.{◌≡◌}
-use mathlib.Core.Logic.{⊎_elim}
-use Prim.Native.Nat.{◌+◌, ◌-◌, ◌<◌}
+use Prim.Native.Nat.{◌+◌, ◌<◌}
 use native.Mathlib.Omega.{arith}
 use lib.ListN.{length}
-use Rattle.base_limits.specs.Limits.{numbers_of_side, variable_places}
-use Rattle.base_lists.specs.Seqs.{long_mapped}
-use Rattle.math_types.specs.Types.{rank_kinds}
 use Rattle.math_types.specs.Values.{kind_of}
 use Rattle.match_fields.specs.bindings.Values.{slot}
 use Rattle.match_fields.proofs.Walks.{absent}
 use Rattle.print_matches.specs.answers.Values.{atom_text}
-use Rattle.print_matches.proofs.answers.Loops.{From, from_none, from_as, from_all, from_one, from_other, atom_shown}
-use Rattle.text_write.proofs.pieces.Pieces.{placed_as}
-use borrow.Author.Rules.{rules}
+use Rattle.print_matches.proofs.answers.Loops.{from_as, from_all, from_one, from_other, atom_shown}
+use Rattle.text_write.proofs.pieces.Pieces.{on_as}
 use Rattle.print_matches.proofs.answers.put_atoms.Goals as goal
 use Rattle.print_matches.proofs.answers.put_atoms.Goals.{else-rule-i, then-rule-i}
 
@@ -26,13 +21,13 @@ loop-n-preserved c =
     let inside : i < length z.v.terms = omega (arith, L.invariant.0, is_i, c.requires, h) in (
       L.invariant.0,
       (elim c.if-rule-i.branch [
-        | then-rule-i w ↦ from_as z.rule.has (kind_of z.k) (atom_text z.v (kind_of z.k)) z.at z.out.now (L.n + 1) w.p-is w.out-is
-            (from_one z.rule.has (kind_of z.k) (atom_text z.v (kind_of z.k)) z.at z.out.now
-            L.n L.p L.out L.invariant.1 h i is_i _ w.if-rule-i.true w.put_name-a.ensures
-            (placed_as _ _ (atom_shown z.v (kind_of z.k) L.n i absent is_i inside) w.put_term-p.ensures))
-        | else-rule-i w ↦ from_as z.rule.has (kind_of z.k) (atom_text z.v (kind_of z.k)) z.at z.out.now (L.n + 1) w.p-is w.out-is
-            (from_other z.rule.has (kind_of z.k) (atom_text z.v (kind_of z.k)) z.at z.out.now
-            L.n L.p L.out L.invariant.1 h i is_i _ w.if-rule-i.false)
+        | then-rule-i w ↦ from_as z.rule.has (kind_of z.k) (atom_text z.v (kind_of z.k)) _ (L.n + 1) w.page-is
+            (from_one z.rule.has (kind_of z.k) (atom_text z.v (kind_of z.k)) _
+            L.n L.page L.invariant.1 h i is_i _ w.if-rule-i.true w.put_name.ensures
+            (on_as w.put_term.ensures (atom_shown z.v (kind_of z.k) L.n i absent is_i inside)))
+        | else-rule-i w ↦ from_as z.rule.has (kind_of z.k) (atom_text z.v (kind_of z.k)) _ (L.n + 1) w.page-is
+            (from_other z.rule.has (kind_of z.k) (atom_text z.v (kind_of z.k)) _
+            L.n L.page L.invariant.1 h i is_i _ w.if-rule-i.false)
       ]),
     )
 
@@ -40,4 +35,4 @@ pub returns : goal.returns
 returns c =
     let z = c.args in
     let L = c.loop-n in
-    from_all z.rule.has (kind_of z.k) (atom_text z.v (kind_of z.k)) z.at z.out.now L.n L.p L.out L.invariant.1 c.loop-n-test.false
+    from_all z.rule.has (kind_of z.k) (atom_text z.v (kind_of z.k)) _ L.n L.page L.invariant.1 c.loop-n-test.false

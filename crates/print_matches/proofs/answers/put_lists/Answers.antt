@@ -1,17 +1,12 @@
 use mathlib.Core.Path.{◌≡◌}
-use mathlib.Core.Logic.{⊎_elim}
-use Prim.Native.Nat.{◌+◌, ◌-◌}
+use Prim.Native.Nat.{◌+◌}
 use native.Mathlib.Omega.{arith}
-use lib.ListN.{length}
-use Rattle.base_limits.specs.Limits.{numbers_of_side, variable_places}
-use Rattle.base_lists.specs.Seqs.{long_mapped}
 use Rattle.math_types.specs.Order.{list}
 use Rattle.match_rules.specs.texts.Texts.{slip_fields}
 use Rattle.match_fields.specs.bindings.Values.{slot}
 use Rattle.print_matches.specs.answers.Values.{list_text}
-use Rattle.print_matches.proofs.answers.Loops.{From, from_none, from_as, from_all, from_one, from_other, list_shown}
-use Rattle.text_write.proofs.pieces.Pieces.{placed_as}
-use borrow.Author.Rules.{rules}
+use Rattle.print_matches.proofs.answers.Loops.{from_as, from_one, from_other, list_shown}
+use Rattle.text_write.proofs.pieces.Pieces.{on_as}
 use Rattle.print_matches.proofs.answers.put_lists.Goals as goal
 use Rattle.print_matches.proofs.answers.put_lists.Goals.{else-rule-i, then-rule-i}
 
@@ -24,12 +19,12 @@ loop-n-preserved c =
     let is_i : i ≡ slot list L.n = omega arith in (
       L.invariant.0,
       (elim c.if-rule-i.branch [
-        | then-rule-i w ↦ from_as z.rule.has list (list_text (slip_fields z.slip.now) z.x) z.at z.out.now (L.n + 1) w.p-is w.out-is
-            (from_one z.rule.has list (list_text (slip_fields z.slip.now) z.x) z.at z.out.now
-            L.n L.p L.out L.invariant.1 h i is_i _ w.if-rule-i.true w.put_name-a.ensures
-            (placed_as _ _ (list_shown (slip_fields z.slip.now) z.x L.n _ (omega (arith, L.invariant.0, h))) w.put_run-p.ensures))
-        | else-rule-i w ↦ from_as z.rule.has list (list_text (slip_fields z.slip.now) z.x) z.at z.out.now (L.n + 1) w.p-is w.out-is
-            (from_other z.rule.has list (list_text (slip_fields z.slip.now) z.x) z.at z.out.now
-            L.n L.p L.out L.invariant.1 h i is_i _ w.if-rule-i.false)
+        | then-rule-i w ↦ from_as z.rule.has list (list_text (slip_fields z.slip.now) z.x) _ (L.n + 1) w.page-is
+            (from_one z.rule.has list (list_text (slip_fields z.slip.now) z.x) _
+            L.n L.page L.invariant.1 h i is_i _ w.if-rule-i.true w.put_name.ensures
+            (on_as w.put_run.ensures (list_shown (slip_fields z.slip.now) z.x L.n _ (omega (arith, L.invariant.0, h)))))
+        | else-rule-i w ↦ from_as z.rule.has list (list_text (slip_fields z.slip.now) z.x) _ (L.n + 1) w.page-is
+            (from_other z.rule.has list (list_text (slip_fields z.slip.now) z.x) _
+            L.n L.page L.invariant.1 h i is_i _ w.if-rule-i.false)
       ]),
     )

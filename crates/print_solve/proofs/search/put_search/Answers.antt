@@ -1,43 +1,56 @@
-use mathlib.Core.Path.{sym}
+use mathlib.Core.Path.{◌≡◌}
 use Prim.Native.Nat.{min}
-use native.Mathlib.Omega.{arith}
-use lib.Seq.{length-take-le}
 use Rattle.search_row.specs.own.Sizes.{most_records}
-use Rattle.print_solve.proofs.search.Searches.{lines_count, lines_in_lem, lines_put, few_put, full_put}
+use Rattle.text_write.specs.pieces.Placed.{PlacedOn}
+use Rattle.print_solve.specs.search.Found.{most_bytes, counts_text}
+use Rattle.print_solve.proofs.search.Searches.{lines_put, lines_in_lem, lines_count, few_put, full_put}
 use borrow.Author.Rules.{rules}
 use Rattle.print_solve.proofs.search.put_search.Goals as goal
 
-pub returns-in-Lines : goal.returns-in-Lines
-returns-in-Lines c =
-    let it =
-    (let z =
-    c.args in
-    let T = c.lines_room-text in
-    let n = c.at_most-lent in
-    let S = c.search_in in
-    lines_put z.left z.right (min z.row most_records) z.room n.result T.result n.ensures T.ensures S.ensures _ _ (search rules)
-    (search rules) z.at z.out.now c.in-Lines.is
-    c.put_counts-a.ensures c.put_bytes.ensures) in
+pub returns-in-Ok : goal.returns-in-Ok
+returns-in-Ok c =
+    let z = c.args in
+    let T = c.room-text in
+    let is-lent : c.min-lent.result ≡ min z.room most_bytes = search rules in
+    let found = c.in-Ok.found in
+    let it = lines_put z.left z.right (min z.row most_records) z.room c.min-lent.result T.result is-lent T.ensures.long c.search_in.ensures
+    found.lines found.bytes (search rules) (search rules) c.in-Ok.is c.put_counts.ensures c.put_bytes.ensures in
     record { placed = it.0; room_len_bound = it.1 }
 
-pub returns-in-TooSmall : goal.returns-in-TooSmall
-returns-in-TooSmall c =
-    let it =
-    (let z = c.args in
-    let T = c.lines_room-text in
-    let n = c.at_most-lent in
-    let S = c.search_in in
-    few_put z.left z.right (min z.row most_records) z.room n.result T.result n.ensures T.ensures S.ensures _ _ (search rules)
-    (search rules) z.at z.out.now c.in-TooSmall.is c.put_counts.ensures) in
+pub slice_bounds-text-end-in-Ok : goal.slice_bounds-text-end-in-Ok
+slice_bounds-text-end-in-Ok c =
+    let z = c.args in
+    let T = c.room-text in
+    let is-lent : c.min-lent.result ≡ min z.room most_bytes = search rules in
+    let found = c.in-Ok.found in
+    lines_in_lem z.left z.right (min z.row most_records) z.room c.min-lent.result T.result is-lent T.ensures.long c.search_in.ensures
+    found.lines found.bytes c.in-Ok.is
+
+pub slice_bounds-put_bytes-end : goal.slice_bounds-put_bytes-end
+slice_bounds-put_bytes-end c =
+    let z = c.args in
+    let T = c.room-text in
+    let is-lent : c.min-lent.result ≡ min z.room most_bytes = search rules in
+    let found = c.in-Ok.found in
+    lines_count z.left z.right (min z.row most_records) z.room c.min-lent.result T.result is-lent T.ensures.long c.search_in.ensures
+    found.lines found.bytes c.in-Ok.is
+
+pub returns-in-Err-TooSmall : goal.returns-in-Err-TooSmall
+returns-in-Err-TooSmall c =
+    let z = c.args in
+    let T = c.room-text in
+    let is-lent : c.min-lent.result ≡ min z.room most_bytes = search rules in
+    let found = c.in-Err-TooSmall.found in
+    let put : PlacedOn (counts_text 8 found.lines found.bytes) z.page.now c.put_counts-in-Err-TooSmall.new.page = search rules in
+    let it = few_put z.left z.right (min z.row most_records) z.room c.min-lent.result T.result is-lent T.ensures.long c.search_in.ensures
+    found.lines found.bytes (search rules) (search rules) (search rules) put in
     record { placed = it.0; room_len_bound = it.1 }
 
-pub returns-in-Full : goal.returns-in-Full
-returns-in-Full c =
-    let it =
-    (let z = c.args in
-    let T = c.lines_room-text in
-    let n = c.at_most-lent in
-    let S = c.search_in in
-    full_put z.left z.right (min z.row most_records) z.room n.result T.result n.ensures T.ensures S.ensures
-    c.in-Full.is z.at z.out.now c.put_counts-in-Full.ensures) in
+pub returns-in-Err-Full : goal.returns-in-Err-Full
+returns-in-Err-Full c =
+    let z = c.args in
+    let T = c.room-text in
+    let is-lent : c.min-lent.result ≡ min z.room most_bytes = search rules in
+    let it = full_put z.left z.right (min z.row most_records) z.room c.min-lent.result T.result is-lent T.ensures.long c.search_in.ensures
+    (search rules) c.put_counts-in-Err-Full.ensures in
     record { placed = it.0; room_len_bound = it.1 }

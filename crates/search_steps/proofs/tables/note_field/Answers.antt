@@ -1,8 +1,8 @@
-use Rattle.std.proofs.Common.{◌≡◌, ℕ, List, replicate, ap, ◌∙◌, rules}
+use Rattle.std.proofs.Common.{◌≡◌, ℕ, List, replicate, ap, ◌∙◌}
 use Rattle.base_limits.specs.Limits.{longest_side}
 use Rattle.text_grammar.specs.Plain.{plain}
 use Rattle.text_accepted.specs.Accepted.{counted_left}
-use Rattle.text_values.specs.declared.RuleSide.{RuleSide}
+use Rattle.text_values.specs.Values.{RuleSide}
 use Rattle.text_write.proofs.pieces.Pieces.{written_long, written_count, written_front}
 use Rattle.text_plain.proofs.Lengths.{plain_short}
 use Rattle.text_passes.specs.Notes.{noted_in}

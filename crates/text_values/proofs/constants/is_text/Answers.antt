@@ -1,24 +1,17 @@
-use borrow.Author.Rules.{rules}
-use mathlib.Core.Path.{◌≡◌}
-use Prim.Native.Nat.{◌-◌}
-use lib.ListN.{length}
+use Rattle.std.proofs.Common.{rules}
 use Rattle.base_limits.specs.Limits.{longest_string}
 use Rattle.text_values.specs.constants.Constants.{is_inside, is_zero}
-use Rattle.text_values.proofs.canonical.Filled.{Passed, passed_none, passed_one, passed_not, passed_all, passed_over}
+use Rattle.text_values.proofs.canonical.Filled.{parted_good, parted_bad, parted_over}
 use Rattle.text_values.proofs.constants.is_text.Goals as goal
 
-pub returns-then-n-gt-LONGEST_STRING : goal.returns-then-n-gt-LONGEST_STRING
-returns-then-n-gt-LONGEST_STRING c = let h : length c.args.text ≡ longest_string = search rules in
-    passed_over is_inside is_zero longest_string _ c.args.text h c.if-n-gt-LONGEST_STRING.true
+pub returns-then-are_inside : goal.returns-then-are_inside
+returns-then-are_inside c =
+    parted_good is_inside is_zero longest_string c.args.n c.args.text.now (search rules) c.in-Some.ensures.cases c.are_inside.ensures c.if-are_inside.true
+    c.are_zero.ensures
 
-pub returns-then-not-is_byte : goal.returns-then-not-is_byte
-returns-then-not-is_byte c =
-    passed_not is_inside is_zero longest_string _ c.args.text c.loop-i.i 0
-    c.is_byte.result
-    c.loop-i.invariant c.loop-i-test.true c.is_byte.ensures c.if-not-is_byte.true-raw
+pub returns-else-are_inside : goal.returns-else-are_inside
+returns-else-are_inside c =
+    parted_bad is_inside is_zero longest_string c.args.n c.args.text.now (search rules) c.in-Some.ensures.cases c.are_inside.ensures c.if-are_inside.false
 
-pub loop-i-preserved : goal.loop-i-preserved
-loop-i-preserved c =
-    passed_one is_inside is_zero longest_string _ c.args.text c.loop-i.i 0
-    c.is_byte.result
-    c.loop-i.invariant c.loop-i-test.true c.is_byte.ensures c.if-not-is_byte.false-raw
+pub returns-in-None : goal.returns-in-None
+returns-in-None c = parted_over is_inside is_zero longest_string c.args.n c.args.text.now (search rules) c.in-None.ensures.cases

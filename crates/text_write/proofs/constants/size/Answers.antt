@@ -3,7 +3,7 @@ use native.Mathlib.Omega.{arith}
 use lib.ListN.{length}
 use Rattle.text_grammar.specs.Numbers.{digits_of}
 use Rattle.text_write.proofs.Digits.{digits_32}
-use Rattle.text_write.proofs.Terms.{int_text, str_text, signed_length, quoted_length}
+use Rattle.text_write.proofs.Terms.{int_text, signed_length}
 use borrow.Author.Rules.{rules}
 use Rattle.text_write.proofs.constants.size.Goals as goal
 
