@@ -19,8 +19,8 @@ pub struct Book {
     pub rules: [Rule; base_limits::MOST_RULES],
 }
 
-// Document 02: "A slip's rule is the first in the book that matches it." Its number, from 1. A rule that no reading returns matches nothing,
-// and keeps its position.
+// Document 02: "A slip's rule is the first in the book that matches it." Its number, from 1. A rule that no reading returns matches
+// nothing, and keeps its position.
 pub fn pick(book: Book, slip: Slip) -> Option<usize>
     ensures { PicksRule (counted_book book) (counted_slip slip) result }
 {

@@ -128,10 +128,10 @@ impl Numbering {
 
     // Those of the value of a rule's variable; every list variable of the rule has the same items.
     fn name_value(&mut self, row: &[u8], side: &Side, rank: u8, n: u8)
-        requires { Few most_count
-            (name_codes (table_in row.now) (names_of self.old) (value_with row.now side.now.right side.now.atoms.now side.now.items.now rank n)).counts }
-        ensures { names_of self.new ≡
-            name_codes (table_in row.now) (names_of self.old) (value_with row.now side.now.right side.now.atoms.now side.now.items.now rank n) }
+        requires { Few most_count (name_codes (table_in row.now) (names_of self.old)
+            (value_with row.now side.now.right side.now.atoms.now side.now.items.now rank n)).counts }
+        ensures { names_of self.new ≡ name_codes (table_in row.now) (names_of self.old)
+            (value_with row.now side.now.right side.now.atoms.now side.now.items.now rank n) }
     {
         if rank < pair_row::LIST_RANK {
             self.name_item(row, side.atom_of(row, rank, n));
@@ -142,10 +142,10 @@ impl Numbering {
 
     // Those of the variables of one type that the rule has, in the order of their numbers.
     fn name_rank(&mut self, row: &[u8], side: &Side, rank: u8)
-        requires { Few most_count
-            (name_fields (table_in row.now) (names_of self.old) (listed_rank row.now side.now.right side.now.atoms.now side.now.items.now rank)).counts }
-        ensures { names_of self.new ≡
-            name_fields (table_in row.now) (names_of self.old) (listed_rank row.now side.now.right side.now.atoms.now side.now.items.now rank) }
+        requires { Few most_count (name_fields (table_in row.now) (names_of self.old)
+            (listed_rank row.now side.now.right side.now.atoms.now side.now.items.now rank)).counts }
+        ensures { names_of self.new ≡ name_fields (table_in row.now) (names_of self.old)
+            (listed_rank row.now side.now.right side.now.atoms.now side.now.items.now rank) }
     {
         for n in 0..pair_row::top_at(row, side.right, rank) {
             if pair_row::index_at(row, side.right, rank, n) != 0 {
@@ -156,8 +156,10 @@ impl Numbering {
 
     // Those of all variables of the rule, type by type: in the order in which the line has their values.
     fn name_values(&mut self, row: &[u8], side: &Side)
-        requires { Few most_count (name_fields (table_in row.now) (names_of self.old) (listed_in row.now side.now.right side.now.atoms.now side.now.items.now)).counts }
-        ensures { names_of self.new ≡ name_fields (table_in row.now) (names_of self.old) (listed_in row.now side.now.right side.now.atoms.now side.now.items.now) }
+        requires { Few most_count (name_fields (table_in row.now) (names_of self.old)
+            (listed_in row.now side.now.right side.now.atoms.now side.now.items.now)).counts }
+        ensures { names_of self.new ≡ name_fields (table_in row.now) (names_of self.old)
+            (listed_in row.now side.now.right side.now.atoms.now side.now.items.now) }
     {
         for rank in 0..KINDS {
             self.name_rank(row, side, rank);
@@ -527,7 +529,7 @@ fn whole_runs(n: u8) -> [u8; RUN_PLACES]
 }
 
 // The line of an answer: the values of the left rule's variables, then of the right one's, by what the atoms stand for and the items that
-// the list variables of each side stand for; and its size. Bindings that no search has, of too many items, have no line, nor have tables
+// the list variables of each side stand for; and its size. Values that no search has, of too many items, have no line, nor have tables
 // with too many variables.
 pub fn put_answer(
     row: &[u8],

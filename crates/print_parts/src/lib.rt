@@ -1,4 +1,4 @@
-// What the answers to a line have in common: the title, a refusal, and the place behind a line's tab.
+// What the answers to a line have in common: room, the title, a refusal, and the place behind a line's tab.
 #![tactic(auto)]
 
 ghost use Rattle.std.specs.Prelude.{◌≡◌, ◌++◌, ◌+◌, min, length, replicate};

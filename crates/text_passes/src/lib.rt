@@ -1,6 +1,6 @@
 // Going through the terms of a text: all refusals of one side from 3 on in one pass, the first variable that a left side lacks,
 // and the value that a text without refusals says.
-// The passes go over a reader, which gives the terms one by one; the public functions over them have plain parameters.
+// The passes go over a reader, which gives the terms one by one.
 #![tactic(auto)]
 
 ghost use Rattle.std.specs.Prelude.{◌≡◌, ◌+◌, ◌≤◌, ◌<◌, length, drop};

@@ -17,7 +17,8 @@ pub mod terms; // the value of the term at a place
 mod tables;
 
 use math_types::Kind;
-use tables::{ByteClass, CLASSES, Reading, STEPS};
+pub use tables::ByteClass;
+use tables::{CLASSES, Reading, STEPS};
 
 // What a constant is written as.
 #[derive(Clone, Copy)]
@@ -110,7 +111,7 @@ fn quoted_from(text: &[u8], at: usize) -> usize
     text[at..].iter().take_while(|b| **b != b'"').count()
 }
 
-// What a byte begins. By comparisons: a function that reads the table for one byte would first have to build all of it.
+// What a byte begins.
 fn begun_by(b: u8) -> Spelled
     ensures { result ≡ begun (begins b) }
 {
