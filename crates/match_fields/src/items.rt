@@ -43,10 +43,11 @@ fn bind(v: &mut Values, i: usize, t: Term)
     }
 }
 
-// Whether an atom variable takes an item: its earlier value, or else an item of its type, which is then its value.
+// Whether an atom variable takes an item: its earlier value, or else an item of its type, which is then its value. A no leaves v as it was.
 fn takes(k: Kind, n: u8, item: Term, v: &mut Values) -> bool
-    ensures { met (get_or v.old.known (slot (kind_of k) n) false) (kind_of k) (slot (kind_of k) n) item v.old
+    ensures answer { met (get_or v.old.known (slot (kind_of k) n) false) (kind_of k) (slot (kind_of k) n) item v.old
         ≡ (if result then Some v.new else None) }
+    ensures kept { result ≡ false → v.new ≡ v.old }
 {
     let i = crate::bindings::slot(k, n);
     if is_known(v, i) {
@@ -59,9 +60,10 @@ fn takes(k: Kind, n: u8, item: Term, v: &mut Values) -> bool
     true
 }
 
-// Whether an item of the slip passes a term of the rule; v is then the values behind it.
+// Whether an item of the slip passes a term of the rule; v is then the values behind it, and stays what it was where the item fails.
 pub(crate) fn passes(t: Term, item: Term, v: &mut Values) -> bool
-    ensures { tested t item v.old ≡ (if result then Some v.new else None) }
+    ensures answer { tested t item v.old ≡ (if result then Some v.new else None) }
+    ensures kept { result ≡ false → v.new ≡ v.old }
 {
     match t.form {
         Form::Con(_) => same_term(t, item),

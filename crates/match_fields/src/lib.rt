@@ -13,10 +13,11 @@ pub mod items; // one term against one item
 use crate::bindings::Values;
 use text_values::{Field, Form, SlipField, Term};
 
-// How far the tests got: the values so far, none where a test has failed, and how many of the slip's items were compared.
+// How far the tests got: the values behind the last of them, or those before the one that failed, and how many of the slip's items were
+// compared.
 #[derive(Clone, Copy)]
 pub struct Progress {
-    pub tested: Option<Values>,
+    pub tested: Result<Values, Values>,
     pub compared: usize,
 }
 
@@ -74,7 +75,7 @@ fn walk_field(f: Field, w: SlipField, gap: usize, v: Values) -> Progress
             compared += 1;
             if !crate::items::passes(*t, item, &mut now) {
                 return Progress {
-                    tested: None,
+                    tested: Err(now),
                     compared,
                 };
             }
@@ -82,7 +83,7 @@ fn walk_field(f: Field, w: SlipField, gap: usize, v: Values) -> Progress
         }
     }
     Progress {
-        tested: Some(now),
+        tested: Ok(now),
         compared,
     }
 }
@@ -105,7 +106,7 @@ pub fn match_field(f: Field, w: SlipField, v: Values) -> Progress
     let n = w.n.min(base_limits::MOST_ITEMS);
     if !fits_length(s, n) {
         return Progress {
-            tested: None,
+            tested: Err(v),
             compared: 0,
         };
     }

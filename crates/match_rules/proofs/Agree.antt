@@ -3,7 +3,7 @@ use mathlib.Core.Path.{◌≡◌, refl, sym, ◌∙◌, ap, ap₂, subst}
 use mathlib.Core.Logic.{◌≢◌, ite}
 use mathlib.Core.Bool.{Bool, true, false, cond, false≢true}
 use mathlib.Core.Option.{Option, none, some}
-use Rattle.std.specs.Prelude.{Option as OptionValue, Some, None, option_and_then}
+use Rattle.std.specs.Prelude.{Some, None, Result, Ok, Err, ok_or}
 use mathlib.Core.List.{List, [], ◌∷◌, map, map-map}
 use Prim.Native.Nat.{ℕ, ◌+◌, ◌-◌, ◌<◌, ◌≤◌}
 use native.Mathlib.Omega.{arith}
@@ -33,8 +33,8 @@ use Rattle.text_values.proofs.Pads.{unpadded}
 use Rattle.text_values.proofs.constants.Constants.{view_encode_constant, same_constant_is, constant_kind_lem}
 use Rattle.match_fields.specs.declared.bindings.Values.{Values}
 use Rattle.match_fields.specs.bindings.Values.{slot}
-use Rattle.match_fields.specs.items.Tests.{same_term, item_kind, bound, met, test_var, tested}
-use Rattle.match_fields.specs.Fields.{width_of, walked, shape_of, field_tested, terms_of, items_of}
+use Rattle.match_fields.specs.items.Tests.{same_term, item_kind, bound, met, test_var}
+use Rattle.match_fields.specs.Fields.{width_of, term_tested, go_on, walked, shape_of, field_tested, terms_of, items_of}
 use Rattle.match_fields.proofs.Shapes.{fits_room, gap_is}
 use Rattle.match_rules.specs.Tests.{no_values, fields_tested}
 
@@ -54,11 +54,11 @@ pub record Holds (v : Values) (φ : Filling Con Kind ℕ) : Type 0 where
   pub held : (k : Basic) (n : ℕ) → n ≤ largest_number
       → Held (φ (basic k) n) (get_or v.known (slot (basic k) n) false) (get_or v.terms (slot (basic k) n) blank_term)
 
-abbrev pub Agrees : OptionValue Values → Option (Filling Con Kind ℕ) → Type 0
-Agrees None none = Unit {0}
-Agrees None (some ψ) = ⊥
-Agrees (Some v) none = ⊥
-Agrees (Some v) (some ψ) = Holds v ψ
+abbrev pub Agrees : Result Values Values → Option (Filling Con Kind ℕ) → Type 0
+Agrees (Err v) none = Unit {0}
+Agrees (Err v) (some ψ) = ⊥
+Agrees (Ok v) none = ⊥
+Agrees (Ok v) (some ψ) = Holds v ψ
 
 slot_small : (k : Basic) (n : ℕ) → n ≤ largest_number → slot (basic k) n < atom_places
 slot_small k n h = omega (arith, rank_basic k)
@@ -116,7 +116,7 @@ module _ (v : Values) (φ : Filling Con Kind ℕ) (k : Basic) (n : ℕ) (c : Con
 -- ---- one test
 
 same_agrees : (v : Values) (φ : Filling Con Kind ℕ) (d c : Con) (q : Dec (c ≡ d)) (b : Bool)
-    → b ≡ same_term (enc d) (enc c) → Holds v φ → Agrees (cond b (Some v) None) (ite q (some φ) none)
+    → b ≡ same_term (enc d) (enc c) → Holds v φ → Agrees (ok_or (cond b (Some v) None) v) (ite q (some φ) none)
 same_agrees v φ d c (yes e) true s h = h
 same_agrees v φ d c (yes e) false s h = absurd (false≢true (s ∙ (same_constant_is d c).1 (sym e)))
 same_agrees v φ d c (no n) true s h = absurd (n (sym ((same_constant_is d c).0 (sym s))))
@@ -126,37 +126,38 @@ item_kind_lem : (c : Con) → item_kind (enc c).form ≡ basic (con_kind c)
 item_kind_lem c = constant_kind_lem (encode_constant c).0 (encode_constant c).1 ∙ ap (λ (d : Con). basic (con_kind d)) (view_encode_constant c)
 
 meets_agrees : (v : Values) (φ : Filling Con Kind ℕ) (k : Basic) (n : ℕ) (c : Con) → Holds v φ → n ≤ largest_number
-    → Agrees (met (get_or v.known (slot (basic k) n) false) (basic k) (slot (basic k) n) (enc c) v) (meets basics consts ℕ_discrete k n (φ (basic k) n) c φ)
+    → Agrees (ok_or (met (get_or v.known (slot (basic k) n) false) (basic k) (slot (basic k) n) (enc c) v) v)
+    (meets basics consts ℕ_discrete k n (φ (basic k) n) c φ)
 meets_agrees v φ k n c h l = go (φ (basic k) n) (h.held k n l)
   where
     i : ℕ
     i = slot (basic k) n
 
     go : (old : List Con) → Held old (get_or v.known i false) (get_or v.terms i blank_term)
-        → Agrees (met (get_or v.known i false) (basic k) i (enc c) v) (meets basics consts ℕ_discrete k n old c φ)
+        → Agrees (ok_or (met (get_or v.known i false) (basic k) i (enc c) v) v) (meets basics consts ℕ_discrete k n old c φ)
     go [] e =
-        subst (λ (b : Bool). Agrees (met b (basic k) i (enc c) v) (meets basics consts ℕ_discrete k n [] c φ)) (sym e.0)
-        (subst (λ (q : Kind). Agrees (cond (le q (basic k)) (Some (bound v i (enc c))) None)
+        subst (λ (b : Bool). Agrees (ok_or (met b (basic k) i (enc c) v) v) (meets basics consts ℕ_discrete k n [] c φ)) (sym e.0)
+        (subst (λ (q : Kind). Agrees (ok_or (cond (le q (basic k)) (Some (bound v i (enc c))) None) v)
         (meets basics consts ℕ_discrete k n [] c φ)) (sym (item_kind_lem c)) (new (le (basic (con_kind c)) (basic k))))
       where
         new : (b : Bool)
-            → Agrees (cond b (Some (bound v i (enc c))) None)
+            → Agrees (ok_or (cond b (Some (bound v i (enc c))) None) v)
             (cond b (some (bind (full-eq basic_eq) ℕ_discrete (basic k) n (c ∷ []) φ)) none)
         new true = holds_bind v φ k n c h l
         new false = tt
     go (d ∷ old) e =
-        subst (λ (b : Bool). Agrees (met b (basic k) i (enc c) v) (meets basics consts ℕ_discrete k n (d ∷ old) c φ)) (sym e.0)
+        subst (λ (b : Bool). Agrees (ok_or (met b (basic k) i (enc c) v) v) (meets basics consts ℕ_discrete k n (d ∷ old) c φ)) (sym e.0)
         (same_agrees v φ d c (con_eq c d) (same_term (get_or v.terms i blank_term) (enc c)) (ap (λ (t : TermValue). same_term t (enc c)) e.1) h)
 
 -- ---- the terms of a field
 
-go_on_lem : (r : OptionValue Values) (o : Option (Filling Con Kind ℕ)) (k : Values → OptionValue Values)
+go_on_lem : (r : Result Values Values) (o : Option (Filling Con Kind ℕ)) (k : Values → Result Values Values)
     (g : Filling Con Kind ℕ → Option (Filling Con Kind ℕ)) → Agrees r o
-    → ((v : Values) (ψ : Filling Con Kind ℕ) → Holds v ψ → Agrees (k v) (g ψ)) → Agrees (option_and_then k r) (and_then o g)
-go_on_lem None none k g a f = tt
-go_on_lem None (some ψ) k g a f = absurd a
-go_on_lem (Some v) none k g a f = absurd a
-go_on_lem (Some v) (some ψ) k g a f = f v ψ a
+    → ((v : Values) (ψ : Filling Con Kind ℕ) → Holds v ψ → Agrees (k v) (g ψ)) → Agrees (go_on r k) (and_then o g)
+go_on_lem (Err v) none k g a f = tt
+go_on_lem (Err v) (some ψ) k g a f = absurd a
+go_on_lem (Ok v) none k g a f = absurd a
+go_on_lem (Ok v) (some ψ) k g a f = f v ψ a
 
 pub width_enc : (gap : ℕ) (u : OurTerm) → width_of gap (encode_term u) ≡ width gap u
 width_enc gap (con c) = refl
@@ -169,21 +170,22 @@ no_item = some_of atom
 
 -- a term at item p of w, where the item is there if the term is an atom
 pub test_agrees : (gap : ℕ) (w : List Con) (p : ℕ) (u : OurTerm) (v : Values) (φ : Filling Con Kind ℕ) → TermIn u → Holds v φ → p + width gap u ≤ length w
-    → Agrees (tested (encode_term u) (get_or (map enc w) p blank_term) v) (test basics consts ℕ_discrete gap w p u φ)
+    → Agrees (term_tested (encode_term u) (get_or (map enc w) p blank_term) v) (test basics consts ℕ_discrete gap w p u φ)
 test_agrees gap w p (con d) v φ i h l =
     let e = mapped_at enc w p no_item blank_term (omega arith) in
     let q = item_at_lem w p no_item (omega arith) in
-    subst (λ (o : Option Con). Agrees (cond (same_term (enc d) (get_or (map enc w) p blank_term)) (Some v) None)
+    subst (λ (o : Option Con). Agrees (ok_or (cond (same_term (enc d) (get_or (map enc w) p blank_term)) (Some v) None) v)
     (and_then o (λ c. same basics consts ℕ_discrete d c φ))) (sym q)
     (same_agrees v φ d (get_or w p no_item) (con_eq (get_or w p no_item) d) _ (ap (same_term (enc d)) e) h)
 test_agrees gap w p (var (basic k) n) v φ i h l =
     let e = mapped_at enc w p no_item blank_term (omega arith) in
     let q = item_at_lem w p no_item (omega arith) in
-    subst (λ (o : Option Con). Agrees (test_var (kind_of (kind_from (basic k))) n (get_or (map enc w) p blank_term) v)
+    subst (λ (o : Option Con). Agrees (ok_or (test_var (kind_of (kind_from (basic k))) n (get_or (map enc w) p blank_term) v) v)
     (and_then o (λ c. meets basics consts ℕ_discrete k n (φ (basic k) n) c φ))) (sym q)
-    (subst (λ (j : Kind). Agrees (test_var j n (get_or (map enc w) p blank_term) v) (meets basics consts ℕ_discrete k n (φ (basic k) n) (get_or w p no_item) φ))
+    (subst (λ (j : Kind). Agrees (ok_or (test_var j n (get_or (map enc w) p blank_term) v) v)
+    (meets basics consts ℕ_discrete k n (φ (basic k) n) (get_or w p no_item) φ))
     (sym (kind_of_from (basic k)))
-    (subst (λ (t : TermValue). Agrees (test_var (basic k) n t v) (meets basics consts ℕ_discrete k n (φ (basic k) n) (get_or w p no_item) φ)) (sym e)
+    (subst (λ (t : TermValue). Agrees (ok_or (test_var (basic k) n t v) v) (meets basics consts ℕ_discrete k n (φ (basic k) n) (get_or w p no_item) φ)) (sym e)
     (meets_agrees v φ k n (get_or w p no_item) h i)))
 test_agrees gap w p (var list n) v φ i h l = holds_list v φ n (take gap (drop p w)) h
 
@@ -191,7 +193,7 @@ walk_agrees : (gap : ℕ) (w : List Con) (f : List OurTerm) (p : ℕ) (v : Value
     → Agrees (walked gap (map enc w) (map encode_term f) p v) (walk basics consts ℕ_discrete gap w f p φ)
 walk_agrees gap w [] p v φ i h l = h
 walk_agrees gap w (u ∷ f) p v φ i h l =
-    go_on_lem (tested (encode_term u) (get_or (map enc w) p blank_term) v) (test basics consts ℕ_discrete gap w p u φ)
+    go_on_lem (term_tested (encode_term u) (get_or (map enc w) p blank_term) v) (test basics consts ℕ_discrete gap w p u φ)
     (walked gap (map enc w) (map encode_term f) (p + width_of gap (encode_term u))) (λ ψ. walk basics consts ℕ_discrete gap w f (p + width gap u) ψ)
     (test_agrees gap w p u v φ i.0 h (omega arith))
     (λ v' ψ h'. subst (λ (k : ℕ). Agrees (walked gap (map enc w) (map encode_term f) (p + k) v') (walk basics consts ℕ_discrete gap w f (p + width gap u) ψ))
@@ -204,8 +206,8 @@ pub field_agrees : (f : List OurTerm) (w : List Con) (v : Values) (φ : Filling 
     → Agrees (field_tested (map encode_term f) (map enc w) v) (match_field basics consts ℕ_discrete f w φ)
 field_agrees f w v φ i o h =
     subst (λ (b : Bool). Agrees (cond b (walked (length (map enc w) - (shape_of (map encode_term f)).atoms) (map enc w) (map encode_term f) 0 v)
-    None) (match_field basics consts ℕ_discrete f w φ)) (sym (fits_room f (length (map enc w)) ∙ ap (has_room f) long))
-    (subst (λ (gap : ℕ). Agrees (cond (has_room f (length w)) (walked gap (map enc w) (map encode_term f) 0 v) None)
+    (Err v)) (match_field basics consts ℕ_discrete f w φ)) (sym (fits_room f (length (map enc w)) ∙ ap (has_room f) long))
+    (subst (λ (gap : ℕ). Agrees (cond (has_room f (length w)) (walked gap (map enc w) (map encode_term f) 0 v) (Err v))
     (match_field basics consts ℕ_discrete f w φ)) (sym (gap_is f (length (map enc w)) ∙ ap (λ (n : ℕ). n - atoms f) long))
     (go (has_room f (length w)) refl))
   where
@@ -213,7 +215,7 @@ field_agrees f w v φ i o h =
     long = length-map w enc
 
     go : (b : Bool) → has_room f (length w) ≡ b
-        → Agrees (cond b (walked (length w - atoms f) (map enc w) (map encode_term f) 0 v) None)
+        → Agrees (cond b (walked (length w - atoms f) (map enc w) (map encode_term f) 0 v) (Err v))
         (cond b (walk basics consts ℕ_discrete (length w - atoms f) w f 0 φ) none)
     go true e = walk_agrees (length w - atoms f) w f 0 v φ i h (omega (arith, room_span f o (length w) e))
     go false e = tt

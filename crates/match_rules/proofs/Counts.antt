@@ -2,7 +2,7 @@
 use mathlib.Core.Path.{◌≡◌, refl, ◌∙◌, ap, ap₂}
 use mathlib.Core.Bool.{Bool, true, false, cond}
 use mathlib.Core.Option.{Option, none, some}
-use Rattle.std.specs.Prelude.{Option as OptionValue, Some, None}
+use Rattle.std.specs.Prelude.{Result, Ok, Err}
 use mathlib.Core.List.{List, [], ◌∷◌, map}
 use Prim.Native.Nat.{ℕ, ◌+◌, ◌-◌, ◌≤◌}
 use native.Mathlib.Omega.{arith}
@@ -24,18 +24,17 @@ use Rattle.text_grammar.specs.Limits.{TermIn}
 use Rattle.text_values.specs.declared.Term.{Term as TermValue}
 use Rattle.text_values.specs.Values.{blank_term, encode_term, encode_field}
 use Rattle.match_fields.specs.declared.bindings.Values.{Values}
-use Rattle.match_fields.specs.items.Tests.{tested}
-use Rattle.match_fields.specs.Fields.{width_of, atoms_in, count_on, walk_compared, field_tested, field_compared}
+use Rattle.match_fields.specs.Fields.{width_of, term_tested, atoms_in, count_on, walk_compared, field_tested, field_compared}
 use Rattle.match_fields.proofs.Shapes.{fits_room, gap_is}
 use Rattle.match_rules.specs.Tests.{fields_compared}
 use Rattle.match_rules.proofs.Agree.{enc, Holds, Agrees, width_enc, test_agrees, field_agrees, terms_of_lem, encode_items, items_of_lem}
 
-count_on_lem : (r : OptionValue Values) (o : Option (Filling Con Kind ℕ)) (k : Values → ℕ) (g : Filling Con Kind ℕ → ℕ) → Agrees r o
+count_on_lem : (r : Result Values Values) (o : Option (Filling Con Kind ℕ)) (k : Values → ℕ) (g : Filling Con Kind ℕ → ℕ) → Agrees r o
     → ((v : Values) (ψ : Filling Con Kind ℕ) → Holds v ψ → k v ≡ g ψ) → count_on r k ≡ count_then o g
-count_on_lem None none k g a f = refl
-count_on_lem None (some ψ) k g a f = absurd a
-count_on_lem (Some v) none k g a f = absurd a
-count_on_lem (Some v) (some ψ) k g a f = f v ψ a
+count_on_lem (Err v) none k g a f = refl
+count_on_lem (Err v) (some ψ) k g a f = absurd a
+count_on_lem (Ok v) none k g a f = absurd a
+count_on_lem (Ok v) (some ψ) k g a f = f v ψ a
 
 atoms_enc : (u : OurTerm) → atoms_in (encode_term u) ≡ atoms (u ∷ [])
 atoms_enc (con c) = refl
@@ -47,7 +46,7 @@ walk_counts : (gap : ℕ) (w : List Con) (f : List OurTerm) (p : ℕ) (v : Value
 walk_counts gap w [] p v φ i h l = refl
 walk_counts gap w (u ∷ f) p v φ i h l =
     ap₂ (λ (a b : ℕ). a + b) (atoms_enc u)
-    (count_on_lem (tested (encode_term u) (get_or (map enc w) p blank_term) v) (test basics consts ℕ_discrete gap w p u φ)
+    (count_on_lem (term_tested (encode_term u) (get_or (map enc w) p blank_term) v) (test basics consts ℕ_discrete gap w p u φ)
     (walk_compared gap (map enc w) (map encode_term f) (p + width_of gap (encode_term u))) (λ ψ. compared_walk basics consts ℕ_discrete gap w f (p + width gap u) ψ)
     (test_agrees gap w p u v φ i.0 h (omega arith))
     (λ v' ψ h'. ap (λ (k : ℕ). walk_compared gap (map enc w) (map encode_term f) (p + k) v') (width_enc gap u)

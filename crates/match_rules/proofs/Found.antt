@@ -4,7 +4,7 @@ use mathlib.Core.Logic.{◌≢◌}
 use mathlib.Core.Bool.{Bool, true, false, cond}
 use borrow.Author.Tests.{eq-eqb, ne_eqb, eqb-true, eqb-false}
 use mathlib.Core.Option.{Option, none, some}
-use Rattle.std.specs.Prelude.{Option as OptionValue, Some, None}
+use Rattle.std.specs.Prelude.{Result, Ok, Err}
 use mathlib.Core.List.{List, [], ◌∷◌, map, cons≢nil}
 use Prim.Native.Nat.{ℕ, ◌+◌, ◌-◌, ◌*◌, ◌/◌, ◌%◌, ◌<◌, ◌≤◌}
 use native.Mathlib.Omega.{arith}
@@ -129,12 +129,12 @@ answer_counts fs ws n =
     sym (ap (λ (b : Bool). found fs ws (cond b (match_fields basics consts ℕ_discrete fs ws blank) none)) (ne_eqb (length fs) (length ws) n))
 
 -- what the tests come to is what the matcher finds
-found_agrees : (fs : OurFields) (ws : SlipFields) (t : OptionValue Values) (m : Option (Filling Con Kind ℕ)) → Agrees t m → All OneList fs
+found_agrees : (fs : OurFields) (ws : SlipFields) (t : Result Values Values) (m : Option (Filling Con Kind ℕ)) → Agrees t m → All OneList fs
     → found_by (map encode_field fs) (map encode_items ws) t ≡ found fs ws m
-found_agrees fs ws None none a o = refl
-found_agrees fs ws None (some φ) a o = absurd a
-found_agrees fs ws (Some v) none a o = absurd a
-found_agrees fs ws (Some v) (some φ) a o =
+found_agrees fs ws (Err v) none a o = refl
+found_agrees fs ws (Err v) (some φ) a o = absurd a
+found_agrees fs ws (Ok v) none a o = absurd a
+found_agrees fs ws (Ok v) (some φ) a o =
     ap₂ (λ (x : Values) (rs : List Run). record { yes = true; filling = record { values = x; runs = rs } }) (values_are v φ a)
     (runs_all_lem 0 fs ws no_runs o)
 
@@ -151,6 +151,13 @@ module _ (fs : OurFields) (ws : SlipFields) (i : All (All TermIn) fs) (o : All O
   found_is same =
       found_agrees fs ws (fields_tested rule_values slip_values no_values) (matcher fs ws)
       (rw (eq-eqb (length fs) (length ws) same) (fields_agree fs ws no_values blank i o holds_none)) o
+
+  pub answer_no : length fs ≡ length ws → (v : Values) → fields_tested rule_values slip_values no_values ≡ Err v → no_match ≡ found fs ws (matcher fs ws)
+  answer_no same v e = ap (found_by rule_values slip_values) (sym e) ∙ found_is same
+
+  pub answer_yes : length fs ≡ length ws → (v : Values) → fields_tested rule_values slip_values no_values ≡ Ok v
+      → record { yes = true; filling = record { values = v; runs = runs_all 0 rule_values slip_values no_runs } } ≡ found fs ws (matcher fs ws)
+  answer_yes same v e = ap (found_by rule_values slip_values) (sym e) ∙ found_is same
 
   pub comparison_on_lem : comparison_on rule_values slip_values ≡ record { found = found fs ws (matcher fs ws); compared = compared fs ws }
   comparison_on_lem =

@@ -2,7 +2,7 @@
 -- blank for those the rule lacks; a list variable's value is a run of the slip's terms".
 use Rattle.std.specs.Prelude.{Bool, true, false, cond, List, [], ◌∷◌, map, ℕ, ◌+◌, ◌-◌, ◌/◌, ◌%◌, ◌<◌, ◌≤◌, eqb, length, get_or, set, take, drop}
 use Rattle.std.proofs.Math.Option.{Option, none, some}
-use Rattle.std.specs.Prelude.{Option as OptionValue, Some, None}
+use Rattle.std.specs.Prelude.{Result, Ok, Err}
 use Rattle.base_limits.specs.Limits.{numbers_of_side, atom_places}
 use Rattle.base_lists.specs.Seqs.{tabulate}
 use Rattle.math_types.specs.Order.{basic, list}
@@ -90,9 +90,9 @@ no_comparison = record { found = no_match; compared = 0 }
 
 -- The same on values, as code makes it: "0 where the field counts differ", else by the tests, with the runs where they pass.
 -- `comparison_on_lem` of proofs/Found says that it is the comparison, where the values are those of fields within their limits.
-abbrev pub found_by : List Field → List SlipField → OptionValue Values → Match
-found_by fs ws None = no_match
-found_by fs ws (Some v) = record { yes = true; filling = record { values = v; runs = runs_all 0 fs ws no_runs } }
+abbrev pub found_by : List Field → List SlipField → Result Values Values → Match
+found_by fs ws (Err v) = no_match
+found_by fs ws (Ok v) = record { yes = true; filling = record { values = v; runs = runs_all 0 fs ws no_runs } }
 
 abbrev pub comparison_by : List Field → List SlipField → Comparison
 comparison_by fs ws = record { found = found_by fs ws (fields_tested fs ws no_values); compared = fields_compared fs ws no_values }

@@ -1,5 +1,5 @@
 -- The tests of matching and the runs on values, as code makes them. `fields_agree` of proofs/Agree says that the tests are the matcher's.
-use Rattle.std.specs.Prelude.{false, cond, List, [], ◌∷◌, ℕ, ◌+◌, ◌-◌, length, set, replicate, Option, Some, None, option_and_then}
+use Rattle.std.specs.Prelude.{false, cond, List, [], ◌∷◌, ℕ, ◌+◌, ◌-◌, length, set, replicate, Result, Ok, Err}
 use Rattle.math_types.specs.Types.{is_list}
 use Rattle.base_limits.specs.Limits.{numbers_of_side, atom_places}
 use Rattle.math_types.specs.Values.{kind_of}
@@ -12,18 +12,18 @@ use Rattle.match_fields.specs.declared.bindings.Values.{Values}
 use Rattle.match_fields.specs.declared.bindings.Run.{Run}
 use Rattle.match_fields.specs.bindings.Values.{blank_run}
 use Rattle.match_fields.specs.declared.Progress.{Progress}
-use Rattle.match_fields.specs.Fields.{count_on, field_tested, field_compared, terms_of, items_of}
+use Rattle.match_fields.specs.Fields.{go_on, count_on, field_tested, field_compared, terms_of, items_of}
 
 -- ---- a rule's fields against a slip's
 
 abbrev pub no_values : Values
 no_values = record { known = replicate atom_places false; terms = replicate atom_places blank_term }
 
-abbrev pub fields_tested : List Field → List SlipField → Values → Option Values
-fields_tested [] [] v = Some v
-fields_tested [] (w ∷ ws) v = None
-fields_tested (f ∷ fs) [] v = None
-fields_tested (f ∷ fs) (w ∷ ws) v = option_and_then (fields_tested fs ws) (field_tested (terms_of f) (items_of w) v)
+abbrev pub fields_tested : List Field → List SlipField → Values → Result Values Values
+fields_tested [] [] v = Ok v
+fields_tested [] (w ∷ ws) v = Err v
+fields_tested (f ∷ fs) [] v = Err v
+fields_tested (f ∷ fs) (w ∷ ws) v = go_on (field_tested (terms_of f) (items_of w) v) (fields_tested fs ws)
 
 -- how many items of the slip are compared on the way
 abbrev pub fields_compared : List Field → List SlipField → Values → ℕ

@@ -49,16 +49,16 @@ fn match_fields(fs: &[Field], ws: &[SlipField]) -> Progress
     for (f, w) in fs.iter().zip(ws) {
         let p = match_fields::match_field(*f, *w, v);
         compared += p.compared;
-        let Some(values) = p.tested else {
+        let Ok(values) = p.tested else {
             return Progress {
-                tested: None,
+                tested: p.tested,
                 compared,
             };
         };
         v = values;
     }
     Progress {
-        tested: Some(v),
+        tested: Ok(v),
         compared,
     }
 }
@@ -132,10 +132,10 @@ pub(crate) fn no_comparison() -> Comparison
 }
 
 // What the tests come to: no, or yes with the runs of the list variables too.
-fn found_by(fs: &[Field], ws: &[SlipField], tested: Option<Values>) -> Match
+fn found_by(fs: &[Field], ws: &[SlipField], tested: Result<Values, Values>) -> Match
     ensures { result ≡ found_by fs.now ws.now tested }
 {
-    let Some(values) = tested else {
+    let Ok(values) = tested else {
         return no_match();
     };
     let mut runs = no_runs();

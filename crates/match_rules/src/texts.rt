@@ -24,7 +24,7 @@ pub fn compare_texts(rule: &[u8], slip: &[u8]) -> Comparison
         let w = text_passes::field_in(slip, j);
         let p = match_fields::match_field(f, w, v);
         compared += p.compared;
-        let Some(values) = p.tested else {
+        let Ok(values) = p.tested else {
             return Comparison {
                 found: crate::no_match(),
                 compared,
