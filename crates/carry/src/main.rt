@@ -5,6 +5,14 @@
 // proofs/Lengths).
 const LINE: usize = base_limits::SLIP_LINE + 1;
 
+struct Carry;
+
+impl line_io::Answers for Carry {
+    fn answer(&self, k: u64, line: &[u8], text: &mut [u8]) -> Option<usize> {
+        print_carry::carry_answer(k, line, text).ok()
+    }
+}
+
 // The text has room for any answer: none has more bytes (`carry_answer` ensures it).
 fn main(rt: HostRuntime) {
     let mut line = [0u8; LINE];
@@ -13,7 +21,7 @@ fn main(rt: HostRuntime) {
         &mut rt.stdin(),
         &mut rt.stdout(),
         &mut rt.stderr(),
-        print_carry::carry_answer,
+        &Carry,
         &mut line,
         &mut text,
     );

@@ -2,7 +2,7 @@
 // what is done with the bytes once they are read, and before they are written, is an equation.
 #![tactic(auto)]
 
-ghost use Rattle.std.specs.Prelude.{◌≡◌, ◌≤◌, ltb, length, IfOk};
+ghost use Rattle.std.specs.Prelude.{◌≡◌, ◌≤◌, ltb, length, replicate, IfSome};
 ghost use Rattle.line_io.specs.Taking.{no_line, added_line, added_bytes, untaken, in_chunk, taken};
 ghost use Rattle.line_io.specs.Going.{nothing_yet, is_open};
 ghost use Rattle.line_io.specs.Putting.{Written, Puts};
@@ -331,17 +331,25 @@ pub fn finish<W: Write, E: Write>(writer: &mut W, errors: &mut E, s: State, buff
 
 // ---- a program that answers each line
 
-// Takes the lines one by one, and puts the answer to each behind those that wait: `answer` is given the line's number, its bytes and the
-// text's, and says how many of these the answer has. What it refuses has no answer.
-pub fn answer_lines<
-    R: Read,
-    W: Write,
-    X: Write,
-    E: Copy,
-    F: Fn(u64, &[u8], &mut [u8]) -> Result<usize, E>,
->(reader: &mut R, writer: &mut W, errors: &mut X, answer: F, line: &mut [u8], text: &mut [u8])
-    requires callable { F.IsAlwaysCallable answer }
-    requires within { (k l t r t' : _) → F.post answer k l t r t' → IfOk r (λ n. n ≤ length t'.now) }
+// What a program says of a line: it is given the line's number, its bytes and the text's, and returns how many of these the answer has.
+// What it refuses has no answer.
+pub trait Answers {
+    fn answer(&self, k: u64, line: &[u8], text: &mut [u8]) -> Option<usize>
+        ensures { IfSome result (λ n. n ≤ length text.new) };
+}
+
+// Takes the lines one by one, and puts the answer to each behind those that wait. As many bytes of a line are kept as are lent for it,
+// and an answer has room for as many as are lent for its text. Both are zeros afterwards.
+pub fn answer_lines<R: Read, W: Write, E: Write, A: Answers>(
+    reader: &mut R,
+    writer: &mut W,
+    errors: &mut E,
+    answers: &A,
+    line: &mut [u8],
+    text: &mut [u8],
+)
+    ensures line_after { line.new ≡ replicate (length line.old) 0 }
+    ensures text_after { text.new ≡ replicate (length text.old) 0 }
 {
     let mut chunk = [0u8; BUFFER];
     let mut buffer = [0u8; BUFFER];
@@ -353,10 +361,12 @@ pub fn answer_lines<
         }
         s = next_line(reader, writer, s, &mut chunk, line, &buffer);
         if s.line.found {
-            if let Ok(n) = answer(k, &line[..s.line.kept], text) {
+            if let Some(n) = answers.answer(k, &line[..s.line.kept], text) {
                 s.output = put(writer, &text[..n], &mut buffer, s.output);
             }
         }
     }
     finish(writer, errors, s, &buffer);
+    line.fill(0);
+    text.fill(0);
 }

@@ -5,6 +5,14 @@
 // proofs/Lengths).
 const LINE: usize = base_limits::PAIR_LINE + 1;
 
+struct Pairs;
+
+impl line_io::Answers for Pairs {
+    fn answer(&self, k: u64, line: &[u8], text: &mut [u8]) -> Option<usize> {
+        print_pairs::pair_answer(k, line, text).ok()
+    }
+}
+
 // The text has room for any answer: none has more bytes (`pair_answer` ensures it).
 fn main(rt: HostRuntime) {
     let mut line = [0u8; LINE];
@@ -13,7 +21,7 @@ fn main(rt: HostRuntime) {
         &mut rt.stdin(),
         &mut rt.stdout(),
         &mut rt.stderr(),
-        print_pairs::pair_answer,
+        &Pairs,
         &mut line,
         &mut text,
     );

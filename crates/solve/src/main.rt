@@ -6,6 +6,14 @@
 // proofs/Lengths).
 const LINE: usize = print_solve::LONGEST_LINE + 1;
 
+struct Solve;
+
+impl line_io::Answers for Solve {
+    fn answer(&self, k: u64, line: &[u8], text: &mut [u8]) -> Option<usize> {
+        print_solve::solve_answer(k, line, text).ok()
+    }
+}
+
 // The text has room for any answer: none has more bytes (`solve_answer` ensures it).
 fn main(rt: HostRuntime) {
     let mut line = [0u8; LINE];
@@ -14,7 +22,7 @@ fn main(rt: HostRuntime) {
         &mut rt.stdin(),
         &mut rt.stdout(),
         &mut rt.stderr(),
-        print_solve::solve_answer,
+        &Solve,
         &mut line,
         &mut text,
     );

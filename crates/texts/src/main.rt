@@ -8,6 +8,14 @@ const LINE: usize = base_limits::MOST_SLIP_BYTES + 1;
 // No answer has more bytes (`texts_short` of print_texts' proofs/Lengths).
 const TEXT: usize = 4096;
 
+struct Texts;
+
+impl line_io::Answers for Texts {
+    fn answer(&self, _k: u64, line: &[u8], text: &mut [u8]) -> Option<usize> {
+        print_texts::texts_answer(line, text).ok()
+    }
+}
+
 fn main(rt: HostRuntime) {
     let mut line = [0u8; LINE];
     let mut text = [0u8; TEXT];
@@ -15,7 +23,7 @@ fn main(rt: HostRuntime) {
         &mut rt.stdin(),
         &mut rt.stdout(),
         &mut rt.stderr(),
-        |_, line, text| print_texts::texts_answer(line, text),
+        &Texts,
         &mut line,
         &mut text,
     );
