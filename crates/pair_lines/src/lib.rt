@@ -210,7 +210,9 @@ fn lay(row: &[u8], fields: u8, c: Choice, atoms: &[u8]) -> Laid
 }
 
 // ---- bytes: each piece is put at a place, as far as there is room, and returns the place behind it
+// Those that an entry calls for each of its items are inlined, since a call for each takes longer.
 
+#[inline(always)]
 fn put_byte(b: u8, out: &mut [u8], at: usize) -> usize
     requires { at + 1 < 2 ^ 64 }
     ensures { Puts (b ∷ []) at out.old result out.new }
@@ -237,6 +239,7 @@ fn put_digits(n: u8, out: &mut [u8], at: usize) -> usize
     put_byte(b'0' + n % 10, out, q)
 }
 
+#[inline(always)]
 fn put_bytes(bytes: &[u8], out: &mut [u8], at: usize) -> usize
     requires { at + length bytes.now < 2 ^ 64 }
     ensures { Puts bytes.now at out.old result out.new }
@@ -249,6 +252,7 @@ fn put_bytes(bytes: &[u8], out: &mut [u8], at: usize) -> usize
 }
 
 // The bytes of a constant.
+#[inline(always)]
 fn put_constant(texts: &[u8], c: u8, out: &mut [u8], at: usize) -> usize
     requires { at + length (bytes_in texts.now c) < 2 ^ 64 }
     ensures { Puts (bytes_in texts.now c) at out.old result out.new }
@@ -262,6 +266,7 @@ fn put_constant(texts: &[u8], c: u8, out: &mut [u8], at: usize) -> usize
 
 impl Shown<'_> {
     // The text of an item: a type's letter and a number, or a constant's plain text, a string between quotes.
+    #[inline(always)]
     fn put_item(&self, c: u8, out: &mut [u8], at: usize) -> usize
         requires { at + length (shown_item self.now c) < 2 ^ 64 }
         ensures { Puts (shown_item self.now c) at out.old result out.new }
@@ -281,6 +286,7 @@ impl Shown<'_> {
     }
 
     // The items of a run with `:` between them; of none `empty`.
+    #[inline(always)]
     fn put_run(&self, run: &[u8], out: &mut [u8], at: usize) -> usize
         requires { at + length (shown_run self.now run.now) < 2 ^ 64 }
         ensures { Puts (shown_run self.now run.now) at out.old result out.new }
@@ -297,6 +303,7 @@ impl Shown<'_> {
     }
 
     // The entry's fields with `|` between them.
+    #[inline(always)]
     fn put_fields(&self, fields: u8, c: Choice, atoms: &[u8], items: &[u8], out: &mut [u8]) -> usize
         requires c_value { (fits fields c ≡ true) × (items.now ≡ laid_in self.now.row.now fields c atoms.now) }
         requires atoms_len_bound { length (shown_fields self.now (items_in self.now.row.now fields c atoms.now)) < 2 ^ 64 }

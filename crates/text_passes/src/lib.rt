@@ -75,7 +75,7 @@ impl<'a> Iterator for Reader<'a> {
     ghost remaining = { item_count tokens_left };
 
     // inlined in each pass, since a call for each term takes longer
-    #[inline]
+    #[inline(always)]
     fn next(&mut self) -> Option<(At, Lexeme)> {
         let at = self.at;
         if self.text.len() <= at.place {
