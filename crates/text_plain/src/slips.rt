@@ -34,5 +34,7 @@ pub fn write_slip(s: Slip, out: &mut [u8]) -> Result<usize, TooSmall>
         at: 0,
     };
     put_slip(&mut page, s);
-    page.give(out)
+    let n = page.at.min(base_limits::LONGEST_SLIP);
+    // from the room itself, which is seen to lie apart from the lent bytes: so the library asks for no `memmove`
+    text_write::pieces::give(&text[..n], out)
 }
