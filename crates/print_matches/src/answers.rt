@@ -157,8 +157,9 @@ fn put_values(page: &mut Page, rule: &[u8], slip: &[u8], x: Filling)
 {
     let r = variables_in(rule);
     let v = x.values;
-    for k in [Kind::Integer, Kind::String, Kind::Atom] {
-        put_atoms(page, k, r, v);
+    // the types below list have the ranks below list's
+    for i in 0..math_types::rank(Kind::List) {
+        put_atoms(page, math_types::kind_at(i), r, v);
     }
     put_lists(page, r, slip, x);
 }

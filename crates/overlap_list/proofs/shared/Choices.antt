@@ -1,6 +1,6 @@
 -- Whether a choice is left is whether the list has a line; and the candidates of a field one after the other, up to the first that leads to
 -- a choice. Assumes nothing.
-use mathlib.Core.Path.{◌≡◌, refl, sym, ◌∙◌, ap, ap₂}
+use mathlib.Core.Path.{◌≡◌, refl, sym, ◌∙◌, ap, ap₂, subst}
 use mathlib.Core.Bool.{Bool, false, ◌||◌}
 use mathlib.Core.List.{List}
 use Prim.Native.Nat.{ℕ, zero, suc, ◌+◌, ◌-◌, ◌≤◌, ◌<◌}
@@ -98,3 +98,7 @@ module _ (row : List ℕ) (n j : ℕ) (st : State) where
           within = omega (arith, S.within);
           makes = ap (λ (b : Bool). b || rest (k - 1)) f ∙ sym (goes (Some nx) e) ∙ S.makes;
         }
+
+  -- nothing is found yet
+  pub seeking_on : (s : Span) (k : ℕ) (found : Bool) → Seeking s k found → found ≡ false → Seeking s k false
+  seeking_on s k found S e = subst (Seeking s k) e S

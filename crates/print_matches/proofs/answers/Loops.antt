@@ -1,17 +1,14 @@
 -- The loops over the items of a run and over the numbers of variables. Assumes nothing.
-use mathlib.Core.Path.{◌≡◌, refl, sym, ap, ◌∙◌, subst}
+use mathlib.Core.Path.{◌≡◌, sym, ap, ◌∙◌, subst}
 use mathlib.Core.Bool.{Bool, true, false, cond}
 use mathlib.Core.List.{List, [], ◌∷◌, ◌++◌, map}
-use Prim.Native.Nat.{ℕ, zero, suc, ◌+◌, ◌-◌, ◌<◌, ◌≤◌, min}
+use Prim.Native.Nat.{ℕ, suc, ◌+◌, ◌-◌, ◌<◌, ◌≤◌, min}
 use native.Mathlib.Numerals.{add-one}
 use native.Mathlib.Omega.{arith}
 use native.Mathlib.Decide.{dec_le}
 use lib.ListN.{length, get_or, take, drop, length-take, length-drop, drop_of_length-le}
 use lib.Seq.{take_all, take-take, drop-cons}
 use Rattle.math_types.specs.Order.{list}
-use Rattle.math_types.specs.declared.Kind.TheVariants.{Integer, String, Atom}
-use Rattle.math_types.specs.declared.Kind.{Kind as KindValue}
-use Rattle.math_types.specs.Values.{kind_of}
 use Rattle.math_types.specs.Types.{Kind, kinds, atom_kinds, rank_kinds, kind_at, basic_at}
 use Rattle.base_limits.specs.Limits.{most_items, numbers_of_side, variable_places}
 use Rattle.base_lists.specs.Arrays.{entry_any, here, part_of}
@@ -185,13 +182,6 @@ module _ (v : List Bool) (ws : List SlipField) (x : Filling) where
       kinds_all h a =
           none_left_on (left_on_next (kind_text list) []
           (rest_on_as (ap (λ (j : ℕ). concat_map kind_text (drop j kinds)) (let e : i ≡ atom_kinds = omega (arith, f.0) in e)) f.1) a)
-
--- the types below list, as the code lists them
-pub kinds_listed : (i : ℕ) (d : KindValue) → i < 3 → kind_of (get_or (Integer ∷ (String ∷ (Atom ∷ []))) i d) ≡ kind_at i
-kinds_listed zero d h = refl
-kinds_listed (suc zero) d h = refl
-kinds_listed (suc (suc zero)) d h = refl
-kinds_listed (suc (suc (suc i))) d h = absurd (omega arith)
 
 -- ---- a value, in its place
 
